@@ -1,0 +1,73 @@
+use crate::attributes::CreationAttributes;
+use crate::bytes::Bytes;
+use crate::identities::{CallId, NodeId};
+use crate::operation::Op;
+use crate::vector::Vector;
+
+/// A slot, marks, a hold or a making stands for another call.
+#[derive(Clone, Copy, Debug, PartialEq, Eq)]
+pub struct Held {
+    /// The other call.
+    pub by: CallId,
+}
+
+/// All places are taken.
+#[derive(Clone, Copy, Debug, PartialEq, Eq)]
+pub struct Count {
+    /// How many places there are.
+    pub count: u32,
+}
+
+/// The version that a client asks for.
+#[derive(Clone, Copy, Debug, PartialEq, Eq)]
+pub struct Version {
+    /// The release, a letter from `A` to `Z`.
+    pub release: u8,
+    /// The major version.
+    pub major: u8,
+    /// The minor version.
+    pub minor: u8,
+}
+
+/// The callbacks that a client registers.
+#[derive(Clone, Copy, Debug, PartialEq, Eq)]
+pub struct CallbackSet {
+    /// That of an asynchronous open.
+    pub opens: bool,
+    /// That of an asynchronous synchronization.
+    pub syncs: bool,
+}
+
+/// The kinds of asynchronous calls.
+#[derive(Clone, Copy, Debug, PartialEq, Eq)]
+pub enum AsyncKind {
+    /// An open, with the place that its handle gets.
+    Open(u8),
+    /// A synchronization.
+    Sync,
+}
+
+/// What an open asks of the record of the cluster.
+#[derive(Debug, Drop)]
+pub struct OpenAsk {
+    /// The checkpoint's name.
+    pub name: Bytes,
+    /// The attributes to make it with, where it may be made.
+    pub attrs: Option<CreationAttributes>,
+    /// The client that opens it, 0 to 99.
+    pub client: u8,
+    /// That client's node.
+    pub node: NodeId,
+}
+
+/// One line of a race.
+#[derive(Debug, Drop)]
+pub enum RaceLine {
+    /// A call of a client.
+    Call(u8, Op),
+    /// The failure of a node.
+    Fail(NodeId),
+}
+
+/// The lines of a race, in their order.
+pub type RaceBlock = Vector<RaceLine>;

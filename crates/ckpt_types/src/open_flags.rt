@@ -1,0 +1,45 @@
+ghost use Rattle.std.specs.Prelude.{◌≡◌};
+
+use crate::ais_error::AisError;
+use crate::attributes::has_flag;
+
+/// Open flag: the handle may read.
+pub const CHECKPOINT_READ: u32 = 1;
+
+/// Open flag: the handle may write.
+pub const CHECKPOINT_WRITE: u32 = 2;
+
+/// Open flag: the checkpoint is made where it is missing.
+pub const CHECKPOINT_CREATE: u32 = 4;
+
+/// All open flags together.
+pub const OPEN_FLAGS_ALL: u32 = 7;
+
+/// What a checkpoint is opened for.
+#[derive(Clone, Copy, Debug, PartialEq, Eq, Hash)]
+pub struct OpenFlags {
+    /// The handle may read.
+    pub read: bool,
+    /// The handle may write.
+    pub write: bool,
+    /// The checkpoint is made where it is missing.
+    pub create: bool,
+}
+
+impl OpenFlags {
+    ghost use Rattle.ckpt_types.specs.Attributes.{open_flags_of};
+
+    /// The flags of these bits. `BadFlags` where there is none, or an unknown one.
+    pub fn from_bits(bits: u32) -> Result<OpenFlags, AisError>
+        ensures { result ≡ open_flags_of bits }
+    {
+        if bits == 0 || bits > OPEN_FLAGS_ALL {
+            return Err(AisError::BadFlags);
+        }
+        Ok(OpenFlags {
+            read: has_flag(bits, CHECKPOINT_READ),
+            write: has_flag(bits, CHECKPOINT_WRITE),
+            create: has_flag(bits, CHECKPOINT_CREATE),
+        })
+    }
+}

@@ -1,0 +1,65 @@
+use crate::bytes::Bytes;
+use crate::identities::Moment;
+use crate::section_id::SectionId;
+use crate::shared::Shared;
+use crate::vector::Vector;
+
+/// One element of a write: bytes, and where in which section they go.
+#[derive(Debug, Drop)]
+pub struct IoElement {
+    /// The section.
+    pub id: SectionId,
+    /// From which byte of the section on.
+    pub offset: u64,
+    /// What is written there.
+    pub bytes: Bytes,
+}
+
+/// One element of a read: which bytes of which section.
+#[derive(Clone, Copy, Debug)]
+pub struct ReadElement {
+    /// The section.
+    pub id: SectionId,
+    /// From which byte of the section on.
+    pub offset: u64,
+    /// How many bytes at most.
+    pub len: u64,
+}
+
+/// The elements of a write, fewer than 2^32.
+pub type IoVector = Vector<IoElement>;
+
+/// The elements of a read, fewer than 2^32.
+pub type ReadVector = Vector<ReadElement>;
+
+/// The identifier of a new section.
+#[derive(Clone, Copy, Debug)]
+pub enum NewId {
+    /// The caller's.
+    Given(SectionId),
+    /// One that the service makes.
+    Generated,
+}
+
+/// What a call makes of the sections of a checkpoint.
+#[derive(Debug, Drop)]
+pub enum Update {
+    /// Writes the elements in order, all of them or none.
+    Write(IoVector),
+    /// Replaces the bytes of a section.
+    Overwrite(SectionId, Bytes),
+    /// Makes a section that expires at the moment.
+    Create(NewId, Moment, Bytes),
+    /// Takes a section away.
+    Delete(SectionId),
+    /// Gives a section another expiration.
+    SetExpiration(SectionId, Moment),
+    /// Leaves the sections that are present; a joining node is copied under it.
+    Nothing,
+}
+
+/// An update that a call, its slots and the log share.
+pub type SharedUpdate = Shared<Update>;
+
+/// The elements of a read that a call and the log share.
+pub type SharedReads = Shared<ReadVector>;
