@@ -1,2 +1,4 @@
+pub mod EndsLemmas
 pub mod Padding
+pub mod Pushing
 pub mod Rows

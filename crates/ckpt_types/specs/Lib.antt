@@ -1,5 +1,8 @@
 pub mod AisError
 pub mod Attributes
+pub mod Buffer
+pub mod Ends
+pub mod ReadBuf
 pub mod Reads
 pub mod SectionId
 pub mod Sections

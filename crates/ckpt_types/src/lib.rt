@@ -9,6 +9,7 @@ mod calls;
 mod identities;
 mod open_flags;
 mod operation;
+mod read_buf;
 mod section_id;
 mod sections;
 mod shared;
@@ -28,6 +29,7 @@ pub use open_flags::{
     CHECKPOINT_CREATE, CHECKPOINT_READ, CHECKPOINT_WRITE, OPEN_FLAGS_ALL, OpenFlags,
 };
 pub use operation::Op;
+pub use read_buf::{Pieces, ReadBuf};
 pub use section_id::{SECTION_ID_MAX, SectionId};
 pub use sections::{
     CheckpointDescriptor, Choice, SECTIONS_ANY, SECTIONS_CORRUPTED, SECTIONS_FOREVER,
