@@ -31,3 +31,13 @@ pub struct CallId {
     /// Its number.
     pub number: u32,
 }
+
+/// Whose call is stepped: an actor, for the call that it has in hand, or an asynchronous operation by
+/// the name of its call.
+#[derive(Clone, Copy, Debug, PartialEq, Eq, Hash)]
+pub enum Who {
+    /// The call that the actor has in hand.
+    Actor(ActorName),
+    /// The unfinished asynchronous operation of this call.
+    Call(CallId),
+}

@@ -24,7 +24,7 @@ pub use attributes::{
 };
 pub use bytes::{Bytes, NAME_MAX, name_fits};
 pub use calls::{AsyncKind, CallbackSet, Count, Held, OpenAsk, RaceBlock, RaceLine, Version};
-pub use identities::{ActorName, CallId, CkptId, Incarnation, Moment, NEVER, NodeId};
+pub use identities::{ActorName, CallId, CkptId, Incarnation, Moment, NEVER, NodeId, Who};
 pub use open_flags::{
     CHECKPOINT_CREATE, CHECKPOINT_READ, CHECKPOINT_WRITE, OPEN_FLAGS_ALL, OpenFlags,
 };
