@@ -1,0 +1,12 @@
+//! What a driver asks of a node and of the record of the cluster, and what a node answers.
+#![tactic(auto)]
+
+mod changes;
+mod next;
+mod replies;
+mod requests;
+
+pub use changes::NodeChange;
+pub use next::{Next, RecordStep};
+pub use replies::Reply;
+pub use requests::Request;

@@ -1,0 +1,37 @@
+use ckpt_types::{CallId, Choice, CkptId, Moment};
+
+/// What a call asks of one replica. The update of `Stage`, `Apply` and `Mark`, the elements of `Read`, the
+/// iteration of `Iterate` and `Next` and the snapshot of `Pull` and `Install` travel beside it.
+#[derive(Clone, Copy, Debug)]
+pub enum Request {
+    /// Takes all the storage of a replica.
+    Reserve(CkptId),
+    /// Stages the call's update at the moment.
+    Stage(CallId, CkptId, Moment),
+    /// Takes over the slot of a call that is not live: the caller, the checkpoint, the slot's owner.
+    Claim(CallId, CkptId, CallId),
+    /// Makes the staged update the replica's sections.
+    Commit(CallId, CkptId),
+    /// Drops the staged update.
+    Withdraw(CallId, CkptId),
+    /// Applies an update at once.
+    Apply(CallId, CkptId),
+    /// Marks the sections of a weak write.
+    Mark(CallId, CkptId),
+    /// Writes the next element of a weak write.
+    Element(CallId, CkptId),
+    /// Ends the marks of a weak write.
+    Unmark(CallId, CkptId),
+    /// Reads.
+    Read(CkptId),
+    /// Tells the status.
+    Status(CkptId),
+    /// Starts an iteration.
+    Iterate(CallId, CkptId, Choice),
+    /// Gives an iteration's next section.
+    Next(CallId, CkptId),
+    /// Takes a snapshot.
+    Pull(CallId, CkptId),
+    /// Installs a snapshot.
+    Install(CallId, CkptId),
+}

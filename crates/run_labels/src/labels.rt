@@ -1,0 +1,95 @@
+use crate::shown::ShownReplicas;
+use crate::words::{LineWord, OpWord, Said, Verb};
+use ckpt_types::{CallId, CkptId, Incarnation, Moment, NodeId, Op, Outcome, Pieces, Who};
+
+/// How a step was answered.
+#[derive(Clone, Copy, Debug, PartialEq, Eq)]
+pub enum StepReply {
+    /// It was done.
+    Ok,
+    /// Nothing was left to do.
+    Done,
+    /// This call holds what the step needs.
+    Held(CallId),
+    /// No slot stands on the replica, which has so many updates.
+    Free(u64),
+    /// It was refused.
+    Refused,
+    /// The replica is not older than the snapshot.
+    Older,
+    /// Memory was refused.
+    Memory,
+}
+
+/// How a `pull` line was answered.
+#[derive(Clone, Copy, Debug, PartialEq, Eq)]
+pub enum PullReply {
+    /// A snapshot with so many updates was taken.
+    Ok(u64),
+    /// Marks of this call stand.
+    Held(CallId),
+    /// There was nothing to pull.
+    Nothing,
+}
+
+/// How a `put` line was answered.
+#[derive(Clone, Copy, Debug, PartialEq, Eq)]
+pub enum PutReply {
+    /// The snapshot with so many updates was installed.
+    Ok(u64),
+    /// There was nothing to put, or no place for it.
+    Nothing,
+    /// The snapshot's generation, and the present one.
+    Stale(u64, u64),
+    /// The replica's generation and count, which are not below the snapshot's.
+    Old(u64, u64),
+}
+
+/// One event of a run.
+#[derive(Debug, Drop)]
+pub enum Label {
+    /// A call began, and may have ended at once.
+    Began {
+        /// The call.
+        call: CallId,
+        /// What it asks for.
+        op: Op,
+        /// How it ended.
+        end: Option<Outcome>,
+    },
+    /// A call took a step, and may have ended by it.
+    Stepped {
+        /// The call.
+        call: CallId,
+        /// The first word of its line.
+        op: OpWord,
+        /// What the step did.
+        verb: Verb,
+        /// The checkpoint, where the step has one.
+        ckpt: Option<CkptId>,
+        /// The node, where the step has one.
+        node: Option<NodeId>,
+        /// How it was answered.
+        reply: StepReply,
+        /// How the call ended.
+        end: Option<Outcome>,
+        /// The bytes of a read.
+        pieces: Option<Pieces>,
+    },
+    /// A node failed, or was not up.
+    Failed(NodeId, bool),
+    /// A node came up in its next incarnation, or was up.
+    Joined(NodeId, Option<Incarnation>),
+    /// The moment was set.
+    Moved(Moment),
+    /// A snapshot was pulled.
+    Pulled(CkptId, PullReply),
+    /// A snapshot was put.
+    Put(CkptId, NodeId, PutReply),
+    /// The replicas of a checkpoint were shown, or it was gone.
+    Shown(CkptId, Option<ShownReplicas>),
+    /// A word answered a line.
+    Word(Who, LineWord, Said),
+    /// The first nodes came up.
+    Nodes(u8),
+}

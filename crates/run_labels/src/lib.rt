@@ -1,0 +1,10 @@
+//! The labels of a run, the log that keeps them, and the lines that they print.
+#![tactic(auto)]
+
+mod labels;
+mod shown;
+mod words;
+
+pub use labels::{Label, PullReply, PutReply, StepReply};
+pub use shown::{ShownReplica, ShownReplicas, ShownSection, ShownSections, ShownSlot};
+pub use words::{LineWord, OpWord, Said, Verb};
