@@ -67,7 +67,7 @@ where_present-gone s true among all t gone rest alone = rw gone (rest ∙ ap (wh
 where_present-gone s false among all t gone rest alone = rest
 
 -- a section's identifier is that of none after it
-section_at_after : (id : List ℕ) (s : Section) (sections : List Section) → IsBelowAll s.id sections → is_named id s ≡ true → section_at id sections ≡ None
+pub section_at_after : (id : List ℕ) (s : Section) (sections : List Section) → IsBelowAll s.id sections → is_named id s ≡ true → section_at id sections ≡ None
 section_at_after id s sections below named = section_at-below_all id sections (subst (λ x. IsBelowAll x sections) ((is_named_decides id s).0 named) below)
 
 -- a section is found among those present just where it is found and is present
@@ -168,9 +168,13 @@ same_place sections i j r s rises at_i at_j same =
 
 -- ---- how many, and how many bytes
 
+-- leaving sections out takes no more places
+pub length-filter-le : (p : Section → Bool) (sections : List Section) → length (filter p sections) ≤ length sections
+length-filter-le p sections = omega (arith, length-filter p sections, count_by-le-length p sections)
+
 -- those present are at most all
 pub length-present-le : (t : ℤ) (sections : List Section) → length (present t sections) ≤ length sections
-length-present-le t sections = omega (arith, length-filter (is_present t) sections, count_by-le-length (is_present t) sections)
+length-present-le t sections = length-filter-le (is_present t) sections
 
 -- leaving sections out takes no more bytes
 pub memory_used-filter-le : (p : Section → Bool) (sections : List Section) → memory_used (filter p sections) ≤ memory_used sections
