@@ -2,3 +2,4 @@ pub mod Padding
 pub mod Rows
 pub mod Presence
 pub mod Placing
+pub mod Accepted

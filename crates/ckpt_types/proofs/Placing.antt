@@ -1,13 +1,13 @@
 -- What the sections are once one is placed among them, and once one is taken from them.
-use Rattle.std.proofs.Common.{◌≡◌, ◌≢◌, ℕ, ◌+◌, ◌≤◌, List, [], ◌∷◌, length, filter, find, Option, Some, None, is_some, Bool, true, false, cond, not, if◌then◌else◌, nat_eq, Ordering, Less, Equal, Greater, is_eq, All, sum_by, sym, ap, ◌∙◌, subst, refl, arith}
+use Rattle.std.proofs.Common.{◌≡◌, ◌≢◌, ℕ, ◌+◌, ◌≤◌, List, [], ◌∷◌, length, Option, Some, None, is_some, Bool, true, false, cond, not, if◌then◌else◌, nat_eq, Less, Equal, Greater, All, sum_by, sym, ap, ◌∙◌, subst, refl, arith}
 use Rattle.std.specs.Option.{option_map_or}
-use Rattle.std.specs.Ordering.{ordering_reverse, match_ordering}
+use Rattle.std.specs.Ordering.{match_ordering}
 use Rattle.std.specs.Cmp.Lexicographic.{bytes_decides, pointwise}
-use Rattle.std.proofs.lemmas.Bool.{false_from_ne_true, true≢false, not-true, not_from_false, not_from_true}
-use Rattle.std.proofs.lemmas.List.Elements.{All-head, All-tail, All-cons, All-filter}
+use Rattle.std.proofs.lemmas.Bool.{false_from_ne_true, true≢false}
+use Rattle.std.proofs.lemmas.List.Elements.{All-head, All-tail, All-cons}
 use Rattle.std.proofs.lemmas.List.Sums.{sum_by-cons}
 use Rattle.ckpt_types.specs.Sections.{Section, id_cmp, is_named, section_at, is_taken, IsBelowAll, Rises, with_section, without_section, memory_used, size_of}
-use Rattle.ckpt_types.proofs.Presence.{is_named_decides, is_named-by_order, id_cmp_turned, id_cmp_trans, section_at-below_all, section_at_after, section_at-named, IsBelowAll-earlier, Rises-filter, length-filter-le, memory_used-filter-le}
+use Rattle.ckpt_types.proofs.Presence.{is_named_decides, is_named-by_order, id_cmp_turned, section_at-below_all, section_at_after, IsBelowAll-earlier, Rises-filter, length-filter-le, memory_used-filter-le}
 
 -- an identifier is that of a section where the order ties them
 id_cmp-Equal : (id : List ℕ) (s : Section) → id_cmp id s.id ≡ Equal → s.id ≡ id
