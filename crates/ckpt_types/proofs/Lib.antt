@@ -3,3 +3,4 @@ pub mod Rows
 pub mod Presence
 pub mod Placing
 pub mod Accepted
+pub mod Fitting
