@@ -64,7 +64,7 @@ Fits-filter a p sections fits =
 pub Fits-present : (a : CreationAttributes) (t : ℤ) (sections : List Section) → Fits a sections → Fits a (present t sections)
 Fits-present a t sections fits = Fits-filter a (is_present t) sections fits
 
--- and those left where one is taken away
+-- those left where one is taken away keep to what was declared
 pub Fits-without_section : (a : CreationAttributes) (id : List ℕ) (sections : List Section) → Fits a sections → Fits a (without_section id sections)
 Fits-without_section a id sections fits = Fits-filter a (λ s. not (is_named id s)) sections fits
 
@@ -81,7 +81,7 @@ Fits-with_section_over a new was sections rises fits there small within =
       default_only = λ one. All-with_section (λ s. s.id ≡ []) new sections (sym named ∙ All-section_at (λ s. s.id ≡ []) new.id sections was (fits.default_only one) there) (fits.default_only one);
     }
 
--- the same, of a section found by any spelling of its identifier, with what is left named
+-- a section in the place of the one found keeps to what was declared, told of what is left
 Fits-with_section_left : (a : CreationAttributes) (new was : Section) (id : List ℕ) (sections after : List Section) → Rises sections → Fits a sections → section_at id sections ≡ Some was → new.id ≡ was.id → size_of new ≤ a.max_section_size → with_section new sections ≡ after → memory_used after ≤ a.checkpoint_size → Fits a after
 Fits-with_section_left a new was id sections after rises fits there same small left within =
     let found : section_at new.id sections ≡ Some was = ap (λ x. section_at x sections) (same ∙ section_at-named id sections was there) ∙ there in
@@ -165,7 +165,7 @@ Fits-none a = record {
   default_only = λ one. All-nil (λ s. s.id ≡ []);
 }
 
--- the default section alone keeps to what was declared, where a section was
+-- the default section alone keeps to what was declared, where one section was declared or more
 pub Fits-default_section : (a : CreationAttributes) (made : ℤ) → 1 ≤ a.max_sections → Fits a (default_section made ∷ [])
 Fits-default_section a made some = record {
   few = some;

@@ -13,18 +13,20 @@ use Rattle.ckpt_types.proofs.Presence.{is_named_decides, is_named-by_order, id_c
 id_cmp-Equal : (id : List ℕ) (s : Section) → id_cmp id s.id ≡ Equal → s.id ≡ id
 id_cmp-Equal id s e = (is_named_decides id s).0 (is_named-by_order id s Equal e)
 
--- what names one identifier of two that are one names the other
+-- two sections with one identifier are named alike
 is_named_alike : (id : List ℕ) (r s : Section) → r.id ≡ s.id → is_named id r ≡ is_named id s
 is_named_alike id r s same = ap (λ x. pointwise nat_eq x id) same
 
 -- ---- what is found
 
+-- two tests of which not both hold can be made in either order
 two_tests : (r s : Section) (b c : Bool) (found : Option Section) → (b ≡ true → c ≡ true → ⊥) → cond c (Some s) (cond b (Some r) found) ≡ cond b (Some r) (cond c (Some s) found)
 two_tests r s true true found apart = absurd (apart refl refl)
 two_tests r s true false found apart = refl
 two_tests r s false true found apart = refl
 two_tests r s false false found apart = refl
 
+-- a test made once more behind itself changes nothing
 same_test : (r s : Section) (b : Bool) (found : Option Section) → cond b (Some r) found ≡ cond b (Some r) (cond b (Some s) found)
 same_test r s true found = refl
 same_test r s false found = refl
@@ -49,7 +51,7 @@ section_at-with_section new id (s ∷ sections) =
 pub section_at-with_section_same : (new : Section) (sections : List Section) → section_at new.id (with_section new sections) ≡ Some new
 section_at-with_section_same new sections = section_at-with_section new new.id sections ∙ ap (λ b. cond b (Some new) (section_at new.id sections)) ((is_named_decides new.id new).1 refl)
 
--- the others are found as before
+-- the others are found as before one was placed
 pub section_at-with_section_other : (new : Section) (id : List ℕ) (sections : List Section) → new.id ≢ id → section_at id (with_section new sections) ≡ section_at id sections
 section_at-with_section_other new id sections other =
     section_at-with_section new id sections ∙ ap (λ b. cond b (Some new) (section_at id sections)) (false_from_ne_true (is_named id new) (λ named. other ((is_named_decides id new).0 named)))
@@ -71,7 +73,7 @@ section_at-without_section x id (s ∷ sections) =
 pub section_at-without_section_same : (id : List ℕ) (sections : List Section) → section_at id (without_section id sections) ≡ None
 section_at-without_section_same id sections = section_at-without_section id id sections ∙ ap (λ b. cond b None (section_at id sections)) ((bytes_decides id id).1 refl)
 
--- the others are found as before
+-- the others are found as before one was taken away
 pub section_at-without_section_other : (x id : List ℕ) (sections : List Section) → x ≢ id → section_at id (without_section x sections) ≡ section_at id sections
 section_at-without_section_other x id sections other =
     section_at-without_section x id sections ∙ ap (λ b. cond b None (section_at id sections)) (false_from_ne_true (pointwise nat_eq x id) (λ same. other ((bytes_decides x id).0 same)))
@@ -98,7 +100,7 @@ Rises-with_section new (s ∷ sections) rises =
       | Greater ↦ λ is. (IsBelowAll-with_section s.id new sections (id_cmp_turned new.id s.id Greater is) rises.0, Rises-with_section new sections rises.1)
     ] refl
 
--- and where one is taken away
+-- the identifiers rise still where a section is taken away
 pub Rises-without_section : (id : List ℕ) (sections : List Section) → Rises sections → Rises (without_section id sections)
 Rises-without_section id sections rises = Rises-filter (λ s. not (is_named id s)) sections rises
 
@@ -162,6 +164,7 @@ length-sum_by : (sections : List Section) → length sections ≡ sum_by (λ s. 
 length-sum_by [] = refl
 length-sum_by (s ∷ sections) = omega (arith, length-sum_by sections, sum_by-cons (λ x. 1) s sections)
 
+-- what is found counts one, and nothing counts none
 one_where_some : (found : Option Section) → cond {A = ℕ} (is_some found) 1 0 ≡ option_map_or (λ s. 1) found 0
 one_where_some None = refl
 one_where_some (Some s) = refl

@@ -57,11 +57,12 @@ Rises-present t sections rises = Rises-filter (is_present t) sections rises
 pub IsBelowAll-present : (t : ℤ) (id : List ℕ) (sections : List Section) → IsBelowAll id sections → IsBelowAll id (present t sections)
 IsBelowAll-present t id sections below = IsBelowAll-filter (is_present t) id sections below
 
--- a look-up at a section and the ones after it, of which those present are found as `rest` says
+-- a look-up at a section that is present and at the ones after it, of which those present are found as `rest` says
 where_present-here : (s : Section) (named : Bool) (among all : Option Section) (t : ℤ) → is_present t s ≡ true → among ≡ where_present t all → cond named (Some s) among ≡ where_present t (cond named (Some s) all)
 where_present-here s true among all t here rest = rw here
 where_present-here s false among all t here rest = rest
 
+-- the same look-up at a section that is not present, whose identifier is that of none after it
 where_present-gone : (s : Section) (named : Bool) (among all : Option Section) (t : ℤ) → is_present t s ≡ false → among ≡ where_present t all → (named ≡ true → all ≡ None) → among ≡ where_present t (cond named (Some s) all)
 where_present-gone s true among all t gone rest alone = rw gone (rest ∙ ap (where_present t) (alone refl))
 where_present-gone s false among all t gone rest alone = rest
@@ -81,7 +82,7 @@ section_at-present t id (s ∷ sections) rises =
       | false ↦ λ gone. where_present-gone s (is_named id s) _ _ t gone rest alone
     ] refl
 
--- what is found where a section is present
+-- a section that is found where only a present one is was found, and is present
 pub where_present-Some : (t : ℤ) (found : Option Section) (s : Section) → where_present t found ≡ Some s → (found ≡ Some s) × (is_present t s ≡ true)
 where_present-Some t None s e = absurd (none-some s e)
 where_present-Some t (Some x) s e =
@@ -110,7 +111,7 @@ All-section_at P id (x ∷ sections) s all found =
 
 -- ---- places
 
--- a place is in the list, and its section is the one found
+-- the section found is the one at its place, where that is so of the sections after the first
 place_step : (s : Section) (sections : List Section) (named : Bool) (place : Option ℕ) (found : Option Section) → ((i : ℕ) → place ≡ Some i → found ≡ slice_get sections i) → (i : ℕ) → cond named (Some 0) (option_map suc place) ≡ Some i → cond named (Some s) found ≡ slice_get (s ∷ sections) i
 place_step s sections true place found rest i is = ap (slice_get (s ∷ sections)) (same_Some 0 i is)
 place_step s sections false None found rest i is = absurd (none-some i is)
@@ -141,7 +142,7 @@ place_of-lt id (s ∷ sections) i is = step (is_named id s) (place_of id section
     step false None rest i is = absurd (none-some i is)
     step false (Some j) rest i is = let at : suc j ≡ i = same_Some (suc j) i is in let lt : j < length sections = rest j refl in omega arith
 
--- what holds by the order of a section before one at a later place
+-- an identifier before all is before that of the section at any place
 id_cmp_at : (id : List ℕ) (sections : List Section) (i : ℕ) (s : Section) → IsBelowAll id sections → slice_get sections i ≡ Some s → id_cmp id s.id ≡ Less
 id_cmp_at id [] i s below is = absurd (none-some s is)
 id_cmp_at id (x ∷ sections) zero s below is = subst (λ y. id_cmp id y.id ≡ Less) (same_Some x s is) below.0
@@ -157,7 +158,7 @@ place_of-slice_get (x ∷ sections) (suc i) s rises is =
     let later : id_cmp s.id x.id ≡ Greater = id_cmp_turned x.id s.id Less (id_cmp_at x.id sections i s rises.0 is) in
     rw (is_named-by_order s.id x Greater later, place_of-slice_get sections i s rises.1 is)
 
--- and it is the one found by its identifier
+-- where identifiers rise, each section is the one found by its identifier
 pub section_at-slice_get : (sections : List Section) (i : ℕ) (s : Section) → Rises sections → slice_get sections i ≡ Some s → section_at s.id sections ≡ Some s
 section_at-slice_get sections i s rises is = section_at-place_of s.id sections i (place_of-slice_get sections i s rises is) ∙ is
 
