@@ -72,6 +72,11 @@ is_present t s = int_lt t s.expiration
 abbrev pub present : ℤ → List Section → List Section
 present t sections = filter (is_present t) sections
 
+-- the section, where it is present
+abbrev pub where_present : ℤ → Option Section → Option Section
+where_present t None = None
+where_present t (Some s) = if is_present t s then Some s else None
+
 -- the one section of a checkpoint that may have only one
 abbrev pub default_section : ℤ → Section
 default_section made = record { id = []; bytes = []; expiration = NEVER; state = Valid; last_update = made }
