@@ -1,6 +1,6 @@
 /// What the threads of a race call on their way. It can hold a thread up, and answers nothing.
 pub trait Gate: Sync {
-    /// Called by a client's thread before each of its steps. The steps are counted from 0.
+    /// Called by a client's thread before each of its steps, which are counted from 0. A beginning is a step.
     fn before(&self, client: u8, step: u64);
 
     /// Called by a client's thread while it holds the lock of a node.
