@@ -1,0 +1,85 @@
+ghost use Rattle.std.specs.Prelude.{◌≡◌, ◌↔◌, pos, ◌+ℤ◌, ◌≤ℤ◌, ◌<ℤ◌, IsTrue, IsFalse};
+ghost use Rattle.moment_rules.specs.Times.{never, is_expired, sum_until_end, is_reached};
+
+/// The end of time, in nanoseconds: later than every moment. As an expiration it means never.
+pub const END: i64 = i64::MAX;
+
+/// Whether something with this expiration has expired at the moment `now`, both in nanoseconds.
+/// It expires at the moment of its expiration.
+pub fn expired(expiration: i64, now: i64) -> bool
+    ensures value { result ≡ is_expired expiration now }
+    ensures exact { IsTrue result ↔ (expiration ≤ℤ now) }
+    ensures never_expires { expiration ≡ never → now <ℤ never → IsFalse result }
+{
+    expiration <= now
+}
+
+/// The time that is `duration` after `moment`, both in nanoseconds, or the end of time if that comes first.
+pub fn add_until(moment: i64, duration: i64) -> i64
+    requires moment { pos 0 ≤ℤ moment }
+    requires duration { pos 0 ≤ℤ duration }
+    ensures value { result ≡ sum_until_end moment duration }
+    ensures fits { (moment +ℤ duration) ≤ℤ never → result ≡ moment +ℤ duration }
+    ensures stops { never ≤ℤ (moment +ℤ duration) → result ≡ never }
+    ensures later { moment ≤ℤ result }
+{
+    moment.saturating_add(duration)
+}
+
+/// Whether a deadline has come at the moment `now`, both in nanoseconds.
+/// It is reached at its own moment and from then on, and at the end of time never.
+pub fn reached(deadline: i64, now: i64) -> bool
+    ensures value { result ≡ is_reached deadline now }
+    ensures exact { IsTrue result ↔ ((deadline ≤ℤ now) × (deadline <ℤ never)) }
+    ensures never_reached { deadline ≡ never → IsFalse result }
+    ensures at_moment { now <ℤ never → (IsTrue result ↔ (deadline ≤ℤ now)) }
+{
+    deadline <= now && deadline < END
+}
+
+#[cfg(test)]
+mod tests {
+    use super::*;
+
+    #[test]
+    fn a_time_has_come_at_its_own_moment_and_the_end_of_time_has_not(rt: HostRuntime) {
+        let cases = [
+            (5, 4, false, false),
+            (5, 5, true, true),
+            (5, 6, true, true),
+            (0, 0, true, true),
+            (i64::MIN, i64::MIN, true, true),
+            (0, -1, false, false),
+            (END - 1, END - 1, true, true),
+            (END, 0, false, false),
+            (END, END - 1, false, false),
+            (END, END, true, false),
+        ];
+        for (time, now, is_expired, is_reached) in cases {
+            assert_eq!(rt;
+                expired(time, now),
+                is_expired,
+                "expiration {time} at {now}"
+            );
+            assert_eq!(rt; reached(time, now), is_reached, "deadline {time} at {now}");
+        }
+    }
+
+    #[test]
+    fn a_sum_stops_at_the_end_of_time(rt: HostRuntime) {
+        let cases = [
+            (0, 0, 0),
+            (7, 5, 12),
+            (END - 1, 0, END - 1),
+            (END - 2, 1, END - 1),
+            (END - 1, 1, END),
+            (END - 1, 2, END),
+            (1, END, END),
+            (END, END, END),
+        ];
+        for (moment, duration, sum) in cases {
+            assert!(rt; moment >= 0 && duration >= 0);
+            assert_eq!(rt; add_until(moment, duration), sum, "{moment} and {duration}");
+        }
+    }
+}

@@ -1,0 +1,4 @@
+pub mod Causes
+pub mod Ends
+pub mod MemSource
+pub mod MemSink
