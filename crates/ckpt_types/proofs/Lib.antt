@@ -1,3 +1,4 @@
 pub mod Padding
 pub mod Rows
 pub mod Numbering
+pub mod AttributeLaws
