@@ -11,8 +11,9 @@ use Rattle.ckpt_types.specs.declared.update.NewId.TheVariants.{Given, Generated}
 use Rattle.ckpt_types.specs.declared.update.Update.{Update}
 use Rattle.ckpt_types.specs.declared.update.Update.TheVariants as updates
 use Rattle.ckpt_types.specs.Sections.{Section, Rises, Fits, section_at, with_section, without_section, is_present, present, opening, default_section, memory_used, size_of, is_named}
-use Rattle.ckpt_types.specs.Updates.{numbered_id, free_number, new_id, is_bad_id, written, element_written, elements_written, outcome}
+use Rattle.ckpt_types.specs.Updates.{new_id, is_bad_id, written, element_written, elements_written, outcome}
 use Rattle.ckpt_types.proofs.Accepted.{IsCreated, IsExpirationSet, IsOverwritten, IsElementWritten, and_then-Ok, created-Ok, deleted-Ok, expiration_set-Ok, overwritten-Ok, element_written-Ok, same_Ok}
+use Rattle.ckpt_types.proofs.Numbering.{length-generated_id}
 use Rattle.ckpt_types.proofs.Presence.{section_at-named, All-section_at, Rises-present, length-filter-le, memory_used-filter-le}
 use Rattle.ckpt_types.proofs.Placing.{Rises-with_section, Rises-without_section, All-with_section, length-with_section_taken, length-with_section_free, memory_used-with_section_over}
 
@@ -87,14 +88,10 @@ Fits-with_section_left a new was id sections after rises fits there same small l
     let found : section_at new.id sections ≡ Some was = ap (λ x. section_at x sections) (same ∙ section_at-named id sections was there) ∙ there in
     subst (Fits a) left (Fits-with_section_over a new was sections rises fits found small (subst (λ s. memory_used s ≤ a.checkpoint_size) (sym left) within))
 
--- an identifier that the service makes has 8 bytes
-pub length-numbered_id : (n : ℕ) → length (numbered_id n) ≡ 8
-length-numbered_id n = refl
-
 -- the identifier of a new section is as short as was declared
 pub length-new_id-le : (a : CreationAttributes) (new : NewId) (sections : List Section) → is_bad_id a new ≡ false → length (new_id new sections) ≤ a.max_section_id_size
 length-new_id-le a (Given id) sections good = ltb-false a.max_section_id_size (length id) ((or_parts _ _ good).1)
-length-new_id-le a Generated sections good = rw (length-numbered_id (free_number sections)) (ltb-false a.max_section_id_size 8 good)
+length-new_id-le a Generated sections good = rw (length-generated_id sections) (ltb-false a.max_section_id_size 8 good)
 
 -- a section more keeps to what was declared
 pub Fits-created : (a : CreationAttributes) (new : NewId) (expiration : ℤ) (bytes : List ℕ) (t : ℤ) (sections after : List Section) → Rises sections → Fits a sections → IsCreated a new expiration bytes t sections after → Fits a after

@@ -1,15 +1,13 @@
 -- The identifiers that the service makes: where fewer than 2 ^ 64 - 1 sections are there, the least number
 -- from 1 whose identifier no section has is found, and it is at most one above the number of sections.
-use Rattle.std.proofs.Common.{◌≡◌, ◌≢◌, ℕ, zero, suc, ◌+◌, ◌^◌, ◌<◌, ◌≤◌, List, [], ◌∷◌, length, Option, Some, None, find, Bool, true, false, not, Decides, refl, sym, ap, ◌∙◌, inl, inr, arith}
+use Rattle.std.proofs.Common.{◌≡◌, ◌≢◌, ℕ, zero, suc, ◌+◌, ◌^◌, ◌<◌, ◌≤◌, List, length, Option, Some, None, find, is_some, Bool, true, false, not, refl, sym, ap, ◌∙◌, inl, inr, arith}
 use Rattle.std.specs.Prelude.{unwrap_or}
 use Rattle.std.specs.Int.{from_be_bytes, w64}
-use Rattle.std.proofs.lemmas.Bool.{false≢true, cases_Bool, cases_eq, cond_both, not-true, not-false, false_from_ne_true}
-use Rattle.std.proofs.lemmas.Bool.Decides.{Decides-eqb}
-use Rattle.std.proofs.lemmas.List.Filters.{length-filter_both}
+use Rattle.std.proofs.lemmas.Bool.{cases_eq, cond_both, not-true, not-false}
 use Rattle.std.proofs.lemmas.Nat.{from_be_bytes-to_be_bytes_8}
-use Rattle.std.proofs.lemmas.Slice.Eq.{slice_eq-Decides}
-use Rattle.ckpt_types.specs.Sections.{Section, is_named, is_taken, without_section}
+use Rattle.ckpt_types.specs.Sections.{Section, is_taken, without_section}
 use Rattle.ckpt_types.specs.Updates.{numbered_id, numbers_from, free_number, generated_id}
+use Rattle.ckpt_types.proofs.Placing.{section_at-without_section_other, length-without_section-lt}
 
 -- ---- identifiers of numbers
 
@@ -23,37 +21,7 @@ length-numbered_id n = refl
 
 -- a generated identifier has 8 bytes
 pub length-generated_id : (sections : List Section) → length (generated_id sections) ≡ 8
-length-generated_id sections = refl
-
--- ---- sections and their names
-
--- the test of a section's name says whether the name is its identifier
-is_named-Decides : (id : List ℕ) (s : Section) → Decides (is_named id s) (s.id ≡ id)
-is_named-Decides id s = slice_eq-Decides Decides-eqb s.id id (is_named id s) refl
-
--- the section goes, and others stay: a name is taken as before, where another section went
-is_taken-without_section : (id other : List ℕ) (sections : List Section) → id ≢ other → is_taken id (without_section other sections) ≡ is_taken id sections
-is_taken-without_section id other [] apart = refl
-is_taken-without_section id other (s ∷ sections) apart =
-    let rest : is_taken id (without_section other sections) ≡ is_taken id sections = is_taken-without_section id other sections apart in
-    elim (cases_Bool (is_named other s)) [
-      | inl gone ↦
-          let unnamed : is_named id s ≡ false = false_from_ne_true (is_named id s) (λ here. apart (sym ((is_named-Decides id s).0 here) ∙ (is_named-Decides other s).0 gone)) in
-          rw (gone, unnamed) rest
-      | inr kept ↦ elim (cases_Bool (is_named id s)) [ inl here ↦ rw (kept, here) refl | inr there ↦ rw (kept, there) rest ]
-    ]
-
--- where the name is taken, the list is shorter without its section
-length-without_section : (id : List ℕ) (sections : List Section) → is_taken id sections ≡ true → length (without_section id sections) < length sections
-length-without_section id [] taken = absurd (false≢true taken)
-length-without_section id (s ∷ sections) taken =
-    elim (cases_Bool (is_named id s)) [
-      | inl here ↦ rw here (omega (arith, length-filter_both (is_named id) (λ x. not (is_named id x)) (λ _. refl) sections))
-      | inr there ↦
-          let later : is_taken id sections ≡ true = rw there at taken in
-          let shorter : length (without_section id sections) < length sections = length-without_section id sections later in
-          rw there (omega arith)
-    ]
+length-generated_id sections = length-numbered_id (free_number sections)
 
 -- k numbers have k sections: so many numbers can't all be taken by fewer
 numbers-le-length : (k : ℕ) (sections : List Section) → k < 2 ^ 64 → ((n : ℕ) → 1 ≤ n → n ≤ k → is_taken (numbered_id n) sections ≡ true) → k ≤ length sections
@@ -61,10 +29,10 @@ numbers-le-length zero sections below taken = omega arith
 numbers-le-length (suc k) sections below taken =
     let rest : List Section = without_section (numbered_id (suc k)) sections in
     let here : is_taken (numbered_id (suc k)) sections ≡ true = taken (suc k) (omega arith) (omega arith) in
-    let shorter : length rest < length sections = length-without_section (numbered_id (suc k)) sections here in
+    let shorter : length rest < length sections = length-without_section-lt (numbered_id (suc k)) sections here in
     let others : (n : ℕ) → 1 ≤ n → n ≤ k → is_taken (numbered_id n) rest ≡ true = λ n first last.
-    let apart : numbered_id n ≢ numbered_id (suc k) = λ same. let equal : n ≡ suc k = numbered_id-injective n (suc k) (omega arith) below same in omega arith in
-    is_taken-without_section (numbered_id n) (numbered_id (suc k)) sections apart ∙ taken n first (omega arith) in
+    let apart : numbered_id (suc k) ≢ numbered_id n = λ same. let equal : suc k ≡ n = numbered_id-injective (suc k) n below (omega arith) same in omega arith in
+    ap is_some (section_at-without_section_other (numbered_id (suc k)) (numbered_id n) sections apart) ∙ taken n first (omega arith) in
     let within : k ≤ length rest = numbers-le-length k rest (omega arith) others in
     omega arith
 

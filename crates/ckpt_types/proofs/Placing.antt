@@ -1,9 +1,9 @@
 -- What the sections are once one is placed among them, and once one is taken from them.
-use Rattle.std.proofs.Common.{◌≡◌, ◌≢◌, ℕ, ◌+◌, ◌≤◌, List, [], ◌∷◌, length, Option, Some, None, is_some, Bool, true, false, cond, not, if◌then◌else◌, nat_eq, Less, Equal, Greater, All, sum_by, sym, ap, ◌∙◌, subst, refl, arith}
+use Rattle.std.proofs.Common.{◌≡◌, ◌≢◌, ℕ, ◌+◌, ◌<◌, ◌≤◌, List, [], ◌∷◌, length, Option, Some, None, is_some, Bool, true, false, cond, not, if◌then◌else◌, nat_eq, Less, Equal, Greater, All, sum_by, sym, ap, ◌∙◌, subst, refl, inl, inr, arith}
 use Rattle.std.specs.Option.{option_map_or}
 use Rattle.std.specs.Ordering.{match_ordering}
 use Rattle.std.specs.Cmp.Lexicographic.{bytes_decides, pointwise}
-use Rattle.std.proofs.lemmas.Bool.{false_from_ne_true, true≢false}
+use Rattle.std.proofs.lemmas.Bool.{false_from_ne_true, true≢false, false≢true, cases_Bool}
 use Rattle.std.proofs.lemmas.List.Elements.{All-head, All-tail, All-cons}
 use Rattle.std.proofs.lemmas.List.Sums.{sum_by-cons}
 use Rattle.ckpt_types.specs.Sections.{Section, id_cmp, is_named, section_at, is_taken, IsBelowAll, Rises, with_section, without_section, memory_used, size_of}
@@ -190,3 +190,14 @@ length-without_section id sections rises =
 -- taking a section away takes no more places
 pub length-without_section-le : (id : List ℕ) (sections : List Section) → length (without_section id sections) ≤ length sections
 length-without_section-le id sections = length-filter-le (λ s. not (is_named id s)) sections
+
+-- taking a section away leaves fewer where its identifier was taken, in whatever order the sections stand
+pub length-without_section-lt : (id : List ℕ) (sections : List Section) → is_taken id sections ≡ true → length (without_section id sections) < length sections
+length-without_section-lt id [] taken = absurd (false≢true taken)
+length-without_section-lt id (s ∷ sections) taken =
+    elim (cases_Bool (is_named id s)) [
+      | inl here ↦ rw here (omega (arith, length-without_section-le id sections))
+      | inr there ↦
+          let later : is_taken id sections ≡ true = rw there at taken in
+          rw there (omega (arith, length-without_section-lt id sections later))
+    ]
