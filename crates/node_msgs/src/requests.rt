@@ -1,3 +1,5 @@
+ghost use Rattle.std.specs.Prelude.{◌≡◌};
+
 use ckpt_types::{CallId, Choice, CkptId, Moment};
 
 /// What a call asks of one replica. The update of `Stage`, `Apply` and `Mark`, the elements of `Read`, the
@@ -34,4 +36,31 @@ pub enum Request {
     Pull(CallId, CkptId),
     /// Installs a snapshot.
     Install(CallId, CkptId),
+}
+
+impl Request {
+    ghost use Rattle.node_msgs.specs.Requests.{ckpt_of};
+
+    /// The checkpoint whose replica is asked.
+    pub fn ckpt(&self) -> CkptId
+        ensures { result ≡ ckpt_of self.now }
+    {
+        match *self {
+            Request::Reserve(ckpt) => ckpt,
+            Request::Stage(_, ckpt, _) => ckpt,
+            Request::Claim(_, ckpt, _) => ckpt,
+            Request::Commit(_, ckpt) => ckpt,
+            Request::Withdraw(_, ckpt) => ckpt,
+            Request::Apply(_, ckpt) => ckpt,
+            Request::Mark(_, ckpt) => ckpt,
+            Request::Element(_, ckpt) => ckpt,
+            Request::Unmark(_, ckpt) => ckpt,
+            Request::Read(ckpt) => ckpt,
+            Request::Status(ckpt) => ckpt,
+            Request::Iterate(_, ckpt, _) => ckpt,
+            Request::Next(_, ckpt) => ckpt,
+            Request::Pull(_, ckpt) => ckpt,
+            Request::Install(_, ckpt) => ckpt,
+        }
+    }
 }
