@@ -2,9 +2,11 @@
 #![tactic(auto)]
 
 mod labels;
+mod log;
 mod shown;
 mod words;
 
 pub use labels::{Label, PullReply, PutReply, StepReply};
+pub use log::RunLog;
 pub use shown::{ShownReplica, ShownReplicas, ShownSection, ShownSections, ShownSlot};
 pub use words::{LineWord, OpWord, Said, Verb};
