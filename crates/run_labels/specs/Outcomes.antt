@@ -88,11 +88,19 @@ answer_text (answers.Dispatched given) pieces = codes " " ++ decimal given.given
 abbrev pub head_text : CallId → OpWord → List ℕ
 head_text call op = call_text call ++ codes " " ++ op_text op
 
--- the result line of a call that ended; an abandoned call has none
+-- the result line of a call that was done
+abbrev pub done_line : CallId → OpWord → Answer → Option (List (List ℕ)) → List ℕ
+done_line call op answer pieces = head_text call op ++ codes " OK" ++ answer_text answer pieces ++ codes "\n"
+
+-- the result line of a call that was refused
+abbrev pub refusal_line : CallId → OpWord → AisError → Cause → List ℕ
+refusal_line call op error cause = head_text call op ++ codes " " ++ word_of error ++ told_version error ++ cause_text cause ++ codes "\n"
+
+-- the result line of a call that ended; one that was abandoned or not begun has none
 abbrev pub result_line : CallId → OpWord → Outcome → Option (List (List ℕ)) → List ℕ
-result_line call op (outcomes.Done answer) pieces = head_text call op ++ codes " OK" ++ answer_text answer pieces ++ codes "\n"
-result_line call op (outcomes.Refused error cause) pieces = head_text call op ++ codes " " ++ word_of error ++ told_version error ++ cause_text cause ++ codes "\n"
-result_line call op outcomes.NoMemory pieces = head_text call op ++ codes " NO_MEMORY\n"
+result_line call op (outcomes.Done answer) pieces = done_line call op answer pieces
+result_line call op (outcomes.Refused error cause) pieces = refusal_line call op error cause
+result_line call op outcomes.NoMemory pieces = refusal_line call op errors.NoMemory causes.Plain
 result_line call op outcomes.Abandoned pieces = []
 result_line call op outcomes.Busy pieces = []
 result_line call op outcomes.Astray pieces = []

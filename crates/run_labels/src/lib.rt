@@ -3,7 +3,9 @@
 
 mod labels;
 mod log;
+mod outcomes;
 mod shown;
+mod texts;
 mod words;
 
 pub use labels::{Label, PullReply, PutReply, StepReply};
