@@ -9,9 +9,9 @@ use Rattle.run_labels.specs.Texts.{node_text, ckpt_text, call_text, time_text, b
 
 -- what stands on a replica for a call
 abbrev pub slot_text : ShownSlot → List ℕ
-slot_text slots.Free = codes "free"
-slot_text (slots.Held call) = codes "held " ++ call_text call
-slot_text (slots.Mark call) = codes "mark " ++ call_text call
+slot_text slots.Free = codes " free"
+slot_text (slots.Held call) = codes " held " ++ call_text call
+slot_text (slots.Mark call) = codes " mark " ++ call_text call
 
 -- the active has a star
 abbrev pub star_text : Bool → List ℕ
@@ -26,13 +26,20 @@ shown_section_text section =
     ++ codes " " ++ decimal section.descriptor.size
     ++ codes " " ++ bytes_text section.first
 
+-- which replica it is: `K1 n0*`
+abbrev pub replica_front : ℕ → ℕ → Bool → List ℕ
+replica_front ckpt node active = ckpt_text ckpt ++ codes " " ++ node_text node ++ star_text active
+
+-- its own generation, and how many updates it has
+abbrev pub replica_counts : ℕ → ℕ → List ℕ
+replica_counts generation count = codes " g" ++ decimal generation ++ codes " u" ++ decimal count
+
 -- the line of one replica
 abbrev pub replica_line : ℕ → ShownReplica → List ℕ
 replica_line ckpt replica =
-    ckpt_text ckpt ++ codes " " ++ node_text replica.node ++ star_text replica.active
-    ++ codes " g" ++ decimal replica.generation
-    ++ codes " u" ++ decimal replica.count
-    ++ codes " " ++ slot_text replica.slot
+    replica_front ckpt replica.node replica.active
+    ++ replica_counts replica.generation replica.count
+    ++ slot_text replica.slot
     ++ flat_map shown_section_text replica.sections ++ codes "\n"
 
 -- the lines of all replicas of a checkpoint, or that it is gone
