@@ -9,6 +9,8 @@ mod outcomes;
 mod shown;
 mod shows;
 mod steps;
+#[cfg(test)]
+mod tests;
 mod texts;
 mod words;
 

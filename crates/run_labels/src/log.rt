@@ -77,11 +77,12 @@ impl RunLog {
         self.items.as_slice()
     }
 
-    /// Keeps the first labels, so many of them. It takes no memory.
+    /// Keeps the first labels, so many of them. It takes no memory, and leaves the room of the others.
     pub fn cut(&mut self, len: usize)
         requires { len ≤ length self.old.labels }
         ensures labels { self.new.labels ≡ take len self.old.labels }
         ensures spare { self.old.spare ≤ self.new.spare }
+        ensures room { self.old.spare + length self.old.labels ≤ self.new.spare + len }
     {
         self.items.truncate(len);
     }

@@ -182,10 +182,7 @@ fn append_status(out: &mut Vec<u8>, status: &CheckpointDescriptor) -> Result<(),
 }
 
 /// What a checkpoint is declared to have.
-fn append_attributes(
-    out: &mut Vec<u8>,
-    attributes: &CreationAttributes,
-) -> Result<(), AllocError>
+fn append_attributes(out: &mut Vec<u8>, attributes: &CreationAttributes) -> Result<(), AllocError>
     ensures { OnOk result (out.new.items ≡ out.old.items ++ attributes_text attributes.now) }
 {
     append_spaced(out, u64::from(attributes.creation_flags))?;

@@ -42,11 +42,7 @@ fn append_replicas(
 }
 
 /// The line of one replica.
-fn append_replica(
-    out: &mut Vec<u8>,
-    ckpt: CkptId,
-    replica: &ShownReplica,
-) -> Result<(), AllocError>
+fn append_replica(out: &mut Vec<u8>, ckpt: CkptId, replica: &ShownReplica) -> Result<(), AllocError>
     ensures { OnOk result (out.new.items ≡ out.old.items ++ replica_line ckpt replica.now) }
 {
     append_front(out, ckpt, replica.node, replica.active)?;
@@ -85,7 +81,11 @@ fn append_counts(out: &mut Vec<u8>, generation: u64, count: u64) -> Result<(), A
 fn append_star(out: &mut Vec<u8>, active: bool) -> Result<(), AllocError>
     ensures { OnOk result (out.new.items ≡ out.old.items ++ star_text active) }
 {
-    if active { append_text(out, "*") } else { Ok(()) }
+    if active {
+        append_text(out, "*")
+    } else {
+        Ok(())
+    }
 }
 
 /// What stands on a replica for a call.

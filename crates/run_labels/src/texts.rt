@@ -45,10 +45,7 @@ pub(crate) fn append_spaced_bytes(out: &mut Vec<u8>, bytes: &[u8]) -> Result<(),
 }
 
 /// Adds a space, and whether a section has what was written.
-pub(crate) fn append_spaced_state(
-    out: &mut Vec<u8>,
-    state: SectionState,
-) -> Result<(), AllocError>
+pub(crate) fn append_spaced_state(out: &mut Vec<u8>, state: SectionState) -> Result<(), AllocError>
     ensures { OnOk result (out.new.items ≡ out.old.items ++ (codes " " ++ state_text state)) }
 {
     match state {
