@@ -318,7 +318,7 @@ fn a_refusal_has_its_cause(rt: HostRuntime) -> Result<(), Fail> {
     let version = refused(OpWord::Client, AisError::Version, Cause::Plain);
     let index = refused(OpWord::Write, AisError::NotExist, Cause::Index(2));
     let plain = refused(OpWord::Over, AisError::NoSpace, Cause::Plain);
-    let held = refused(OpWord::Copy, AisError::TryAgain, holder);
+    let held = Outcome::Refused(AisError::TryAgain, holder);
     let changed = refused(OpWord::Write, AisError::TryAgain, Cause::Generations(1, 2));
     let late = refused(OpWord::Sync, AisError::Timeout, Cause::Deadline(5, 6));
     let full = refused(OpWord::Open, AisError::NoResources, Cause::Count(32));
@@ -326,7 +326,11 @@ fn a_refusal_has_its_cause(rt: HostRuntime) -> Result<(), Fail> {
         (version, look, "c0.5 client VERSION B.2.2\n"),
         (index, look, "c0.5 write NOT_EXIST 2\n"),
         (plain, look, "c0.5 over NO_SPACE\n"),
-        (held, look, "c0.5 copy TRY_AGAIN c0.4\n"),
+        (
+            ended(node(1, 1), OpWord::Copy, held),
+            "+ n1.1 look done\n",
+            "n1.1 copy TRY_AGAIN c0.4\n",
+        ),
         (changed, look, "c0.5 write TRY_AGAIN 1 2\n"),
         (late, look, "c0.5 sync TIMEOUT 5 6\n"),
         (full, look, "c0.5 open NO_RESOURCES 32\n"),
