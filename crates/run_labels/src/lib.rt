@@ -1,10 +1,21 @@
 //! The labels of a run, the log that keeps them, and the lines that they print.
 #![tactic(auto)]
 
+mod events;
 mod labels;
+mod lines;
+mod log;
+mod outcomes;
 mod shown;
+mod shows;
+mod steps;
+#[cfg(test)]
+mod tests;
+mod texts;
 mod words;
 
 pub use labels::{Label, PullReply, PutReply, StepReply};
+pub use lines::{append_line, render_line};
+pub use log::RunLog;
 pub use shown::{ShownReplica, ShownReplicas, ShownSection, ShownSections, ShownSlot};
 pub use words::{LineWord, OpWord, Said, Verb};

@@ -1,0 +1,115 @@
+ghost use Rattle.std.specs.Prelude.{◌≡◌, ◌++◌, IfOk, OnOk, None};
+ghost use Rattle.run_labels.specs.OpWord.{word_of_op};
+ghost use Rattle.run_labels.specs.Outcomes.{end_text};
+ghost use Rattle.run_labels.specs.Steps.{where_asked, begin_line, step_line, moment_line};
+ghost use Rattle.run_labels.specs.Lines.{line_of};
+
+use crate::events::{append_fail, append_join, append_pull, append_put, append_word};
+use crate::labels::{Label, StepReply};
+use crate::outcomes::{append_end, append_stepped_end};
+use crate::shows::append_shown;
+use crate::steps::{append_begin, append_moment, append_step};
+use crate::words::{OpWord, Verb};
+use ckpt_types::{Bytes, CallId, CkptId, Moment, NodeId, Op, Outcome};
+use std::alloc::{AllocError, Global};
+
+/// What a label prints, with the lines of steps or without them.
+pub fn render_line(alloc: Global, label: &Label, steps: bool) -> Result<Bytes, AllocError>
+    ensures { IfOk result (λ text. text ≡ line_of steps label.now) }
+{
+    let mut out = Vec::new(alloc);
+    append_line(&mut out, label, steps)?;
+    Ok(Bytes::from_vec(out))
+}
+
+/// Adds what a label prints behind what the buffer has. After an error, which is want of memory, the
+/// buffer may have a part of it.
+pub fn append_line(out: &mut Vec<u8>, label: &Label, steps: bool) -> Result<(), AllocError>
+    ensures { OnOk result (out.new.items ≡ out.old.items ++ line_of steps label.now) }
+{
+    match label {
+        Label::Began { call, op, end } => append_began(out, *call, op, end, steps),
+        Label::Stepped {
+            call,
+            op,
+            verb,
+            ckpt,
+            node,
+            reply,
+            end,
+            pieces,
+        } => {
+            append_asked_step(out, *call, *verb, *ckpt, *node, *reply, steps)?;
+            append_stepped_end(out, *call, *op, end, pieces)
+        }
+        Label::Failed(node, failed) => append_fail(out, *node, *failed),
+        Label::Joined(node, incarnation) => append_join(out, *node, *incarnation),
+        Label::Moved(moment) => append_moved(out, *moment, steps),
+        Label::Pulled(ckpt, reply) => append_pull(out, *ckpt, *reply),
+        Label::Put(ckpt, node, reply) => append_put(out, *ckpt, *node, *reply),
+        Label::Shown(ckpt, replicas) => append_shown(out, *ckpt, replicas),
+        Label::Word(who, line, said) => append_word(out, *who, *line, *said),
+        Label::Nodes(_) => Ok(()),
+    }
+}
+
+/// What a beginning prints.
+fn append_began(
+    out: &mut Vec<u8>,
+    call: CallId,
+    op: &Op,
+    end: &Option<Outcome>,
+    steps: bool,
+) -> Result<(), AllocError>
+    ensures { OnOk result (out.new.items ≡ out.old.items ++ (where_asked steps (begin_line call (word_of_op op.now)) ++ end_text call (word_of_op op.now) end.now None)) }
+{
+    let word = OpWord::of(op);
+    append_asked_begin(out, call, word, steps)?;
+    append_end(out, call, word, end, &None)
+}
+
+/// The line of a call that begins, where steps are asked for.
+fn append_asked_begin(
+    out: &mut Vec<u8>,
+    call: CallId,
+    op: OpWord,
+    steps: bool,
+) -> Result<(), AllocError>
+    ensures { OnOk result (out.new.items ≡ out.old.items ++ where_asked steps (begin_line call op)) }
+{
+    if steps {
+        append_begin(out, call, op)
+    } else {
+        Ok(())
+    }
+}
+
+/// The line of a step, where steps are asked for.
+fn append_asked_step(
+    out: &mut Vec<u8>,
+    call: CallId,
+    verb: Verb,
+    ckpt: Option<CkptId>,
+    node: Option<NodeId>,
+    reply: StepReply,
+    steps: bool,
+) -> Result<(), AllocError>
+    ensures { OnOk result (out.new.items ≡ out.old.items ++ where_asked steps (step_line call verb ckpt node reply)) }
+{
+    if steps {
+        append_step(out, call, verb, ckpt, node, reply)
+    } else {
+        Ok(())
+    }
+}
+
+/// What a moment that was set prints.
+fn append_moved(out: &mut Vec<u8>, moment: Moment, steps: bool) -> Result<(), AllocError>
+    ensures { OnOk result (out.new.items ≡ out.old.items ++ where_asked steps (moment_line moment)) }
+{
+    if steps {
+        append_moment(out, moment)
+    } else {
+        Ok(())
+    }
+}

@@ -1,0 +1,227 @@
+ghost use Rattle.std.specs.Prelude.{◌≡◌, ◌++◌, OnOk, Some, codes, decimal};
+ghost use Rattle.std.specs.List.{flat_map};
+ghost use Rattle.run_labels.specs.Texts.{time_text};
+ghost use Rattle.run_labels.specs.Outcomes.{cause_text, told_version, piece_text, pieces_text, section_text, attributes_text, status_text, answer_text, head_text, done_line, refusal_line, result_line, end_text, stepped_end_text, is_async};
+
+use crate::texts::{
+    append_call, append_ckpt, append_spaced, append_spaced_bytes, append_spaced_state,
+    append_spaced_time, append_text,
+};
+use crate::words::OpWord;
+use ckpt_types::{
+    AisError, Answer, CallId, Cause, CheckpointDescriptor, CreationAttributes, Outcome, Pieces,
+    SectionDescriptor,
+};
+use std::alloc::AllocError;
+
+/// The result line of a call that ended by a step.
+pub(crate) fn append_stepped_end(
+    out: &mut Vec<u8>,
+    call: CallId,
+    op: OpWord,
+    end: &Option<Outcome>,
+    pieces: &Option<Pieces>,
+) -> Result<(), AllocError>
+    ensures { OnOk result (out.new.items ≡ out.old.items ++ stepped_end_text call op end.now pieces.now) }
+{
+    if is_async(op) {
+        return Ok(());
+    }
+    append_end(out, call, op, end, pieces)
+}
+
+/// Whether the operation answers when it begins, and not at its end.
+fn is_async(op: OpWord) -> bool
+    ensures { result ≡ is_async op }
+{
+    matches!(op, OpWord::OpenAsync | OpWord::SyncAsync)
+}
+
+/// The result line, where the call has ended.
+pub(crate) fn append_end(
+    out: &mut Vec<u8>,
+    call: CallId,
+    op: OpWord,
+    end: &Option<Outcome>,
+    pieces: &Option<Pieces>,
+) -> Result<(), AllocError>
+    ensures { OnOk result (out.new.items ≡ out.old.items ++ end_text call op end.now pieces.now) }
+{
+    match end {
+        None => Ok(()),
+        Some(outcome) => append_result(out, call, op, outcome, pieces),
+    }
+}
+
+/// The result line of a call that ended.
+fn append_result(
+    out: &mut Vec<u8>,
+    call: CallId,
+    op: OpWord,
+    outcome: &Outcome,
+    pieces: &Option<Pieces>,
+) -> Result<(), AllocError>
+    ensures { OnOk result (out.new.items ≡ out.old.items ++ result_line call op outcome.now pieces.now) }
+{
+    match outcome {
+        Outcome::Done(answer) => append_done(out, call, op, answer, pieces),
+        Outcome::Refused(error, cause) => append_refusal(out, call, op, *error, *cause),
+        Outcome::NoMemory => append_refusal(out, call, op, AisError::NoMemory, Cause::Plain),
+        Outcome::Abandoned | Outcome::Busy | Outcome::Astray => Ok(()),
+    }
+}
+
+/// The result line of a call that was done.
+fn append_done(
+    out: &mut Vec<u8>,
+    call: CallId,
+    op: OpWord,
+    answer: &Answer,
+    pieces: &Option<Pieces>,
+) -> Result<(), AllocError>
+    ensures { OnOk result (out.new.items ≡ out.old.items ++ done_line call op answer.now pieces.now) }
+{
+    append_head(out, call, op)?;
+    append_text(out, " OK")?;
+    append_answer(out, answer, pieces)?;
+    append_text(out, "\n")
+}
+
+/// The result line of a call that was refused.
+fn append_refusal(
+    out: &mut Vec<u8>,
+    call: CallId,
+    op: OpWord,
+    error: AisError,
+    cause: Cause,
+) -> Result<(), AllocError>
+    ensures { OnOk result (out.new.items ≡ out.old.items ++ refusal_line call op error cause) }
+{
+    append_head(out, call, op)?;
+    append_text(out, " ")?;
+    append_text(out, error.word())?;
+    append_told_version(out, error)?;
+    append_cause(out, cause)?;
+    append_text(out, "\n")
+}
+
+/// The call and its first word.
+fn append_head(out: &mut Vec<u8>, call: CallId, op: OpWord) -> Result<(), AllocError>
+    ensures { OnOk result (out.new.items ≡ out.old.items ++ head_text call op) }
+{
+    append_call(out, call)?;
+    append_text(out, " ")?;
+    append_text(out, op.word())
+}
+
+/// The details of an answer.
+fn append_answer(
+    out: &mut Vec<u8>,
+    answer: &Answer,
+    pieces: &Option<Pieces>,
+) -> Result<(), AllocError>
+    ensures { OnOk result (out.new.items ≡ out.old.items ++ answer_text answer.now pieces.now) }
+{
+    match answer {
+        Answer::Nothing => Ok(()),
+        Answer::Version => append_text(out, " B.2.2"),
+        Answer::Opened(ckpt) => {
+            append_text(out, " ")?;
+            append_ckpt(out, *ckpt)
+        }
+        Answer::Created(id) => append_spaced_bytes(out, id.as_slice()),
+        Answer::Pieces => append_pieces(out, pieces),
+        Answer::Section(section) => append_section(out, section),
+        Answer::Status(status) => append_status(out, status),
+        Answer::Pulled(count) => append_spaced(out, *count),
+        Answer::Dispatched(given) => {
+            append_spaced(out, u64::from(given.given))?;
+            append_spaced(out, u64::from(given.left))
+        }
+    }
+}
+
+/// The pieces of a read.
+fn append_pieces(out: &mut Vec<u8>, pieces: &Option<Pieces>) -> Result<(), AllocError>
+    ensures { OnOk result (out.new.items ≡ out.old.items ++ pieces_text pieces.now) }
+{
+    match pieces {
+        None => Ok(()),
+        Some(pieces) => append_each_piece(out, pieces),
+    }
+}
+
+/// Each piece in order.
+fn append_each_piece(out: &mut Vec<u8>, pieces: &Pieces) -> Result<(), AllocError>
+    ensures { OnOk result (out.new.items ≡ out.old.items ++ flat_map piece_text pieces.now) }
+{
+    for place in 0..pieces.len() {
+        append_spaced_bytes(out, pieces.piece(place))?;
+    }
+    Ok(())
+}
+
+/// What an iteration tells of a section.
+fn append_section(out: &mut Vec<u8>, section: &SectionDescriptor) -> Result<(), AllocError>
+    ensures { OnOk result (out.new.items ≡ out.old.items ++ section_text section.now) }
+{
+    append_spaced_bytes(out, section.id.as_slice())?;
+    append_spaced_time(out, section.expiration)?;
+    append_spaced(out, section.size)?;
+    append_spaced_state(out, section.state)?;
+    append_spaced_time(out, section.last_update)
+}
+
+/// The status of a checkpoint.
+fn append_status(out: &mut Vec<u8>, status: &CheckpointDescriptor) -> Result<(), AllocError>
+    ensures { OnOk result (out.new.items ≡ out.old.items ++ status_text status.now) }
+{
+    append_attributes(out, &status.attributes)?;
+    append_spaced(out, u64::from(status.number_of_sections))?;
+    append_spaced(out, status.memory_used)
+}
+
+/// What a checkpoint is declared to have.
+fn append_attributes(out: &mut Vec<u8>, attributes: &CreationAttributes) -> Result<(), AllocError>
+    ensures { OnOk result (out.new.items ≡ out.old.items ++ attributes_text attributes.now) }
+{
+    append_spaced(out, u64::from(attributes.creation_flags))?;
+    append_spaced(out, attributes.checkpoint_size)?;
+    append_spaced_time(out, attributes.retention_duration)?;
+    append_spaced(out, u64::from(attributes.max_sections))?;
+    append_spaced(out, attributes.max_section_size)?;
+    append_spaced(out, attributes.max_section_id_size)
+}
+
+/// The version that the service speaks, behind a refusal of another one.
+fn append_told_version(out: &mut Vec<u8>, error: AisError) -> Result<(), AllocError>
+    ensures { OnOk result (out.new.items ≡ out.old.items ++ told_version error) }
+{
+    match error {
+        AisError::Version => append_text(out, " B.2.2"),
+        _ => Ok(()),
+    }
+}
+
+/// What shows that a refusal is right.
+fn append_cause(out: &mut Vec<u8>, cause: Cause) -> Result<(), AllocError>
+    ensures { OnOk result (out.new.items ≡ out.old.items ++ cause_text cause) }
+{
+    match cause {
+        Cause::Plain => Ok(()),
+        Cause::Index(index) => append_spaced(out, u64::from(index)),
+        Cause::Holder(call) => {
+            append_text(out, " ")?;
+            append_call(out, call)
+        }
+        Cause::Generations(known, present) => {
+            append_spaced(out, known)?;
+            append_spaced(out, present)
+        }
+        Cause::Deadline(deadline, moment) => {
+            append_spaced_time(out, deadline)?;
+            append_spaced_time(out, moment)
+        }
+        Cause::Count(count) => append_spaced(out, u64::from(count)),
+    }
+}

@@ -1,0 +1,141 @@
+ghost use Rattle.std.specs.Prelude.{◌≡◌, ◌+◌, ◌*◌, ◌++◌, OnOk, codes, decimal, length, take};
+ghost use Rattle.hex.specs.Hex.{encode_lower};
+ghost use Rattle.run_labels.specs.Texts.{node_text, ckpt_text, actor_text, call_text, who_text, time_text, bytes_text, state_text};
+
+use ckpt_types::{ActorName, CallId, CkptId, Moment, NEVER, NodeId, SectionState, Who};
+use itoa::Buffer;
+use std::alloc::AllocError;
+
+/// Adds a text behind the others.
+pub(crate) fn append_text(out: &mut Vec<u8>, text: &str) -> Result<(), AllocError>
+    ensures { OnOk result (out.new.items ≡ out.old.items ++ text.now) }
+{
+    out.extend_from_slice(text.as_bytes())
+}
+
+/// Adds a number.
+pub(crate) fn append_number(out: &mut Vec<u8>, number: u64) -> Result<(), AllocError>
+    ensures { OnOk result (out.new.items ≡ out.old.items ++ decimal number) }
+{
+    append_text(out, Buffer::new().format(number))
+}
+
+/// Adds a space and a number.
+pub(crate) fn append_spaced(out: &mut Vec<u8>, number: u64) -> Result<(), AllocError>
+    ensures { OnOk result (out.new.items ≡ out.old.items ++ (codes " " ++ decimal number)) }
+{
+    append_text(out, " ")?;
+    append_number(out, number)
+}
+
+/// Adds a space and a time.
+pub(crate) fn append_spaced_time(out: &mut Vec<u8>, time: Moment) -> Result<(), AllocError>
+    ensures { OnOk result (out.new.items ≡ out.old.items ++ (codes " " ++ time_text time)) }
+{
+    append_text(out, " ")?;
+    append_time(out, time)
+}
+
+/// Adds a space and bytes.
+pub(crate) fn append_spaced_bytes(out: &mut Vec<u8>, bytes: &[u8]) -> Result<(), AllocError>
+    ensures { OnOk result (out.new.items ≡ out.old.items ++ (codes " " ++ bytes_text bytes.now)) }
+{
+    append_text(out, " ")?;
+    append_bytes(out, bytes)
+}
+
+/// Adds a space, and whether a section has what was written.
+pub(crate) fn append_spaced_state(out: &mut Vec<u8>, state: SectionState) -> Result<(), AllocError>
+    ensures { OnOk result (out.new.items ≡ out.old.items ++ (codes " " ++ state_text state)) }
+{
+    match state {
+        SectionState::Valid => append_text(out, " VALID"),
+        SectionState::Corrupted => append_text(out, " CORRUPTED"),
+    }
+}
+
+/// Adds a node.
+pub(crate) fn append_node(out: &mut Vec<u8>, node: NodeId) -> Result<(), AllocError>
+    ensures { OnOk result (out.new.items ≡ out.old.items ++ node_text node) }
+{
+    append_text(out, "n")?;
+    append_number(out, u64::from(node))
+}
+
+/// Adds a checkpoint.
+pub(crate) fn append_ckpt(out: &mut Vec<u8>, ckpt: CkptId) -> Result<(), AllocError>
+    ensures { OnOk result (out.new.items ≡ out.old.items ++ ckpt_text ckpt) }
+{
+    append_text(out, "K")?;
+    append_number(out, u64::from(ckpt))
+}
+
+/// Adds who begins calls.
+pub(crate) fn append_actor(out: &mut Vec<u8>, actor: ActorName) -> Result<(), AllocError>
+    ensures { OnOk result (out.new.items ≡ out.old.items ++ actor_text actor) }
+{
+    match actor {
+        ActorName::Client(client) => {
+            append_text(out, "c")?;
+            append_number(out, u64::from(client))
+        }
+        ActorName::Node(node) => append_node(out, node),
+    }
+}
+
+/// Adds a call.
+pub(crate) fn append_call(out: &mut Vec<u8>, call: CallId) -> Result<(), AllocError>
+    ensures { OnOk result (out.new.items ≡ out.old.items ++ call_text call) }
+{
+    append_actor(out, call.actor)?;
+    append_text(out, ".")?;
+    append_number(out, u64::from(call.number))
+}
+
+/// Adds whose call is stepped.
+pub(crate) fn append_who(out: &mut Vec<u8>, who: Who) -> Result<(), AllocError>
+    ensures { OnOk result (out.new.items ≡ out.old.items ++ who_text who) }
+{
+    match who {
+        Who::Actor(actor) => append_actor(out, actor),
+        Who::Call(call) => append_call(out, call),
+    }
+}
+
+/// Adds a time.
+pub(crate) fn append_time(out: &mut Vec<u8>, time: Moment) -> Result<(), AllocError>
+    ensures { OnOk result (out.new.items ≡ out.old.items ++ time_text time) }
+{
+    if time == NEVER {
+        append_text(out, "end")
+    } else {
+        append_text(out, Buffer::new().format(time))
+    }
+}
+
+/// Adds bytes.
+pub(crate) fn append_bytes(out: &mut Vec<u8>, bytes: &[u8]) -> Result<(), AllocError>
+    ensures { OnOk result (out.new.items ≡ out.old.items ++ bytes_text bytes.now) }
+{
+    append_text(out, "x")?;
+    let front = out.len();
+    let Some(digits) = bytes.len().checked_mul(2) else {
+        return Err(AllocError);
+    };
+    let Some(len) = front.checked_add(digits) else {
+        return Err(AllocError);
+    };
+    out.resize(len, 0)?;
+    encode_behind(out.as_mut_slice(), front, bytes);
+    Ok(())
+}
+
+/// Puts the digits of the bytes behind the front.
+fn encode_behind(all: &mut [u8], front: usize, bytes: &[u8])
+    requires { length all.old ≡ front + 2 * length bytes.now }
+    ensures { all.new ≡ take front all.old ++ encode_lower bytes.now }
+{
+    let Ok(()) = hex::encode_to_slice(bytes, &mut all[front..]) else {
+        unreachable!()
+    };
+}
