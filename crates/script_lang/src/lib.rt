@@ -5,6 +5,8 @@ mod faults;
 mod forms;
 mod lines;
 mod parser;
+#[cfg(test)]
+mod tests;
 mod words;
 
 pub use faults::{ParseError, Reason, ScriptFault};
