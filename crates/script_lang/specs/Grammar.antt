@@ -3,11 +3,9 @@ use Rattle.std.specs.Prelude.{ℕ, ◌+◌, Bool, false, List, [], ◌∷◌, le
 use Rattle.std.specs.List.{slice_split, onto_first}
 use denote.Ref.{Bor}
 use Rattle.ckpt_types.specs.declared.attributes.CreationAttributes.{CreationAttributes}
-use Rattle.ckpt_types.specs.declared.attributes.TheConstants.{WR_ALL_REPLICAS}
 use Rattle.ckpt_types.specs.declared.calls.Version.{Version}
 use Rattle.ckpt_types.specs.declared.calls.CallbackSet.{CallbackSet}
 use Rattle.ckpt_types.specs.declared.identities.TheConstants.{NEVER}
-use Rattle.ckpt_types.specs.declared.open_flags.TheConstants.{OPEN_FLAGS_ALL}
 use Rattle.ckpt_types.specs.declared.operation.Op.TheVariants as ops
 use Rattle.ckpt_types.specs.declared.update.Update.TheVariants as updates
 use Rattle.script_lang.specs.declared.faults.Reason.{Reason}
@@ -17,7 +15,6 @@ use Rattle.script_lang.specs.declared.forms.LineWord.{LineWord}
 use Rattle.script_lang.specs.declared.forms.LineWord.TheVariants as word
 use Rattle.script_lang.specs.declared.lines.Line.{Line}
 use Rattle.script_lang.specs.declared.lines.Line.TheVariants.{Nodes, Call}
-use Rattle.script_lang.specs.declared.parser.TheConstants.{SCRIPT_BYTES_MAX}
 use Rattle.script_lang.specs.Words.{Class, exactly, a_number, any_number, some_bytes, a_name, Meaning, read, or_reason}
 
 -- what the slices hold
@@ -57,7 +54,7 @@ no_callbacks = record { opens = false; syncs = false }
 
 -- the attributes of a checkpoint that every replica has at each update, with one section and no retention
 abbrev pub attributes_of : ℕ → ℕ → ℕ → CreationAttributes
-attributes_of size max id_size = record { creation_flags = WR_ALL_REPLICAS; checkpoint_size = size; retention_duration = pos 0; max_sections = 1; max_section_size = max; max_section_id_size = id_size }
+attributes_of size max id_size = record { creation_flags = 1; checkpoint_size = size; retention_duration = pos 0; max_sections = 1; max_section_size = max; max_section_id_size = id_size }
 
 -- client c0 writes bytes at an offset of the default section, through its handle h0
 abbrev pub write_of : ℕ → List ℕ → Line
@@ -79,7 +76,7 @@ form word.Client = record {
 }
 form word.Open = record {
   classes = exactly (codes "c0") ∷ exactly (codes "h0") ∷ a_name ∷ exactly (codes "7") ∷ exactly (codes "end") ∷ exactly (codes "1") ∷ any_number ∷ exactly (codes "0") ∷ exactly (codes "1") ∷ any_number ∷ any_number ∷ [];
-  line = λ client place name flags timeout creation size retention sections max id_size. Call 0 (ops.Open 0 name OPEN_FLAGS_ALL NEVER (Some (attributes_of size max id_size)));
+  line = λ client place name flags timeout creation size retention sections max id_size. Call 0 (ops.Open 0 name 7 NEVER (Some (attributes_of size max id_size)));
 }
 form word.Write = record {
   classes = exactly (codes "c0") ∷ exactly (codes "h0") ∷ exactly (codes "x") ∷ any_number ∷ some_bytes ∷ [];
@@ -152,4 +149,4 @@ lines_from n (text ∷ rest) = before n (line_at n (words_of text)) (lines_from 
 
 -- THE SCRIPT that the bytes spell, or what is wrong with them
 unfoldable pub script_of : List ℕ → Result (List Line) ScriptFault
-script_of bytes = if nat_lt SCRIPT_BYTES_MAX (length bytes) then Err (record { line = 0; reason = Length }) else lines_from 1 (text_lines bytes)
+script_of bytes = if nat_lt 262144 (length bytes) then Err (record { line = 0; reason = Length }) else lines_from 1 (text_lines bytes)

@@ -108,7 +108,7 @@ impl LineError {
         ensures { result ≡ at_line line self }
     {
         match self {
-            LineError::Fault(reason) => ParseError::Fault(ScriptFault { line, reason }),
+            LineError::Fault(reason) => ScriptFault { line, reason }.into(),
             LineError::NoMemory => ParseError::NoMemory,
         }
     }

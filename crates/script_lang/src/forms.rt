@@ -13,6 +13,9 @@ use ckpt_types::{
 };
 use std::alloc::{AllocError, Global};
 
+// The most bytes that a read asks for.
+const READ_BYTES_MAX: u64 = 1_024;
+
 /// The first word of a line.
 #[derive(Clone, Copy, Debug)]
 pub(crate) enum LineWord {
@@ -204,7 +207,7 @@ fn read_line(alloc: Global, words: &[&[u8]]) -> Result<Line, LineError>
     words::exactly(place, b"h0")?;
     words::exactly(id, b"x")?;
     let offset = words::number(0, u64::MAX, offset)?;
-    let len = words::number(0, 1_024, len)?;
+    let len = words::number(0, READ_BYTES_MAX, len)?;
     let element = ReadElement {
         id: SectionId::default(),
         offset,

@@ -23,10 +23,11 @@ pub fn parse(alloc: Global, bytes: &[u8]) -> Result<Script, ParseError>
     ensures first_form { IfOk result IsFirstForm }
 {
     if bytes.len() > SCRIPT_BYTES_MAX {
-        return Err(ParseError::Fault(ScriptFault {
+        let fault = ScriptFault {
             line: 0,
             reason: Reason::Length,
-        }));
+        };
+        return Err(fault.into());
     }
     read_lines(alloc, bytes)
 }

@@ -8,7 +8,7 @@ use crate::faults::{LineError, Reason};
 use ckpt_types::{Bytes, name_fits};
 use std::alloc::Global;
 
-/// Whether the word is this text.
+/// This text, and no other word.
 #[tactic(auto, unfolding(crate::specs::Words::read))]
 pub fn exactly(word: &[u8], text: &[u8]) -> Result<(), LineError>
     ensures { Reads result (read (exact_word text.now) word.now) }
@@ -32,7 +32,7 @@ pub fn number(low: u64, high: u64, word: &[u8]) -> Result<u64, LineError>
     }
 }
 
-/// A bytes word.
+/// The bytes of a word: in hexadecimal digits behind an `x`, or as they stand behind a quote.
 #[tactic(auto, unfolding(crate::specs::Words::read, crate::specs::Words::bytes_of))]
 pub fn bytes(alloc: Global, word: &[u8]) -> Result<Bytes, LineError>
     ensures { Reads result (read some_bytes word.now) }
@@ -53,7 +53,7 @@ pub fn bytes(alloc: Global, word: &[u8]) -> Result<Bytes, LineError>
     }
 }
 
-/// The name of a checkpoint.
+/// The name of a checkpoint: a bytes word of 1 to 256 bytes.
 #[tactic(auto, unfolding(crate::specs::Words::read))]
 pub fn name(alloc: Global, word: &[u8]) -> Result<Bytes, LineError>
     ensures exact { Reads result (read a_name word.now) }
@@ -80,7 +80,7 @@ fn number_of(low: u64, high: u64, word: &[u8]) -> Option<u64>
     if low <= n && n <= high { Some(n) } else { None }
 }
 
-// Whether a number may be spelled so from the front: with some byte, and no zero before others.
+// Whether the word has a first byte, which is no zero in front of others.
 fn starts_well(word: &[u8]) -> bool
     ensures { result ≡ spec_starts_well word.now }
 {
