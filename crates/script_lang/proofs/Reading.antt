@@ -14,6 +14,7 @@ abbrev pub behind : List Line → Result (List Line) ScriptFault → Result (Lis
 behind front (Ok lines) = Ok (front ++ lines)
 behind front (Err fault) = Err fault
 
+-- a line that is read goes behind those that were
 behind-before : (front : List Line) (n : ℕ) (line : Line) (rest : Result (List Line) ScriptFault) → behind front (before n (Ok line) rest) ≡ behind (front ++ line ∷ []) rest
 behind-before front n line (Ok lines) = ap (λ xs. Ok xs) (simp append_assoc)
 behind-before front n line (Err fault) = refl
