@@ -1,0 +1,4 @@
+mod LongLines
+mod Numbers
+mod Reading
+mod Texts

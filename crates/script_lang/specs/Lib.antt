@@ -1,0 +1,4 @@
+pub mod Faults
+pub mod FirstForm
+pub mod Grammar
+pub mod Words
