@@ -1,0 +1,4 @@
+pub mod PlaceLemmas
+pub mod StoredLemmas
+pub mod Placed
+pub mod Reserved

@@ -1,0 +1,116 @@
+-- What an update that is not refused leaves, where it is made at the place of its section.
+use Rattle.std.proofs.Common.{◌≡◌, ◌≢◌, ℕ, ◌+◌, ◌<◌, ◌≤◌, List, [], ◌∷◌, length, drop, Option, Some, None, Result, Ok, Err, Bool, true, false, if◌then◌else◌, is_some, ℤ, sym, ap, ◌∙◌, subst, refl, arith}
+use Rattle.std.specs.Prelude.{IsOk, is_ok, insert, remove}
+use Rattle.std.proofs.lemmas.Option.{none-some}
+use Rattle.ckpt_types.specs.declared.attributes.CreationAttributes.{CreationAttributes}
+use Rattle.ckpt_types.specs.declared.sections.SectionState.TheVariants.{Valid}
+use Rattle.ckpt_types.specs.declared.update.IoElement.{IoElement}
+use Rattle.ckpt_types.specs.declared.update.NewId.{NewId}
+use Rattle.ckpt_types.specs.Sections.{Section, Rises, Fits, section_at, place_of, is_taken, with_section, without_section}
+use Rattle.ckpt_types.specs.Updates.{Refusal, new_id, created, deleted, expiration_set, overwritten, written, element_written}
+use Rattle.ckpt_types.proofs.Accepted.{IsElementWritten, IsOverwritten, IsExpirationSet, element_written-Ok, overwritten-Ok, expiration_set-Ok, deleted-Ok, created-Ok}
+use Rattle.ckpt_types.proofs.Presence.{section_at-named, section_at-no_place}
+use Rattle.ckpt_types.proofs.Placing.{Rises-with_section, Rises-without_section}
+use Rattle.ckpt_types.proofs.Fitting.{Fits-element_written, Fits-overwritten, Fits-expiration_set, Fits-without_section, Fits-created}
+use Rattle.section_store.specs.Places.{count_below, changed_at}
+use Rattle.section_store.proofs.PlaceLemmas.{with_section-changed_at, with_section-insert, without_section-remove}
+
+-- an update is not refused and leaves these sections, which rise and keep to what was declared
+pub record Leaves (a : CreationAttributes) (answer : Result (List Section) Refusal) (after : List Section) : Type 0 where
+  pub is : answer ≡ Ok after
+  pub rises : Rises after
+  pub fits : Fits a after
+
+-- what is not refused has a value
+pub Ok_from_IsOk : {A E : Type 0} (r : Result A E) → IsOk r → (x : A) × (r ≡ Ok x)
+Ok_from_IsOk (Ok x) is = (x, refl)
+Ok_from_IsOk (Err e) is = absurd (cc is)
+
+-- the same sections, by another way to them
+Leaves-same : (a : CreationAttributes) (answer : Result (List Section) Refusal) (after other : List Section) → after ≡ other → answer ≡ Ok after → Rises after → Fits a after → Leaves a answer other
+Leaves-same a answer after other same is rises fits = record { is = is ∙ ap Ok same; rises = subst Rises same rises; fits = subst (Fits a) same fits }
+
+-- a section that takes the place of the one found, at that place
+changed_left : (change : Section → Section) (id : List ℕ) (sections after : List Section) (i : ℕ) (was : Section) → Rises sections → place_of id sections ≡ Some i → section_at id sections ≡ Some was → (change was).id ≡ was.id → with_section (change was) sections ≡ after → after ≡ changed_at change i sections
+changed_left change id sections after i was rises place there same left = sym left ∙ with_section-changed_at change id sections i was rises place there (same ∙ section_at-named id sections was there)
+
+-- an element is written into the section at its place
+pub element_written-changed_at : (a : CreationAttributes) (t : ℤ) (e : IoElement) (sections : List Section) (i : ℕ) → Rises sections → Fits a sections → place_of e.id sections ≡ Some i → IsOk (element_written a t 0 e sections)
+    → Leaves a (element_written a t 0 e sections) (changed_at (λ s. record s { bytes = written s.bytes e.offset e.bytes; last_update = t }) i sections)
+element_written-changed_at a t e sections i rises fits place accepted =
+    let (after, is) = Ok_from_IsOk (element_written a t 0 e sections) accepted in
+    let done = element_written-Ok a t 0 e sections after is in
+    let change : Section → Section = λ s. record s { bytes = written s.bytes e.offset e.bytes; last_update = t } in
+    Leaves-same a _ after _ (changed_left change e.id sections after i done.was rises place done.there refl done.left) is
+    (subst Rises done.left (Rises-with_section _ sections rises)) (Fits-element_written a t e sections after rises fits done)
+
+-- an element whose section has no place is refused
+pub element_written-no_place : (a : CreationAttributes) (t : ℤ) (e : IoElement) (sections : List Section) → place_of e.id sections ≡ None → IsOk (element_written a t 0 e sections) → ⊥
+element_written-no_place a t e sections nowhere accepted =
+    let (after, is) = Ok_from_IsOk (element_written a t 0 e sections) accepted in
+    let done = element_written-Ok a t 0 e sections after is in
+    none-some done.was (sym (section_at-no_place e.id sections nowhere) ∙ done.there)
+
+-- the section at a place is overwritten
+pub overwritten-changed_at : (a : CreationAttributes) (id bytes : List ℕ) (t : ℤ) (sections : List Section) (i : ℕ) → Rises sections → Fits a sections → place_of id sections ≡ Some i → IsOk (overwritten a id bytes t sections)
+    → Leaves a (overwritten a id bytes t sections) (changed_at (λ s. record s { bytes = bytes; state = Valid; last_update = t }) i sections)
+overwritten-changed_at a id bytes t sections i rises fits place accepted =
+    let (after, is) = Ok_from_IsOk (overwritten a id bytes t sections) accepted in
+    let done = overwritten-Ok a id bytes t sections after is in
+    let change : Section → Section = λ s. record s { bytes = bytes; state = Valid; last_update = t } in
+    Leaves-same a _ after _ (changed_left change id sections after i done.was rises place done.there refl done.left) is
+    (subst Rises done.left (Rises-with_section _ sections rises)) (Fits-overwritten a id bytes t sections after rises fits done)
+
+-- a section that has no place can't be overwritten
+pub overwritten-no_place : (a : CreationAttributes) (id bytes : List ℕ) (t : ℤ) (sections : List Section) → place_of id sections ≡ None → IsOk (overwritten a id bytes t sections) → ⊥
+overwritten-no_place a id bytes t sections nowhere accepted =
+    let (after, is) = Ok_from_IsOk (overwritten a id bytes t sections) accepted in
+    let done = overwritten-Ok a id bytes t sections after is in
+    none-some done.was (sym (section_at-no_place id sections nowhere) ∙ done.there)
+
+-- the section at a place expires at another moment
+pub expiration_set-changed_at : (a : CreationAttributes) (id : List ℕ) (expiration t : ℤ) (sections : List Section) (i : ℕ) → Rises sections → Fits a sections → place_of id sections ≡ Some i → IsOk (expiration_set a id expiration t sections)
+    → Leaves a (expiration_set a id expiration t sections) (changed_at (λ s. record s { expiration = expiration }) i sections)
+expiration_set-changed_at a id expiration t sections i rises fits place accepted =
+    let (after, is) = Ok_from_IsOk (expiration_set a id expiration t sections) accepted in
+    let done = expiration_set-Ok a id expiration t sections after is in
+    let change : Section → Section = λ s. record s { expiration = expiration } in
+    Leaves-same a _ after _ (changed_left change id sections after i done.was rises place done.there refl done.left) is
+    (subst Rises done.left (Rises-with_section _ sections rises)) (Fits-expiration_set a id expiration t sections after rises fits done)
+
+-- a section that has no place gets no other expiration
+pub expiration_set-no_place : (a : CreationAttributes) (id : List ℕ) (expiration t : ℤ) (sections : List Section) → place_of id sections ≡ None → IsOk (expiration_set a id expiration t sections) → ⊥
+expiration_set-no_place a id expiration t sections nowhere accepted =
+    let (after, is) = Ok_from_IsOk (expiration_set a id expiration t sections) accepted in
+    let done = expiration_set-Ok a id expiration t sections after is in
+    none-some done.was (sym (section_at-no_place id sections nowhere) ∙ done.there)
+
+-- the section goes from its place
+pub deleted-remove : (a : CreationAttributes) (id : List ℕ) (sections : List Section) (i : ℕ) → Rises sections → Fits a sections → place_of id sections ≡ Some i → IsOk (deleted a id sections) → Leaves a (deleted a id sections) (remove sections i)
+deleted-remove a id sections i rises fits place accepted =
+    let (after, is) = Ok_from_IsOk (deleted a id sections) accepted in
+    let done = deleted-Ok a id sections after is in
+    Leaves-same a _ after _ (sym done.left ∙ without_section-remove id sections i rises place) is
+    (subst Rises done.left (Rises-without_section id sections rises)) (subst (Fits a) done.left (Fits-without_section a id sections fits))
+
+-- a section that has no place can't be deleted
+pub deleted-no_place : (a : CreationAttributes) (id : List ℕ) (sections : List Section) → place_of id sections ≡ None → IsOk (deleted a id sections) → ⊥
+deleted-no_place a id sections nowhere accepted =
+    let (after, is) = Ok_from_IsOk (deleted a id sections) accepted in
+    let done = deleted-Ok a id sections after is in
+    none-some done.gone (sym (section_at-no_place id sections nowhere) ∙ done.there)
+
+-- an identifier that is not taken is that of no section
+not_taken : (found : Option Section) → is_some found ≡ false → found ≡ None
+not_taken None free = refl
+not_taken (Some s) free = absurd (cc free)
+
+-- a new section is put in at its place
+pub created-insert : (a : CreationAttributes) (new : NewId) (expiration : ℤ) (bytes : List ℕ) (t : ℤ) (sections : List Section) → Rises sections → Fits a sections → IsOk (created a new expiration bytes t sections)
+    → Leaves a (created a new expiration bytes t sections) (insert sections (count_below (new_id new sections) sections) (record { id = new_id new sections; bytes = bytes; expiration = expiration; state = Valid; last_update = t }))
+created-insert a new expiration bytes t sections rises fits accepted =
+    let (after, is) = Ok_from_IsOk (created a new expiration bytes t sections) accepted in
+    let done = created-Ok a new expiration bytes t sections after is in
+    let section : Section = record { id = new_id new sections; bytes = bytes; expiration = expiration; state = Valid; last_update = t } in
+    Leaves-same a _ after _ (sym done.left ∙ with_section-insert section sections (not_taken (section_at section.id sections) done.free)) is
+    (subst Rises done.left (Rises-with_section section sections rises)) (Fits-created a new expiration bytes t sections after rises fits done)

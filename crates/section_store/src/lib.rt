@@ -1,0 +1,8 @@
+//! The sections of one replica, in storage that is taken when it opens: no update takes memory.
+#![tactic(auto)]
+
+mod order;
+mod store;
+mod stored;
+
+pub use store::Store;
