@@ -1,8 +1,10 @@
+pub mod Accepted
+pub mod AttributeLaws
 pub mod EndsLemmas
+pub mod Fitting
+pub mod Numbering
 pub mod Padding
+pub mod Placing
+pub mod Presence
 pub mod Pushing
 pub mod Rows
-pub mod Presence
-pub mod Placing
-pub mod Accepted
-pub mod Fitting
