@@ -1,11 +1,11 @@
 -- The sections that are kept: where they stand, and what a change of a record makes of them.
-use Rattle.std.proofs.Common.{◌≡◌, ℕ, zero, suc, ◌<◌, ◌≤◌, List, [], ◌∷◌, ◌++◌, Option, length, map, take, drop, All, Some, None, option_map, Bool, true, false, ℤ, int_lt, subst, slice_get, get_or, slice_set, ap, ◌∙◌, sym, refl, arith}
+use Rattle.std.proofs.Common.{◌≡◌, ℕ, zero, suc, ◌<◌, ◌≤◌, List, [], ◌∷◌, ◌++◌, Option, length, map, take, drop, All, Some, None, option_map, Bool, true, false, cond, is_some, ℤ, int_lt, subst, slice_get, get_or, slice_set, ap, ◌∙◌, sym, refl, arith}
 use Rattle.std.specs.Prelude.{vec_capacity, insert, remove}
 use Rattle.std.proofs.lemmas.List.{length-map, map-append, take-map, drop-map, map-set}
 use Rattle.std.proofs.lemmas.List.Elements.{All-append, All-take, All-drop, All-cons, All-nil}
 use Rattle.std.proofs.lemmas.Option.{slice_get-map, slice_get_read}
-use Rattle.ckpt_types.specs.Sections.{Section, Rises, is_named, is_present, place_of, present}
-use Rattle.ckpt_types.proofs.Presence.{is_named_decides, place_of-slice_get, place_of-lt, section_at-place_of, section_at-named}
+use Rattle.ckpt_types.specs.Sections.{Section, Rises, is_named, is_present, is_taken, place_of, present, section_at, where_present}
+use Rattle.ckpt_types.proofs.Presence.{is_named_decides, place_of-slice_get, place_of-lt, section_at-place_of, section_at-named, section_at-present, section_at-no_place}
 use Rattle.section_store.specs.Places.{changed_at}
 use Rattle.section_store.specs.Stored.{section_of, sections_of, HaveRoom}
 use Rattle.section_store.specs.declared.stored.Stored.{Stored}
@@ -79,3 +79,34 @@ swept_gone t (suc n) (o ∷ old) (k ∷ now) gone there is absent front behind =
 -- where a search found an identifier, over the same records
 pub place_found : (id : List ℕ) (kept shown : List Stored) (found o : Option ℕ) → shown ≡ kept → found ≡ place_of id (sections_of shown) → found ≡ o → place_of id (sections_of kept) ≡ o
 place_found id kept shown found o same is result = ap (λ xs. place_of id (sections_of xs)) (sym same) ∙ sym is ∙ result
+
+-- a record taken away takes its section away
+pub sections_of-remove : (kept : List Stored) (i : ℕ) → sections_of (remove kept i) ≡ remove (sections_of kept) i
+sections_of-remove kept i = simp (map-append, take-map, drop-map)
+
+-- a record put in puts its section in
+pub sections_of-insert : (kept : List Stored) (i : ℕ) (s : Stored) → sections_of (insert kept i s) ≡ insert (sections_of kept) i (section_of s)
+sections_of-insert kept i s = simp (map-append, take-map, drop-map)
+
+-- buffers have room still where one more is put in
+pub HaveRoom-insert : (size : ℕ) (kept : List Stored) (i : ℕ) (s : Stored) → HaveRoom size kept → size ≤ vec_capacity s.bytes → HaveRoom size (insert kept i s)
+HaveRoom-insert size kept i s room here =
+    let P : Stored → Type 0 = λ s. size ≤ vec_capacity s.bytes in
+    All-append P (take i kept) (s ∷ drop i kept) (All-take P i kept room) (All-cons P s (drop i kept) here (All-drop P i kept room))
+
+-- a section is found where it is kept
+pub section_at-kept : (id : List ℕ) (kept : List Stored) (i : ℕ) (s : Stored) → place_of id (sections_of kept) ≡ Some i → i < length kept → s ≡ get_or kept i s → section_at id (sections_of kept) ≡ Some (section_of s)
+section_at-kept id kept i s place there is = section_at-place_of id (sections_of kept) i place ∙ slice_get-sections_of kept i s there is
+
+-- one section, where it is present, is found just while it is present
+is_some-where_present : (t : ℤ) (s : Section) → is_some (where_present t (Some s)) ≡ is_present t s
+is_some-where_present t s = elim (is_present t s) as (λ b. is_some (cond b (Some s) None) ≡ b) [ true ↦ refl | false ↦ refl ]
+
+-- an identifier is taken just while the section that is kept under it is present
+pub is_taken-kept : (t : ℤ) (id : List ℕ) (kept : List Stored) (i : ℕ) (s : Stored) → Rises (sections_of kept) → place_of id (sections_of kept) ≡ Some i → i < length kept → s ≡ get_or kept i s → is_taken id (present t (sections_of kept)) ≡ is_present t (section_of s)
+is_taken-kept t id kept i s rises place there is =
+    ap is_some (section_at-present t id (sections_of kept) rises ∙ ap (where_present t) (section_at-kept id kept i s place there is)) ∙ is_some-where_present t (section_of s)
+
+-- an identifier that has no place is not taken
+pub is_taken-no_place : (t : ℤ) (id : List ℕ) (kept : List Stored) → Rises (sections_of kept) → place_of id (sections_of kept) ≡ None → is_taken id (present t (sections_of kept)) ≡ false
+is_taken-no_place t id kept rises nowhere = ap is_some (section_at-present t id (sections_of kept) rises ∙ ap (where_present t) (section_at-no_place id (sections_of kept) nowhere))

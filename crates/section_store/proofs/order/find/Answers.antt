@@ -10,14 +10,14 @@ use Rattle.section_store.proofs.StoredLemmas.{length-sections_of, place_of-kept,
 use Rattle.section_store.proofs.order.find.Goals as goal
 use Rattle.section_store.proofs.order.find.Goals.{else-place-kept-via-then-place-kept+else-eq, else-place-kept-via-else-place-kept}
 
-pub returns-then-eq : goal.returns-then-eq
-returns-then-eq c =
+pub returns-then-eq-clause-place : goal.returns-then-eq-clause-place
+returns-then-eq-clause-place c =
     let stored = c.index-kept-place.result in
     let named : is_named c.args.id.now (section_of stored) ≡ true = ap (λ s. pointwise nat_eq s.id c.args.id.now) c.index-kept-place.is ∙ sym c.eq.ensures ∙ c.if-eq.true in
     sym (place_of-kept c.args.id.now c.args.kept.now c.place_for-place.result stored c.requires c.if-place-kept.true c.index-kept-place.is named)
 
-pub returns-else-place-kept : goal.returns-else-place-kept
-returns-else-place-kept c =
+pub returns-else-place-kept-clause-place : goal.returns-else-place-kept-clause-place
+returns-else-place-kept-clause-place c =
     let id = c.args.id.now in
     let kept = c.args.kept.now in
     let at : (i : ℕ) → place_of id (sections_of kept) ≡ Some i → c.place_for-place.result ≡ i = λ i place. c.place_for-place.ensures.place ∙ count_below-place_of id (sections_of kept) i c.requires place in

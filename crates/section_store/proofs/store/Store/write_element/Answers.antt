@@ -1,31 +1,24 @@
 use Rattle.std.proofs.Common.{◌≡◌, ◌<◌, ◌+◌, ◌∙◌, ap, sym, subst, refl, length, Some, to_z, of_z, w64, arith}
 use Rattle.std.proofs.lemmas.Int.{to_z-of_z}
 use Rattle.ckpt_types.specs.Updates.{written, element_written}
-use Rattle.ckpt_types.proofs.Presence.{place_of-lt}
 use Rattle.section_store.specs.Places.{changed_at}
 use Rattle.section_store.specs.Stored.{sections_of}
 use Rattle.section_store.proofs.Placed.{Leaves, element_written-changed_at, element_written-no_place}
-use Rattle.section_store.proofs.StoredLemmas.{length-sections_of, place_found}
+use Rattle.section_store.proofs.StoredLemmas.{place_found}
 use Rattle.section_store.proofs.Reserved.{IsReserved-changed}
 use Rattle.section_store.proofs.store.Store.write_element.Goals as goal
 
 pub unreachable-requires : goal.unreachable-requires
 unreachable-requires c =
     element_written-no_place c.self.inside.attributes c.args.now c.args.element.now (sections_of c.self.inside.kept.items)
-    (place_found c.args.element.now.id c.self.inside.kept.items _ _ _ c.as_slice.ensures.value c.find.ensures c.in_default.is) (rw (← c.self.view_is) at c.requires)
-
-pub write_into-requires-clause-there : goal.write_into-requires-clause-there
-write_into-requires-clause-there c =
-    let kept = c.self.inside.kept.items in
-    let place = place_found c.args.element.now.id kept _ _ _ c.as_slice.ensures.value c.find.ensures c.in-Some.is in
-    omega (arith, place_of-lt c.args.element.now.id (sections_of kept) c.in-Some.place place, length-sections_of kept)
+    (place_found c.args.element.now.id c.self.inside.kept.items _ _ _ c.as_slice.ensures.value c.find.ensures.place c.in_default.is) (rw (← c.self.view_is) at c.requires)
 
 -- the element is written
 left : (c : goal.After-write_into) → Leaves c.self.inside.attributes (element_written c.self.inside.attributes c.args.now 0 c.args.element.now (sections_of c.self.inside.kept.items)) (sections_of c.write_into.new.kept.items)
 left c =
     let e = c.args.element.now in
     let kept = sections_of c.self.inside.kept.items in
-    let place = place_found e.id c.self.inside.kept.items _ _ _ c.as_slice.ensures.value c.find.ensures c.in-Some.is in
+    let place = place_found e.id c.self.inside.kept.items _ _ _ c.as_slice.ensures.value c.find.ensures.place c.in-Some.is in
     let moment : to_z w64 (of_z w64 c.args.now) ≡ c.args.now = to_z-of_z w64 c.args.now c.ranges.now in
     let written_now : sections_of c.write_into.new.kept.items ≡ changed_at (λ s. record s { bytes = written s.bytes e.offset e.bytes; last_update = c.args.now }) c.in-Some.place kept =
     c.write_into.ensures.sections ∙ (λ i. changed_at (λ s. record s { bytes = written s.bytes e.offset (c.as_slice-2.ensures i); last_update = moment i }) c.in-Some.place kept) in
