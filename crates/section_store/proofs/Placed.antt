@@ -1,14 +1,14 @@
 -- What an update that is not refused leaves, where it is made at the place of its section.
-use Rattle.std.proofs.Common.{◌≡◌, ◌≢◌, ℕ, ◌+◌, ◌<◌, ◌≤◌, List, [], ◌∷◌, length, drop, Option, Some, None, Result, Ok, Err, Bool, true, false, if◌then◌else◌, is_some, ℤ, sym, ap, ◌∙◌, subst, refl, arith}
+use Rattle.std.proofs.Common.{◌≡◌, ◌≢◌, ℕ, ◌+◌, ◌<◌, ◌≤◌, List, [], ◌∷◌, length, drop, Option, Some, None, Result, Ok, Err, Bool, true, false, cond, is_some, ℤ, sym, ap, ◌∙◌, subst, refl, arith}
 use Rattle.std.specs.Prelude.{IsOk, is_ok, insert, remove}
 use Rattle.std.proofs.lemmas.Option.{none-some}
 use Rattle.ckpt_types.specs.declared.attributes.CreationAttributes.{CreationAttributes}
 use Rattle.ckpt_types.specs.declared.sections.SectionState.TheVariants.{Valid}
 use Rattle.ckpt_types.specs.declared.update.IoElement.{IoElement}
 use Rattle.ckpt_types.specs.declared.update.NewId.{NewId}
-use Rattle.ckpt_types.specs.Sections.{Section, Rises, Fits, section_at, place_of, is_taken, with_section, without_section}
-use Rattle.ckpt_types.specs.Updates.{Refusal, new_id, created, deleted, expiration_set, overwritten, written, element_written}
-use Rattle.ckpt_types.proofs.Accepted.{IsElementWritten, IsOverwritten, IsExpirationSet, element_written-Ok, overwritten-Ok, expiration_set-Ok, deleted-Ok, created-Ok}
+use Rattle.ckpt_types.specs.Sections.{Section, Rises, Fits, section_at, place_of, with_section, is_present, present}
+use Rattle.ckpt_types.specs.Updates.{Refusal, new_id, created, deleted, expiration_set, overwritten, written, element_written, elements_written}
+use Rattle.ckpt_types.proofs.Accepted.{and_then-Ok, element_written-Ok, overwritten-Ok, expiration_set-Ok, deleted-Ok, created-Ok}
 use Rattle.ckpt_types.proofs.Presence.{section_at-named, section_at-no_place}
 use Rattle.ckpt_types.proofs.Placing.{Rises-with_section, Rises-without_section}
 use Rattle.ckpt_types.proofs.Fitting.{Fits-element_written, Fits-overwritten, Fits-expiration_set, Fits-without_section, Fits-created}
@@ -114,3 +114,31 @@ created-insert a new expiration bytes t sections rises fits accepted =
     let section : Section = record { id = new_id new sections; bytes = bytes; expiration = expiration; state = Valid; last_update = t } in
     Leaves-same a _ after _ (sym done.left ∙ with_section-insert section sections (not_taken (section_at section.id sections) done.free)) is
     (subst Rises done.left (Rises-with_section section sections rises)) (Fits-created a new expiration bytes t sections after rises fits done)
+
+-- an element that is not refused at one place of a vector is not refused at another
+pub element_written-any_place : (a : CreationAttributes) (t : ℤ) (place other : ℕ) (e : IoElement) (sections after : List Section) → element_written a t place e sections ≡ Ok after → element_written a t other e sections ≡ Ok after
+element_written-any_place a t place other e sections after is = grind arith
+
+-- where a vector is not refused, its first element is not
+pub element_written-IsOk : (a : CreationAttributes) (t : ℤ) (place : ℕ) (e : IoElement) (elements : List IoElement) (sections : List Section) → IsOk (elements_written a t place (e ∷ elements) sections) → IsOk (element_written a t 0 e sections)
+element_written-IsOk a t place e elements sections accepted =
+    let (after, is) = Ok_from_IsOk (elements_written a t place (e ∷ elements) sections) accepted in
+    let (next, first, rest) = and_then-Ok (element_written a t place e sections) (elements_written a t (place + 1) elements) after is in
+    ap is_ok (element_written-any_place a t place 0 e sections next first)
+
+-- where a creation is not refused, there is room for one more section, and in a buffer for its bytes
+pub created-room : (a : CreationAttributes) (new : NewId) (expiration : ℤ) (bytes : List ℕ) (t : ℤ) (sections : List Section) → IsOk (created a new expiration bytes t sections) → (length sections < a.max_sections) × (length bytes ≤ a.max_section_size)
+created-room a new expiration bytes t sections accepted =
+    let (after, is) = Ok_from_IsOk (created a new expiration bytes t sections) accepted in
+    let done = created-Ok a new expiration bytes t sections after is in
+    (done.room, done.small)
+
+-- those present at a moment are present then
+pub present-present : (t : ℤ) (sections : List Section) → present t (present t sections) ≡ present t sections
+present-present t [] = refl
+present-present t (s ∷ sections) =
+    let rest = present-present t sections in
+    elim (is_present t s) as (λ b. is_present t s ≡ b → present t (cond b (s ∷ present t sections) (present t sections)) ≡ cond b (s ∷ present t sections) (present t sections)) [
+      | true ↦ λ here. rw here (ap (λ xs. s ∷ xs) rest)
+      | false ↦ λ gone. rest
+    ] refl
