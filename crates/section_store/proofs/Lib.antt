@@ -2,3 +2,4 @@ pub mod PlaceLemmas
 pub mod StoredLemmas
 pub mod Placed
 pub mod Reserved
+pub mod Reading

@@ -1,12 +1,12 @@
 -- Where an identifier stands among sections that rise, and what a change there makes of them.
 use Rattle.std.proofs.Common.{◌≡◌, ◌≢◌, ℕ, zero, suc, ◌+◌, ◌<◌, ◌≤◌, List, [], ◌∷◌, ◌++◌, length, take, drop, filter, Option, Some, None, option_map, slice_get, Bool, true, false, cond, not, Ordering, Less, Equal, Greater, sym, ap, ◌∙◌, subst, refl, arith}
-use Rattle.std.specs.Prelude.{insert, remove}
+use Rattle.std.specs.Prelude.{insert, remove, MatchOption}
 use Rattle.std.specs.Ordering.{match_ordering}
 use Rattle.std.proofs.lemmas.Bool.{true≢false}
 use Rattle.std.proofs.lemmas.Cmp.{nat_list_cmp_total, tied_itself}
 use Rattle.std.proofs.lemmas.Option.{none-some, same_Some}
 use Rattle.ckpt_types.specs.Sections.{Section, id_cmp, is_named, section_at, place_of, IsBelowAll, Rises, with_section, without_section}
-use Rattle.ckpt_types.proofs.Presence.{is_named_decides, is_named-by_order, id_cmp_turned, id_cmp_trans, section_at-named, section_at-place_of, section_at-below_all}
+use Rattle.ckpt_types.proofs.Presence.{is_named_decides, is_named-by_order, id_cmp_turned, id_cmp_trans, section_at-named, section_at-place_of, section_at-no_place, section_at-below_all}
 use Rattle.section_store.specs.Places.{count_below, changed_at}
 
 -- ---- the order
@@ -132,3 +132,17 @@ without_section-remove id (x ∷ sections) i rises is =
           let (j, at_j, next) = suc_place (place_of id sections) i at in
           rw (← next) (ap (λ rest. x ∷ rest) (without_section-remove id sections j rises.1 at_j))
     ] refl is
+
+-- what is found is at the place, and nothing where there is no place
+pub section_at-MatchOption : (id : List ℕ) (sections : List Section) → MatchOption (place_of id sections) (section_at id sections ≡ None) (λ place. section_at id sections ≡ slice_get sections place)
+section_at-MatchOption id sections =
+    elim (place_of id sections) as (λ o. place_of id sections ≡ o → MatchOption o (section_at id sections ≡ None) (λ place. section_at id sections ≡ slice_get sections place)) [
+      | None ↦ λ nowhere. section_at-no_place id sections nowhere
+      | Some i ↦ λ at. section_at-place_of id sections i at
+    ] refl
+
+-- the first sections with the next one put in behind them are the first ones and one more
+pub insert-take : (sections : List Section) (i : ℕ) (s : Section) → slice_get sections i ≡ Some s → insert (take i sections) i s ≡ take (suc i) sections
+insert-take [] i s is = absurd (none-some s is)
+insert-take (x ∷ sections) zero s is = ap (λ y. y ∷ []) (sym (same_Some x s is))
+insert-take (x ∷ sections) (suc i) s is = ap (λ xs. x ∷ xs) (insert-take sections i s is)

@@ -3,17 +3,18 @@ use Rattle.std.proofs.Common.{◌≡◌, ◌≢◌, ℕ, ◌+◌, ◌<◌, ◌�
 use Rattle.std.specs.Prelude.{IsOk, is_ok, insert, remove}
 use Rattle.std.proofs.lemmas.Option.{none-some}
 use Rattle.ckpt_types.specs.declared.attributes.CreationAttributes.{CreationAttributes}
-use Rattle.ckpt_types.specs.declared.sections.SectionState.TheVariants.{Valid}
+use Rattle.ckpt_types.specs.declared.sections.SectionState.TheVariants.{Valid, Corrupted}
 use Rattle.ckpt_types.specs.declared.update.IoElement.{IoElement}
 use Rattle.ckpt_types.specs.declared.update.NewId.{NewId}
-use Rattle.ckpt_types.specs.Sections.{Section, Rises, Fits, section_at, place_of, with_section, is_present, present}
+use Rattle.ckpt_types.specs.Sections.{Section, Rises, Fits, section_at, place_of, with_section, is_present, present, size_of}
 use Rattle.ckpt_types.specs.Updates.{Refusal, new_id, created, deleted, expiration_set, overwritten, written, element_written, elements_written}
 use Rattle.ckpt_types.proofs.Accepted.{and_then-Ok, element_written-Ok, overwritten-Ok, expiration_set-Ok, deleted-Ok, created-Ok}
-use Rattle.ckpt_types.proofs.Presence.{section_at-named, section_at-no_place}
-use Rattle.ckpt_types.proofs.Placing.{Rises-with_section, Rises-without_section}
-use Rattle.ckpt_types.proofs.Fitting.{Fits-element_written, Fits-overwritten, Fits-expiration_set, Fits-without_section, Fits-created}
+use Rattle.ckpt_types.proofs.Presence.{section_at-named, section_at-no_place, section_at-place_of, place_of-lt, All-section_at}
+use Rattle.ckpt_types.proofs.Placing.{Rises-with_section, Rises-without_section, memory_used-with_section_over}
+use Rattle.ckpt_types.proofs.Fitting.{Fits-element_written, Fits-overwritten, Fits-expiration_set, Fits-without_section, Fits-created, Fits-with_section_over}
 use Rattle.section_store.specs.Places.{count_below, changed_at}
-use Rattle.section_store.proofs.PlaceLemmas.{with_section-changed_at, with_section-insert, without_section-remove}
+use Rattle.section_store.specs.StoreState.{corrupted, corrupted_where}
+use Rattle.section_store.proofs.PlaceLemmas.{slice_get-within, with_section-changed_at, with_section-insert, without_section-remove}
 
 -- an update is not refused and leaves these sections, which rise and keep to what was declared
 pub record Leaves (a : CreationAttributes) (answer : Result (List Section) Refusal) (after : List Section) : Type 0 where
@@ -142,3 +143,22 @@ present-present t (s ∷ sections) =
       | true ↦ λ here. rw here (ap (λ xs. s ∷ xs) rest)
       | false ↦ λ gone. rest
     ] refl
+
+-- the section of an identifier is corrupted at its place
+pub corrupted-changed_at : (a : CreationAttributes) (id : List ℕ) (sections : List Section) (i : ℕ) → Rises sections → Fits a sections → place_of id sections ≡ Some i
+    → (corrupted id sections ≡ changed_at (λ s. record s { state = Corrupted }) i sections) × Rises (corrupted id sections) × Fits a (corrupted id sections)
+corrupted-changed_at a id sections i rises fits place =
+    let (was, at) = slice_get-within sections i (place_of-lt id sections i place) in
+    let found : section_at id sections ≡ Some was = section_at-place_of id sections i place ∙ at in
+    let named : was.id ≡ id = section_at-named id sections was found in
+    let change : Section → Section = λ s. record s { state = Corrupted } in
+    let found_again : section_at was.id sections ≡ Some was = ap (λ x. section_at x sections) named ∙ found in
+    let same = memory_used-with_section_over (change was) was sections rises found_again in
+    let small : size_of was ≤ a.max_section_size = All-section_at (λ s. size_of s ≤ a.max_section_size) id sections was fits.small found in
+    let left : Fits a (with_section (change was) sections) = Fits-with_section_over a (change was) was sections rises fits found_again small (omega (arith, same, fits.within)) in
+    let is : corrupted id sections ≡ with_section (change was) sections = ap (λ o. corrupted_where o sections) found in
+    (is ∙ with_section-changed_at change id sections i was rises place found named, subst Rises (sym is) (Rises-with_section (change was) sections rises), subst (Fits a) (sym is) left)
+
+-- nothing is corrupted where the identifier has no place
+pub corrupted-no_place : (id : List ℕ) (sections : List Section) → place_of id sections ≡ None → corrupted id sections ≡ sections
+corrupted-no_place id sections nowhere = ap (λ o. corrupted_where o sections) (section_at-no_place id sections nowhere)

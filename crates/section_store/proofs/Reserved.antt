@@ -1,6 +1,7 @@
 -- A store keeps its storage where the records that it keeps are changed.
-use Rattle.std.proofs.Common.{◌≡◌, ℕ, ◌+◌, ◌≤◌, List, length, subst, sym, ap, arith}
+use Rattle.std.proofs.Common.{◌≡◌, ℕ, ◌+◌, ◌≤◌, List, false, length, subst, sym, ap, arith}
 use Rattle.std.specs.Prelude.{vec_capacity}
+use Rattle.ckpt_types.specs.Attributes.{is_malformed}
 use Rattle.ckpt_types.specs.Sections.{Section, Rises, Fits}
 use Rattle.section_store.specs.Store.{IsReserved}
 use Rattle.section_store.specs.Stored.{sections_of, HaveRoom}
@@ -24,6 +25,7 @@ IsReserved-Replaces s new same was is =
     let spare_places = was.spare_places in
     let sections : ℕ = s.attributes.max_sections in
     record {
+      checked = subst (λ a. is_malformed a ≡ false) (sym same) was.checked;
       rises = is.rises;
       fits = subst (λ a. Fits a (sections_of new.kept.items)) (sym same) is.fits;
       all = subst (λ a. length new.kept.items + length new.spare.items ≡ a.max_sections) (sym same) (omega (arith, is.all, was.all));

@@ -4,7 +4,6 @@ ghost use Rattle.ckpt_types.specs.Updates.{generated_id, new_id, numbered_id};
 ghost use Rattle.section_store.specs.Stored.{sections_of};
 
 use ckpt_types::{Moment, NewId, SectionId};
-use moment_rules::expired;
 
 use crate::order::find;
 use crate::stored::Stored;
@@ -48,7 +47,7 @@ fn is_taken(kept: &[Stored], id: &SectionId, now: Moment) -> bool
     ensures { result ≡ is_taken id.now (present now (sections_of kept.now)) }
 {
     match find(kept, id) {
-        Some(place) => !expired(kept[place].expiration, now),
+        Some(place) => kept[place].is_present(now),
         None => false,
     }
 }

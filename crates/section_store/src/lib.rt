@@ -3,6 +3,7 @@
 
 mod identifiers;
 mod order;
+mod reads;
 mod store;
 mod stored;
 

@@ -1,5 +1,5 @@
-ghost use Rattle.std.specs.Prelude.{◌≡◌, ◌+◌, ◌≤◌, ◌<◌, ℕ, List, [], length, vec_capacity, insert, remove, IfOk, IfSome};
-ghost use Rattle.ckpt_types.specs.Sections.{Rises, place_of, present, section_of as lent_section};
+ghost use Rattle.std.specs.Prelude.{◌≡◌, ◌+◌, ◌≤◌, ◌<◌, ℕ, List, [], length, vec_capacity, insert, remove, All, IfOk, IfSome};
+ghost use Rattle.ckpt_types.specs.Sections.{Rises, place_of, present, size_of, section_of as lent_section};
 ghost use Rattle.ckpt_types.specs.Updates.{written};
 ghost use Rattle.ckpt_types.specs.declared.sections.SectionState.TheVariants.{Valid, Corrupted};
 ghost use Rattle.section_store.specs.Places.{count_below, changed_at};
@@ -8,8 +8,7 @@ ghost use Rattle.section_store.specs.Stored.{section_of, sections_of, HaveRoom};
 use std::alloc::{AllocError, Global};
 use std::cmp::Ordering;
 
-use ckpt_types::{Moment, SectionId, SectionRef, SectionState};
-use moment_rules::expired;
+use ckpt_types::{Moment, SectionId, SectionRef, SectionState, Sections};
 
 use crate::stored::{Stored, put_all, write_at};
 
@@ -87,7 +86,7 @@ pub(crate) fn drop_absent(kept: &mut Vec<Stored>, spare: &mut Vec<Stored>, now: 
     let mut place = kept.len();
     while place > 0 {
         place -= 1;
-        if expired(kept[place].expiration, now) {
+        if !kept[place].is_present(now) {
             let gone = kept.remove(place);
             spare.push_reserved(gone);
         }
@@ -200,4 +199,25 @@ pub(crate) fn buffers(alloc: Global, count: usize, size: usize) -> Result<Vec<St
         spare.push_reserved(stored);
     }
     Ok(spare)
+}
+
+/// Puts a copy of each section in, in spare buffers.
+pub(crate) fn copy_in<S: Sections>(kept: &mut Vec<Stored>, spare: &mut Vec<Stored>, other: &S)
+    requires none { kept.old.items ≡ [] }
+    requires buffers { length (S.sections other.now) ≤ length spare.old.items }
+    requires room { All (λ s. HaveRoom (size_of s) spare.old.items) (S.sections other.now) }
+    requires kept_room { length spare.old.items ≤ vec_capacity kept.old }
+    ensures sections { sections_of kept.new.items ≡ S.sections other.now }
+    ensures rises { Rises (S.sections other.now) }
+    ensures all { length kept.new.items + length spare.new.items ≡ length spare.old.items }
+    ensures kept_room { (size : ℕ) → HaveRoom size spare.old.items → HaveRoom size kept.new.items }
+    ensures spare_room { (size : ℕ) → HaveRoom size spare.old.items → HaveRoom size spare.new.items }
+    ensures kept_capacity { vec_capacity kept.old ≤ vec_capacity kept.new }
+    ensures spare_capacity { vec_capacity spare.new ≡ vec_capacity spare.old }
+{
+    let count = other.len();
+    for place in 0..count {
+        let section = other.at(place);
+        put_in(kept, spare, place, &section);
+    }
 }

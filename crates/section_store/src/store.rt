@@ -1,19 +1,24 @@
-ghost use Rattle.std.specs.Prelude.{◌≡◌, ◌+◌, ◌≤◌, ◌<◌, [], ◌∷◌, Ok, IfOk, IsOk, false};
+ghost use Rattle.std.specs.Prelude.{◌≡◌, ◌+◌, ◌≤◌, ◌<◌, [], ◌∷◌, Ok, IfOk, IsOk, false, length, sum_by};
 ghost use Rattle.ckpt_types.specs.Attributes.{is_malformed};
-ghost use Rattle.ckpt_types.specs.Sections.{opening, default_section, present};
-ghost use Rattle.ckpt_types.specs.Updates.{outcome, element_written, elements_written, overwritten, created, deleted, expiration_set};
+ghost use Rattle.ckpt_types.specs.Reads.{read, status};
+ghost use Rattle.ckpt_types.specs.Sections.{Fits, opening, default_section, present};
+ghost use Rattle.ckpt_types.specs.Updates.{outcome, element_written, elements_written, overwritten, created, deleted, expiration_set, generated_id};
+ghost use Rattle.section_store.specs.StoreState.{corrupted, with_pieces};
 
 use std::alloc::{AllocError, Global};
 use std::marker::Model;
 
 use ckpt_types::{
-    CreationAttributes, IoElement, Moment, NEVER, NewId, SectionId, SectionRef, SectionState, Update,
+    CheckpointDescriptor, CreationAttributes, IoElement, Moment, NEVER, NewId, ReadBuf, ReadElement,
+    SectionId, SectionRef, SectionState, Sections, Update,
 };
 
-use crate::identifiers::new_id;
+use crate::identifiers::{generated, new_id};
 use crate::order::{
-    buffers, drop_absent, expire_at, find, overwrite_at, place_for, put_in, take_out, write_into,
+    buffers, copy_in, corrupt_at, drop_absent, expire_at, find, overwrite_at, place_for, put_in,
+    take_all_out, take_out, write_into,
 };
+use crate::reads::{read_all, totals};
 use crate::stored::Stored;
 
 /// The sections of one replica.
@@ -68,6 +73,62 @@ impl Store {
         }
     }
 
+    /// Takes over the sections of another. It takes no memory.
+    pub fn copy_from<S: Sections>(&mut self, other: &S)
+        requires { Fits self.old.attributes (S.sections other.now) }
+        ensures { self.new ≡ record self.old { sections = S.sections other.now } }
+    {
+        take_all_out(&mut self.kept, &mut self.spare);
+        copy_in(&mut self.kept, &mut self.spare, other);
+    }
+
+    /// Makes the section of that identifier a corrupted one, where one stands.
+    pub fn corrupt(&mut self, id: &SectionId)
+        ensures { self.new ≡ record self.old { sections = corrupted id.now self.old.sections } }
+    {
+        if let Some(place) = find(self.kept.as_slice(), id) {
+            corrupt_at(&mut self.kept, place);
+        }
+    }
+
+    /// The identifier that the service makes here for a new section.
+    pub fn generated(&self, now: Moment) -> SectionId
+        ensures { result ≡ generated_id (present now self.now.sections) }
+    {
+        generated(self.kept.as_slice(), now)
+    }
+
+    /// Adds the bytes that each element reads to the buffer. It takes no memory.
+    pub fn read_into(&self, elements: &[ReadElement], now: Moment, out: &mut ReadBuf)
+        requires readable { IsOk (read elements.now now self.now.sections) }
+        requires places { length elements.now ≤ out.old.spare_pieces }
+        requires room { IfOk (read elements.now now self.now.sections) (λ pieces. sum_by length pieces ≤ out.old.spare_bytes) }
+        ensures { IfOk (read elements.now now self.now.sections) (λ pieces. out.new ≡ with_pieces pieces out.old) }
+    {
+        read_all(self.kept.as_slice(), elements, out);
+    }
+
+    /// What a status tells of the checkpoint.
+    pub fn descriptor(&self, now: Moment) -> CheckpointDescriptor
+        ensures { result ≡ status self.now.attributes now self.now.sections }
+    {
+        let (count, bytes) = totals(self.kept.as_slice(), now);
+        CheckpointDescriptor {
+            attributes: self.attributes,
+            number_of_sections: count as u32,
+            memory_used: bytes as u64,
+        }
+    }
+
+    /// An equal store, with storage of its own.
+    pub fn copy(&self, alloc: Global) -> Result<Store, AllocError>
+        ensures { IfOk result (λ s. s ≡ self.now) }
+    {
+        let mut copy = Store::empty(alloc, &self.attributes)?;
+        copy.copy_from(self);
+        Ok(copy)
+    }
+
     /// The attributes of the checkpoint.
     pub fn attributes(&self) -> &CreationAttributes
         ensures { result.now ≡ self.now.attributes }
@@ -76,6 +137,7 @@ impl Store {
     }
 
     fn empty(alloc: Global, attrs: &CreationAttributes) -> Result<Store, AllocError>
+        requires { is_malformed attrs.now ≡ false }
         ensures { IfOk result (λ s. s ≡ record { attributes = attrs.now; sections = [] }) }
     {
         let count = attrs.max_sections as usize;
@@ -171,10 +233,32 @@ impl Store {
         ensures attributes { self.new.attributes ≡ self.old.attributes }
         ensures sections { expiration_set self.old.attributes id.now expiration now self.old.sections ≡ Ok self.new.sections }
     {
-        let _now = now;
         let Some(place) = find(self.kept.as_slice(), id) else {
             unreachable!()
         };
         expire_at(&mut self.kept, place, expiration);
+    }
+}
+
+impl Sections for Store {
+    ghost sections = { λ s. s.sections };
+
+    fn len(&self) -> usize {
+        self.kept.len()
+    }
+
+    fn at(&self, place: usize) -> SectionRef<'_> {
+        let stored = &self.kept[place];
+        SectionRef {
+            id: &stored.id,
+            bytes: stored.bytes.as_slice(),
+            expiration: stored.expiration,
+            state: stored.state,
+            last_update: stored.last_update,
+        }
+    }
+
+    fn find(&self, id: &SectionId) -> Option<usize> {
+        find(self.kept.as_slice(), id)
     }
 }

@@ -1,7 +1,9 @@
 ghost use Rattle.std.specs.Prelude.{◌≡◌, ◌+◌, ◌≤◌, ◌++◌, length, take, drop, vec_capacity};
+ghost use Rattle.ckpt_types.specs.Sections.{is_present};
 ghost use Rattle.ckpt_types.specs.Updates.{padded, written};
 
 use ckpt_types::{Moment, SectionId, SectionState};
+use moment_rules::expired;
 
 /// A section as it is kept, in a buffer that is never given back.
 #[derive(Debug, Drop)]
@@ -11,6 +13,17 @@ pub struct Stored {
     pub state: SectionState,
     pub last_update: Moment,
     pub bytes: Vec<u8>,
+}
+
+impl Stored {
+    ghost use Rattle.section_store.specs.Stored.{section_of};
+
+    /// Whether the section is present.
+    pub fn is_present(&self, now: Moment) -> bool
+        ensures { result ≡ is_present now (section_of self.now) }
+    {
+        !expired(self.expiration, now)
+    }
 }
 
 /// Writes other bytes at an offset, with zeros in a gap before it.

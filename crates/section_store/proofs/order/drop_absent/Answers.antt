@@ -7,14 +7,13 @@ use Rattle.section_store.specs.Stored.{sections_of, HaveRoom}
 use Rattle.section_store.proofs.StoredLemmas.{HaveRoom-remove, HaveRoom-push, HaveRoom-at, swept_gone}
 use Rattle.section_store.proofs.order.drop_absent.Goals as goal
 
-pub loop-place-preserved-then-expired : goal.loop-place-preserved-then-expired
-loop-place-preserved-then-expired c =
+pub loop-place-preserved-then-not-is_present : goal.loop-place-preserved-then-not-is_present
+loop-place-preserved-then-not-is_present c =
     let before = c.loop-place.kept.items in
     let n = c.loop-place.place - 1 in
     let read = c.index.result.now in
     let now = to_z w64 (of_z w64 c.args.now) in
-    let fits : FitsSigned w64 read.expiration = search rules in
-    let absent : int_lt now read.expiration ≡ false = ap (int_lt now) (sym (to_z-of_z w64 read.expiration fits)) ∙ not-true _ (sym c.expired.ensures.value ∙ c.if-expired.true) in
+    let absent : int_lt now read.expiration ≡ false = sym c.is_present.ensures ∙ c.if-not-is_present.true in
     let behind_it : c.loop-place.place ≡ suc n = omega arith in
     let there : n < length before = omega arith in
     let kept = c.loop-place.invariant in
