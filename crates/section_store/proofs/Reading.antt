@@ -1,16 +1,15 @@
 -- What a read gives, element by element, and what is present of the sections that are kept.
-use Rattle.std.proofs.Common.{◌≡◌, ℕ, zero, suc, ◌+◌, ◌-◌, ◌<◌, ◌≤◌, List, [], ◌∷◌, ◌++◌, length, take, drop, get_or, Option, Some, None, Result, Ok, Err, Bool, true, false, cond, if◌then◌else◌, nat_lt, ℤ, map, sum_by, sym, ap, ◌∙◌, subst, refl, arith, length-append, append_assoc, append-nil, drop-cons}
+use Rattle.std.proofs.Common.{◌≡◌, ℕ, zero, suc, ◌+◌, ◌-◌, ◌<◌, ◌≤◌, List, [], ◌∷◌, ◌++◌, length, take, drop, get_or, Some, Result, Ok, Err, true, false, if◌then◌else◌, nat_lt, ℤ, sum_by, sym, ap, ◌∙◌, refl, arith, length-append, append_assoc, append-nil, drop-cons}
 use Rattle.std.specs.Prelude.{IsOk, IfOk}
 use Rattle.std.specs.Result.{result_unwrap_or}
 use Rattle.std.proofs.lemmas.Bool.{ltb-false}
 use Rattle.std.proofs.lemmas.List.{take-append-drop, map-append}
 use Rattle.std.proofs.lemmas.List.Elements.{filter-append}
 use Rattle.std.proofs.lemmas.List.Sums.{sum_by-append, sum_by-cons}
-use Rattle.std.proofs.lemmas.Option.{none-some}
 use Rattle.ckpt_types.specs.declared.update.ReadElement.{ReadElement}
 use Rattle.ckpt_types.specs.Buffer.{Buffer, with_piece}
 use Rattle.ckpt_types.specs.Reads.{piece_read, pieces_read, read}
-use Rattle.ckpt_types.specs.Sections.{Section, Rises, section_at, where_present, present, is_present, size_of, memory_used}
+use Rattle.ckpt_types.specs.Sections.{Section, Rises, section_at, present, is_present, size_of, memory_used}
 use Rattle.ckpt_types.specs.Updates.{Refusal, and_then}
 use Rattle.ckpt_types.proofs.Accepted.{on_section-Ok, and_then-Ok, if-Ok_last, same_Ok}
 use Rattle.ckpt_types.proofs.Presence.{section_at-present, where_present-Some}

@@ -1,11 +1,10 @@
 -- A store keeps its storage where the records that it keeps are changed.
-use Rattle.std.proofs.Common.{◌≡◌, ℕ, ◌+◌, ◌≤◌, List, false, length, subst, sym, ap, arith}
+use Rattle.std.proofs.Common.{◌≡◌, ℕ, ◌+◌, ◌≤◌, false, length, subst, sym, ap, arith}
 use Rattle.std.specs.Prelude.{vec_capacity}
 use Rattle.ckpt_types.specs.Attributes.{is_malformed}
-use Rattle.ckpt_types.specs.Sections.{Section, Rises, Fits}
+use Rattle.ckpt_types.specs.Sections.{Rises, Fits}
 use Rattle.section_store.specs.Store.{IsReserved}
 use Rattle.section_store.specs.Stored.{sections_of, HaveRoom}
-use Rattle.section_store.specs.declared.stored.Stored.{Stored}
 use Rattle.section_store.specs.declared.store.Store.TheInside.{Inside}
 
 -- what is asked of the records in the place of those that were kept

@@ -1,7 +1,7 @@
 -- The sections that are kept: where they stand, and what a change of a record makes of them.
-use Rattle.std.proofs.Common.{◌≡◌, ℕ, zero, suc, ◌<◌, ◌≤◌, List, [], ◌∷◌, ◌++◌, Option, length, map, take, drop, All, Some, None, option_map, Bool, true, false, cond, is_some, ℤ, int_lt, subst, slice_get, get_or, slice_set, ap, ◌∙◌, sym, refl, arith}
+use Rattle.std.proofs.Common.{◌≡◌, ℕ, zero, suc, ◌<◌, ◌≤◌, List, [], ◌∷◌, ◌++◌, Option, length, take, drop, Some, None, option_map, true, false, cond, is_some, ℤ, int_lt, subst, slice_get, get_or, slice_set, ap, ◌∙◌, sym, refl, arith}
 use Rattle.std.specs.Prelude.{vec_capacity, insert, remove}
-use Rattle.std.proofs.lemmas.List.{length-map, map-append, take-map, drop-map, map-set}
+use Rattle.std.proofs.lemmas.List.{length-map, map-append, take-map, drop-map}
 use Rattle.std.proofs.lemmas.List.Elements.{All-append, All-take, All-drop, All-cons, All-nil}
 use Rattle.std.proofs.lemmas.Option.{slice_get-map, slice_get_read}
 use Rattle.ckpt_types.specs.Sections.{Section, Rises, is_named, is_present, is_taken, place_of, present, section_at, where_present}

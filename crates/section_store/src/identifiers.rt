@@ -3,10 +3,9 @@ ghost use Rattle.ckpt_types.specs.Sections.{Rises, is_taken, present};
 ghost use Rattle.ckpt_types.specs.Updates.{generated_id, new_id, numbered_id};
 ghost use Rattle.section_store.specs.Stored.{sections_of};
 
-use ckpt_types::{Moment, NewId, SectionId};
-
 use crate::order::find;
 use crate::stored::Stored;
+use ckpt_types::{Moment, NewId, SectionId};
 
 /// The identifier of a new section.
 pub(crate) fn new_id(new: &NewId, kept: &[Stored], now: Moment) -> SectionId

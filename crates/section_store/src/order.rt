@@ -5,12 +5,10 @@ ghost use Rattle.ckpt_types.specs.declared.sections.SectionState.TheVariants.{Va
 ghost use Rattle.section_store.specs.Places.{count_below, changed_at};
 ghost use Rattle.section_store.specs.Stored.{section_of, sections_of, HaveRoom};
 
+use crate::stored::{Stored, put_all, write_at};
+use ckpt_types::{Moment, SectionId, SectionRef, SectionState, Sections};
 use std::alloc::{AllocError, Global};
 use std::cmp::Ordering;
-
-use ckpt_types::{Moment, SectionId, SectionRef, SectionState, Sections};
-
-use crate::stored::{Stored, put_all, write_at};
 
 /// Where the section of that identifier stands, or would stand.
 pub(crate) fn place_for(kept: &[Stored], id: &SectionId) -> usize
@@ -45,7 +43,13 @@ pub(crate) fn find(kept: &[Stored], id: &SectionId) -> Option<usize>
 }
 
 /// Writes into the section at a place.
-pub(crate) fn write_into(kept: &mut Vec<Stored>, place: usize, offset: usize, bytes: &[u8], now: Moment)
+pub(crate) fn write_into(
+    kept: &mut Vec<Stored>,
+    place: usize,
+    offset: usize,
+    bytes: &[u8],
+    now: Moment,
+)
     requires there { place < length kept.old.items }
     requires room { HaveRoom (offset + length bytes.now) kept.old.items }
     ensures sections { sections_of kept.new.items ≡ changed_at (λ s. record s { bytes = written s.bytes offset bytes.now; last_update = now }) place (sections_of kept.old.items) }
@@ -133,7 +137,12 @@ pub(crate) fn take_out(kept: &mut Vec<Stored>, spare: &mut Vec<Stored>, place: u
 }
 
 /// Puts a section in at a place, in a spare buffer.
-pub(crate) fn put_in(kept: &mut Vec<Stored>, spare: &mut Vec<Stored>, place: usize, section: &SectionRef<'_>)
+pub(crate) fn put_in(
+    kept: &mut Vec<Stored>,
+    spare: &mut Vec<Stored>,
+    place: usize,
+    section: &SectionRef<'_>,
+)
     requires place { place ≤ length kept.old.items }
     requires buffer { 1 ≤ length spare.old.items }
     requires room { HaveRoom (length section.now.bytes.now) spare.old.items }

@@ -4,10 +4,9 @@ ghost use Rattle.ckpt_types.specs.Sections.{Rises, present, memory_used};
 ghost use Rattle.section_store.specs.StoreState.{with_pieces};
 ghost use Rattle.section_store.specs.Stored.{sections_of};
 
-use ckpt_types::{Moment, ReadBuf, ReadElement};
-
 use crate::order::find;
 use crate::stored::Stored;
+use ckpt_types::{Moment, ReadBuf, ReadElement};
 
 /// Adds the bytes that each element reads.
 pub(crate) fn read_all(kept: &[Stored], elements: &[ReadElement], out: &mut ReadBuf)

@@ -5,14 +5,6 @@ ghost use Rattle.ckpt_types.specs.Sections.{Fits, opening, default_section, pres
 ghost use Rattle.ckpt_types.specs.Updates.{outcome, element_written, elements_written, overwritten, created, deleted, expiration_set, generated_id};
 ghost use Rattle.section_store.specs.StoreState.{corrupted, with_pieces};
 
-use std::alloc::{AllocError, Global};
-use std::marker::Model;
-
-use ckpt_types::{
-    CheckpointDescriptor, CreationAttributes, IoElement, Moment, NEVER, NewId, ReadBuf, ReadElement,
-    SectionId, SectionRef, SectionState, Sections, Update,
-};
-
 use crate::identifiers::{generated, new_id};
 use crate::order::{
     buffers, copy_in, corrupt_at, drop_absent, expire_at, find, overwrite_at, place_for, put_in,
@@ -20,6 +12,12 @@ use crate::order::{
 };
 use crate::reads::{read_all, totals};
 use crate::stored::Stored;
+use ckpt_types::{
+    CheckpointDescriptor, CreationAttributes, IoElement, Moment, NEVER, NewId, ReadBuf,
+    ReadElement, SectionId, SectionRef, SectionState, Sections, Update,
+};
+use std::alloc::{AllocError, Global};
+use std::marker::Model;
 
 /// The sections of one replica.
 #[derive(Debug, Drop)]
@@ -45,7 +43,11 @@ impl Model for Store {
 
 impl Store {
     /// The storage for what the attributes declare, with the sections that a checkpoint has when it is made.
-    pub fn reserve(alloc: Global, attrs: &CreationAttributes, made: Moment) -> Result<Store, AllocError>
+    pub fn reserve(
+        alloc: Global,
+        attrs: &CreationAttributes,
+        made: Moment,
+    ) -> Result<Store, AllocError>
         requires { is_malformed attrs.now ≡ false }
         ensures { IfOk result (λ s. s ≡ record { attributes = attrs.now; sections = opening attrs.now made }) }
     {
@@ -66,7 +68,12 @@ impl Store {
         match update {
             Update::Write(elements) => self.write(elements.as_slice(), now),
             Update::Overwrite(id, bytes) => self.overwrite(id, bytes.as_slice(), now),
-            Update::Create(new, expiration, bytes) => self.create(new, *expiration, bytes.as_slice(), now),
+            Update::Create(new, expiration, bytes) => self.create(
+                new,
+                *expiration,
+                bytes.as_slice(),
+                now,
+            ),
             Update::Delete(id) => self.delete(id),
             Update::SetExpiration(id, expiration) => self.set_expiration(id, *expiration, now),
             Update::Nothing => {}
@@ -105,6 +112,7 @@ impl Store {
         requires room { IfOk (read elements.now now self.now.sections) (λ pieces. sum_by length pieces ≤ out.old.spare_bytes) }
         ensures { IfOk (read elements.now now self.now.sections) (λ pieces. out.new ≡ with_pieces pieces out.old) }
     {
+        // Whatever is read is present, so nothing is left to ask of the moment.
         read_all(self.kept.as_slice(), elements, out);
     }
 
@@ -143,7 +151,11 @@ impl Store {
         let count = attrs.max_sections as usize;
         let kept = Vec::with_capacity(alloc, count)?;
         let spare = buffers(alloc, count, attrs.max_section_size as usize)?;
-        Ok(Store { attributes: *attrs, kept, spare })
+        Ok(Store {
+            attributes: *attrs,
+            kept,
+            spare,
+        })
     }
 
     fn add_default(&mut self, made: Moment)
@@ -185,7 +197,13 @@ impl Store {
         let Some(place) = find(self.kept.as_slice(), &element.id) else {
             unreachable!()
         };
-        write_into(&mut self.kept, place, element.offset as usize, element.bytes.as_slice(), now);
+        write_into(
+            &mut self.kept,
+            place,
+            element.offset as usize,
+            element.bytes.as_slice(),
+            now,
+        );
     }
 
     fn overwrite(&mut self, id: &SectionId, bytes: &[u8], now: Moment)

@@ -7,7 +7,7 @@ use moment_rules::expired;
 
 /// A section as it is kept, in a buffer that is never given back.
 #[derive(Debug, Drop)]
-pub struct Stored {
+pub(crate) struct Stored {
     pub id: SectionId,
     pub expiration: Moment,
     pub state: SectionState,

@@ -1,4 +1,4 @@
-use Rattle.std.proofs.Common.{◌≡◌, ℕ, ◌+◌, ◌-◌, ◌^◌, ◌<◌, ◌≤◌, true, false, ℤ, List, length, Fits, w64, to_z, of_z, ap, ◌∙◌, sym, subst, inl, inr, arith, rules}
+use Rattle.std.proofs.Common.{◌≡◌, ℕ, ◌+◌, ◌^◌, ◌<◌, ◌≤◌, true, false, ℤ, List, length, w64, to_z, of_z, ap, ◌∙◌, sym, inl, inr, arith, rules}
 use Rattle.std.proofs.lemmas.Bool.{true≢false, cases_eq}
 use Rattle.std.proofs.lemmas.Int.{to_z-of_z}
 use Rattle.ckpt_types.specs.Sections.{Section, is_taken, present}

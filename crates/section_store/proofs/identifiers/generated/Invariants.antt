@@ -1,6 +1,6 @@
-use Rattle.std.proofs.Common.{◌≡◌, ◌+◌, ◌-◌, ◌≤◌, ◌<◌, ℕ, true, length}
-use Rattle.ckpt_types.specs.Sections.{is_taken, present}
-use Rattle.ckpt_types.specs.Updates.{free_number, numbered_id}
+use Rattle.std.proofs.Common.{◌-◌, ◌≤◌}
+use Rattle.ckpt_types.specs.Sections.{present}
+use Rattle.ckpt_types.specs.Updates.{free_number}
 use Rattle.section_store.specs.Stored.{sections_of}
 use Rattle.section_store.proofs.identifiers.generated.Given as goal
 

@@ -1,8 +1,8 @@
-use Rattle.std.proofs.Common.{◌≡◌, ◌+◌, ◌≤◌, ◌<◌, suc, length, take, ap, ◌∙◌, subst, arith}
-use Rattle.std.specs.Prelude.{vec_capacity, insert}
+use Rattle.std.proofs.Common.{◌≡◌, ◌+◌, ◌<◌, suc, length, take, ap, ◌∙◌, subst, arith}
+use Rattle.std.specs.Prelude.{insert}
 use Rattle.std.proofs.lemmas.Option.{get_or_from_slice_get, slice_get_within}
 use Rattle.ckpt_types.specs.Sections.{size_of, section_of as lent_section}
-use Rattle.section_store.specs.Stored.{sections_of, HaveRoom}
+use Rattle.section_store.specs.Stored.{HaveRoom}
 use Rattle.section_store.proofs.PlaceLemmas.{insert-take}
 use Rattle.section_store.proofs.order.copy_in.Goals as goal
 

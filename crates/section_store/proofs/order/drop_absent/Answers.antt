@@ -1,7 +1,4 @@
-use Rattle.std.proofs.Common.{[], ◌∷◌, length-append, ◌≡◌, ◌-◌, ◌+◌, ◌<◌, ℕ, suc, false, take, drop, length, int_lt, to_z, of_z, w64, FitsSigned, ap, ◌∙◌, sym, subst, arith, rules}
-use Rattle.std.proofs.lemmas.Bool.{not-true}
-use Rattle.std.proofs.lemmas.Int.{to_z-of_z}
-use Rattle.std.specs.Prelude.{remove}
+use Rattle.std.proofs.Common.{[], ◌∷◌, length-append, ◌≡◌, ◌-◌, ◌<◌, suc, false, take, drop, length, int_lt, to_z, of_z, w64, ap, ◌∙◌, sym, subst, arith}
 use Rattle.ckpt_types.specs.Sections.{present}
 use Rattle.section_store.specs.Stored.{sections_of, HaveRoom}
 use Rattle.section_store.proofs.StoredLemmas.{HaveRoom-remove, HaveRoom-push, HaveRoom-at, swept_gone}

@@ -1,4 +1,4 @@
-use Rattle.std.proofs.Common.{◌≡◌, to_z, of_z, w64, refl}
+use Rattle.std.proofs.Common.{◌≡◌, to_z, of_z, w64}
 use Rattle.std.proofs.lemmas.Int.{to_z-of_z}
 use Rattle.ckpt_types.specs.Sections.{Section}
 use Rattle.section_store.proofs.StoredLemmas.{sections_of-set}

@@ -1,4 +1,4 @@
-use Rattle.std.proofs.Common.{◌≡◌, ◌≢◌, ◌+◌, ◌-◌, ◌/◌, ◌<◌, ◌≤◌, length, Greater, ap, ◌∙◌, sym, inl, inr, arith}
+use Rattle.std.proofs.Common.{◌≡◌, ◌≢◌, ◌+◌, ◌-◌, ◌/◌, ◌<◌, ◌≤◌, Greater, ap, ◌∙◌, sym, inl, inr, arith}
 use Rattle.ckpt_types.specs.Sections.{id_cmp}
 use Rattle.section_store.specs.Places.{count_below}
 use Rattle.section_store.specs.Stored.{section_of, sections_of}

@@ -1,4 +1,4 @@
-use Rattle.std.proofs.Common.{Some, [], ◌∷◌, ◌+◌, ◌≤◌, ◌≡◌, length, length-append, ap, ◌∙◌, sym, subst, arith}
+use Rattle.std.proofs.Common.{Some, [], ◌∷◌, ◌≤◌, length, length-append, ap, ◌∙◌, sym, subst, arith}
 use Rattle.std.specs.Prelude.{vec_capacity}
 use Rattle.std.proofs.lemmas.List.Elements.{All-pop}
 use Rattle.section_store.specs.Stored.{HaveRoom}

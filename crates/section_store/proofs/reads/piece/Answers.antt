@@ -7,7 +7,7 @@ use Rattle.ckpt_types.specs.Sections.{Section, section_at, size_of}
 use Rattle.ckpt_types.proofs.Presence.{section_at-no_place}
 use Rattle.section_store.specs.Stored.{section_of, sections_of}
 use Rattle.section_store.proofs.Placed.{Ok_from_IsOk}
-use Rattle.section_store.proofs.Reading.{ReadsPiece, piece_read-Ok, piece_read-Some}
+use Rattle.section_store.proofs.Reading.{piece_read-Ok, piece_read-Some}
 use Rattle.section_store.proofs.StoredLemmas.{section_at-kept}
 use Rattle.section_store.proofs.reads.piece.Goals as goal
 

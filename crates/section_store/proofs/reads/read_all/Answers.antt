@@ -1,4 +1,4 @@
-use Rattle.std.proofs.Common.{◌≡◌, ◌+◌, ◌-◌, ◌≤◌, ◌<◌, suc, [], List, ℕ, Ok, length, take, drop, sum_by, ap, ◌∙◌, sym, subst, arith}
+use Rattle.std.proofs.Common.{◌≡◌, ◌+◌, ◌≤◌, suc, [], Ok, length, take, drop, sum_by, ap, ◌∙◌, sym, subst, arith}
 use Rattle.std.specs.Result.{result_unwrap_or}
 use Rattle.std.proofs.lemmas.List.{take_all}
 use Rattle.ckpt_types.specs.Buffer.{with_piece}

@@ -1,8 +1,8 @@
-use Rattle.std.proofs.Common.{◌≡◌, ◌+◌, ◌^◌, ◌<◌, ◌≤◌, suc, [], ◌∷◌, ◌++◌, true, length, take, Fits, if◌then◌else◌, to_z, of_z, w64, ap, ◌∙◌, sym, refl, arith, rules, length-append}
+use Rattle.std.proofs.Common.{◌+◌, ◌^◌, ◌<◌, length, take, to_z, of_z, w64, ap, ◌∙◌, sym, arith, rules}
 use Rattle.std.proofs.lemmas.List.{length-take}
-use Rattle.ckpt_types.specs.Sections.{is_present, present, memory_used, size_of}
+use Rattle.ckpt_types.specs.Sections.{memory_used}
 use Rattle.ckpt_types.proofs.Presence.{length-present-le, memory_used-present-le}
-use Rattle.section_store.specs.Stored.{section_of, sections_of}
+use Rattle.section_store.specs.Stored.{sections_of}
 use Rattle.section_store.proofs.Reading.{totals-present, totals-absent, memory_used-take-le}
 use Rattle.section_store.proofs.StoredLemmas.{length-sections_of}
 use Rattle.section_store.proofs.reads.totals.Goals as goal

@@ -1,4 +1,4 @@
-use Rattle.std.proofs.Common.{◌≡◌, ◌+◌, ◌≤◌, ◌∙◌, sym, subst, refl, arith}
+use Rattle.std.proofs.Common.{◌∙◌, sym, subst, refl, arith}
 use Rattle.ckpt_types.specs.Sections.{Rises, Fits}
 use Rattle.section_store.proofs.Reserved.{IsReserved-Replaces}
 use Rattle.section_store.proofs.store.Store.copy_from.Goals as goal

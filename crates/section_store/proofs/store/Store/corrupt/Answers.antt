@@ -1,6 +1,6 @@
-use Rattle.std.proofs.Common.{◌≡◌, ◌∙◌, ap, sym, subst, refl}
+use Rattle.std.proofs.Common.{◌≡◌, ◌∙◌, sym, subst, refl}
 use Rattle.ckpt_types.specs.Sections.{Rises, Fits}
-use Rattle.section_store.specs.StoreState.{StoreState, corrupted}
+use Rattle.section_store.specs.StoreState.{corrupted}
 use Rattle.section_store.specs.Stored.{sections_of}
 use Rattle.section_store.proofs.Placed.{corrupted-changed_at, corrupted-no_place}
 use Rattle.section_store.proofs.StoredLemmas.{place_found}

@@ -1,11 +1,11 @@
-use Rattle.std.proofs.Common.{◌≡◌, ◌+◌, ◌≤◌, ◌<◌, ◌∙◌, ap, sym, subst, refl, length, to_z, of_z, w64, arith}
-use Rattle.std.specs.Prelude.{IsOk, vec_capacity, insert}
+use Rattle.std.proofs.Common.{◌≡◌, ◌∙◌, ap, sym, subst, refl, length, to_z, of_z, w64, arith}
+use Rattle.std.specs.Prelude.{insert}
 use Rattle.std.proofs.lemmas.Int.{to_z-of_z}
 use Rattle.ckpt_types.specs.declared.sections.SectionState.TheVariants.{Valid}
 use Rattle.ckpt_types.specs.Sections.{present}
 use Rattle.ckpt_types.specs.Updates.{created, new_id}
 use Rattle.section_store.specs.Places.{count_below}
-use Rattle.section_store.specs.Stored.{sections_of, HaveRoom}
+use Rattle.section_store.specs.Stored.{sections_of}
 use Rattle.section_store.proofs.Placed.{Leaves, created-insert, created-room}
 use Rattle.section_store.proofs.StoredLemmas.{length-sections_of, HaveRoom-less}
 use Rattle.section_store.proofs.Reserved.{IsReserved-Replaces}

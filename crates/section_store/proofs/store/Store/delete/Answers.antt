@@ -1,4 +1,4 @@
-use Rattle.std.proofs.Common.{◌≡◌, ◌≤◌, ◌∙◌, sym, subst, refl, arith}
+use Rattle.std.proofs.Common.{sym, subst, refl, arith}
 use Rattle.ckpt_types.specs.Updates.{deleted}
 use Rattle.section_store.specs.Stored.{sections_of}
 use Rattle.section_store.proofs.Placed.{Leaves, deleted-remove, deleted-no_place}

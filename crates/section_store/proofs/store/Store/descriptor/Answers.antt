@@ -1,4 +1,4 @@
-use Rattle.std.proofs.Common.{◌≡◌, ◌≤◌, ◌<◌, ◌^◌, length, ap, subst, sym, to_z, of_z, w64, arith, rules}
+use Rattle.std.proofs.Common.{◌≡◌, ◌<◌, ◌^◌, length, ap, subst, sym, to_z, of_z, w64, arith, rules}
 use Rattle.ckpt_types.specs.Sections.{memory_used, present}
 use Rattle.ckpt_types.proofs.AttributeLaws.{IsWellFormed-from_check}
 use Rattle.ckpt_types.proofs.Presence.{length-present-le}

@@ -1,6 +1,5 @@
-use Rattle.std.proofs.Common.{◌≡◌, ◌+◌, ◌∙◌, ap, sym, refl, subst, to_z, of_z, w64, arith}
-use Rattle.std.proofs.lemmas.Int.{to_z-of_z}
-use Rattle.ckpt_types.specs.Sections.{Rises, Fits, present}
+use Rattle.std.proofs.Common.{sym, refl, subst, arith}
+use Rattle.ckpt_types.specs.Sections.{Rises, Fits}
 use Rattle.ckpt_types.proofs.Presence.{Rises-present}
 use Rattle.ckpt_types.proofs.Fitting.{Fits-present}
 use Rattle.section_store.specs.Stored.{sections_of}

@@ -1,4 +1,4 @@
-use Rattle.std.proofs.Common.{◌≡◌, ◌≤◌, List, ℕ, length, sum_by, ap, ◌∙◌, sym, subst}
+use Rattle.std.proofs.Common.{◌≡◌, ◌≤◌, length, sum_by, ap, ◌∙◌, sym, subst}
 use Rattle.std.specs.Prelude.{IsOk, IfOk}
 use Rattle.ckpt_types.specs.Reads.{read, pieces_read}
 use Rattle.section_store.specs.StoreState.{with_pieces}

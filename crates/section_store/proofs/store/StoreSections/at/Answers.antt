@@ -1,4 +1,4 @@
-use Rattle.std.proofs.Common.{◌≡◌, ◌<◌, Some, length, ap, ◌∙◌, sym, to_z, of_z, w64, FitsSigned, arith, rules}
+use Rattle.std.proofs.Common.{◌≡◌, ◌<◌, Some, length, ◌∙◌, sym, to_z, of_z, w64, FitsSigned, arith, rules}
 use Rattle.std.proofs.lemmas.Int.{to_z-of_z}
 use Rattle.section_store.specs.Stored.{sections_of}
 use Rattle.section_store.proofs.StoredLemmas.{length-sections_of, slice_get-sections_of}

@@ -3,7 +3,6 @@ use Rattle.std.specs.Prelude.{MatchOption}
 use Rattle.ckpt_types.specs.Sections.{place_of, section_at}
 use Rattle.section_store.specs.Stored.{sections_of}
 use Rattle.section_store.proofs.PlaceLemmas.{section_at-MatchOption}
-use Rattle.section_store.proofs.StoredLemmas.{place_found}
 use Rattle.section_store.proofs.store.StoreSections.find.Goals as goal
 
 pub returns-clause-section : goal.returns-clause-section
