@@ -6,5 +6,7 @@ mod order;
 mod reads;
 mod store;
 mod stored;
+#[cfg(test)]
+mod tests;
 
 pub use store::Store;
