@@ -1,0 +1,5 @@
+pub mod PlaceLemmas
+pub mod StoredLemmas
+pub mod Placed
+pub mod Reserved
+pub mod Reading

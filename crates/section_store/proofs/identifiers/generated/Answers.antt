@@ -1,0 +1,66 @@
+use Rattle.std.proofs.Common.{◌≡◌, ℕ, ◌+◌, ◌^◌, ◌<◌, ◌≤◌, true, false, ℤ, List, length, w64, to_z, of_z, ap, ◌∙◌, sym, inl, inr, arith, rules}
+use Rattle.std.proofs.lemmas.Bool.{true≢false, cases_eq}
+use Rattle.std.proofs.lemmas.Int.{to_z-of_z}
+use Rattle.ckpt_types.specs.Sections.{Section, is_taken, present}
+use Rattle.ckpt_types.specs.Updates.{free_number, generated_id, numbered_id}
+use Rattle.ckpt_types.proofs.Numbering.{free_number-free, free_number-least, one-le-free_number, free_number-le}
+use Rattle.ckpt_types.proofs.Presence.{length-present-le}
+use Rattle.section_store.specs.Stored.{sections_of}
+use Rattle.section_store.specs.declared.stored.Stored.{Stored}
+use Rattle.section_store.proofs.StoredLemmas.{length-sections_of}
+use Rattle.section_store.proofs.identifiers.generated.Goals as goal
+
+-- a number that is taken is not the free one
+taken_below : (sections : List Section) (n : ℕ) → length sections + 1 < 2 ^ 64 → n ≤ free_number sections → is_taken (numbered_id n) sections ≡ true → n < free_number sections
+taken_below sections n few le taken = elim (cases_eq n (free_number sections)) [
+  | inl same ↦ absurd (true≢false (sym taken ∙ ap (λ m. is_taken (numbered_id m) sections) same ∙ free_number-free sections few))
+  | inr other ↦ omega arith
+]
+
+-- a number that is not taken is the free one, where no lower one is free
+free_here : (sections : List Section) (n : ℕ) → 1 ≤ n → n ≤ free_number sections → is_taken (numbered_id n) sections ≡ false → n ≡ free_number sections
+free_here sections n first le free = elim (cases_eq n (free_number sections)) [
+  | inl same ↦ same
+  | inr other ↦ absurd (true≢false (sym (free_number-least sections n first (omega arith)) ∙ free))
+]
+
+-- few sections are present where few are kept
+few_present : (t : ℤ) (kept : List Stored) → length kept + 1 < 2 ^ 64 → length (present t (sections_of kept)) + 1 < 2 ^ 64
+few_present t kept few = omega (arith, length-present-le t (sections_of kept), length-sections_of kept)
+
+pub loop-number-init : goal.loop-number-init
+loop-number-init c =
+    let few : length c.args.kept.now + 1 < 2 ^ 64 = search rules in
+    record { first = omega arith; least = one-le-free_number _ (few_present (to_z w64 (of_z w64 c.args.now)) c.args.kept.now few) }
+
+-- the number that was tried is below the free one
+tried_below : (c : goal.In-loop-number) → c.loop-number.number < free_number (present (to_z w64 (of_z w64 c.args.now)) (sections_of c.args.kept.now))
+tried_below c =
+    let few : length c.args.kept.now + 1 < 2 ^ 64 = search rules in
+    let t = to_z w64 (of_z w64 c.args.now) in
+    let sections = present t (sections_of c.args.kept.now) in
+    let taken : is_taken (numbered_id c.loop-number.number) sections ≡ true = ap (λ id. is_taken id sections) (sym c.numbered.ensures) ∙ sym c.is_taken.ensures ∙ c.loop-number-test.true in
+    taken_below sections c.loop-number.number (few_present t c.args.kept.now few) c.loop-number.invariant.least taken
+
+pub overflow_add-number : goal.overflow_add-number
+overflow_add-number c =
+    let few : length c.args.kept.now + 1 < 2 ^ 64 = search rules in
+    let t = to_z w64 (of_z w64 c.args.now) in
+    let sections = present t (sections_of c.args.kept.now) in
+    let all : length sections + 1 < 2 ^ 64 = few_present t c.args.kept.now few in
+    let below : c.loop-number.number + 1 < 2 ^ 64 = omega (arith, tried_below c, free_number-le sections) in
+    search (rules, below)
+
+pub loop-number-smaller : goal.loop-number-smaller
+loop-number-smaller c = let below = tried_below c in omega arith
+
+pub loop-number-preserved : goal.loop-number-preserved
+loop-number-preserved c = let below = tried_below c in record { first = omega arith; least = omega arith }
+
+pub returns : goal.returns
+returns c =
+    let moment : to_z w64 (of_z w64 c.args.now) ≡ c.args.now = to_z-of_z w64 c.args.now c.ranges.now in
+    let sections = present (to_z w64 (of_z w64 c.args.now)) (sections_of c.args.kept.now) in
+    let free : is_taken (numbered_id c.loop-number.number) sections ≡ false = ap (λ id. is_taken id sections) (sym c.numbered.ensures) ∙ sym c.is_taken.ensures ∙ c.loop-number-test.false in
+    let here : c.loop-number.number ≡ free_number sections = free_here sections c.loop-number.number c.loop-number.invariant.first c.loop-number.invariant.least free in
+    c.numbered-2.ensures ∙ ap numbered_id here ∙ ap (λ t. generated_id (present t (sections_of c.args.kept.now))) moment

@@ -1,0 +1,33 @@
+use Rattle.std.proofs.Common.{◌≡◌, ◌≢◌, ◌+◌, ◌-◌, ◌/◌, ◌<◌, ◌≤◌, Greater, ap, ◌∙◌, sym, inl, inr, arith}
+use Rattle.ckpt_types.specs.Sections.{id_cmp}
+use Rattle.section_store.specs.Places.{count_below}
+use Rattle.section_store.specs.Stored.{section_of, sections_of}
+use Rattle.section_store.proofs.PlaceLemmas.{count_below-le-length, count_below-above, count_below-le}
+use Rattle.section_store.proofs.StoredLemmas.{length-sections_of, slice_get-sections_of}
+use Rattle.section_store.proofs.order.place_for.Goals as goal
+
+pub loop-low-init : goal.loop-low-init
+loop-low-init c = record {
+  above = omega arith;
+  below = omega (arith, count_below-le-length c.args.id.now (sections_of c.args.kept.now), length-sections_of c.args.kept.now);
+  within = omega arith;
+}
+
+pub loop-low-preserved-in-Greater : goal.loop-low-preserved-in-Greater
+loop-low-preserved-in-Greater c =
+    let stored = c.index-kept-middle.result in
+    let middle = c.loop-low.low + (c.loop-low.high - c.loop-low.low) / 2 in
+    let above : id_cmp c.args.id.now stored.id ≡ Greater = ap (λ s. id_cmp c.args.id.now s.id) c.index-kept-middle.is ∙ sym c.cmp.ensures ∙ c.in-Greater.is in
+    let counted : middle < count_below c.args.id.now (sections_of c.args.kept.now) =
+    count_below-above c.args.id.now (sections_of c.args.kept.now) middle (section_of stored) c.requires (slice_get-sections_of c.args.kept.now middle stored (omega arith) c.index-kept-middle.is) above in
+    record { above = omega arith; below = c.loop-low.invariant.below; within = c.loop-low.invariant.within }
+
+pub loop-low-preserved : goal.loop-low-preserved
+loop-low-preserved c =
+    let stored = c.index-kept-middle.result in
+    let middle = c.loop-low.low + (c.loop-low.high - c.loop-low.low) / 2 in
+    let compared : c.cmp.result ≡ id_cmp c.args.id.now stored.id = c.cmp.ensures ∙ sym (ap (λ s. id_cmp c.args.id.now s.id) c.index-kept-middle.is) in
+    let low : id_cmp c.args.id.now stored.id ≢ Greater = λ above. let other : c.cmp.result ≡ Greater = compared ∙ above in elim c.in-Less.is [ inl less ↦ cc (less, other) | inr equal ↦ cc (equal, other) ] in
+    let counted : count_below c.args.id.now (sections_of c.args.kept.now) ≤ middle =
+    count_below-le c.args.id.now (sections_of c.args.kept.now) middle (section_of stored) (slice_get-sections_of c.args.kept.now middle stored (omega arith) c.index-kept-middle.is) low in
+    record { above = c.loop-low.invariant.above; below = counted; within = omega arith }

@@ -1,0 +1,32 @@
+use Rattle.std.proofs.Common.{◌≡◌, ◌≤◌, ◌∙◌, [], ◌∷◌, sym, subst, refl, to_z, of_z, w64, arith}
+use Rattle.std.proofs.lemmas.Int.{to_z-of_z}
+use Rattle.std.specs.Prelude.{insert}
+use Rattle.ckpt_types.specs.declared.identities.TheConstants.{NEVER}
+use Rattle.ckpt_types.specs.declared.sections.SectionState.TheVariants.{Valid}
+use Rattle.ckpt_types.specs.Sections.{Rises, Fits, default_section}
+use Rattle.ckpt_types.proofs.Fitting.{Fits-default_section}
+use Rattle.section_store.specs.Stored.{sections_of}
+use Rattle.section_store.proofs.Reserved.{IsReserved-Replaces}
+use Rattle.section_store.proofs.store.Store.add_default.Goals as goal
+
+-- the default section is there alone
+left : (c : goal.After-put_in) → sections_of c.put_in.new.kept.items ≡ default_section c.args.made ∷ []
+left c =
+    let moment : to_z w64 (of_z w64 c.args.made) ≡ c.args.made = to_z-of_z w64 c.args.made c.ranges.made in
+    let none : sections_of c.self.inside.kept.items ≡ [] = rw (← c.self.view_is) at c.requires.none in
+    c.put_in.ensures.sections ∙ (λ i. insert (none i) 0 (record { id = c.default.ensures i; bytes = []; expiration = NEVER; state = Valid; last_update = moment i }))
+
+pub invariant_of-self : goal.invariant_of-self
+invariant_of-self c =
+    let attributes = c.self.inside.attributes in
+    let one : attributes.max_sections ≡ 1 = rw (← c.self.view_is) at c.requires.one in
+    let some : 1 ≤ attributes.max_sections = omega arith in
+    IsReserved-Replaces c.self.inside _ refl c.self.invariant (record {
+      rises = subst Rises (sym (left c)) (tt, tt);
+      fits = subst (Fits attributes) (sym (left c)) (Fits-default_section attributes c.args.made some);
+      all = c.put_in.ensures.all;
+      kept_room = c.put_in.ensures.kept_room;
+      spare_room = λ size kept spare. c.put_in.ensures.spare_room size spare;
+      kept_capacity = c.put_in.ensures.kept_capacity;
+      spare_capacity = omega (arith, c.put_in.ensures.spare_capacity);
+    })

@@ -1,0 +1,31 @@
+use Rattle.std.proofs.Common.{◌≡◌, ◌∙◌, sym, subst, refl}
+use Rattle.ckpt_types.specs.Sections.{Rises, Fits}
+use Rattle.section_store.specs.StoreState.{corrupted}
+use Rattle.section_store.specs.Stored.{sections_of}
+use Rattle.section_store.proofs.Placed.{corrupted-changed_at, corrupted-no_place}
+use Rattle.section_store.proofs.StoredLemmas.{place_found}
+use Rattle.section_store.proofs.Reserved.{IsReserved-changed}
+use Rattle.section_store.proofs.store.Store.corrupt.Goals as goal
+
+-- the section is corrupted
+left : (c : goal.After-corrupt_at) → (sections_of c.corrupt_at.new.kept.items ≡ corrupted c.args.id.now (sections_of c.self.inside.kept.items)) × Rises (sections_of c.corrupt_at.new.kept.items) × Fits c.self.inside.attributes (sections_of c.corrupt_at.new.kept.items)
+left c =
+    let kept = sections_of c.self.inside.kept.items in
+    let place = place_found c.args.id.now c.self.inside.kept.items _ _ _ c.as_slice.ensures.value c.find.ensures.place c.in-Some.is in
+    let (is, rises, fits) = corrupted-changed_at c.self.inside.attributes c.args.id.now kept c.in-Some.place c.self.invariant.rises c.self.invariant.fits place in
+    let same : sections_of c.corrupt_at.new.kept.items ≡ corrupted c.args.id.now kept = c.corrupt_at.ensures.sections ∙ sym is in
+    (same, subst Rises (sym same) rises, subst (Fits c.self.inside.attributes) (sym same) fits)
+
+pub invariant_of-self : goal.invariant_of-self
+invariant_of-self c =
+    IsReserved-changed c.self.inside _ refl refl (left c).1 (left c).2 c.corrupt_at.ensures.room c.corrupt_at.ensures.len c.corrupt_at.ensures.capacity c.self.invariant
+
+pub returns-in-Some : goal.returns-in-Some
+returns-in-Some c = rw (← c.self.view_is) (λ i. record { attributes = c.self.inside.attributes; sections = (left c).0 i })
+
+pub returns-in_default : goal.returns-in_default
+returns-in_default c =
+    let kept = c.self.inside.kept.items in
+    let nowhere = place_found c.args.id.now kept _ _ _ c.as_slice.ensures.value c.find.ensures.place c.in_default.is in
+    let same : corrupted c.args.id.now (sections_of kept) ≡ sections_of kept = corrupted-no_place c.args.id.now (sections_of kept) nowhere in
+    rw (← c.self.view_is) (λ i. record { attributes = c.self.inside.attributes; sections = sym same i })

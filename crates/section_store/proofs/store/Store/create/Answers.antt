@@ -1,0 +1,60 @@
+use Rattle.std.proofs.Common.{◌≡◌, ◌∙◌, ap, sym, subst, refl, length, to_z, of_z, w64, arith}
+use Rattle.std.specs.Prelude.{insert}
+use Rattle.std.proofs.lemmas.Int.{to_z-of_z}
+use Rattle.ckpt_types.specs.declared.sections.SectionState.TheVariants.{Valid}
+use Rattle.ckpt_types.specs.Sections.{present}
+use Rattle.ckpt_types.specs.Updates.{created, new_id}
+use Rattle.section_store.specs.Places.{count_below}
+use Rattle.section_store.specs.Stored.{sections_of}
+use Rattle.section_store.proofs.Placed.{Leaves, created-insert, created-room}
+use Rattle.section_store.proofs.StoredLemmas.{length-sections_of, HaveRoom-less}
+use Rattle.section_store.proofs.Reserved.{IsReserved-Replaces}
+use Rattle.section_store.proofs.store.Store.create.Goals as goal
+
+pub put_in-requires-clause-buffer : goal.put_in-requires-clause-buffer
+put_in-requires-clause-buffer c =
+    let kept = c.self.inside.kept.items in
+    let room = (created-room c.self.inside.attributes c.args.new.now c.args.expiration c.args.bytes.now c.args.now (sections_of kept) (rw (← c.self.view_is) at c.requires.accepted)).0 in
+    omega (arith, room, c.self.invariant.all, length-sections_of kept)
+
+pub put_in-requires-clause-room : goal.put_in-requires-clause-room
+put_in-requires-clause-room c =
+    let small = (created-room c.self.inside.attributes c.args.new.now c.args.expiration c.args.bytes.now c.args.now (sections_of c.self.inside.kept.items) (rw (← c.self.view_is) at c.requires.accepted)).1 in
+    HaveRoom-less (length c.args.bytes.now) c.self.inside.attributes.max_section_size c.self.inside.spare.items small c.self.invariant.spare_room
+
+pub put_in-requires-clause-kept_room : goal.put_in-requires-clause-kept_room
+put_in-requires-clause-kept_room c =
+    let kept = c.self.inside.kept.items in
+    let room = (created-room c.self.inside.attributes c.args.new.now c.args.expiration c.args.bytes.now c.args.now (sections_of kept) (rw (← c.self.view_is) at c.requires.accepted)).0 in
+    omega (arith, room, c.self.invariant.kept_places, length-sections_of kept)
+
+-- the new section is there
+left : (c : goal.After-put_in) → Leaves c.self.inside.attributes (created c.self.inside.attributes c.args.new.now c.args.expiration c.args.bytes.now c.args.now (sections_of c.self.inside.kept.items)) (sections_of c.put_in.new.kept.items)
+left c =
+    let kept = sections_of c.self.inside.kept.items in
+    let moment : to_z w64 (of_z w64 c.args.now) ≡ c.args.now = to_z-of_z w64 c.args.now c.ranges.now in
+    let end : to_z w64 (of_z w64 c.args.expiration) ≡ c.args.expiration = to_z-of_z w64 c.args.expiration c.ranges.expiration in
+    let all_present : present c.args.now kept ≡ kept = rw (← c.self.view_is) at c.requires.all_present in
+    let id : c.new_id-id.result ≡ new_id c.args.new.now kept =
+    c.new_id-id.ensures ∙ (λ i. new_id c.args.new.now (present (moment i) (sections_of (c.as_slice.ensures.value i)))) ∙ ap (new_id c.args.new.now) all_present in
+    let place : c.place_for-place.result ≡ count_below (new_id c.args.new.now kept) kept =
+    c.place_for-place.ensures.place ∙ (λ i. count_below (id i) (sections_of (c.as_slice-2.ensures.value i))) in
+    let changed : sections_of c.put_in.new.kept.items ≡ insert kept (count_below (new_id c.args.new.now kept) kept) (record { id = new_id c.args.new.now kept; bytes = c.args.bytes.now; expiration = c.args.expiration; state = Valid; last_update = c.args.now }) =
+    c.put_in.ensures.sections ∙ (λ i. insert kept (place i) (record { id = id i; bytes = c.args.bytes.now; expiration = end i; state = Valid; last_update = moment i })) in
+    subst (Leaves c.self.inside.attributes (created c.self.inside.attributes c.args.new.now c.args.expiration c.args.bytes.now c.args.now kept)) (sym changed)
+    (created-insert c.self.inside.attributes c.args.new.now c.args.expiration c.args.bytes.now c.args.now kept c.self.invariant.rises c.self.invariant.fits (rw (← c.self.view_is) at c.requires.accepted))
+
+pub invariant_of-self : goal.invariant_of-self
+invariant_of-self c =
+    IsReserved-Replaces c.self.inside _ refl c.self.invariant (record {
+      rises = (left c).rises;
+      fits = (left c).fits;
+      all = c.put_in.ensures.all;
+      kept_room = c.put_in.ensures.kept_room;
+      spare_room = λ size kept spare. c.put_in.ensures.spare_room size spare;
+      kept_capacity = c.put_in.ensures.kept_capacity;
+      spare_capacity = omega (arith, c.put_in.ensures.spare_capacity);
+    })
+
+pub returns-clause-sections : goal.returns-clause-sections
+returns-clause-sections c = rw (← c.self.view_is) (left c).is

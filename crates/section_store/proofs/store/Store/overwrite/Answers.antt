@@ -1,0 +1,33 @@
+use Rattle.std.proofs.Common.{◌≡◌, ◌∙◌, sym, subst, refl, to_z, of_z, w64}
+use Rattle.std.proofs.lemmas.Int.{to_z-of_z}
+use Rattle.ckpt_types.specs.declared.sections.SectionState.TheVariants.{Valid}
+use Rattle.ckpt_types.specs.Updates.{overwritten}
+use Rattle.section_store.specs.Places.{changed_at}
+use Rattle.section_store.specs.Stored.{sections_of}
+use Rattle.section_store.proofs.Placed.{Leaves, overwritten-changed_at, overwritten-no_place}
+use Rattle.section_store.proofs.StoredLemmas.{place_found}
+use Rattle.section_store.proofs.Reserved.{IsReserved-changed}
+use Rattle.section_store.proofs.store.Store.overwrite.Goals as goal
+
+pub unreachable-requires : goal.unreachable-requires
+unreachable-requires c =
+    overwritten-no_place c.self.inside.attributes c.args.id.now c.args.bytes.now c.args.now (sections_of c.self.inside.kept.items)
+    (place_found c.args.id.now c.self.inside.kept.items _ _ _ c.as_slice.ensures.value c.find.ensures.place c.in_default.is) (rw (← c.self.view_is) at c.requires)
+
+-- the section is overwritten
+left : (c : goal.After-overwrite_at) → Leaves c.self.inside.attributes (overwritten c.self.inside.attributes c.args.id.now c.args.bytes.now c.args.now (sections_of c.self.inside.kept.items)) (sections_of c.overwrite_at.new.kept.items)
+left c =
+    let kept = sections_of c.self.inside.kept.items in
+    let place = place_found c.args.id.now c.self.inside.kept.items _ _ _ c.as_slice.ensures.value c.find.ensures.place c.in-Some.is in
+    let moment : to_z w64 (of_z w64 c.args.now) ≡ c.args.now = to_z-of_z w64 c.args.now c.ranges.now in
+    let changed : sections_of c.overwrite_at.new.kept.items ≡ changed_at (λ s. record s { bytes = c.args.bytes.now; state = Valid; last_update = c.args.now }) c.in-Some.place kept =
+    c.overwrite_at.ensures.sections ∙ (λ i. changed_at (λ s. record s { bytes = c.args.bytes.now; state = Valid; last_update = moment i }) c.in-Some.place kept) in
+    subst (Leaves c.self.inside.attributes (overwritten c.self.inside.attributes c.args.id.now c.args.bytes.now c.args.now kept)) (sym changed)
+    (overwritten-changed_at c.self.inside.attributes c.args.id.now c.args.bytes.now c.args.now kept c.in-Some.place c.self.invariant.rises c.self.invariant.fits place (rw (← c.self.view_is) at c.requires))
+
+pub invariant_of-self : goal.invariant_of-self
+invariant_of-self c =
+    IsReserved-changed c.self.inside _ refl refl (left c).rises (left c).fits c.overwrite_at.ensures.room c.overwrite_at.ensures.len c.overwrite_at.ensures.capacity c.self.invariant
+
+pub returns-clause-sections : goal.returns-clause-sections
+returns-clause-sections c = rw (← c.self.view_is) (left c).is

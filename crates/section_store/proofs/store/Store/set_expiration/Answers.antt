@@ -1,0 +1,32 @@
+use Rattle.std.proofs.Common.{◌≡◌, ◌∙◌, sym, subst, refl, to_z, of_z, w64}
+use Rattle.std.proofs.lemmas.Int.{to_z-of_z}
+use Rattle.ckpt_types.specs.Updates.{expiration_set}
+use Rattle.section_store.specs.Places.{changed_at}
+use Rattle.section_store.specs.Stored.{sections_of}
+use Rattle.section_store.proofs.Placed.{Leaves, expiration_set-changed_at, expiration_set-no_place}
+use Rattle.section_store.proofs.StoredLemmas.{place_found}
+use Rattle.section_store.proofs.Reserved.{IsReserved-changed}
+use Rattle.section_store.proofs.store.Store.set_expiration.Goals as goal
+
+pub unreachable-requires : goal.unreachable-requires
+unreachable-requires c =
+    expiration_set-no_place c.self.inside.attributes c.args.id.now c.args.expiration c.args.now (sections_of c.self.inside.kept.items)
+    (place_found c.args.id.now c.self.inside.kept.items _ _ _ c.as_slice.ensures.value c.find.ensures.place c.in_default.is) (rw (← c.self.view_is) at c.requires)
+
+-- the section has the other expiration
+left : (c : goal.After-expire_at) → Leaves c.self.inside.attributes (expiration_set c.self.inside.attributes c.args.id.now c.args.expiration c.args.now (sections_of c.self.inside.kept.items)) (sections_of c.expire_at.new.kept.items)
+left c =
+    let kept = sections_of c.self.inside.kept.items in
+    let place = place_found c.args.id.now c.self.inside.kept.items _ _ _ c.as_slice.ensures.value c.find.ensures.place c.in-Some.is in
+    let moment : to_z w64 (of_z w64 c.args.expiration) ≡ c.args.expiration = to_z-of_z w64 c.args.expiration c.ranges.expiration in
+    let changed : sections_of c.expire_at.new.kept.items ≡ changed_at (λ s. record s { expiration = c.args.expiration }) c.in-Some.place kept =
+    c.expire_at.ensures.sections ∙ (λ i. changed_at (λ s. record s { expiration = moment i }) c.in-Some.place kept) in
+    subst (Leaves c.self.inside.attributes (expiration_set c.self.inside.attributes c.args.id.now c.args.expiration c.args.now kept)) (sym changed)
+    (expiration_set-changed_at c.self.inside.attributes c.args.id.now c.args.expiration c.args.now kept c.in-Some.place c.self.invariant.rises c.self.invariant.fits place (rw (← c.self.view_is) at c.requires))
+
+pub invariant_of-self : goal.invariant_of-self
+invariant_of-self c =
+    IsReserved-changed c.self.inside _ refl refl (left c).rises (left c).fits c.expire_at.ensures.room c.expire_at.ensures.len c.expire_at.ensures.capacity c.self.invariant
+
+pub returns-clause-sections : goal.returns-clause-sections
+returns-clause-sections c = rw (← c.self.view_is) (left c).is

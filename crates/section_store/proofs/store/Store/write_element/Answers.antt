@@ -1,0 +1,33 @@
+use Rattle.std.proofs.Common.{◌≡◌, ◌∙◌, sym, subst, refl, to_z, of_z, w64}
+use Rattle.std.proofs.lemmas.Int.{to_z-of_z}
+use Rattle.ckpt_types.specs.Updates.{written, element_written}
+use Rattle.section_store.specs.Places.{changed_at}
+use Rattle.section_store.specs.Stored.{sections_of}
+use Rattle.section_store.proofs.Placed.{Leaves, element_written-changed_at, element_written-no_place}
+use Rattle.section_store.proofs.StoredLemmas.{place_found}
+use Rattle.section_store.proofs.Reserved.{IsReserved-changed}
+use Rattle.section_store.proofs.store.Store.write_element.Goals as goal
+
+pub unreachable-requires : goal.unreachable-requires
+unreachable-requires c =
+    element_written-no_place c.self.inside.attributes c.args.now c.args.element.now (sections_of c.self.inside.kept.items)
+    (place_found c.args.element.now.id c.self.inside.kept.items _ _ _ c.as_slice.ensures.value c.find.ensures.place c.in_default.is) (rw (← c.self.view_is) at c.requires)
+
+-- the element is written
+left : (c : goal.After-write_into) → Leaves c.self.inside.attributes (element_written c.self.inside.attributes c.args.now 0 c.args.element.now (sections_of c.self.inside.kept.items)) (sections_of c.write_into.new.kept.items)
+left c =
+    let e = c.args.element.now in
+    let kept = sections_of c.self.inside.kept.items in
+    let place = place_found e.id c.self.inside.kept.items _ _ _ c.as_slice.ensures.value c.find.ensures.place c.in-Some.is in
+    let moment : to_z w64 (of_z w64 c.args.now) ≡ c.args.now = to_z-of_z w64 c.args.now c.ranges.now in
+    let written_now : sections_of c.write_into.new.kept.items ≡ changed_at (λ s. record s { bytes = written s.bytes e.offset e.bytes; last_update = c.args.now }) c.in-Some.place kept =
+    c.write_into.ensures.sections ∙ (λ i. changed_at (λ s. record s { bytes = written s.bytes e.offset (c.as_slice-2.ensures i); last_update = moment i }) c.in-Some.place kept) in
+    subst (Leaves c.self.inside.attributes (element_written c.self.inside.attributes c.args.now 0 e kept)) (sym written_now)
+    (element_written-changed_at c.self.inside.attributes c.args.now e kept c.in-Some.place c.self.invariant.rises c.self.invariant.fits place (rw (← c.self.view_is) at c.requires))
+
+pub invariant_of-self : goal.invariant_of-self
+invariant_of-self c =
+    IsReserved-changed c.self.inside _ refl refl (left c).rises (left c).fits c.write_into.ensures.room c.write_into.ensures.len c.write_into.ensures.capacity c.self.invariant
+
+pub returns-clause-sections : goal.returns-clause-sections
+returns-clause-sections c = rw (← c.self.view_is) (left c).is

@@ -1,0 +1,4 @@
+pub mod Places
+pub mod Store
+pub mod StoreState
+pub mod Stored

@@ -1,0 +1,15 @@
+-- Where a section stands among the others, and the change of the one at a place.
+use Rattle.std.specs.Prelude.{ℕ, zero, suc, List, [], ◌∷◌}
+use Rattle.std.specs.Ordering.{match_ordering}
+use Rattle.ckpt_types.specs.Sections.{Section, id_cmp}
+
+-- how many sections stand before the place of that identifier
+abbrev pub count_below : List ℕ → List Section → ℕ
+count_below id [] = 0
+count_below id (s ∷ sections) = match_ordering (id_cmp id s.id) 0 0 (suc (count_below id sections))
+
+-- the sections with the one at a place changed
+abbrev pub changed_at : (Section → Section) → ℕ → List Section → List Section
+changed_at change place [] = []
+changed_at change zero (s ∷ sections) = change s ∷ sections
+changed_at change (suc place) (s ∷ sections) = s ∷ changed_at change place sections

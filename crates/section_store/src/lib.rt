@@ -1,0 +1,12 @@
+//! The sections of one replica, in storage that is taken when it opens: no update takes memory.
+#![tactic(auto)]
+
+mod identifiers;
+mod order;
+mod reads;
+mod store;
+mod stored;
+#[cfg(test)]
+mod tests;
+
+pub use store::Store;

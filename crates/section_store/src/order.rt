@@ -1,0 +1,232 @@
+ghost use Rattle.std.specs.Prelude.{◌≡◌, ◌+◌, ◌≤◌, ◌<◌, ℕ, List, [], length, vec_capacity, insert, remove, All, IfOk, IfSome};
+ghost use Rattle.ckpt_types.specs.Sections.{Rises, place_of, present, size_of, section_of as lent_section};
+ghost use Rattle.ckpt_types.specs.Updates.{written};
+ghost use Rattle.ckpt_types.specs.declared.sections.SectionState.TheVariants.{Valid, Corrupted};
+ghost use Rattle.section_store.specs.Places.{count_below, changed_at};
+ghost use Rattle.section_store.specs.Stored.{section_of, sections_of, HaveRoom};
+
+use crate::stored::{Stored, put_all, write_at};
+use ckpt_types::{Moment, SectionId, SectionRef, SectionState, Sections};
+use std::alloc::{AllocError, Global};
+use std::cmp::Ordering;
+
+/// Where the section of that identifier stands, or would stand.
+pub(crate) fn place_for(kept: &[Stored], id: &SectionId) -> usize
+    requires { Rises (sections_of kept.now) }
+    ensures place { result ≡ count_below id.now (sections_of kept.now) }
+    ensures within { result ≤ length kept.now }
+{
+    let mut low = 0;
+    let mut high = kept.len();
+    while low < high {
+        let middle = low + (high - low) / 2;
+        match id.cmp(&kept[middle].id) {
+            Ordering::Greater => low = middle + 1,
+            Ordering::Less | Ordering::Equal => high = middle,
+        }
+    }
+    low
+}
+
+/// The place of the section of that identifier.
+pub(crate) fn find(kept: &[Stored], id: &SectionId) -> Option<usize>
+    requires { Rises (sections_of kept.now) }
+    ensures place { result ≡ place_of id.now (sections_of kept.now) }
+    ensures within { IfSome result (λ place. place < length kept.now) }
+{
+    let place = place_for(kept, id);
+    if place < kept.len() && kept[place].id == *id {
+        Some(place)
+    } else {
+        None
+    }
+}
+
+/// Writes into the section at a place.
+pub(crate) fn write_into(
+    kept: &mut Vec<Stored>,
+    place: usize,
+    offset: usize,
+    bytes: &[u8],
+    now: Moment,
+)
+    requires there { place < length kept.old.items }
+    requires room { HaveRoom (offset + length bytes.now) kept.old.items }
+    ensures sections { sections_of kept.new.items ≡ changed_at (λ s. record s { bytes = written s.bytes offset bytes.now; last_update = now }) place (sections_of kept.old.items) }
+    ensures room { (size : ℕ) → HaveRoom size kept.old.items → HaveRoom size kept.new.items }
+    ensures len { length kept.new.items ≡ length kept.old.items }
+    ensures capacity { vec_capacity kept.new ≡ vec_capacity kept.old }
+{
+    let stored = &mut kept[place];
+    write_at(&mut stored.bytes, offset, bytes);
+    stored.last_update = now;
+}
+
+/// Puts these bytes in the place of those of the section at a place.
+pub(crate) fn overwrite_at(kept: &mut Vec<Stored>, place: usize, bytes: &[u8], now: Moment)
+    requires there { place < length kept.old.items }
+    requires room { HaveRoom (length bytes.now) kept.old.items }
+    ensures sections { sections_of kept.new.items ≡ changed_at (λ s. record s { bytes = bytes.now; state = Valid; last_update = now }) place (sections_of kept.old.items) }
+    ensures room { (size : ℕ) → HaveRoom size kept.old.items → HaveRoom size kept.new.items }
+    ensures len { length kept.new.items ≡ length kept.old.items }
+    ensures capacity { vec_capacity kept.new ≡ vec_capacity kept.old }
+{
+    let stored = &mut kept[place];
+    put_all(&mut stored.bytes, bytes);
+    stored.state = SectionState::Valid;
+    stored.last_update = now;
+}
+
+/// Takes the sections away that are absent, with their buffers.
+pub(crate) fn drop_absent(kept: &mut Vec<Stored>, spare: &mut Vec<Stored>, now: Moment)
+    requires places { length kept.old.items + length spare.old.items ≤ vec_capacity spare.old }
+    ensures sections { sections_of kept.new.items ≡ present now (sections_of kept.old.items) }
+    ensures all { length kept.new.items + length spare.new.items ≡ length kept.old.items + length spare.old.items }
+    ensures kept_room { (size : ℕ) → HaveRoom size kept.old.items → HaveRoom size kept.new.items }
+    ensures spare_room { (size : ℕ) → HaveRoom size kept.old.items → HaveRoom size spare.old.items → HaveRoom size spare.new.items }
+    ensures kept_capacity { vec_capacity kept.new ≡ vec_capacity kept.old }
+    ensures spare_capacity { vec_capacity spare.new ≡ vec_capacity spare.old }
+{
+    let mut place = kept.len();
+    while place > 0 {
+        place -= 1;
+        if !kept[place].is_present(now) {
+            let gone = kept.remove(place);
+            spare.push_reserved(gone);
+        }
+    }
+}
+
+/// Gives the section at a place another expiration.
+pub(crate) fn expire_at(kept: &mut Vec<Stored>, place: usize, expiration: Moment)
+    requires { place < length kept.old.items }
+    ensures sections { sections_of kept.new.items ≡ changed_at (λ s. record s { expiration = expiration }) place (sections_of kept.old.items) }
+    ensures room { (size : ℕ) → HaveRoom size kept.old.items → HaveRoom size kept.new.items }
+    ensures len { length kept.new.items ≡ length kept.old.items }
+    ensures capacity { vec_capacity kept.new ≡ vec_capacity kept.old }
+{
+    let stored = &mut kept[place];
+    stored.expiration = expiration;
+}
+
+/// Makes the section at a place a corrupted one.
+pub(crate) fn corrupt_at(kept: &mut Vec<Stored>, place: usize)
+    requires { place < length kept.old.items }
+    ensures sections { sections_of kept.new.items ≡ changed_at (λ s. record s { state = Corrupted }) place (sections_of kept.old.items) }
+    ensures room { (size : ℕ) → HaveRoom size kept.old.items → HaveRoom size kept.new.items }
+    ensures len { length kept.new.items ≡ length kept.old.items }
+    ensures capacity { vec_capacity kept.new ≡ vec_capacity kept.old }
+{
+    let stored = &mut kept[place];
+    stored.state = SectionState::Corrupted;
+}
+
+/// Takes the section at a place away, with its buffer.
+pub(crate) fn take_out(kept: &mut Vec<Stored>, spare: &mut Vec<Stored>, place: usize)
+    requires there { place < length kept.old.items }
+    requires room { length spare.old.items < vec_capacity spare.old }
+    ensures sections { sections_of kept.new.items ≡ remove (sections_of kept.old.items) place }
+    ensures all { length kept.new.items + length spare.new.items ≡ length kept.old.items + length spare.old.items }
+    ensures kept_room { (size : ℕ) → HaveRoom size kept.old.items → HaveRoom size kept.new.items }
+    ensures spare_room { (size : ℕ) → HaveRoom size kept.old.items → HaveRoom size spare.old.items → HaveRoom size spare.new.items }
+    ensures kept_capacity { vec_capacity kept.new ≡ vec_capacity kept.old }
+    ensures spare_capacity { vec_capacity spare.new ≡ vec_capacity spare.old }
+{
+    let gone = kept.remove(place);
+    spare.push_reserved(gone);
+}
+
+/// Puts a section in at a place, in a spare buffer.
+pub(crate) fn put_in(
+    kept: &mut Vec<Stored>,
+    spare: &mut Vec<Stored>,
+    place: usize,
+    section: &SectionRef<'_>,
+)
+    requires place { place ≤ length kept.old.items }
+    requires buffer { 1 ≤ length spare.old.items }
+    requires room { HaveRoom (length section.now.bytes.now) spare.old.items }
+    requires kept_room { length kept.old.items < vec_capacity kept.old }
+    ensures sections { sections_of kept.new.items ≡ insert (sections_of kept.old.items) place (lent_section section.now) }
+    ensures all { length kept.new.items + length spare.new.items ≡ length kept.old.items + length spare.old.items }
+    ensures kept_room { (size : ℕ) → HaveRoom size kept.old.items → HaveRoom size spare.old.items → HaveRoom size kept.new.items }
+    ensures spare_room { (size : ℕ) → HaveRoom size spare.old.items → HaveRoom size spare.new.items }
+    ensures kept_capacity { vec_capacity kept.old ≤ vec_capacity kept.new }
+    ensures spare_capacity { vec_capacity spare.new ≡ vec_capacity spare.old }
+{
+    let Some(mut stored) = spare.pop() else {
+        unreachable!()
+    };
+    fill(&mut stored, section);
+    let Ok(()) = kept.insert(place, stored) else {
+        unreachable!()
+    };
+}
+
+/// Makes a record that of a section, in its buffer.
+fn fill(stored: &mut Stored, section: &SectionRef<'_>)
+    requires { length section.now.bytes.now ≤ vec_capacity stored.old.bytes }
+    ensures section { section_of stored.new ≡ lent_section section.now }
+    ensures room { vec_capacity stored.old.bytes ≤ vec_capacity stored.new.bytes }
+{
+    put_all(&mut stored.bytes, section.bytes);
+    stored.id = *section.id;
+    stored.expiration = section.expiration;
+    stored.state = section.state;
+    stored.last_update = section.last_update;
+}
+
+/// Takes all sections away, with their buffers.
+pub(crate) fn take_all_out(kept: &mut Vec<Stored>, spare: &mut Vec<Stored>)
+    requires { length kept.old.items + length spare.old.items ≤ vec_capacity spare.old }
+    ensures none { kept.new.items ≡ [] }
+    ensures all { length spare.new.items ≡ length kept.old.items + length spare.old.items }
+    ensures spare_room { (size : ℕ) → HaveRoom size kept.old.items → HaveRoom size spare.old.items → HaveRoom size spare.new.items }
+    ensures kept_capacity { vec_capacity kept.new ≡ vec_capacity kept.old }
+    ensures spare_capacity { vec_capacity spare.new ≡ vec_capacity spare.old }
+{
+    while let Some(gone) = kept.pop() {
+        spare.push_reserved(gone);
+    }
+}
+
+/// So many records, each with a buffer for so many bytes.
+pub(crate) fn buffers(alloc: Global, count: usize, size: usize) -> Result<Vec<Stored>, AllocError>
+    ensures len { IfOk result (λ spare. length spare.items ≡ count) }
+    ensures places { IfOk result (λ spare. count ≤ vec_capacity spare) }
+    ensures room { IfOk result (λ spare. HaveRoom size spare.items) }
+{
+    let mut spare = Vec::with_capacity(alloc, count)?;
+    for _made in 0..count {
+        let stored = Stored {
+            id: SectionId::default(),
+            expiration: 0,
+            state: SectionState::Valid,
+            last_update: 0,
+            bytes: Vec::with_capacity(alloc, size)?,
+        };
+        spare.push_reserved(stored);
+    }
+    Ok(spare)
+}
+
+/// Puts a copy of each section in, in spare buffers.
+pub(crate) fn copy_in<S: Sections>(kept: &mut Vec<Stored>, spare: &mut Vec<Stored>, other: &S)
+    requires none { kept.old.items ≡ [] }
+    requires buffers { length (S.sections other.now) ≤ length spare.old.items }
+    requires room { All (λ s. HaveRoom (size_of s) spare.old.items) (S.sections other.now) }
+    requires kept_room { length spare.old.items ≤ vec_capacity kept.old }
+    ensures sections { sections_of kept.new.items ≡ S.sections other.now }
+    ensures rises { Rises (S.sections other.now) }
+    ensures all { length kept.new.items + length spare.new.items ≡ length spare.old.items }
+    ensures kept_room { (size : ℕ) → HaveRoom size spare.old.items → HaveRoom size kept.new.items }
+    ensures spare_room { (size : ℕ) → HaveRoom size spare.old.items → HaveRoom size spare.new.items }
+    ensures kept_capacity { vec_capacity kept.old ≤ vec_capacity kept.new }
+    ensures spare_capacity { vec_capacity spare.new ≡ vec_capacity spare.old }
+{
+    let count = other.len();
+    for place in 0..count {
+        let section = other.at(place);
+        put_in(kept, spare, place, &section);
+    }
+}

@@ -1,0 +1,62 @@
+ghost use Rattle.std.specs.Prelude.{◌≡◌, ◌+◌, ◌<◌, ◌≤◌, ◌^◌, Ok, IfOk, IsOk, length, take, drop, sum_by};
+ghost use Rattle.ckpt_types.specs.Reads.{piece_read, pieces_read};
+ghost use Rattle.ckpt_types.specs.Sections.{Rises, present, memory_used};
+ghost use Rattle.section_store.specs.StoreState.{with_pieces};
+ghost use Rattle.section_store.specs.Stored.{sections_of};
+
+use crate::order::find;
+use crate::stored::Stored;
+use ckpt_types::{Moment, ReadBuf, ReadElement};
+
+/// Adds the bytes that each element reads.
+pub(crate) fn read_all(kept: &[Stored], elements: &[ReadElement], out: &mut ReadBuf)
+    requires rises { Rises (sections_of kept.now) }
+    requires readable { IsOk (pieces_read 0 elements.now (sections_of kept.now)) }
+    requires places { length elements.now ≤ out.old.spare_pieces }
+    requires room { IfOk (pieces_read 0 elements.now (sections_of kept.now)) (λ pieces. sum_by length pieces ≤ out.old.spare_bytes) }
+    ensures { IfOk (pieces_read 0 elements.now (sections_of kept.now)) (λ pieces. out.new ≡ with_pieces pieces out.old) }
+{
+    for element in elements {
+        out.push(piece(kept, element));
+    }
+}
+
+/// The bytes that an element reads.
+fn piece<'a>(kept: &'a [Stored], element: &ReadElement) -> &'a [u8]
+    requires rises { Rises (sections_of kept.now) }
+    requires readable { IsOk (piece_read 0 element.now (sections_of kept.now)) }
+    ensures { piece_read 0 element.now (sections_of kept.now) ≡ Ok result.now }
+{
+    let Some(place) = find(kept, &element.id) else {
+        unreachable!()
+    };
+    let stored = &kept[place];
+    part(stored.bytes.as_slice(), element.offset, element.len)
+}
+
+/// The bytes from an offset on, at most so many.
+fn part(bytes: &[u8], offset: u64, len: u64) -> &[u8]
+    requires { offset ≤ length bytes.now }
+    ensures { result.now ≡ take len (drop offset bytes.now) }
+{
+    let rest = &bytes[offset as usize..];
+    let len = len as usize;
+    if len < rest.len() { &rest[..len] } else { rest }
+}
+
+/// How many sections are present, and how many bytes they have together.
+pub(crate) fn totals(kept: &[Stored], now: Moment) -> (usize, usize)
+    requires { memory_used (sections_of kept.now) < 2 ^ 64 }
+    ensures count { result.0 ≡ length (present now (sections_of kept.now)) }
+    ensures bytes { result.1 ≡ memory_used (present now (sections_of kept.now)) }
+{
+    let mut count = 0;
+    let mut bytes = 0;
+    for stored in kept {
+        if stored.is_present(now) {
+            count += 1;
+            bytes += stored.bytes.as_slice().len();
+        }
+    }
+    (count, bytes)
+}

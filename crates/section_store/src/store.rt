@@ -1,0 +1,282 @@
+ghost use Rattle.std.specs.Prelude.{◌≡◌, ◌+◌, ◌≤◌, ◌<◌, [], ◌∷◌, Ok, IfOk, IsOk, false, length, sum_by};
+ghost use Rattle.ckpt_types.specs.Attributes.{is_malformed};
+ghost use Rattle.ckpt_types.specs.Reads.{read, status};
+ghost use Rattle.ckpt_types.specs.Sections.{Fits, opening, default_section, present};
+ghost use Rattle.ckpt_types.specs.Updates.{outcome, element_written, elements_written, overwritten, created, deleted, expiration_set, generated_id};
+ghost use Rattle.section_store.specs.StoreState.{corrupted, with_pieces};
+
+use crate::identifiers::{generated, new_id};
+use crate::order::{
+    buffers, copy_in, corrupt_at, drop_absent, expire_at, find, overwrite_at, place_for, put_in,
+    take_all_out, take_out, write_into,
+};
+use crate::reads::{read_all, totals};
+use crate::stored::Stored;
+use ckpt_types::{
+    CheckpointDescriptor, CreationAttributes, IoElement, Moment, NEVER, NewId, ReadBuf,
+    ReadElement, SectionId, SectionRef, SectionState, Sections, Update,
+};
+use std::alloc::{AllocError, Global};
+use std::marker::Model;
+
+/// The sections of one replica.
+#[derive(Debug, Drop)]
+pub struct Store {
+    attributes: CreationAttributes,
+    /// The sections, in the order of their identifiers.
+    kept: Vec<Stored>,
+    /// Buffers for as many sections as may still come.
+    spare: Vec<Stored>,
+}
+
+impl Model for Store {
+    ghost use Rattle.section_store.specs.StoreState.{StoreState};
+
+    ghost Value = { StoreState };
+
+    ghost use Rattle.section_store.specs.Store.{state_of, IsReserved};
+
+    ghost view = { state_of };
+
+    ghost invariant = { IsReserved };
+}
+
+impl Store {
+    /// The storage for what the attributes declare, with the sections that a checkpoint has when it is made.
+    pub fn reserve(
+        alloc: Global,
+        attrs: &CreationAttributes,
+        made: Moment,
+    ) -> Result<Store, AllocError>
+        requires { is_malformed attrs.now ≡ false }
+        ensures { IfOk result (λ s. s ≡ record { attributes = attrs.now; sections = opening attrs.now made }) }
+    {
+        let mut store = Store::empty(alloc, attrs)?;
+        if attrs.max_sections == 1 {
+            store.add_default(made);
+        }
+        Ok(store)
+    }
+
+    /// Makes the update. It takes no memory.
+    pub fn apply(&mut self, update: &Update, now: Moment)
+        requires { IsOk (outcome self.old.attributes update.now now self.old.sections) }
+        ensures attributes { self.new.attributes ≡ self.old.attributes }
+        ensures sections { outcome self.old.attributes update.now now self.old.sections ≡ Ok self.new.sections }
+    {
+        self.drop_absent(now);
+        match update {
+            Update::Write(elements) => self.write(elements.as_slice(), now),
+            Update::Overwrite(id, bytes) => self.overwrite(id, bytes.as_slice(), now),
+            Update::Create(new, expiration, bytes) => self.create(
+                new,
+                *expiration,
+                bytes.as_slice(),
+                now,
+            ),
+            Update::Delete(id) => self.delete(id),
+            Update::SetExpiration(id, expiration) => self.set_expiration(id, *expiration, now),
+            Update::Nothing => {}
+        }
+    }
+
+    /// Takes over the sections of another. It takes no memory.
+    pub fn copy_from<S: Sections>(&mut self, other: &S)
+        requires { Fits self.old.attributes (S.sections other.now) }
+        ensures { self.new ≡ record self.old { sections = S.sections other.now } }
+    {
+        take_all_out(&mut self.kept, &mut self.spare);
+        copy_in(&mut self.kept, &mut self.spare, other);
+    }
+
+    /// Makes the section of that identifier a corrupted one, where one stands.
+    pub fn corrupt(&mut self, id: &SectionId)
+        ensures { self.new ≡ record self.old { sections = corrupted id.now self.old.sections } }
+    {
+        if let Some(place) = find(self.kept.as_slice(), id) {
+            corrupt_at(&mut self.kept, place);
+        }
+    }
+
+    /// The identifier that the service makes here for a new section.
+    pub fn generated(&self, now: Moment) -> SectionId
+        ensures { result ≡ generated_id (present now self.now.sections) }
+    {
+        generated(self.kept.as_slice(), now)
+    }
+
+    /// Adds the bytes that each element reads to the buffer. It takes no memory.
+    pub fn read_into(&self, elements: &[ReadElement], now: Moment, out: &mut ReadBuf)
+        requires readable { IsOk (read elements.now now self.now.sections) }
+        requires places { length elements.now ≤ out.old.spare_pieces }
+        requires room { IfOk (read elements.now now self.now.sections) (λ pieces. sum_by length pieces ≤ out.old.spare_bytes) }
+        ensures { IfOk (read elements.now now self.now.sections) (λ pieces. out.new ≡ with_pieces pieces out.old) }
+    {
+        // Whatever is read is present, so nothing is left to ask of the moment.
+        read_all(self.kept.as_slice(), elements, out);
+    }
+
+    /// What a status tells of the checkpoint.
+    pub fn descriptor(&self, now: Moment) -> CheckpointDescriptor
+        ensures { result ≡ status self.now.attributes now self.now.sections }
+    {
+        let (count, bytes) = totals(self.kept.as_slice(), now);
+        CheckpointDescriptor {
+            attributes: self.attributes,
+            number_of_sections: count as u32,
+            memory_used: bytes as u64,
+        }
+    }
+
+    /// An equal store, with storage of its own.
+    pub fn copy(&self, alloc: Global) -> Result<Store, AllocError>
+        ensures { IfOk result (λ s. s ≡ self.now) }
+    {
+        let mut copy = Store::empty(alloc, &self.attributes)?;
+        copy.copy_from(self);
+        Ok(copy)
+    }
+
+    /// The attributes of the checkpoint.
+    pub fn attributes(&self) -> &CreationAttributes
+        ensures { result.now ≡ self.now.attributes }
+    {
+        &self.attributes
+    }
+
+    fn empty(alloc: Global, attrs: &CreationAttributes) -> Result<Store, AllocError>
+        requires { is_malformed attrs.now ≡ false }
+        ensures { IfOk result (λ s. s ≡ record { attributes = attrs.now; sections = [] }) }
+    {
+        let count = attrs.max_sections as usize;
+        let kept = Vec::with_capacity(alloc, count)?;
+        let spare = buffers(alloc, count, attrs.max_section_size as usize)?;
+        Ok(Store {
+            attributes: *attrs,
+            kept,
+            spare,
+        })
+    }
+
+    fn add_default(&mut self, made: Moment)
+        requires one { self.old.attributes.max_sections ≡ 1 }
+        requires none { self.old.sections ≡ [] }
+        ensures { self.new ≡ record self.old { sections = default_section made ∷ [] } }
+    {
+        let section = SectionRef {
+            id: &SectionId::default(),
+            bytes: &[],
+            expiration: NEVER,
+            state: SectionState::Valid,
+            last_update: made,
+        };
+        put_in(&mut self.kept, &mut self.spare, 0, &section);
+    }
+
+    fn drop_absent(&mut self, now: Moment)
+        ensures { self.new ≡ record self.old { sections = present now self.old.sections } }
+    {
+        drop_absent(&mut self.kept, &mut self.spare, now);
+    }
+
+    fn write(&mut self, elements: &[IoElement], now: Moment)
+        requires { IsOk (elements_written self.old.attributes now 0 elements.now self.old.sections) }
+        ensures attributes { self.new.attributes ≡ self.old.attributes }
+        ensures sections { elements_written self.old.attributes now 0 elements.now self.old.sections ≡ Ok self.new.sections }
+    {
+        for element in elements {
+            self.write_element(element, now);
+        }
+    }
+
+    fn write_element(&mut self, element: &IoElement, now: Moment)
+        requires { IsOk (element_written self.old.attributes now 0 element.now self.old.sections) }
+        ensures attributes { self.new.attributes ≡ self.old.attributes }
+        ensures sections { element_written self.old.attributes now 0 element.now self.old.sections ≡ Ok self.new.sections }
+    {
+        let Some(place) = find(self.kept.as_slice(), &element.id) else {
+            unreachable!()
+        };
+        write_into(
+            &mut self.kept,
+            place,
+            element.offset as usize,
+            element.bytes.as_slice(),
+            now,
+        );
+    }
+
+    fn overwrite(&mut self, id: &SectionId, bytes: &[u8], now: Moment)
+        requires { IsOk (overwritten self.old.attributes id.now bytes.now now self.old.sections) }
+        ensures attributes { self.new.attributes ≡ self.old.attributes }
+        ensures sections { overwritten self.old.attributes id.now bytes.now now self.old.sections ≡ Ok self.new.sections }
+    {
+        let Some(place) = find(self.kept.as_slice(), id) else {
+            unreachable!()
+        };
+        overwrite_at(&mut self.kept, place, bytes, now);
+    }
+
+    fn create(&mut self, new: &NewId, expiration: Moment, bytes: &[u8], now: Moment)
+        requires accepted { IsOk (created self.old.attributes new.now expiration bytes.now now self.old.sections) }
+        requires all_present { present now self.old.sections ≡ self.old.sections }
+        ensures attributes { self.new.attributes ≡ self.old.attributes }
+        ensures sections { created self.old.attributes new.now expiration bytes.now now self.old.sections ≡ Ok self.new.sections }
+    {
+        let id = new_id(new, self.kept.as_slice(), now);
+        let section = SectionRef {
+            id: &id,
+            bytes,
+            expiration,
+            state: SectionState::Valid,
+            last_update: now,
+        };
+        let place = place_for(self.kept.as_slice(), &id);
+        put_in(&mut self.kept, &mut self.spare, place, &section);
+    }
+
+    fn delete(&mut self, id: &SectionId)
+        requires { IsOk (deleted self.old.attributes id.now self.old.sections) }
+        ensures attributes { self.new.attributes ≡ self.old.attributes }
+        ensures sections { deleted self.old.attributes id.now self.old.sections ≡ Ok self.new.sections }
+    {
+        let Some(place) = find(self.kept.as_slice(), id) else {
+            unreachable!()
+        };
+        take_out(&mut self.kept, &mut self.spare, place);
+    }
+
+    fn set_expiration(&mut self, id: &SectionId, expiration: Moment, now: Moment)
+        requires { IsOk (expiration_set self.old.attributes id.now expiration now self.old.sections) }
+        ensures attributes { self.new.attributes ≡ self.old.attributes }
+        ensures sections { expiration_set self.old.attributes id.now expiration now self.old.sections ≡ Ok self.new.sections }
+    {
+        let Some(place) = find(self.kept.as_slice(), id) else {
+            unreachable!()
+        };
+        expire_at(&mut self.kept, place, expiration);
+    }
+}
+
+impl Sections for Store {
+    ghost sections = { λ s. s.sections };
+
+    fn len(&self) -> usize {
+        self.kept.len()
+    }
+
+    fn at(&self, place: usize) -> SectionRef<'_> {
+        let stored = &self.kept[place];
+        SectionRef {
+            id: &stored.id,
+            bytes: stored.bytes.as_slice(),
+            expiration: stored.expiration,
+            state: stored.state,
+            last_update: stored.last_update,
+        }
+    }
+
+    fn find(&self, id: &SectionId) -> Option<usize> {
+        find(self.kept.as_slice(), id)
+    }
+}
