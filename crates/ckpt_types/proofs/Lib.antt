@@ -6,3 +6,5 @@ pub mod Presence
 pub mod Placing
 pub mod Accepted
 pub mod Fitting
+pub mod Numbering
+pub mod AttributeLaws
