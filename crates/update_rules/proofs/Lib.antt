@@ -1,1 +1,5 @@
 pub mod PresentLemmas
+pub mod Sizes
+pub mod Singles
+pub mod ReadLemmas
+pub mod WriteLemmas

@@ -1,6 +1,6 @@
-ghost use Rattle.std.specs.Prelude.{◌≡◌};
-ghost use Rattle.ckpt_types.specs.Sections.{Rises, present};
-ghost use Rattle.ckpt_types.specs.Updates.{outcome, created, deleted, expiration_set, overwritten, is_bad_id};
+ghost use Rattle.std.specs.Prelude.{◌≡◌, ◌+◌, ◌^◌, ◌<◌, ◌||◌, nat_le, nat_lt, length};
+ghost use Rattle.ckpt_types.specs.Sections.{Rises, is_taken, present, memory_used};
+ghost use Rattle.ckpt_types.specs.Updates.{outcome, created, deleted, expiration_set, overwritten, is_bad_id, new_id};
 ghost use Rattle.update_rules.specs.Told.{told};
 
 use ckpt_types::{AisError, CreationAttributes, Moment, NewId, SectionId, Sections, Update};
@@ -47,6 +47,7 @@ fn check_create<S: Sections>(
     now: Moment,
 ) -> Result<(), Refused>
     requires in_order { Rises (S.sections sections.now) }
+    requires few { length (S.sections sections.now) < 2 ^ 64 }
     ensures { result ≡ told (created attrs.now new.now expiration bytes.now now (present now (S.sections sections.now))) }
 {
     let len = bytes.len() as u64;
@@ -56,17 +57,10 @@ fn check_create<S: Sections>(
     if is_bad_id(attrs, new) || expired(expiration, now) || len > attrs.max_section_size {
         return refuse(AisError::InvalidParam);
     }
-    let is_taken = match new {
-        NewId::Given(id) => size_present(sections, id, now).is_some(),
-        NewId::Generated => false,
-    };
-    if is_taken {
+    if is_taken(sections, new, now) {
         return refuse(AisError::Exist);
     }
-    let bytes_after = bytes_present(sections, now) + u128::from(len);
-    if attrs.max_sections as usize <= count_present(sections, now)
-        || bytes_after > u128::from(attrs.checkpoint_size)
-    {
+    if lacks_room(attrs, sections, len, now) {
         return refuse(AisError::NoSpace);
     }
     Ok(())
@@ -83,6 +77,32 @@ fn is_bad_id(attrs: &CreationAttributes, new: &NewId) -> bool
         }
         NewId::Generated => attrs.max_section_id_size < 8,
     }
+}
+
+/// Whether a section that is present has the identifier; none has one that the service makes.
+fn is_taken<S: Sections>(sections: &S, new: &NewId, now: Moment) -> bool
+    requires in_order { Rises (S.sections sections.now) }
+    requires few { length (S.sections sections.now) < 2 ^ 64 }
+    ensures { result ≡ is_taken (new_id new.now (present now (S.sections sections.now))) (present now (S.sections sections.now)) }
+{
+    match new {
+        NewId::Given(id) => size_present(sections, id, now).is_some(),
+        NewId::Generated => false,
+    }
+}
+
+/// Whether there is no room for one section more, or none for its bytes.
+fn lacks_room<S: Sections>(
+    attrs: &CreationAttributes,
+    sections: &S,
+    len: u64,
+    now: Moment,
+) -> bool
+    ensures { result ≡ (nat_le attrs.now.max_sections (length (present now (S.sections sections.now))) || nat_lt attrs.now.checkpoint_size (memory_used (present now (S.sections sections.now)) + len)) }
+{
+    let bytes_after = bytes_present(sections, now) + u128::from(len);
+    attrs.max_sections as usize <= count_present(sections, now)
+        || bytes_after > u128::from(attrs.checkpoint_size)
 }
 
 fn check_delete<S: Sections>(

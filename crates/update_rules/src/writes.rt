@@ -1,4 +1,4 @@
-ghost use Rattle.std.specs.Prelude.{◌≡◌, ◌-◌, ◌^◌, ◌<◌, length};
+ghost use Rattle.std.specs.Prelude.{◌≡◌, ◌-◌, ◌^◌, ◌<◌, length, IfOk};
 ghost use Rattle.ckpt_types.specs.Sections.{Rises, present, memory_used};
 ghost use Rattle.ckpt_types.specs.Updates.{element_written, elements_written};
 ghost use Rattle.update_rules.specs.Told.{told};
@@ -40,7 +40,8 @@ fn bytes_after<S: Sections>(
     requires in_order { Rises (S.sections sections.now) }
     requires used { used ≡ memory_used (with_elements now earlier.now (present now (S.sections sections.now))) }
     requires small { used < 2 ^ 128 - 2 ^ 64 }
-    ensures { result ≡ measured (element_written attrs.now now (length earlier.now) element.now (with_elements now earlier.now (present now (S.sections sections.now)))) }
+    ensures bytes { result ≡ measured (element_written attrs.now now (length earlier.now) element.now (with_elements now earlier.now (present now (S.sections sections.now)))) }
+    ensures small { IfOk result (λ bytes. bytes < 2 ^ 64) }
 {
     let index = earlier.len() as u32;
     let Some(first_size) = size_present(sections, &element.id, now) else {
