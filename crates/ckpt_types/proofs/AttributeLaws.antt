@@ -38,7 +38,7 @@ IsWellFormed-from_check a passes =
       retention = grind (arith, ints);
     }
 
--- and attributes that keep to the rules pass the check
+-- attributes that keep to the rules pass the check
 pub is_malformed-from_IsWellFormed : (a : CreationAttributes) → IsWellFormed a → is_malformed a ≡ false
 is_malformed-from_IsWellFormed a keeps =
     let retention : int_lt a.retention_duration (pos 0) ≡ false = grind (arith, ints, keeps.retention) in
@@ -57,14 +57,15 @@ is_malformed-from_IsWellFormed a keeps =
 abbrev pub passing_flags : List ℕ
 passing_flags = WR_ALL_REPLICAS ∷ WR_ACTIVE_REPLICA ∷ WR_ACTIVE_REPLICA_WEAK ∷ (WR_ACTIVE_REPLICA + CHECKPOINT_COLLOCATED) ∷ (WR_ACTIVE_REPLICA_WEAK + CHECKPOINT_COLLOCATED) ∷ []
 
--- as numbers
+-- the creation flags that pass, as numbers
 pub passing_flags-are : passing_flags ≡ 1 ∷ 2 ∷ 4 ∷ 10 ∷ 12 ∷ []
 passing_flags-are = refl
 
+-- the flags are among those that pass
 abbrev is_passing : ℕ → Bool
 is_passing flags = list_any (eqb flags) passing_flags
 
--- no other flags pass
+-- creation flags that pass are among these
 pub passing_flags-only : (flags : ℕ) → has_malformed_flags flags ≡ false → Contains passing_flags flags
 passing_flags-only flags passes =
     let known : nat_lt CREATION_FLAGS_ALL flags ≡ false = (or_parts _ _ (or_parts _ _ passes).0).0 in
@@ -72,7 +73,7 @@ passing_flags-only flags passes =
     let agree : has_malformed_flags flags ≡ not (is_passing flags) = agree_below_at has_malformed_flags (λ n. not (is_passing n)) 16 flags refl (omega arith) in
     Contains-from_any {eq = eqb} exact_unsigned_eq flags passing_flags (not-false (is_passing flags) (sym agree ∙ passes))
 
--- and these pass
+-- each of these creation flags passes
 pub has_malformed_flags-passing : (flags : ℕ) → Contains passing_flags flags → has_malformed_flags flags ≡ false
 has_malformed_flags-passing flags among =
     let all : All (λ n. has_malformed_flags n ≡ false) passing_flags = All-from_recursion (λ n. has_malformed_flags n ≡ false) passing_flags (refl, (refl, (refl, (refl, (refl, tt))))) in
@@ -106,7 +107,7 @@ bits_from_flags bits flags told =
           (omega arith, few, bits_of-named bits few ∙ ap bits_of same)
     ]
 
--- and bits tell their flags
+-- the bits of some flags tell the flags
 flags_from_bits : (read write create : Bool) → 1 ≤ bits_of (record { read = read; write = write; create = create }) → open_flags_of (bits_of (record { read = read; write = write; create = create })) ≡ Ok (record { read = read; write = write; create = create })
 flags_from_bits true true true some = refl
 flags_from_bits true true false some = refl

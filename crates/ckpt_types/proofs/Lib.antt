@@ -1,10 +1,10 @@
-pub mod EndsLemmas
-pub mod Padding
-pub mod Pushing
-pub mod Rows
-pub mod Presence
-pub mod Placing
 pub mod Accepted
+pub mod AttributeLaws
+pub mod EndsLemmas
 pub mod Fitting
 pub mod Numbering
-pub mod AttributeLaws
+pub mod Padding
+pub mod Placing
+pub mod Presence
+pub mod Pushing
+pub mod Rows

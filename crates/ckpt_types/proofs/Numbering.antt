@@ -17,6 +17,7 @@ use Rattle.ckpt_types.specs.Updates.{numbered_id, numbers_from, free_number, gen
 pub numbered_id-injective : (m n : ℕ) → m < 2 ^ 64 → n < 2 ^ 64 → numbered_id m ≡ numbered_id n → m ≡ n
 numbered_id-injective m n below_m below_n same = sym (from_be_bytes-to_be_bytes_8 m below_m) ∙ ap (from_be_bytes w64) same ∙ from_be_bytes-to_be_bytes_8 n below_n
 
+-- the identifier of a number has 8 bytes
 pub length-numbered_id : (n : ℕ) → length (numbered_id n) ≡ 8
 length-numbered_id n = refl
 
@@ -80,6 +81,7 @@ IsLeast-behind test n count None fails least = λ m from below. elim (cases_eq m
 IsLeast-behind test n count (Some found) fails least =
     (omega arith, omega arith, least.2, λ m from below. elim (cases_eq m n) [ inl same ↦ ap test same ∙ fails | inr other ↦ least.3 m (omega arith) below ])
 
+-- finding among so many numbers gives the least that passes
 find-numbers_from : (test : ℕ → Bool) (n count : ℕ) → IsLeast test n count (find test (numbers_from n count))
 find-numbers_from test n zero = λ m from below. absurd (omega arith)
 find-numbers_from test n (suc count) =
@@ -97,16 +99,19 @@ is_free sections n = not (is_taken (numbered_id n) sections)
 free_found : (sections : List Section) → IsLeast (is_free sections) 1 (length sections + 1) (find (is_free sections) (numbers_from 1 (length sections + 1)))
 free_found sections = find-numbers_from (is_free sections) 1 (length sections + 1)
 
+-- what was found is counted from 1, and free
 found_is_free : (sections : List Section) (found : Option ℕ) → length sections + 1 < 2 ^ 64 → IsLeast (is_free sections) 1 (length sections + 1) found → (1 ≤ unwrap_or found 0) × (is_taken (numbered_id (unwrap_or found 0)) sections ≡ false)
 found_is_free sections None few least =
     let all : length sections + 1 ≤ length sections = numbers-le-length (length sections + 1) sections few (λ n first last. not-false (is_taken (numbered_id n) sections) (least n first (omega arith))) in
     absurd (omega arith)
 found_is_free sections (Some found) few least = (least.0, not-true (is_taken (numbered_id found) sections) least.2)
 
+-- lower numbers than the found one are taken
 found_is_least : (sections : List Section) (found : Option ℕ) → IsLeast (is_free sections) 1 (length sections + 1) found → (n : ℕ) → 1 ≤ n → n < unwrap_or found 0 → is_taken (numbered_id n) sections ≡ true
 found_is_least sections None least = λ n first below. absurd (omega arith)
 found_is_least sections (Some found) least = λ n first below. not-false (is_taken (numbered_id n) sections) (least.3 n first below)
 
+-- what was found is at most one above the number of sections
 found_is_small : (sections : List Section) (found : Option ℕ) → IsLeast (is_free sections) 1 (length sections + 1) found → unwrap_or found 0 ≤ length sections + 1
 found_is_small sections None least = omega arith
 found_is_small sections (Some found) least = omega arith

@@ -255,6 +255,9 @@ any = choice SECTIONS_ANY 0
 abbrev four : List Section
 four = section (codes "a") [] ∷ section (codes "b") [] ∷ section (codes "c") [] ∷ section (codes "d") [] ∷ []
 
+abbrev without_b : List Section
+without_b = section (codes "a") [] ∷ section (codes "c") [] ∷ section (codes "d") [] ∷ []
+
 abbrev without_b_and_c : List Section
 without_b_and_c = section (codes "a") [] ∷ section (codes "d") [] ∷ []
 
@@ -267,11 +270,20 @@ with_e_too = section (codes "a") [] ∷ section (codes "c") (codes "q") ∷ sect
 pub iteration_in_byte_order : chosen any (pos 0) four ≡ codes "a" ∷ codes "b" ∷ codes "c" ∷ codes "d" ∷ []
 iteration_in_byte_order = refl
 
-pub prefix_comes_first : outcome eight_of_eight (create (codes "ab") []) (pos 0) without_b_and_c ≡ Ok (section (codes "a") [] ∷ section (codes "ab") [] ∷ section (codes "d") [] ∷ [])
-prefix_comes_first = refl
-
 pub iteration_gives_the_first : given (codes "a" ∷ codes "b" ∷ codes "c" ∷ codes "d" ∷ []) (pos 0) four ≡ Some (record { section = section (codes "a") []; rest = codes "b" ∷ codes "c" ∷ codes "d" ∷ [] })
 iteration_gives_the_first = refl
+
+pub deleted_section_goes : outcome eight_of_eight (updates.Delete (codes "b")) (pos 0) four ≡ Ok without_b
+deleted_section_goes = refl
+
+pub next_deleted_section_goes : outcome eight_of_eight (updates.Delete (codes "c")) (pos 0) without_b ≡ Ok without_b_and_c
+next_deleted_section_goes = refl
+
+pub section_is_not_deleted_twice : outcome eight_of_eight (updates.Delete (codes "b")) (pos 0) without_b ≡ refuse NotExist
+section_is_not_deleted_twice = refl
+
+pub prefix_comes_first : outcome eight_of_eight (create (codes "ab") []) (pos 0) without_b_and_c ≡ Ok (section (codes "a") [] ∷ section (codes "ab") [] ∷ section (codes "d") [] ∷ [])
+prefix_comes_first = refl
 
 pub deleted_section_can_be_made_again : outcome eight_of_eight (create (codes "c") (codes "q")) (pos 0) without_b_and_c ≡ Ok with_c_again
 deleted_section_can_be_made_again = refl

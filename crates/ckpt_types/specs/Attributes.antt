@@ -49,6 +49,15 @@ is_malformed a = has_malformed_flags a.creation_flags || has_malformed_sizes a |
 abbrev pub checked : CreationAttributes → Result (Unit {0}) AisError
 checked a = if is_malformed a then Err InvalidParam else Ok tt
 
+-- the attributes are the same, the retention left aside
+abbrev pub same_but_retention : CreationAttributes → CreationAttributes → Bool
+same_but_retention a b =
+    (a.creation_flags == b.creation_flags)
+    && (a.checkpoint_size == b.checkpoint_size)
+    && (a.max_sections == b.max_sections)
+    && (a.max_section_size == b.max_section_size)
+    && (a.max_section_id_size == b.max_section_id_size)
+
 -- what attributes that pass the check keep to
 pub record IsWellFormed (a : CreationAttributes) : Type 0 where
   pub flags : has_malformed_flags a.creation_flags ≡ false

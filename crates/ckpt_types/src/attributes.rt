@@ -1,5 +1,5 @@
 ghost use Rattle.std.specs.Prelude.{◌≡◌, ◌↔◌, IsTrue};
-ghost use Rattle.ckpt_types.specs.Attributes.{has_flag, has_malformed_flags, has_malformed_sizes, checked};
+ghost use Rattle.ckpt_types.specs.Attributes.{has_flag, has_malformed_flags, has_malformed_sizes, checked, same_but_retention};
 
 use crate::ais_error::AisError;
 
@@ -63,7 +63,8 @@ impl CreationAttributes {
 
     /// Whether the other attributes are these, the retention left aside.
     pub fn same_but_retention(&self, other: &CreationAttributes) -> bool
-        ensures { IsTrue result ↔ (other.now ≡ record self.now { retention_duration = other.now.retention_duration }) }
+        ensures value { result ≡ same_but_retention self.now other.now }
+        ensures meaning { IsTrue result ↔ (other.now ≡ record self.now { retention_duration = other.now.retention_duration }) }
     {
         self.creation_flags == other.creation_flags
             && self.checkpoint_size == other.checkpoint_size

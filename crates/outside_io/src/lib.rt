@@ -1,6 +1,7 @@
 //! What a program reads from and writes to, with a count of its faults; and a gate for the threads of a race.
 #![tactic(auto)]
 
+mod counted;
 mod failed;
 mod front;
 mod gate;

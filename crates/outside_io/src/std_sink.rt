@@ -3,9 +3,10 @@ ghost use Rattle.std.specs.Io.KnownBytes.{WriteAppends};
 ghost use Rattle.outside_io.specs.Causes.{HasCause, faults_after};
 ghost use Rattle.outside_io.specs.Ends.{TakesSome};
 
+use crate::counted::write_counted;
 use crate::failed::Failed;
 use crate::sink::Sink;
-use std::io::{Stdout, Write};
+use std::io::Stdout;
 use std::marker::Model;
 
 /// Standard output. A contract sees it as its count of faults.
@@ -44,13 +45,6 @@ impl Sink for StdSink {
         ensures cause { HasCause self.old self.new result }
         ensures counted { self.new ≡ faults_after self.old result }
     {
-        let faults = self.faults;
-        match self.output.write(bytes) {
-            Ok(count) if count > 0 || bytes.is_empty() => Ok(count),
-            _ => {
-                self.faults = faults.saturating_add(1);
-                Err(Failed)
-            }
-        }
+        write_counted(&mut self.output, bytes, &mut self.faults)
     }
 }

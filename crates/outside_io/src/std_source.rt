@@ -3,9 +3,10 @@ ghost use Rattle.std.specs.Io.KnownBytes.{ReadConsumes};
 ghost use Rattle.outside_io.specs.Causes.{HasCause, faults_after};
 ghost use Rattle.outside_io.specs.Ends.{EndsExactly};
 
+use crate::counted::read_counted;
 use crate::failed::Failed;
 use crate::source::Source;
-use std::io::{Read, Stdin};
+use std::io::Stdin;
 use std::marker::Model;
 
 /// Standard input. A contract sees it as its count of faults.
@@ -44,13 +45,6 @@ impl Source for StdSource {
         ensures cause { HasCause self.old self.new result }
         ensures counted { self.new ≡ faults_after self.old result }
     {
-        let faults = self.faults;
-        match self.input.read(buf) {
-            Ok(count) => Ok(count),
-            Err(_) => {
-                self.faults = faults.saturating_add(1);
-                Err(Failed)
-            }
-        }
+        read_counted(&mut self.input, buf, &mut self.faults)
     }
 }
