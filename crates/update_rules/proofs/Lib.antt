@@ -3,3 +3,4 @@ pub mod Sizes
 pub mod Singles
 pub mod ReadLemmas
 pub mod WriteLemmas
+pub mod FreeIdentifier

@@ -2,7 +2,7 @@ ghost use Rattle.std.specs.Prelude.{◌≡◌, ◌-◌, ◌^◌, ◌<◌, length
 ghost use Rattle.ckpt_types.specs.Sections.{Rises, present, memory_used};
 ghost use Rattle.ckpt_types.specs.Updates.{element_written, elements_written};
 ghost use Rattle.update_rules.specs.Told.{told};
-ghost use Rattle.update_rules.specs.Writes.{with_elements, end_of, last_end_in, measured};
+ghost use Rattle.update_rules.specs.Writes.{with_elements, end_of, end_in, last_end_in, measured};
 
 use ckpt_types::{AisError, CreationAttributes, IoElement, Moment, SectionId, Sections};
 
@@ -72,13 +72,22 @@ fn bytes_after<S: Sections>(
 fn last_end_in(id: &SectionId, elements: &[IoElement]) -> u128
     ensures { result ≡ last_end_in id.now elements.now }
 {
-    let mut last = 0;
+    let mut last: u128 = 0;
     for element in elements {
-        if element.id == *id {
-            last = last.max(end_of(element));
-        }
+        last = last.max(end_in(id, element));
     }
     last
+}
+
+/// Where an element's data ends in the section of that identifier; 0 where it is of another.
+fn end_in(id: &SectionId, element: &IoElement) -> u128
+    ensures { result ≡ end_in id.now element.now }
+{
+    if element.id == *id {
+        end_of(element)
+    } else {
+        0
+    }
 }
 
 /// Where an element's data ends in its section.
