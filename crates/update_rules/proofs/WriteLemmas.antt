@@ -107,8 +107,8 @@ measured-element_written a t place e sections size rises is =
     let sum : memory_used (with_section placed sections) + size_of s ≡ memory_used sections + size_of placed = memory_used-in_place placed s e.id sections rises there refl in
     let used : memory_used (with_section placed sections) ≡ memory_used sections + (end_of e - size) = omega (arith, sum, length-written s.bytes e.offset e.bytes, has) in
     rw there (
-        two_tests measured (nat_lt a.max_section_size (end_of e)) (nat_lt a.checkpoint_size (memory_used (with_section placed sections))) _ _ _
-        ∙ ap (λ n. if nat_lt a.max_section_size (end_of e) then Err (record { error = InvalidParam; index = place }) else if nat_lt a.checkpoint_size n then Err (record { error = NoSpace; index = place }) else Ok n) used)
+    two_tests measured (nat_lt a.max_section_size (end_of e)) (nat_lt a.checkpoint_size (memory_used (with_section placed sections))) _ _ _
+    ∙ ap (λ n. if nat_lt a.max_section_size (end_of e) then Err (record { error = InvalidParam; index = place }) else if nat_lt a.checkpoint_size n then Err (record { error = NoSpace; index = place }) else Ok n) used)
 
 -- an element that ends past what was declared for a section is refused
 pub measured-element_written-long : (a : CreationAttributes) (t : ℤ) (place : ℕ) (e : IoElement) (sections : List Section) (size : ℕ) → Rises sections → size_at e.id sections ≡ Some size → a.max_section_size < end_of e → measured (element_written a t place e sections) ≡ Err (record { error = InvalidParam; index = place })
@@ -179,8 +179,7 @@ write_goes_on a t elements i e sections used lt is rest here =
     let left = with_elements t (take i elements) sections in
     let place : length (take i elements) ≡ i = length-take-le i elements (omega arith) in
     let more : with_elements t (take (i + 1) elements) sections ≡ with_element t e left = with_elements_more t elements i e sections lt is in
-    let (goes, sum) = told-elements_written-Ok a t i e (drop (i + 1) elements) left used (ap (λ n. measured (element_written a t n e left)) (sym place) ∙ sym here) in
-    (
+    let (goes, sum) = told-elements_written-Ok a t i e (drop (i + 1) elements) left used (ap (λ n. measured (element_written a t n e left)) (sym place) ∙ sym here) in (
       rest ∙ ap (λ es. told (elements_written a t i es left)) (drop_more elements i e lt is) ∙ goes ∙ ap (λ s. told (elements_written a t (i + 1) (drop (i + 1) elements) s)) (sym more),
-      sum ∙ ap memory_used (sym more)
+      sum ∙ ap memory_used (sym more),
     )

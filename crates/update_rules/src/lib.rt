@@ -4,6 +4,8 @@
 mod present;
 mod reads;
 mod refused;
+#[cfg(test)]
+mod tests;
 mod updates;
 mod writes;
 

@@ -3,12 +3,11 @@ ghost use Rattle.ckpt_types.specs.Sections.{Rises, is_taken, present, memory_use
 ghost use Rattle.ckpt_types.specs.Updates.{outcome, created, deleted, expiration_set, overwritten, is_bad_id, new_id};
 ghost use Rattle.update_rules.specs.Told.{told};
 
-use ckpt_types::{AisError, CreationAttributes, Moment, NewId, SectionId, Sections, Update};
-use moment_rules::expired;
-
 use crate::present::{bytes_present, count_present, size_present};
 use crate::refused::{Refused, refuse};
 use crate::writes::check_write;
+use ckpt_types::{AisError, CreationAttributes, Moment, NewId, SectionId, Sections, Update};
+use moment_rules::expired;
 
 /// Refuses an update that the rules refuse over the sections that are present at the moment. It takes no
 /// memory and changes nothing.
@@ -92,12 +91,7 @@ fn is_taken<S: Sections>(sections: &S, new: &NewId, now: Moment) -> bool
 }
 
 /// Whether there is no room for one section more, or none for its bytes.
-fn lacks_room<S: Sections>(
-    attrs: &CreationAttributes,
-    sections: &S,
-    len: u64,
-    now: Moment,
-) -> bool
+fn lacks_room<S: Sections>(attrs: &CreationAttributes, sections: &S, len: u64, now: Moment) -> bool
     ensures { result ≡ (nat_le attrs.now.max_sections (length (present now (S.sections sections.now))) || nat_lt attrs.now.checkpoint_size (memory_used (present now (S.sections sections.now)) + len)) }
 {
     let bytes_after = bytes_present(sections, now) + u128::from(len);

@@ -4,10 +4,9 @@ ghost use Rattle.ckpt_types.specs.Updates.{element_written, elements_written};
 ghost use Rattle.update_rules.specs.Told.{told};
 ghost use Rattle.update_rules.specs.Writes.{with_elements, end_of, end_in, last_end_in, measured};
 
-use ckpt_types::{AisError, CreationAttributes, IoElement, Moment, SectionId, Sections};
-
 use crate::present::{bytes_present, size_present};
 use crate::refused::Refused;
+use ckpt_types::{AisError, CreationAttributes, IoElement, Moment, SectionId, Sections};
 
 /// Refuses a write with its first element that is refused over what the elements before it leave.
 pub(crate) fn check_write<S: Sections>(
