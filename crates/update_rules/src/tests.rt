@@ -2,365 +2,315 @@ mod listed;
 
 use crate::{Refused, check, check_read};
 use ckpt_types::{
-    AisError, Bytes, CreationAttributes, IoElement, Moment, NEVER, NewId, ReadElement, SectionId,
-    Update, Vector, WR_ALL_REPLICAS,
+    AisError, Bytes, CreationAttributes, IoElement, IoVector, Moment, NEVER, NewId, ReadElement,
+    SectionId, Update, Vector, WR_ALL_REPLICAS,
 };
 use listed::{Kept, Listed};
 use std::alloc::Global;
 use std::test::Fail;
 
 /// Two sections of at most 8 bytes, 16 bytes together.
-const TWO: CreationAttributes = attributes(16, 2, 8);
+const TWO: CreationAttributes = CreationAttributes {
+    creation_flags: WR_ALL_REPLICAS,
+    checkpoint_size: 16,
+    retention_duration: 0,
+    max_sections: 2,
+    max_section_size: 8,
+    max_section_id_size: 8,
+};
 
-/// Two sections of at most 8 bytes, 10 bytes together.
-const TIGHT: CreationAttributes = attributes(10, 2, 8);
+/// Identifier, bytes and expiration of a section.
+type Given<'a> = (&'a str, &'a str, Moment);
 
-/// The default section alone, of at most 16 bytes.
-const ONE: CreationAttributes = attributes(16, 1, 16);
+/// An update, in words.
+#[derive(Clone, Copy)]
+enum Call<'a> {
+    Write(&'a [(&'a str, u64, &'a str)]),
+    Overwrite(&'a str, &'a str),
+    Create(&'a str, Moment, &'a str),
+    Generate,
+    Delete(&'a str),
+    Expire(&'a str, Moment),
+    Nothing,
+}
 
-/// Four sections of at most 16 bytes, 64 bytes together.
-const FOUR: CreationAttributes = attributes(64, 4, 16);
+/// Attributes, sections and a moment.
+#[derive(Clone, Copy)]
+struct Case<'a> {
+    attrs: CreationAttributes,
+    given: &'a [Given<'a>],
+    now: Moment,
+}
 
-const fn attributes(size: u64, sections: u32, each: u64) -> CreationAttributes {
-    CreationAttributes {
-        creation_flags: WR_ALL_REPLICAS,
-        checkpoint_size: size,
-        retention_duration: 0,
-        max_sections: sections,
-        max_section_size: each,
-        max_section_id_size: 8,
+impl Case<'_> {
+    fn answers(
+        &self,
+        alloc: Global,
+        call: Call<'_>,
+        want: Result<(), Refused>,
+    ) -> Result<(), Fail> {
+        let items = kept(alloc, self.given)?;
+        let update = update_of(alloc, call)?;
+        let Some(sections) = Listed::new(items.as_slice()) else {
+            return Err(Fail::new("the identifiers do not rise"));
+        };
+        expect(check(&self.attrs, &sections, &update, self.now), want)
+    }
+
+    fn reads(
+        &self,
+        alloc: Global,
+        elements: &[ReadElement],
+        want: Result<(), Refused>,
+    ) -> Result<(), Fail> {
+        let items = kept(alloc, self.given)?;
+        let Some(sections) = Listed::new(items.as_slice()) else {
+            return Err(Fail::new("the identifiers do not rise"));
+        };
+        if elements.len() > 2 {
+            return Err(Fail::new("many elements"));
+        }
+        expect(check_read(&sections, elements, self.now), want)
     }
 }
 
-fn id_of(bytes: &[u8]) -> Result<SectionId, Fail> {
-    let Some(id) = SectionId::from_slice(bytes) else {
-        return Err(Fail::new("a long identifier"));
-    };
-    Ok(id)
+fn expect(got: Result<(), Refused>, want: Result<(), Refused>) -> Result<(), Fail> {
+    if got == want {
+        Ok(())
+    } else {
+        Err(Fail::new(format_args!("{got:?} in place of {want:?}")))
+    }
 }
 
-fn kept(alloc: Global, id: &[u8], bytes: &[u8], expiration: Moment) -> Result<Kept, Fail> {
-    Ok(Kept {
-        id: id_of(id)?,
-        bytes: Bytes::from_slice(alloc, bytes)?,
-        expiration,
+fn refused(error: AisError, index: u32) -> Result<(), Refused> {
+    Err(Refused { error, index })
+}
+
+fn id_of(text: &str) -> SectionId {
+    SectionId::from_slice(text.as_bytes()).unwrap_or(SectionId::default())
+}
+
+fn bytes_of(alloc: Global, text: &str) -> Result<Bytes, Fail> {
+    Ok(Bytes::from_slice(alloc, text.as_bytes())?)
+}
+
+fn kept(alloc: Global, given: &[Given<'_>]) -> Result<Vec<Kept>, Fail> {
+    let mut items = Vec::new(alloc);
+    for (id, bytes, expiration) in given {
+        items.push(Kept {
+            id: id_of(id),
+            bytes: bytes_of(alloc, bytes)?,
+            expiration: *expiration,
+        })?;
+    }
+    Ok(items)
+}
+
+fn update_of(alloc: Global, call: Call<'_>) -> Result<Update, Fail> {
+    Ok(match call {
+        Call::Write(elements) => Update::Write(vector_of(alloc, elements)?),
+        Call::Overwrite(id, bytes) => Update::Overwrite(id_of(id), bytes_of(alloc, bytes)?),
+        Call::Create(id, expiration, bytes) => {
+            let new = NewId::Given(id_of(id));
+            Update::Create(new, expiration, bytes_of(alloc, bytes)?)
+        }
+        Call::Generate => Update::Create(NewId::Generated, NEVER, bytes_of(alloc, "")?),
+        Call::Delete(id) => Update::Delete(id_of(id)),
+        Call::Expire(id, expiration) => Update::SetExpiration(id_of(id), expiration),
+        Call::Nothing => Update::Nothing,
     })
 }
 
-fn create(alloc: Global, id: &[u8], expiration: Moment, bytes: &[u8]) -> Result<Update, Fail> {
-    let new = NewId::Given(id_of(id)?);
-    Ok(Update::Create(new, expiration, Bytes::from_slice(alloc, bytes)?))
-}
-
-fn overwrite(alloc: Global, id: &[u8], bytes: &[u8]) -> Result<Update, Fail> {
-    Ok(Update::Overwrite(id_of(id)?, Bytes::from_slice(alloc, bytes)?))
-}
-
-fn write(alloc: Global, elements: &[(&[u8], u64, &[u8])]) -> Result<Update, Fail> {
+fn vector_of(alloc: Global, elements: &[(&str, u64, &str)]) -> Result<IoVector, Fail> {
     let mut items = Vec::new(alloc);
     for (id, offset, bytes) in elements {
         items.push(IoElement {
-            id: id_of(id)?,
+            id: id_of(id),
             offset: *offset,
-            bytes: Bytes::from_slice(alloc, bytes)?,
+            bytes: bytes_of(alloc, bytes)?,
         })?;
     }
-    if items.len() >= 4_294_967_296 {
-        return Err(Fail::new("too many elements"));
+    if items.len() > 64 {
+        return Err(Fail::new("many elements"));
     }
-    Ok(Update::Write(Vector::from_vec(items)))
-}
-
-/// What the check answers over these sections; none where their identifiers do not rise.
-fn answer(
-    attrs: &CreationAttributes,
-    items: &[Kept],
-    update: &Update,
-    now: Moment,
-) -> Option<Result<(), Refused>> {
-    let sections = Listed::new(items)?;
-    Some(check(attrs, &sections, update, now))
-}
-
-fn refused(error: AisError, index: u32) -> Option<Result<(), Refused>> {
-    Some(Err(Refused { error, index }))
+    Ok(Vector::from_vec(items))
 }
 
 #[test]
 fn a_write_is_refused_with_the_first_element_that_is_refused(rt: HostRuntime) -> Result<(), Fail> {
     let alloc = rt.alloc();
-    let long = [kept(alloc, b"a", b"abcd\0f\0h", NEVER)?];
-    let ends = write(alloc, &[(b"a", 7, b"h")])?;
-    assert_eq!(rt;
-        answer(&TWO, &long, &ends, 0),
-        Some(Ok(())),
-        "to the last byte"
-    );
-    let past = write(alloc, &[(b"a", 8, b"i")])?;
-    assert_eq!(rt;
-        answer(&TWO, &long, &past, 0),
-        refused(AisError::InvalidParam, 0),
-        "past it"
-    );
+    let mut case = Case {
+        attrs: TWO,
+        given: &[("a", "abcd\0f\0h", NEVER)],
+        now: 0,
+    };
+    case.answers(alloc, Call::Write(&[("a", 7, "h")]), Ok(()))?;
+    let past = refused(AisError::InvalidParam, 0);
+    case.answers(alloc, Call::Write(&[("a", 8, "i")]), past)?;
+    case.given = &[("a", "aa", NEVER), ("b", "bb", NEVER)];
+    let third = [("a", 0, "X"), ("b", 0, "Y"), ("c", 0, "Z")];
+    let missing = refused(AisError::NotExist, 2);
+    case.answers(alloc, Call::Write(&third), missing)?;
+    case.given = &[("a", "", NEVER)];
+    case.answers(
+        alloc,
+        Call::Write(&[("a", 0, "abcd"), ("a", 2, "xy")]),
+        Ok(()),
+    )
+}
 
-    let both = [
-        kept(alloc, b"a", b"aa", NEVER)?,
-        kept(alloc, b"b", b"bb", NEVER)?,
-    ];
-    let third = write(alloc, &[(b"a", 0, b"X"), (b"b", 0, b"Y"), (b"c", 0, b"Z")])?;
-    assert_eq!(rt;
-        answer(&TWO, &both, &third, 0),
-        refused(AisError::NotExist, 2),
-        "the third"
-    );
-
-    let empty = [kept(alloc, b"a", b"", NEVER)?];
-    let over = write(alloc, &[(b"a", 0, b"abcd"), (b"a", 2, b"xy")])?;
-    assert_eq!(rt;
-        answer(&TWO, &empty, &over, 0),
-        Some(Ok(())),
-        "over the first"
-    );
-
-    let full = [
-        kept(alloc, b"a", b"12345678", NEVER)?,
-        kept(alloc, b"b", b"12", NEVER)?,
-    ];
-    let third = write(alloc, &[(b"b", 2, b"3")])?;
-    assert_eq!(rt;
-        answer(&TIGHT, &full, &third, 0),
-        refused(AisError::NoSpace, 0),
-        "one byte"
-    );
-
-    let some = [
-        kept(alloc, b"a", b"", NEVER)?,
-        kept(alloc, b"b", b"123", NEVER)?,
-    ];
-    let fits = write(alloc, &[(b"a", 0, b"12345"), (b"a", 5, b"67")])?;
-    assert_eq!(rt;
-        answer(&TIGHT, &some, &fits, 0),
-        Some(Ok(())),
-        "just as many bytes"
-    );
-    let more = write(alloc, &[(b"a", 0, b"1234567"), (b"a", 7, b"8")])?;
-    assert_eq!(rt;
-        answer(&TIGHT, &some, &more, 0),
-        refused(AisError::NoSpace, 1),
-        "the sum"
-    );
-    Ok(())
+#[test]
+fn bytes_together_follow_the_earlier_elements(rt: HostRuntime) -> Result<(), Fail> {
+    let alloc = rt.alloc();
+    let mut case = Case {
+        attrs: CreationAttributes {
+            checkpoint_size: 10,
+            ..TWO
+        },
+        given: &[("a", "12345678", NEVER), ("b", "12", NEVER)],
+        now: 0,
+    };
+    let full = refused(AisError::NoSpace, 0);
+    case.answers(alloc, Call::Write(&[("b", 2, "3")]), full)?;
+    case.given = &[("a", "", NEVER), ("b", "123", NEVER)];
+    case.answers(
+        alloc,
+        Call::Write(&[("a", 0, "12345"), ("a", 5, "67")]),
+        Ok(()),
+    )?;
+    let second = refused(AisError::NoSpace, 1);
+    case.answers(
+        alloc,
+        Call::Write(&[("a", 0, "1234567"), ("a", 7, "8")]),
+        second,
+    )
 }
 
 #[test]
 fn an_overwrite_is_refused_past_what_was_declared(rt: HostRuntime) -> Result<(), Fail> {
     let alloc = rt.alloc();
-    let full = [
-        kept(alloc, b"a", b"12345678", NEVER)?,
-        kept(alloc, b"b", b"12", 30)?,
-    ];
-    let more = overwrite(alloc, b"b", b"123")?;
-    assert_eq!(rt;
-        answer(&TIGHT, &full, &more, 0),
-        refused(AisError::NoSpace, 0),
-        "the sum"
-    );
-    let same = overwrite(alloc, b"b", b"xy")?;
-    assert_eq!(rt;
-        answer(&TIGHT, &full, &same, 0),
-        Some(Ok(())),
-        "as many bytes"
-    );
-    assert_eq!(rt;
-        answer(&TIGHT, &full, &same, 30),
-        refused(AisError::NotExist, 0),
-        "expired"
-    );
-    let long = overwrite(alloc, b"a", b"123456789")?;
-    assert_eq!(rt;
-        answer(&TIGHT, &full, &long, 0),
-        refused(AisError::InvalidParam, 0),
-        "long"
-    );
-    Ok(())
+    let mut case = Case {
+        attrs: CreationAttributes {
+            checkpoint_size: 10,
+            ..TWO
+        },
+        given: &[("a", "12345678", NEVER), ("b", "12", 30)],
+        now: 29,
+    };
+    let full = refused(AisError::NoSpace, 0);
+    case.answers(alloc, Call::Overwrite("b", "123"), full)?;
+    case.answers(alloc, Call::Overwrite("b", "xy"), Ok(()))?;
+    let long = refused(AisError::InvalidParam, 0);
+    case.answers(alloc, Call::Overwrite("a", "123456789"), long)?;
+    case.now = 30;
+    let expired = refused(AisError::NotExist, 0);
+    case.answers(alloc, Call::Overwrite("b", "xy"), expired)
 }
 
 #[test]
-fn sections_are_made_and_expire_as_declared(rt: HostRuntime) -> Result<(), Fail> {
+fn a_section_is_made_where_there_is_room(rt: HostRuntime) -> Result<(), Fail> {
     let alloc = rt.alloc();
-    let none = [];
-    let at_once = create(alloc, b"a", 10, b"")?;
-    assert_eq!(rt;
-        answer(&TWO, &none, &at_once, 10),
-        refused(AisError::InvalidParam, 0),
-        "at once"
-    );
-    let unnamed = create(alloc, b"", 20, b"x")?;
-    assert_eq!(rt;
-        answer(&TWO, &none, &unnamed, 10),
-        refused(AisError::InvalidParam, 0),
-        "no name"
-    );
-    let first = create(alloc, b"a", 20, b"x")?;
-    assert_eq!(rt; answer(&TWO, &none, &first, 10), Some(Ok(())), "the first");
-    let one = [kept(alloc, b"a", b"x", 20)?];
-    assert_eq!(rt;
-        answer(&TWO, &one, &first, 10),
-        refused(AisError::Exist, 0),
-        "again"
-    );
-    let second = create(alloc, b"b", NEVER, b"y")?;
-    assert_eq!(rt; answer(&TWO, &one, &second, 10), Some(Ok(())), "the second");
-    let two = [
-        kept(alloc, b"a", b"x", 20)?,
-        kept(alloc, b"b", b"y", NEVER)?,
-    ];
-    let third = create(alloc, b"c", NEVER, b"z")?;
-    assert_eq!(rt;
-        answer(&TWO, &two, &third, 10),
-        refused(AisError::NoSpace, 0),
-        "the third"
-    );
-    assert_eq!(rt;
-        answer(&TWO, &two, &third, 20),
-        Some(Ok(())),
-        "once the first expired"
-    );
-    let full = [kept(alloc, b"a", b"12345678", NEVER)?];
-    let fits = create(alloc, b"b", NEVER, b"12")?;
-    assert_eq!(rt;
-        answer(&TIGHT, &full, &fits, 0),
-        Some(Ok(())),
-        "just as many bytes"
-    );
-    let later = Update::SetExpiration(id_of(b"a")?, 21);
-    assert_eq!(rt;
-        answer(&TWO, &two, &later, 19),
-        Some(Ok(())),
-        "another expiration"
-    );
-    let now = Update::SetExpiration(id_of(b"a")?, 19);
-    assert_eq!(rt;
-        answer(&TWO, &two, &now, 19),
-        refused(AisError::InvalidParam, 0),
-        "not later"
-    );
-    assert_eq!(rt;
-        answer(&TWO, &two, &Update::Nothing, 20),
-        Some(Ok(())),
-        "nothing"
-    );
-    Ok(())
+    let mut case = Case {
+        attrs: TWO,
+        given: &[],
+        now: 10,
+    };
+    let wrong = refused(AisError::InvalidParam, 0);
+    case.answers(alloc, Call::Create("a", 10, ""), wrong)?;
+    case.answers(alloc, Call::Create("", 20, "x"), wrong)?;
+    case.answers(alloc, Call::Create("a", 20, "x"), Ok(()))?;
+    case.given = &[("a", "x", 20), ("b", "y", NEVER)];
+    case.answers(alloc, Call::Create("c", 10, "z"), wrong)?;
+    let again = refused(AisError::Exist, 0);
+    case.answers(alloc, Call::Create("a", 20, "x"), again)?;
+    let full = refused(AisError::NoSpace, 0);
+    case.answers(alloc, Call::Create("c", NEVER, "z"), full)?;
+    case.now = 20;
+    case.answers(alloc, Call::Create("c", NEVER, "z"), Ok(()))
+}
+
+#[test]
+fn another_expiration_is_later_than_now(rt: HostRuntime) -> Result<(), Fail> {
+    let alloc = rt.alloc();
+    let case = Case {
+        attrs: TWO,
+        given: &[("a", "x", 20)],
+        now: 19,
+    };
+    case.answers(alloc, Call::Expire("a", 20), Ok(()))?;
+    let wrong = refused(AisError::InvalidParam, 0);
+    case.answers(alloc, Call::Expire("a", 19), wrong)?;
+    let missing = refused(AisError::NotExist, 0);
+    case.answers(alloc, Call::Expire("b", 19), missing)?;
+    case.answers(alloc, Call::Nothing, Ok(()))
 }
 
 #[test]
 fn the_default_section_stays_alone(rt: HostRuntime) -> Result<(), Fail> {
     let alloc = rt.alloc();
-    let default = [kept(alloc, b"", b"", NEVER)?];
-    let another = create(alloc, b"a", NEVER, b"")?;
-    assert_eq!(rt;
-        answer(&ONE, &default, &another, 0),
-        refused(AisError::Exist, 0),
-        "create"
-    );
-    let gone = Update::Delete(SectionId::default());
-    assert_eq!(rt;
-        answer(&ONE, &default, &gone, 0),
-        refused(AisError::InvalidParam, 0),
-        "delete"
-    );
-    let expires = Update::SetExpiration(SectionId::default(), NEVER);
-    assert_eq!(rt;
-        answer(&ONE, &default, &expires, 0),
-        refused(AisError::InvalidParam, 0),
-        "expire"
-    );
-    let abc = write(alloc, &[(b"", 0, b"abc")])?;
-    assert_eq!(rt; answer(&ONE, &default, &abc, 0), Some(Ok(())), "write");
-    Ok(())
+    let case = Case {
+        attrs: CreationAttributes {
+            max_sections: 1,
+            max_section_size: 16,
+            ..TWO
+        },
+        given: &[("", "", NEVER)],
+        now: 0,
+    };
+    let another = refused(AisError::Exist, 0);
+    case.answers(alloc, Call::Create("a", NEVER, ""), another)?;
+    let wrong = refused(AisError::InvalidParam, 0);
+    case.answers(alloc, Call::Delete(""), wrong)?;
+    case.answers(alloc, Call::Expire("", NEVER), wrong)?;
+    case.answers(alloc, Call::Write(&[("", 0, "abc")]), Ok(()))
 }
 
 #[test]
 fn a_generated_identifier_needs_8_bytes_of_room(rt: HostRuntime) -> Result<(), Fail> {
     let alloc = rt.alloc();
-    let first = b"\0\0\0\0\0\0\0\x01";
-    let second = b"\0\0\0\0\0\0\0\x02";
-    let both = [
-        kept(alloc, first, b"", NEVER)?,
-        kept(alloc, second, b"", NEVER)?,
-    ];
-    let made = Update::Create(NewId::Generated, NEVER, Bytes::from_slice(alloc, b"")?);
-    assert_eq!(rt; answer(&FOUR, &both, &made, 0), Some(Ok(())), "the third");
-    let gone = Update::Delete(id_of(first)?);
-    assert_eq!(rt; answer(&FOUR, &both, &gone, 0), Some(Ok(())), "delete");
-    assert_eq!(rt;
-        answer(&FOUR, &both[1..], &gone, 0),
-        refused(AisError::NotExist, 0),
-        "again"
-    );
-    assert_eq!(rt;
-        answer(&FOUR, &both[1..], &made, 0),
-        Some(Ok(())),
-        "the first again"
-    );
-    let seven = CreationAttributes {
-        max_section_id_size: 7,
-        ..FOUR
+    let first = "\0\0\0\0\0\0\0\u{1}";
+    let second = "\0\0\0\0\0\0\0\u{2}";
+    let both = [(first, "", NEVER), (second, "", NEVER)];
+    let later = [(second, "", NEVER)];
+    let mut case = Case {
+        attrs: CreationAttributes {
+            checkpoint_size: 64,
+            max_sections: 4,
+            max_section_size: 16,
+            ..TWO
+        },
+        given: &both,
+        now: 0,
     };
-    assert_eq!(rt;
-        answer(&seven, &both, &made, 0),
-        refused(AisError::InvalidParam, 0),
-        "7 bytes"
-    );
-    Ok(())
+    case.answers(alloc, Call::Generate, Ok(()))?;
+    case.answers(alloc, Call::Delete(first), Ok(()))?;
+    case.given = &later;
+    case.answers(alloc, Call::Generate, Ok(()))?;
+    let missing = refused(AisError::NotExist, 0);
+    case.answers(alloc, Call::Delete(first), missing)?;
+    case.attrs.max_section_id_size = 7;
+    let wrong = refused(AisError::InvalidParam, 0);
+    case.answers(alloc, Call::Generate, wrong)
 }
 
 #[test]
 fn a_read_is_refused_with_the_first_element_that_is_refused(rt: HostRuntime) -> Result<(), Fail> {
     let alloc = rt.alloc();
-    let items = [
-        kept(alloc, b"a", b"abcd\0f\0h", 20)?,
-        kept(alloc, b"b", b"", NEVER)?,
-    ];
-    let Some(sections) = Listed::new(&items) else {
-        return Err(Fail::new("the identifiers do not rise"));
+    let mut case = Case {
+        attrs: TWO,
+        given: &[("a", "abcd\0f\0h", 20), ("b", "", NEVER)],
+        now: 19,
     };
-    let whole = ReadElement {
-        id: id_of(b"a")?,
-        offset: 0,
+    let element = |name: &str, offset: u64| ReadElement {
+        id: id_of(name),
+        offset,
         len: 16,
     };
-    let end = ReadElement { offset: 8, ..whole };
-    let past = ReadElement { offset: 9, ..whole };
-    let other = ReadElement {
-        id: id_of(b"c")?,
-        ..whole
-    };
-    assert_eq!(rt;
-        check_read(&sections, &[whole, end], 19),
-        Ok(()),
-        "to the end"
-    );
-    let at = |error: AisError, index: u32| Err(Refused { error, index });
-    assert_eq!(rt;
-        check_read(&sections, &[whole, past], 19),
-        at(AisError::InvalidParam, 1),
-        "past"
-    );
-    assert_eq!(rt;
-        check_read(&sections, &[past, other], 19),
-        at(AisError::InvalidParam, 0),
-        "first"
-    );
-    assert_eq!(rt;
-        check_read(&sections, &[other], 19),
-        at(AisError::NotExist, 0),
-        "missing"
-    );
-    assert_eq!(rt;
-        check_read(&sections, &[whole], 20),
-        at(AisError::NotExist, 0),
-        "expired"
-    );
-    Ok(())
+    case.reads(alloc, &[element("a", 0), element("a", 8)], Ok(()))?;
+    let past = refused(AisError::InvalidParam, 1);
+    case.reads(alloc, &[element("a", 0), element("a", 9)], past)?;
+    let missing = refused(AisError::NotExist, 0);
+    case.reads(alloc, &[element("c", 0), element("a", 9)], missing)?;
+    case.now = 20;
+    case.reads(alloc, &[element("a", 0)], missing)
 }

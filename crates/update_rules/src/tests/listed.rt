@@ -25,6 +25,7 @@ impl Model for Kept {
 }
 
 /// Sections in the order of their identifiers.
+#[derive(Drop)]
 pub struct Listed<'a> {
     items: &'a [Kept],
 }
