@@ -4,3 +4,4 @@ pub mod Singles
 pub mod ReadLemmas
 pub mod WriteLemmas
 pub mod FreeIdentifier
+pub mod ToldLemmas

@@ -1,5 +1,5 @@
 -- What the sections that are present tell: one by its identifier, their number and their bytes.
-use Rattle.std.proofs.Common.{◌≡◌, ℕ, suc, ◌+◌, ◌*◌, ◌^◌, ◌<◌, ◌≤◌, List, [], ◌∷◌, ◌++◌, length, take, filter, Option, Some, None, option_map, slice_get, Bool, true, false, cond, if◌then◌else◌, ℤ, sum_by, sym, ap, ◌∙◌, refl, arith}
+use Rattle.std.proofs.Common.{◌≡◌, ℕ, ◌+◌, ◌≤◌, List, [], ◌∷◌, ◌++◌, length, take, Some, None, option_map, slice_get, true, false, cond, if◌then◌else◌, ℤ, ap, ◌∙◌, refl, arith}
 use Rattle.std.proofs.lemmas.List.{length-append, length-take, append-nil, take_more}
 use Rattle.std.proofs.lemmas.Option.{slice_get_within, get_or_from_slice_get}
 use Rattle.std.proofs.lemmas.List.Elements.{filter-append}

@@ -1,9 +1,9 @@
 -- What is told of a read, element by element.
-use Rattle.std.proofs.Common.{◌≡◌, ℕ, ◌+◌, ◌<◌, ◌≤◌, List, [], ◌∷◌, Some, None, Result, Ok, Err, ℤ, sym, ap, ◌∙◌, refl}
+use Rattle.std.proofs.Common.{◌≡◌, ℕ, ◌+◌, ◌<◌, ◌≤◌, List, ◌∷◌, Some, None, Result, Ok, Err, refl}
 use Rattle.std.proofs.lemmas.Bool.{lt-ltb, le-ltb}
 use Rattle.ckpt_types.specs.declared.ais_error.AisError.TheVariants.{InvalidParam, NotExist}
 use Rattle.ckpt_types.specs.declared.update.ReadElement.{ReadElement}
-use Rattle.ckpt_types.specs.Sections.{Section, size_of}
+use Rattle.ckpt_types.specs.Sections.{Section}
 use Rattle.ckpt_types.specs.Updates.{Refusal, and_then}
 use Rattle.ckpt_types.specs.Reads.{pieces_read}
 use Rattle.update_rules.specs.Present.{size_at}

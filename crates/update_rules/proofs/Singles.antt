@@ -1,12 +1,12 @@
 -- What is told of the updates that have no vector, in terms of sizes and of bytes together.
-use Rattle.std.proofs.Common.{◌≡◌, ℕ, ◌+◌, ◌<◌, ◌≤◌, ◌^◌, List, length, Some, Ok, Err, Bool, true, false, nat_lt, nat_le, ◌||◌, ◌≢◌, int_lt, int_le, if◌then◌else◌, ℤ, sym, ap, ◌∙◌, refl, arith}
+use Rattle.std.proofs.Common.{◌≡◌, ℕ, ◌+◌, ◌<◌, ◌≤◌, List, length, Some, Ok, Err, true, false, nat_lt, nat_le, ◌||◌, ◌≢◌, int_lt, int_le, if◌then◌else◌, ℤ, ◌∙◌, refl, arith}
 use Rattle.std.proofs.lemmas.Bool.{lt-ltb, le-ltb, ne_eqb}
 use Rattle.std.proofs.lemmas.Int.{ints}
 use Rattle.ckpt_types.specs.declared.ais_error.AisError.TheVariants.{InvalidParam, NoSpace}
 use Rattle.ckpt_types.specs.declared.attributes.CreationAttributes.{CreationAttributes}
 use Rattle.ckpt_types.specs.declared.sections.SectionState.TheVariants.{Valid}
 use Rattle.ckpt_types.specs.declared.update.NewId.{NewId}
-use Rattle.ckpt_types.specs.Sections.{Section, section_at, is_taken, Rises, with_section, memory_used, size_of}
+use Rattle.ckpt_types.specs.Sections.{Section, is_taken, Rises, with_section, memory_used, size_of}
 use Rattle.ckpt_types.specs.Updates.{refuse, new_id, is_bad_id, created, overwritten}
 use Rattle.update_rules.specs.Present.{size_at}
 use Rattle.update_rules.specs.Told.{told}

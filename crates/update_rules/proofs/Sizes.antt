@@ -1,11 +1,9 @@
 -- What the size at an identifier tells, and what a placed section makes of the bytes together.
-use Rattle.std.proofs.Common.{◌≡◌, ℕ, ◌+◌, ◌<◌, ◌≤◌, List, Option, Some, None, option_map, is_some, Bool, true, false, cond, nat_lt, inl, inr, sym, ap, ◌∙◌, refl, arith}
+use Rattle.std.proofs.Common.{◌≡◌, ℕ, ◌+◌, ◌<◌, List, Option, Some, None, option_map, is_some, Bool, true, false, cond, nat_lt, inl, inr, sym, ap, ◌∙◌, refl, arith}
 use Rattle.std.specs.Option.{option_map_or}
-use Rattle.std.proofs.lemmas.Bool.{ltb-true, ltb-false, lt-ltb, le-ltb, cases_lt}
+use Rattle.std.proofs.lemmas.Bool.{lt-ltb, le-ltb, cases_lt}
 use Rattle.std.proofs.lemmas.Option.{none-some, same_Some}
-use Rattle.ckpt_types.specs.declared.attributes.CreationAttributes.{CreationAttributes}
 use Rattle.ckpt_types.specs.Sections.{Section, section_at, is_taken, Rises, with_section, memory_used, size_of}
-use Rattle.ckpt_types.specs.Updates.{outgrows}
 use Rattle.ckpt_types.proofs.Presence.{section_at-named}
 use Rattle.ckpt_types.proofs.Placing.{memory_used-with_section, memory_used-with_section_over}
 use Rattle.update_rules.specs.Present.{size_at}

@@ -1,5 +1,5 @@
 -- What the first elements of a write leave: the size of each section, and the bytes together.
-use Rattle.std.proofs.Common.{◌≡◌, ℕ, ◌+◌, ◌-◌, ◌<◌, ◌≤◌, max, List, [], ◌∷◌, ◌++◌, length, take, drop, get_or, suc, add-one, Option, Some, None, option_map, Result, Ok, Err, Bool, true, false, cond, nat_lt, nat_eq, if◌then◌else◌, ℤ, sym, ap, ◌∙◌, subst, refl, arith}
+use Rattle.std.proofs.Common.{◌≡◌, ℕ, ◌+◌, ◌-◌, ◌<◌, ◌≤◌, max, List, [], ◌∷◌, ◌++◌, length, take, drop, get_or, suc, add-one, Option, Some, None, option_map, Result, Ok, Err, true, false, cond, nat_lt, nat_eq, if◌then◌else◌, ℤ, sym, ap, ◌∙◌, refl, arith}
 use Rattle.std.specs.Cmp.Lexicographic.{pointwise, bytes_decides}
 use Rattle.std.proofs.lemmas.List.{take_more, length-take-le}
 use Rattle.std.proofs.Math.Seq.{drop-cons}
@@ -7,15 +7,15 @@ use Rattle.std.proofs.lemmas.Bool.{lt-ltb, le-ltb}
 use Rattle.ckpt_types.specs.declared.ais_error.AisError.TheVariants.{InvalidParam, NotExist, NoSpace}
 use Rattle.ckpt_types.specs.declared.attributes.CreationAttributes.{CreationAttributes}
 use Rattle.ckpt_types.specs.declared.update.IoElement.{IoElement}
-use Rattle.ckpt_types.specs.Sections.{Section, section_at, is_named, Rises, with_section, memory_used, size_of}
+use Rattle.ckpt_types.specs.Sections.{Section, section_at, Rises, with_section, memory_used, size_of}
 use Rattle.ckpt_types.specs.Updates.{Refusal, and_then, written, element_written, elements_written}
 use Rattle.ckpt_types.proofs.Presence.{section_at-named}
 use Rattle.ckpt_types.proofs.Placing.{Rises-with_section, section_at-with_section}
-use Rattle.ckpt_types.proofs.Accepted.{IsElementWritten, element_written-Ok}
+use Rattle.ckpt_types.proofs.Accepted.{element_written-Ok}
 use Rattle.ckpt_types.proofs.Fitting.{length-written}
 use Rattle.update_rules.specs.declared.refused.Refused.{Refused}
 use Rattle.update_rules.specs.Present.{size_at}
-use Rattle.update_rules.specs.Told.{told, refused_of}
+use Rattle.update_rules.specs.Told.{told}
 use Rattle.update_rules.specs.Writes.{with_data, with_element, with_elements, end_of, end_in, last_end_in, measured}
 use Rattle.update_rules.proofs.Sizes.{size_at-Some, size_at-None, two_tests, memory_used-in_place}
 

@@ -19,6 +19,11 @@ const TWO: CreationAttributes = CreationAttributes {
     max_section_id_size: 8,
 };
 
+/// The identifiers that the service makes first.
+const FIRST: &str = "\0\0\0\0\0\0\0\u{1}";
+
+const SECOND: &str = "\0\0\0\0\0\0\0\u{2}";
+
 /// Identifier, bytes and expiration of a section.
 type Given<'a> = (&'a str, &'a str, Moment);
 
@@ -139,7 +144,7 @@ fn vector_of(alloc: Global, elements: &[(&str, u64, &str)]) -> Result<IoVector, 
 #[test]
 fn a_write_is_refused_with_the_first_element_that_is_refused(rt: HostRuntime) -> Result<(), Fail> {
     let alloc = rt.alloc();
-    let mut case = Case {
+    let case = Case {
         attrs: TWO,
         given: &[("a", "abcd\0f\0h", NEVER)],
         now: 0,
@@ -147,11 +152,17 @@ fn a_write_is_refused_with_the_first_element_that_is_refused(rt: HostRuntime) ->
     case.answers(alloc, Call::Write(&[("a", 7, "h")]), Ok(()))?;
     let past = refused(AisError::InvalidParam, 0);
     case.answers(alloc, Call::Write(&[("a", 8, "i")]), past)?;
-    case.given = &[("a", "aa", NEVER), ("b", "bb", NEVER)];
+    let case = Case {
+        given: &[("a", "aa", NEVER), ("b", "bb", NEVER)],
+        ..case
+    };
     let third = [("a", 0, "X"), ("b", 0, "Y"), ("c", 0, "Z")];
     let missing = refused(AisError::NotExist, 2);
     case.answers(alloc, Call::Write(&third), missing)?;
-    case.given = &[("a", "", NEVER)];
+    let case = Case {
+        given: &[("a", "", NEVER)],
+        ..case
+    };
     case.answers(
         alloc,
         Call::Write(&[("a", 0, "abcd"), ("a", 2, "xy")]),
@@ -162,7 +173,7 @@ fn a_write_is_refused_with_the_first_element_that_is_refused(rt: HostRuntime) ->
 #[test]
 fn bytes_together_follow_the_earlier_elements(rt: HostRuntime) -> Result<(), Fail> {
     let alloc = rt.alloc();
-    let mut case = Case {
+    let case = Case {
         attrs: CreationAttributes {
             checkpoint_size: 10,
             ..TWO
@@ -172,7 +183,10 @@ fn bytes_together_follow_the_earlier_elements(rt: HostRuntime) -> Result<(), Fai
     };
     let full = refused(AisError::NoSpace, 0);
     case.answers(alloc, Call::Write(&[("b", 2, "3")]), full)?;
-    case.given = &[("a", "", NEVER), ("b", "123", NEVER)];
+    let case = Case {
+        given: &[("a", "", NEVER), ("b", "123", NEVER)],
+        ..case
+    };
     case.answers(
         alloc,
         Call::Write(&[("a", 0, "12345"), ("a", 5, "67")]),
@@ -189,7 +203,7 @@ fn bytes_together_follow_the_earlier_elements(rt: HostRuntime) -> Result<(), Fai
 #[test]
 fn an_overwrite_is_refused_past_what_was_declared(rt: HostRuntime) -> Result<(), Fail> {
     let alloc = rt.alloc();
-    let mut case = Case {
+    let case = Case {
         attrs: CreationAttributes {
             checkpoint_size: 10,
             ..TWO
@@ -202,7 +216,7 @@ fn an_overwrite_is_refused_past_what_was_declared(rt: HostRuntime) -> Result<(),
     case.answers(alloc, Call::Overwrite("b", "xy"), Ok(()))?;
     let long = refused(AisError::InvalidParam, 0);
     case.answers(alloc, Call::Overwrite("a", "123456789"), long)?;
-    case.now = 30;
+    let case = Case { now: 30, ..case };
     let expired = refused(AisError::NotExist, 0);
     case.answers(alloc, Call::Overwrite("b", "xy"), expired)
 }
@@ -210,7 +224,7 @@ fn an_overwrite_is_refused_past_what_was_declared(rt: HostRuntime) -> Result<(),
 #[test]
 fn a_section_is_made_where_there_is_room(rt: HostRuntime) -> Result<(), Fail> {
     let alloc = rt.alloc();
-    let mut case = Case {
+    let case = Case {
         attrs: TWO,
         given: &[],
         now: 10,
@@ -219,13 +233,16 @@ fn a_section_is_made_where_there_is_room(rt: HostRuntime) -> Result<(), Fail> {
     case.answers(alloc, Call::Create("a", 10, ""), wrong)?;
     case.answers(alloc, Call::Create("", 20, "x"), wrong)?;
     case.answers(alloc, Call::Create("a", 20, "x"), Ok(()))?;
-    case.given = &[("a", "x", 20), ("b", "y", NEVER)];
+    let case = Case {
+        given: &[("a", "x", 20), ("b", "y", NEVER)],
+        ..case
+    };
     case.answers(alloc, Call::Create("c", 10, "z"), wrong)?;
     let again = refused(AisError::Exist, 0);
     case.answers(alloc, Call::Create("a", 20, "x"), again)?;
     let full = refused(AisError::NoSpace, 0);
     case.answers(alloc, Call::Create("c", NEVER, "z"), full)?;
-    case.now = 20;
+    let case = Case { now: 20, ..case };
     case.answers(alloc, Call::Create("c", NEVER, "z"), Ok(()))
 }
 
@@ -268,27 +285,30 @@ fn the_default_section_stays_alone(rt: HostRuntime) -> Result<(), Fail> {
 #[test]
 fn a_generated_identifier_needs_8_bytes_of_room(rt: HostRuntime) -> Result<(), Fail> {
     let alloc = rt.alloc();
-    let first = "\0\0\0\0\0\0\0\u{1}";
-    let second = "\0\0\0\0\0\0\0\u{2}";
-    let both = [(first, "", NEVER), (second, "", NEVER)];
-    let later = [(second, "", NEVER)];
-    let mut case = Case {
+    let case = Case {
         attrs: CreationAttributes {
             checkpoint_size: 64,
             max_sections: 4,
             max_section_size: 16,
             ..TWO
         },
-        given: &both,
+        given: &[(FIRST, "", NEVER), (SECOND, "", NEVER)],
         now: 0,
     };
     case.answers(alloc, Call::Generate, Ok(()))?;
-    case.answers(alloc, Call::Delete(first), Ok(()))?;
-    case.given = &later;
+    case.answers(alloc, Call::Delete(FIRST), Ok(()))?;
+    let case = Case {
+        given: &[(SECOND, "", NEVER)],
+        ..case
+    };
     case.answers(alloc, Call::Generate, Ok(()))?;
     let missing = refused(AisError::NotExist, 0);
-    case.answers(alloc, Call::Delete(first), missing)?;
-    case.attrs.max_section_id_size = 7;
+    case.answers(alloc, Call::Delete(FIRST), missing)?;
+    let attrs = CreationAttributes {
+        max_section_id_size: 7,
+        ..case.attrs
+    };
+    let case = Case { attrs, ..case };
     let wrong = refused(AisError::InvalidParam, 0);
     case.answers(alloc, Call::Generate, wrong)
 }
@@ -296,7 +316,7 @@ fn a_generated_identifier_needs_8_bytes_of_room(rt: HostRuntime) -> Result<(), F
 #[test]
 fn a_read_is_refused_with_the_first_element_that_is_refused(rt: HostRuntime) -> Result<(), Fail> {
     let alloc = rt.alloc();
-    let mut case = Case {
+    let case = Case {
         attrs: TWO,
         given: &[("a", "abcd\0f\0h", 20), ("b", "", NEVER)],
         now: 19,
@@ -311,6 +331,6 @@ fn a_read_is_refused_with_the_first_element_that_is_refused(rt: HostRuntime) -> 
     case.reads(alloc, &[element("a", 0), element("a", 9)], past)?;
     let missing = refused(AisError::NotExist, 0);
     case.reads(alloc, &[element("c", 0), element("a", 9)], missing)?;
-    case.now = 20;
+    let case = Case { now: 20, ..case };
     case.reads(alloc, &[element("a", 0)], missing)
 }

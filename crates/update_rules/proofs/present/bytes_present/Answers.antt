@@ -1,4 +1,4 @@
-use Rattle.std.proofs.Common.{◌≡◌, ◌+◌, ◌∙◌, ap, sym, arith}
+use Rattle.std.proofs.Common.{◌+◌, ◌∙◌, ap, sym, arith}
 use Rattle.ckpt_types.specs.Sections.{section_of, size_of}
 use Rattle.update_rules.proofs.PresentLemmas.{memory_used-present-here, memory_used-present-gone}
 use Rattle.update_rules.proofs.present.bytes_present.Goals as goal

@@ -1,4 +1,4 @@
-use Rattle.std.proofs.Common.{◌≡◌, ◌≤◌, ◌-◌, ◌*◌, ◌^◌, length, take}
+use Rattle.std.proofs.Common.{◌≡◌, ◌≤◌, ◌-◌, ◌*◌, ◌^◌, take}
 use Rattle.ckpt_types.specs.Sections.{present, memory_used}
 use Rattle.update_rules.proofs.present.bytes_present.Given as goal
 

@@ -1,4 +1,4 @@
-use Rattle.std.proofs.Common.{◌≡◌, ◌+◌, ◌∙◌, ap, sym, arith, to_z, of_z, w64}
+use Rattle.std.proofs.Common.{◌+◌, ◌∙◌, ap, sym, arith, to_z, of_z, w64}
 use Rattle.ckpt_types.specs.Sections.{section_of}
 use Rattle.update_rules.proofs.PresentLemmas.{length-present-here, length-present-gone, length-present-take-le}
 use Rattle.update_rules.proofs.present.count_present.Goals as goal

@@ -1,4 +1,4 @@
-use Rattle.std.proofs.Common.{◌≡◌, sym, ap, ◌∙◌, FitsSigned, w64, true, false, refl}
+use Rattle.std.proofs.Common.{◌≡◌, sym, ◌∙◌, FitsSigned, w64, true, false, refl}
 use Rattle.std.proofs.lemmas.Int.{to_z-of_z}
 use Rattle.ckpt_types.specs.Sections.{section_of, is_present}
 use Rattle.ckpt_types.proofs.Presence.{place_of-lt}

@@ -1,4 +1,4 @@
-use Rattle.std.proofs.Common.{◌≡◌, ◌+◌, ◌||◌, true, false, nat_le, nat_lt, length, int_lt, refl, sym, ap, ◌∙◌, FitsSigned, w64, arith}
+use Rattle.std.proofs.Common.{◌≡◌, ◌+◌, ◌||◌, true, false, nat_le, nat_lt, length, int_lt, refl, sym, ◌∙◌, FitsSigned, w64, arith}
 use Rattle.std.proofs.lemmas.Bool.{not-false}
 use Rattle.std.proofs.lemmas.Int.{to_z-of_z}
 use Rattle.ckpt_types.specs.Sections.{is_taken, present, memory_used}

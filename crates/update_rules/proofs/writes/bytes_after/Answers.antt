@@ -1,6 +1,6 @@
 use Rattle.std.proofs.Common.{◌≡◌, Some, None, length, max, ◌+◌, ◌-◌, Ok, sym, ap, ◌∙◌, FitsSigned, w64, arith}
 use Rattle.std.proofs.lemmas.Int.{to_z-of_z}
-use Rattle.ckpt_types.specs.Sections.{Rises, present}
+use Rattle.ckpt_types.specs.Sections.{present}
 use Rattle.ckpt_types.proofs.Presence.{Rises-present}
 use Rattle.update_rules.specs.Present.{size_at}
 use Rattle.update_rules.specs.Writes.{with_elements, end_of, last_end_in}

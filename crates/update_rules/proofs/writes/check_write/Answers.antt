@@ -1,4 +1,4 @@
-use Rattle.std.proofs.Common.{◌≡◌, ◌<◌, ◌^◌, FitsSigned, to_z, of_z, w64, sym, arith}
+use Rattle.std.proofs.Common.{FitsSigned, to_z, of_z, w64, sym, arith}
 use Rattle.std.proofs.lemmas.Int.{to_z-of_z}
 use Rattle.std.proofs.lemmas.Result.{err_from_is_err_and}
 use Rattle.ckpt_types.specs.Sections.{present}
