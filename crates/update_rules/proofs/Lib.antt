@@ -1,7 +1,6 @@
-pub mod PresentLemmas
-pub mod Sizes
-pub mod Singles
-pub mod ReadLemmas
-pub mod WriteLemmas
 pub mod FreeIdentifier
+pub mod PresentLemmas
+pub mod Singles
+pub mod Sizes
 pub mod ToldLemmas
+pub mod WriteLemmas

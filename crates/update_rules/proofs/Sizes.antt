@@ -8,6 +8,7 @@ use Rattle.ckpt_types.proofs.Presence.{section_at-named}
 use Rattle.ckpt_types.proofs.Placing.{memory_used-with_section, memory_used-with_section_over}
 use Rattle.update_rules.specs.Present.{size_at}
 
+-- a size is that of what was found
 found_size : (found : Option Section) (n : ℕ) → option_map size_of found ≡ Some n → (s : Section) × (found ≡ Some s) × (size_of s ≡ n)
 found_size None n is = absurd (none-some n is)
 found_size (Some s) n is = (s, refl, same_Some (size_of s) n is)
@@ -16,6 +17,7 @@ found_size (Some s) n is = (s, refl, same_Some (size_of s) n is)
 pub size_at-Some : (id : List ℕ) (sections : List Section) (n : ℕ) → size_at id sections ≡ Some n → (s : Section) × (section_at id sections ≡ Some s) × (size_of s ≡ n)
 size_at-Some id sections n is = found_size (section_at id sections) n is
 
+-- no size is nothing found
 none_found : (found : Option Section) → option_map size_of found ≡ None → found ≡ None
 none_found None is = refl
 none_found (Some s) is = absurd (none-some (size_of s) (sym is))
@@ -23,14 +25,6 @@ none_found (Some s) is = absurd (none-some (size_of s) (sym is))
 -- where there is no size there is no section
 pub size_at-None : (id : List ℕ) (sections : List Section) → size_at id sections ≡ None → section_at id sections ≡ None
 size_at-None id sections is = none_found (section_at id sections) is
-
-some_alike : (found : Option Section) → is_some found ≡ is_some (option_map size_of found)
-some_alike None = refl
-some_alike (Some s) = refl
-
--- an identifier is taken just where there is a size
-pub is_taken-size_at : (id : List ℕ) (sections : List Section) → is_taken id sections ≡ is_some (size_at id sections)
-is_taken-size_at id sections = some_alike (section_at id sections)
 
 -- what is free is not found
 not_found : (found : Option Section) → is_some found ≡ false → found ≡ None

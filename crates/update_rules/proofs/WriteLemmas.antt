@@ -21,6 +21,7 @@ use Rattle.update_rules.proofs.Sizes.{size_at-Some, size_at-None, two_tests, mem
 
 -- ---- what is left rises
 
+-- what one element leaves rises
 Rises-with_data : (t : ℤ) (e : IoElement) (sections : List Section) (found : Option Section) → Rises sections → Rises (with_data t e sections found)
 Rises-with_data t e sections None rises = rises
 Rises-with_data t e sections (Some s) rises = Rises-with_section _ sections rises
@@ -51,10 +52,12 @@ last_end_in_more id elements i e lt is =
 abbrev larger : ℕ → Option ℕ → Option ℕ
 larger end size = option_map (λ n. max n end) size
 
+-- one end after another is the larger of both
 larger-larger : (x y : ℕ) (size : Option ℕ) → larger y (larger x size) ≡ larger (max x y) size
 larger-larger x y None = refl
 larger-larger x y (Some n) = ap Some (omega arith)
 
+-- an end at 0 makes nothing larger
 larger-0 : (size : Option ℕ) → larger 0 size ≡ size
 larger-0 None = refl
 larger-0 (Some n) = ap Some (omega arith)
