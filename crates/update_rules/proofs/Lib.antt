@@ -1,0 +1,6 @@
+pub mod FreeIdentifier
+pub mod PresentLemmas
+pub mod Singles
+pub mod Sizes
+pub mod ToldLemmas
+pub mod WriteLemmas

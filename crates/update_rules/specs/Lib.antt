@@ -1,0 +1,3 @@
+pub mod Present
+pub mod Told
+pub mod Writes

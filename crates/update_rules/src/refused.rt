@@ -1,0 +1,19 @@
+ghost use Rattle.std.specs.Prelude.{◌≡◌, Err};
+
+use ckpt_types::AisError;
+
+/// Why an update or a read is refused.
+#[derive(Clone, Copy, Debug, PartialEq, Eq)]
+pub struct Refused {
+    /// The error that the call answers.
+    pub error: AisError,
+    /// The index of the refused element of a vector, from 0; 0 for an update that has no vector.
+    pub index: u32,
+}
+
+/// Refuses an update that has no vector.
+pub(crate) fn refuse(error: AisError) -> Result<(), Refused>
+    ensures { result ≡ Err (record { error = error; index = 0 }) }
+{
+    Err(Refused { error, index: 0 })
+}

@@ -1,0 +1,164 @@
+ghost use Rattle.std.specs.Prelude.{◌≡◌, ◌+◌, ◌^◌, ◌<◌, ◌||◌, nat_le, nat_lt, length};
+ghost use Rattle.ckpt_types.specs.Sections.{Rises, is_taken, present, memory_used};
+ghost use Rattle.ckpt_types.specs.Updates.{outcome, created, deleted, expiration_set, overwritten, is_bad_id, new_id};
+ghost use Rattle.update_rules.specs.Told.{told};
+
+use crate::present::{bytes_present, count_present, size_present};
+use crate::refused::{Refused, refuse};
+use crate::writes::check_write;
+use ckpt_types::{AisError, CreationAttributes, Moment, NewId, SectionId, Sections, Update};
+use moment_rules::expired;
+
+/// Refuses an update that the rules refuse over the sections that are present at the moment. It takes no
+/// memory and changes nothing.
+pub fn check<S: Sections>(
+    attrs: &CreationAttributes,
+    sections: &S,
+    update: &Update,
+    now: Moment,
+) -> Result<(), Refused>
+    ensures { result ≡ told (outcome attrs.now update.now now (S.sections sections.now)) }
+{
+    // The clause of `len` tells that the identifiers rise.
+    let _count = sections.len();
+    match update {
+        Update::Write(vector) => check_write(attrs, sections, vector.as_slice(), now),
+        Update::Overwrite(id, bytes) => {
+            check_overwrite(attrs, sections, id, bytes.as_slice(), now)
+        }
+        Update::Create(new, expiration, bytes) => {
+            check_create(attrs, sections, new, *expiration, bytes.as_slice(), now)
+        }
+        Update::Delete(id) => check_delete(attrs, sections, id, now),
+        Update::SetExpiration(id, expiration) => {
+            check_expiration(attrs, sections, id, *expiration, now)
+        }
+        Update::Nothing => Ok(()),
+    }
+}
+
+fn check_create<S: Sections>(
+    attrs: &CreationAttributes,
+    sections: &S,
+    new: &NewId,
+    expiration: Moment,
+    bytes: &[u8],
+    now: Moment,
+) -> Result<(), Refused>
+    requires in_order { Rises (S.sections sections.now) }
+    requires few { length (S.sections sections.now) < 2 ^ 64 }
+    ensures { result ≡ told (created attrs.now new.now expiration bytes.now now (present now (S.sections sections.now))) }
+{
+    let len = bytes.len() as u64;
+    if attrs.max_sections == 1 {
+        return refuse(AisError::Exist);
+    }
+    if is_bad_id(attrs, new) || expired(expiration, now) || len > attrs.max_section_size {
+        return refuse(AisError::InvalidParam);
+    }
+    if is_taken(sections, new, now) {
+        return refuse(AisError::Exist);
+    }
+    if lacks_room(attrs, sections, len, now) {
+        return refuse(AisError::NoSpace);
+    }
+    Ok(())
+}
+
+/// Whether the identifier is empty or too long, or too few bytes were declared for a generated one.
+fn is_bad_id(attrs: &CreationAttributes, new: &NewId) -> bool
+    ensures { result ≡ is_bad_id attrs.now new.now }
+{
+    match new {
+        NewId::Given(id) => {
+            let len = id.as_slice().len() as u64;
+            len == 0 || len > attrs.max_section_id_size
+        }
+        NewId::Generated => attrs.max_section_id_size < 8,
+    }
+}
+
+/// Whether a section that is present has the identifier; none has one that the service makes.
+fn is_taken<S: Sections>(sections: &S, new: &NewId, now: Moment) -> bool
+    requires in_order { Rises (S.sections sections.now) }
+    requires few { length (S.sections sections.now) < 2 ^ 64 }
+    ensures { result ≡ is_taken (new_id new.now (present now (S.sections sections.now))) (present now (S.sections sections.now)) }
+{
+    match new {
+        NewId::Given(id) => size_present(sections, id, now).is_some(),
+        NewId::Generated => false,
+    }
+}
+
+/// Whether there is no room for one section more, or none for its bytes.
+fn lacks_room<S: Sections>(attrs: &CreationAttributes, sections: &S, len: u64, now: Moment) -> bool
+    ensures { result ≡ (nat_le attrs.now.max_sections (length (present now (S.sections sections.now))) || nat_lt attrs.now.checkpoint_size (memory_used (present now (S.sections sections.now)) + len)) }
+{
+    let bytes_after = bytes_present(sections, now) + u128::from(len);
+    attrs.max_sections as usize <= count_present(sections, now)
+        || bytes_after > u128::from(attrs.checkpoint_size)
+}
+
+fn check_delete<S: Sections>(
+    attrs: &CreationAttributes,
+    sections: &S,
+    id: &SectionId,
+    now: Moment,
+) -> Result<(), Refused>
+    requires in_order { Rises (S.sections sections.now) }
+    ensures { result ≡ told (deleted attrs.now id.now (present now (S.sections sections.now))) }
+{
+    if attrs.max_sections == 1 {
+        return refuse(AisError::InvalidParam);
+    }
+    if size_present(sections, id, now).is_none() {
+        return refuse(AisError::NotExist);
+    }
+    Ok(())
+}
+
+fn check_expiration<S: Sections>(
+    attrs: &CreationAttributes,
+    sections: &S,
+    id: &SectionId,
+    expiration: Moment,
+    now: Moment,
+) -> Result<(), Refused>
+    requires in_order { Rises (S.sections sections.now) }
+    ensures { result ≡ told (expiration_set attrs.now id.now expiration now (present now (S.sections sections.now))) }
+{
+    if attrs.max_sections == 1 {
+        return refuse(AisError::InvalidParam);
+    }
+    if size_present(sections, id, now).is_none() {
+        return refuse(AisError::NotExist);
+    }
+    if expired(expiration, now) {
+        return refuse(AisError::InvalidParam);
+    }
+    Ok(())
+}
+
+fn check_overwrite<S: Sections>(
+    attrs: &CreationAttributes,
+    sections: &S,
+    id: &SectionId,
+    bytes: &[u8],
+    now: Moment,
+) -> Result<(), Refused>
+    requires in_order { Rises (S.sections sections.now) }
+    ensures { result ≡ told (overwritten attrs.now id.now bytes.now now (present now (S.sections sections.now))) }
+{
+    let Some(size) = size_present(sections, id, now) else {
+        return refuse(AisError::NotExist);
+    };
+    let len = bytes.len() as u64;
+    if len > attrs.max_section_size {
+        return refuse(AisError::InvalidParam);
+    }
+    let bytes_before = bytes_present(sections, now);
+    if bytes_before + u128::from(len) > u128::from(attrs.checkpoint_size) + u128::from(size) {
+        return refuse(AisError::NoSpace);
+    }
+    Ok(())
+}
