@@ -1,5 +1,5 @@
 -- Which section an iteration gives: by a place of the map, and by one identifier after another.
-use Rattle.std.proofs.Common.{◌≡◌, ℕ, suc, ◌+◌, ◌<◌, List, [], ◌∷◌, length, take, drop, get_or, Option, Some, None, Ok, option_map, slice_get, true, false, if◌then◌else◌, ℤ, sym, ap, ◌∙◌, refl, add-one}
+use Rattle.std.proofs.Common.{◌≡◌, ℕ, suc, ◌+◌, ◌<◌, List, ◌∷◌, length, drop, get_or, Option, Some, None, Ok, option_map, slice_get, true, false, if◌then◌else◌, ℤ, sym, ap, ◌∙◌, refl, add-one}
 use Rattle.std.proofs.Math.Seq.{drop-cons}
 use Rattle.std.proofs.lemmas.Option.{none-some, same_Some}
 use Rattle.ckpt_types.specs.declared.sections.SectionDescriptor.{SectionDescriptor}

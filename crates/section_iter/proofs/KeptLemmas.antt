@@ -1,8 +1,8 @@
 -- What an iteration keeps once its identifiers are others, and once it dropped some.
-use Rattle.std.proofs.Common.{◌≡◌, ℕ, ◌+◌, ◌≤◌, List, length, drop, vec_capacity, sym, ap, ◌∙◌, refl, arith}
+use Rattle.std.proofs.Common.{◌≡◌, ℕ, ◌+◌, List, drop, sym, ap, ◌∙◌}
 use Rattle.std.proofs.lemmas.List.{drop-drop}
 use Rattle.section_iter.specs.KeptIds.{KeptIds}
-use Rattle.section_iter.specs.Iteration.{IsRoomy, kept_ids}
+use Rattle.section_iter.specs.Iteration.{kept_ids}
 use Rattle.section_iter.specs.declared.iteration.Iteration.TheInside.{Inside}
 
 -- an iteration that dropped some more of its identifiers keeps the others

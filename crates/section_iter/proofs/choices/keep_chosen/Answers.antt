@@ -1,4 +1,4 @@
-use Rattle.std.proofs.Common.{◌≡◌, ◌++◌, ◌∷◌, [], ◌∙◌, ap, sym, length, vec_capacity, to_z, of_z, w64, arith}
+use Rattle.std.proofs.Common.{◌++◌, ◌∷◌, [], ◌∙◌, ap, sym, length, vec_capacity, to_z, of_z, w64, arith}
 use Rattle.ckpt_types.specs.Sections.{section_of}
 use Rattle.section_iter.proofs.ChosenLemmas.{chosen_taken, chosen_left, length-chosen-take-le}
 use Rattle.section_iter.proofs.choices.keep_chosen.Goals as goal

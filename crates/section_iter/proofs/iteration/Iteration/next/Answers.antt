@@ -1,4 +1,4 @@
-use Rattle.std.proofs.Common.{◌≡◌, ◌+◌, Some, drop, ◌∙◌, ap, sym, FitsSigned, w64, arith}
+use Rattle.std.proofs.Common.{◌≡◌, ◌+◌, Some, drop, ◌∙◌, ap, sym, FitsSigned, w64}
 use Rattle.std.specs.Option.{option_map}
 use Rattle.std.proofs.lemmas.Int.{to_z-of_z}
 use Rattle.ckpt_types.specs.Reads.{given, description}

@@ -1,4 +1,4 @@
-use Rattle.std.proofs.Common.{◌≡◌, ◌≤◌, length, ap, sym, ◌∙◌, to_z, of_z, w64, arith}
+use Rattle.std.proofs.Common.{length, ap, to_z, of_z, w64, arith}
 use Rattle.section_iter.proofs.ChosenLemmas.{length-chosen-le}
 use Rattle.section_iter.proofs.iteration.Iteration.start.Goals as goal
 
