@@ -1,0 +1,3 @@
+pub mod Iteration
+pub mod KeptIds
+pub mod Next

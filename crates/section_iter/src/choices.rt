@@ -1,0 +1,59 @@
+ghost use Rattle.std.specs.Prelude.{◌≡◌, ◌≤◌, ◌&&◌, length, vec_capacity};
+ghost use Rattle.ckpt_types.specs.Reads.{chooses, chosen, is_corrupted};
+ghost use Rattle.ckpt_types.specs.Sections.{section_of, is_present};
+
+use crate::present::is_present;
+use ckpt_types::{
+    Choice, Moment, NEVER, SECTIONS_ANY, SECTIONS_CORRUPTED, SECTIONS_FOREVER,
+    SECTIONS_GEQ_EXPIRATION_TIME, SECTIONS_LEQ_EXPIRATION_TIME, SectionId, SectionRef,
+    SectionState, Sections,
+};
+
+/// Keeps the identifiers of the sections that are chosen, within the room that was taken.
+pub(crate) fn keep_chosen<S: Sections>(
+    ids: &mut Vec<SectionId>,
+    sections: &S,
+    choice: &Choice,
+    now: Moment,
+)
+    requires { length (S.sections sections.now) ≤ vec_capacity ids.old }
+    ensures items { ids.new.items ≡ chosen choice.now now (S.sections sections.now) }
+    ensures capacity { vec_capacity ids.new ≡ vec_capacity ids.old }
+{
+    ids.clear();
+    for place in 0..sections.len() {
+        let section = sections.at(place);
+        if is_chosen(choice, &section, now) {
+            ids.push_reserved(*section.id);
+        }
+    }
+}
+
+/// Whether the section is present and the choice takes it.
+fn is_chosen(choice: &Choice, section: &SectionRef<'_>, now: Moment) -> bool
+    ensures { result ≡ (is_present now (section_of section.now) && chooses choice.now (section_of section.now)) }
+{
+    is_present(section, now) && chooses(choice, section)
+}
+
+/// Whether the choice takes the section.
+fn chooses(choice: &Choice, section: &SectionRef<'_>) -> bool
+    ensures { result ≡ chooses choice.now (section_of section.now) }
+{
+    match choice.chosen {
+        SECTIONS_FOREVER => section.expiration == NEVER,
+        SECTIONS_LEQ_EXPIRATION_TIME => section.expiration <= choice.time,
+        SECTIONS_GEQ_EXPIRATION_TIME => choice.time <= section.expiration,
+        SECTIONS_CORRUPTED => is_corrupted(section.state),
+        chosen => chosen == SECTIONS_ANY,
+    }
+}
+
+fn is_corrupted(state: SectionState) -> bool
+    ensures { result ≡ is_corrupted state }
+{
+    match state {
+        SectionState::Valid => false,
+        SectionState::Corrupted => true,
+    }
+}

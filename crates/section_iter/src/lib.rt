@@ -1,0 +1,10 @@
+//! An iteration over the sections of a checkpoint, which are told by the identifiers kept when it began.
+#![tactic(auto)]
+
+mod choices;
+mod iteration;
+mod present;
+#[cfg(test)]
+mod tests;
+
+pub use iteration::{Iteration, NoSections};

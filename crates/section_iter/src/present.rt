@@ -1,0 +1,67 @@
+ghost use Rattle.std.specs.Prelude.{◌≡◌, ◌+◌, ◌<◌, length, drop, IfSome};
+ghost use Rattle.std.specs.Option.{option_map};
+ghost use Rattle.ckpt_types.specs.Reads.{given, description};
+ghost use Rattle.ckpt_types.specs.Sections.{section_of, section_at, is_present, present};
+
+use ckpt_types::{Moment, SectionDescriptor, SectionId, SectionRef, Sections};
+use moment_rules::expired;
+
+/// A section that is present, and the place of its identifier.
+#[derive(Clone, Copy)]
+pub(crate) struct Found {
+    pub(crate) place: usize,
+    pub(crate) section: SectionDescriptor,
+}
+
+/// The first of the identifiers whose section is present.
+pub(crate) fn find_first<S: Sections>(sections: &S, ids: &[SectionId], now: Moment) -> Option<Found>
+    ensures section { option_map (λ f. f.section) result ≡ option_map (λ next. description next.section) (given ids.now now (S.sections sections.now)) }
+    ensures rest { option_map (λ f. drop (f.place + 1) ids.now) result ≡ option_map (λ next. next.rest) (given ids.now now (S.sections sections.now)) }
+    ensures within { IfSome result (λ f. f.place < length ids.now) }
+{
+    for (place, id) in ids.iter().enumerate() {
+        if let Some(section) = describe_present(sections, id, now) {
+            return Some(Found { place, section });
+        }
+    }
+    None
+}
+
+/// What is told of the section of that identifier, where it is present.
+fn describe_present<S: Sections>(
+    sections: &S,
+    id: &SectionId,
+    now: Moment,
+) -> Option<SectionDescriptor>
+    ensures { result ≡ option_map description (section_at id.now (present now (S.sections sections.now))) }
+{
+    // The clause of `len` tells that the identifiers rise.
+    let _count = sections.len();
+    let place = sections.find(id)?;
+    let section = sections.at(place);
+    if is_present(&section, now) {
+        Some(describe(&section))
+    } else {
+        None
+    }
+}
+
+/// What is told of a section.
+fn describe(section: &SectionRef<'_>) -> SectionDescriptor
+    ensures { result ≡ description (section_of section.now) }
+{
+    SectionDescriptor {
+        id: *section.id,
+        expiration: section.expiration,
+        size: section.bytes.len() as u64,
+        state: section.state,
+        last_update: section.last_update,
+    }
+}
+
+/// Whether the section is present.
+pub(crate) fn is_present(section: &SectionRef<'_>, now: Moment) -> bool
+    ensures { result ≡ is_present now (section_of section.now) }
+{
+    !expired(section.expiration, now)
+}
