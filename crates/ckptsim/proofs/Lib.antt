@@ -1,0 +1,2 @@
+pub mod FewLines
+pub mod Written

@@ -1,0 +1,72 @@
+//! `ckptsim run` reads a cluster script from standard input, plays it on the Checkpoint Service, and prints
+//! every result to standard output.
+#![tactic(auto)]
+
+mod reading;
+mod running;
+#[cfg(test)]
+mod tests;
+mod writing;
+
+use outside_io::{OpenGate, StdSink, StdSource};
+use run_labels::RunLog;
+use running::{Status, ckpt_run};
+use std::alloc::Global;
+use std::process::ExitCode;
+use std::string::String;
+use std::sync::Wait;
+use std::thread::Threads;
+use std::{env, io};
+use world_core::World;
+
+fn main(rt: HostRuntime) -> ExitCode {
+    let status = match words(&rt) {
+        Ok(words) => {
+            let mut source = StdSource::new(rt.stdin());
+            let mut sink = StdSink::new(rt.stdout());
+            run(&rt, rt.alloc(), words.as_slice(), &mut source, &mut sink)
+        }
+        Err(_) => Status::NoMemory,
+    };
+    // Where standard error takes nothing, the number still tells how it ended.
+    let _told = tell(&rt, status);
+    ExitCode::from(status.number())
+}
+
+// A run from a cluster of which no node is up.
+fn run<R: Threads + Wait + Sync>(
+    rt: &R,
+    alloc: Global,
+    words: &[String],
+    source: &mut StdSource,
+    sink: &mut StdSink,
+) -> Status {
+    let Ok(mut world) = World::new(alloc) else {
+        return Status::NoMemory;
+    };
+    let mut log = RunLog::new(alloc);
+    ckpt_run(
+        rt, alloc, words, source, sink, &OpenGate, &mut log, &mut world,
+    )
+}
+
+// The words of the command line behind the program's name.
+fn words(rt: &HostRuntime) -> io::Result<Vec<String>> {
+    let mut words = Vec::new(rt.alloc());
+    for word in env::args(rt)?.skip(1) {
+        words.push(word)?;
+    }
+    Ok(words)
+}
+
+// One line to standard error for each status but that of a run.
+fn tell(rt: &HostRuntime, status: Status) -> io::Result<()> {
+    match status {
+        Status::Ran => Ok(()),
+        Status::Usage => eprintln!(rt; "usage: ckptsim run [--steps]"),
+        Status::Script(fault) => { eprintln!(rt; "line {}: {}", fault.line, fault.reason.word()) }
+        Status::ReadFault => eprintln!(rt; "read fault"),
+        Status::WriteFault => eprintln!(rt; "write fault"),
+        Status::NoMemory => eprintln!(rt; "no memory"),
+    }
+}

@@ -1,0 +1,45 @@
+ghost use Rattle.std.specs.Prelude.{◌≡◌, ◌≤◌, IfOk, Err};
+ghost use Rattle.outside_io.specs.Causes.{Rose};
+ghost use Rattle.ckptsim.specs.Reading.{Reads};
+
+use crate::running::{SCRIPT_BYTES_MAX, Trouble};
+use outside_io::{Failed, Source};
+use std::alloc::Global;
+
+/// How a reading ends that did not fail.
+#[derive(Clone, Copy, Debug, PartialEq, Eq)]
+pub enum Ended {
+    /// At the end of the source.
+    AtEnd,
+    /// At one byte more than a script may have.
+    TooLong,
+}
+
+const MOST: usize = SCRIPT_BYTES_MAX + 1;
+
+const PIECE: usize = 4096;
+
+/// The bytes of the source, up to one more than a script may have.
+pub fn read_all<S: Source>(alloc: Global, source: &mut S) -> Result<(Vec<u8>, Ended), Trouble>
+    ensures later { S.faults source.old ≤ S.faults source.new }
+    ensures read { IfOk result (λ r. Reads (S.left source.old) (S.left source.new) r.0.items r.1) }
+    ensures failed { result ≡ Err Trouble.Failed → Rose (S.faults source.old) (S.faults source.new) }
+{
+    let mut bytes = Vec::new(alloc);
+    let mut buf = [0u8; PIECE];
+    'reading: while bytes.len() < MOST {
+        let room = (MOST - bytes.len()).min(PIECE);
+        let part = &mut buf[..room];
+        let count = match source.read(part) {
+            Ok(count) => count,
+            Err(Failed) => return Err(Trouble::Failed),
+        };
+        if count == 0 {
+            return Ok((bytes, Ended::AtEnd));
+        }
+        if bytes.extend_from_slice(&part[..count]).is_err() {
+            return Err(Trouble::Memory);
+        }
+    }
+    Ok((bytes, Ended::TooLong))
+}

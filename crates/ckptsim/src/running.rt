@@ -1,0 +1,164 @@
+ghost use Rattle.std.specs.Prelude.{◌≡◌, ◌≤◌, [], length, IsTrue, ◌↔◌, codes, IfSome, IsOk};
+ghost use Rattle.outside_io.specs.Causes.{Rose};
+ghost use Rattle.script_lang.specs.Grammar.{script_of};
+ghost use Rattle.world_core.specs.Runs.{IsNew};
+ghost use Rattle.ckptsim.specs.Headline.{IsCommand, HasRun, HasFault, WroteNothing, WritesPart, RanOrNoMemory, printed, status_number};
+ghost use Rattle.script_lang.specs.declared.faults.ScriptFault.{ScriptFault};
+
+use crate::reading::{Ended, read_all};
+use crate::writing::write_lines;
+use outside_io::{Gate, Sink, Source};
+use run_labels::RunLog;
+use script_lang::{ParseError, Reason, ScriptFault, parse};
+use session_run::session;
+use std::alloc::Global;
+use std::string::String;
+use std::sync::Wait;
+use std::thread::Threads;
+use world_core::World;
+
+/// The most bytes that a script has.
+pub const SCRIPT_BYTES_MAX: usize = 262_144;
+
+/// What kept reading or writing from its end.
+#[derive(Clone, Copy, Debug, PartialEq, Eq)]
+pub enum Trouble {
+    /// The source or the sink failed.
+    Failed,
+    /// Memory was refused.
+    Memory,
+}
+
+/// How a run of the program ends.
+#[derive(Clone, Copy, Debug, PartialEq, Eq)]
+pub enum Status {
+    /// The script was run, and its lines were written.
+    Ran,
+    /// The words are no command.
+    Usage,
+    /// The script has this fault, the first.
+    Script(ScriptFault),
+    /// The source failed.
+    ReadFault,
+    /// The sink failed.
+    WriteFault,
+    /// Memory was refused.
+    NoMemory,
+}
+
+impl Status {
+    /// The number with which the program ends.
+    pub fn number(self) -> u8
+        ensures { result ≡ status_number self }
+    {
+        match self {
+            Status::Ran => 0,
+            Status::Usage => 2,
+            Status::Script(_) => 3,
+            Status::ReadFault => 4,
+            Status::WriteFault => 5,
+            Status::NoMemory => 6,
+        }
+    }
+}
+
+fn is_run(word: &str) -> bool
+    ensures { IsTrue result ↔ (word.now ≡ codes "run") }
+{
+    word == "run"
+}
+
+fn is_command(words: &[String]) -> bool
+    ensures { IsTrue result ↔ IsCommand words.now }
+{
+    match words {
+        [word] => is_run(word.as_str()),
+        _ => false,
+    }
+}
+
+// The run, by its answers' causes.
+fn attempt<R: Threads + Wait + Sync, S: Source, K: Sink, G: Gate>(
+    rt: &R,
+    alloc: Global,
+    words: &[String],
+    source: &mut S,
+    sink: &mut K,
+    gate: &G,
+    log: &mut RunLog,
+    world: &mut World,
+) -> Status
+    requires log { log.old.labels ≡ [] }
+    requires world { IsNew world.old }
+    ensures ran { result ≡ Status.Ran → HasRun (S.left source.old) (S.left source.new) (K.held sink.old) (K.held sink.new) log.new.labels world.new }
+    ensures usage { (result ≡ Status.Usage → IsCommand words.now → ⊥) × ((IsCommand words.now → ⊥) → result ≡ Status.Usage) }
+    ensures unread { result ≡ Status.Usage → source.new ≡ source.old }
+    ensures script { (fault : ScriptFault) → result ≡ Status.Script fault → HasFault (S.left source.old) (S.left source.new) fault }
+    ensures read { result ≡ Status.ReadFault → Rose (S.faults source.old) (S.faults source.new) }
+    ensures write { result ≡ Status.WriteFault → Rose (K.faults sink.old) (K.faults sink.new) }
+    ensures kept { WroteNothing result → sink.new ≡ sink.old }
+    ensures part { WritesPart (K.held sink.old) (K.held sink.new) (printed log.new.labels) }
+{
+    if !is_command(words) {
+        return Status::Usage;
+    }
+    let (bytes, ended) = match read_all(alloc, source) {
+        Ok(read) => read,
+        Err(Trouble::Failed) => return Status::ReadFault,
+        Err(Trouble::Memory) => return Status::NoMemory,
+    };
+    if let Ended::TooLong = ended {
+        return Status::Script(ScriptFault {
+            line: 0,
+            reason: Reason::Length,
+        });
+    }
+    let script = match parse(alloc, bytes.as_slice()) {
+        Ok(script) => script,
+        Err(ParseError::Fault(fault)) => return Status::Script(fault),
+        Err(ParseError::NoMemory) => return Status::NoMemory,
+    };
+    if session(rt, alloc, &script, gate, log, world).is_err() {
+        return Status::NoMemory;
+    }
+    match write_lines(alloc, sink, log.as_slice()) {
+        Ok(()) => Status::Ran,
+        Err(Trouble::Failed) => Status::WriteFault,
+        Err(Trouble::Memory) => Status::NoMemory,
+    }
+}
+
+/// Reads a script from the source, plays it on the cluster, and writes the lines of its log to the sink.
+pub fn ckpt_run<R: Threads + Wait + Sync, S: Source, K: Sink, G: Gate>(
+    rt: &R,
+    alloc: Global,
+    words: &[String],
+    source: &mut S,
+    sink: &mut K,
+    gate: &G,
+    log: &mut RunLog,
+    world: &mut World,
+) -> Status
+    requires log { log.old.labels ≡ [] }
+    requires world { IsNew world.old }
+
+    // What was printed, and every replica, is a run of the checkpoint machine that follows the script.
+    ensures ran { result ≡ Status.Ran → HasRun (S.left source.old) (S.left source.new) (K.held sink.old) (K.held sink.new) log.new.labels world.new }
+
+    // Each other answer has its cause.
+    ensures usage { (result ≡ Status.Usage → IsCommand words.now → ⊥) × ((IsCommand words.now → ⊥) → result ≡ Status.Usage) }
+    ensures unread { result ≡ Status.Usage → source.new ≡ source.old }
+    ensures script { (fault : ScriptFault) → result ≡ Status.Script fault → HasFault (S.left source.old) (S.left source.new) fault }
+    ensures read { result ≡ Status.ReadFault → Rose (S.faults source.old) (S.faults source.new) }
+    ensures write { result ≡ Status.WriteFault → Rose (K.faults sink.old) (K.faults sink.new) }
+
+    // What was written.
+    ensures kept { WroteNothing result → sink.new ≡ sink.old }
+    ensures part { WritesPart (K.held sink.old) (K.held sink.new) (printed log.new.labels) }
+
+    // A command, a script and no fault: it ran, or memory ran out.
+    ensures complete { IsCommand words.now → IfSome (S.left source.old) (λ input. IsOk (script_of input) → length input ≤ 262144 →
+        (Rose (S.faults source.old) (S.faults source.new) → ⊥) → (Rose (K.faults sink.old) (K.faults sink.new) → ⊥) → RanOrNoMemory result) }
+{
+    attempt(rt, alloc, words, source, sink, gate, log, world)
+}

@@ -1,0 +1,52 @@
+ghost use Rattle.std.specs.Prelude.{◌≡◌, ◌≢◌, ◌≤◌, OnOk, OnErr, Err};
+ghost use Rattle.std.specs.Io.KnownBytes.{Appends};
+ghost use Rattle.outside_io.specs.Causes.{Rose};
+ghost use Rattle.ckptsim.specs.Headline.{WritesPart, printed};
+
+use crate::running::Trouble;
+use outside_io::{Failed, Sink};
+use run_labels::{Label, append_line};
+use std::alloc::Global;
+
+/// From so many bytes on, the lines that are rendered are written.
+const PIECE: usize = 4096;
+
+// Writes all of the bytes.
+fn write_all<K: Sink>(sink: &mut K, bytes: &[u8]) -> Result<(), Failed>
+    ensures later { K.faults sink.old ≤ K.faults sink.new }
+    ensures written { OnOk result (Appends (K.held sink.old) (K.held sink.new) bytes.now) }
+    ensures failed { OnErr result (Rose (K.faults sink.old) (K.faults sink.new)) }
+    ensures part { OnErr result (WritesPart (K.held sink.old) (K.held sink.new) bytes.now) }
+{
+    let mut at = 0;
+    'writing: while at < bytes.len() {
+        let (_, rest) = bytes.split_at(at);
+        at += sink.write(rest)?;
+    }
+    Ok(())
+}
+
+/// Writes the lines of the labels, some thousand bytes at a time.
+pub fn write_lines<K: Sink>(alloc: Global, sink: &mut K, labels: &[Label]) -> Result<(), Trouble>
+    ensures later { K.faults sink.old ≤ K.faults sink.new }
+    ensures written { OnOk result (Appends (K.held sink.old) (K.held sink.new) (printed labels.now)) }
+    ensures failed { result ≡ Err Trouble.Failed → Rose (K.faults sink.old) (K.faults sink.new) }
+    ensures part { OnErr result (WritesPart (K.held sink.old) (K.held sink.new) (printed labels.now)) }
+{
+    let mut text = Vec::new(alloc);
+    for label in labels {
+        if append_line(&mut text, label, false).is_err() {
+            return Err(Trouble::Memory);
+        }
+        if text.len() >= PIECE {
+            if write_all(sink, text.as_slice()).is_err() {
+                return Err(Trouble::Failed);
+            }
+            text.clear();
+        }
+    }
+    if write_all(sink, text.as_slice()).is_err() {
+        return Err(Trouble::Failed);
+    }
+    Ok(())
+}

@@ -1,0 +1,55 @@
+-- A log follows a script: the lines in order, each with its labels.
+use Rattle.std.specs.Prelude.{◌≡◌, List, [], ◌∷◌, ◌++◌, Option, Some, None, false}
+use Rattle.ckpt_types.specs.declared.answers.Outcome.{Outcome}
+use Rattle.ckpt_types.specs.declared.identities.ActorName.{ActorName}
+use Rattle.ckpt_types.specs.declared.identities.ActorName.TheVariants.{Client}
+use Rattle.ckpt_types.specs.declared.identities.CallId.{CallId}
+use Rattle.ckpt_types.specs.declared.identities.Who.TheVariants.{Actor}
+use Rattle.ckpt_types.specs.declared.operation.Op.{Op}
+use Rattle.ckpt_types.specs.declared.operation.Op.TheVariants as ops
+use Rattle.run_labels.specs.declared.labels.Label.{Label}
+use Rattle.run_labels.specs.declared.labels.Label.TheVariants as labels
+use Rattle.run_labels.specs.declared.words.LineWord.TheVariants as linewords
+use Rattle.run_labels.specs.declared.words.Said.{Said}
+use Rattle.run_labels.specs.declared.words.Said.TheVariants.{Down}
+use Rattle.run_labels.specs.OpWord.{word_of_op}
+use Rattle.script_lang.specs.declared.lines.Line.{Line}
+use Rattle.script_lang.specs.declared.lines.Line.TheVariants as lines
+use Rattle.world_core.specs.RecordState.{is_up}
+use Rattle.world_core.specs.Machine.{Machine, empty_cluster}
+use Rattle.world_core.specs.Runs.{last_from}
+
+-- the steps of a call to its end, and nothing else; none where it has ended
+abbrev pub StepsToEnd : CallId → Option Outcome → List Label → Type 0
+StepsToEnd call (Some end) rest = rest ≡ []
+StepsToEnd call None [] = ⊥
+StepsToEnd call None (labels.Stepped other op verb k r reply end pieces ∷ rest) = (other ≡ call) × StepsToEnd call end rest
+StepsToEnd call None (label ∷ rest) = ⊥
+
+-- a word that says DOWN is said of a node that is not up
+abbrev pub SaysTrueIn : Op → Said → Machine → Type 0
+SaysTrueIn (ops.Client r version callbacks) Down m = is_up r m.cluster ≡ false
+SaysTrueIn op Down m = ⊥
+SaysTrueIn op said m = Unit {0}
+
+-- a call of this actor with this operation, from its beginning to its end; or the one word that answers its line,
+-- and is true in the state before it
+abbrev pub IsWholeCall : Machine → ActorName → Op → List Label → Type 0
+IsWholeCall m a op (labels.Began call begun end ∷ rest) = (call.actor ≡ a) × (begun ≡ op) × StepsToEnd call end rest
+IsWholeCall m a op (labels.Word who word said ∷ rest) = (who ≡ Actor a) × (word ≡ linewords.Op (word_of_op op)) × SaysTrueIn op said m × (rest ≡ [])
+IsWholeCall m a op log = ⊥
+
+-- in this state the labels answer the line; the other lines are not built yet
+abbrev pub AnswersLine : Machine → Line → List Label → Type 0
+AnswersLine m (lines.Nodes n) log = log ≡ labels.Nodes n ∷ []
+AnswersLine m (lines.Call c op) log = IsWholeCall m (Client c) op log
+AnswersLine m line log = ⊥
+
+-- from this state the lines come in order, each with its labels, and each in the state after the labels before it
+abbrev pub FollowsFrom : Machine → List Line → List Label → Type 0
+FollowsFrom m [] log = log ≡ []
+FollowsFrom m (line ∷ lines) log = (front : List Label) × (back : List Label) × (log ≡ front ++ back) × AnswersLine m line front × FollowsFrom (last_from m front) lines back
+
+-- the log has the lines in order, from the empty cluster
+abbrev pub Follows : List Line → List Label → Type 0
+Follows lines log = FollowsFrom empty_cluster lines log

@@ -1,0 +1,6 @@
+//! A script is played on a cluster: each line in its turn, each call from its beginning to its end.
+#![tactic(auto)]
+
+mod playing;
+
+pub use playing::session;

@@ -1,0 +1,156 @@
+ghost use Rattle.std.specs.Prelude.{◌≡◌, ◌≢◌, ◌+◌, ◌-◌, ◌*◌, ◌<◌, ◌≤◌, ◌^◌, List, [], length, None, OnOk, OnErr, IfOk};
+ghost use Rattle.ckpt_types.specs.declared.identities.ActorName.TheVariants.{Client};
+ghost use Rattle.script_lang.specs.FirstForm.{IsFirstForm};
+ghost use Rattle.world_core.specs.Beginning.{IsBuilt};
+ghost use Rattle.std.specs.Prelude.{false};
+ghost use Rattle.ckpt_types.specs.declared.identities.Who.TheVariants.{Actor};
+ghost use Rattle.world_core.specs.declared.world.Event.TheVariants as happenings;
+ghost use Rattle.world_core.specs.Runs.{IsNew, IsRunTo, Happens, last, left_of};
+ghost use Rattle.world_core.specs.Shows.{hand_at};
+ghost use Rattle.session_run.specs.Follows.{AnswersLine, Follows, IsWholeCall};
+ghost use Rattle.session_run.specs.Growing.{CanPlay, GrowsBy, IsFinish, NoneBut, NoneInHand};
+
+use ckpt_types::{ActorName, Op, Who};
+use outside_io::Gate;
+use run_labels::RunLog;
+use script_lang::{Line, Script};
+use std::alloc::{AllocError, Global};
+use std::sync::Wait;
+use std::thread::Threads;
+use world_core::{Event, World};
+
+/// Plays a script. The log is a run that follows it, and the world shows the state after it. Where
+/// memory for the log or for an event is refused, the log is a run as far as it goes.
+pub fn session<R: Threads + Wait + Sync, G: Gate>(
+    _rt: &R,
+    alloc: Global,
+    script: &Script,
+    _gate: &G,
+    log: &mut RunLog,
+    world: &mut World,
+) -> Result<(), AllocError>
+    requires log { log.old.labels ≡ [] }
+    requires world { IsNew world.old }
+    requires form { IsFirstForm script.now }
+    requires lines { length script.now ≤ 2000000 }
+    ensures run { IsRunTo world.new log.new.labels }
+    ensures follows { OnOk result (Follows script.now log.new.labels) }
+{
+    play(alloc, script.as_slice(), log, world)
+}
+
+fn play(
+    alloc: Global,
+    lines: &[Line],
+    log: &mut RunLog,
+    world: &mut World,
+) -> Result<(), AllocError>
+    requires log { log.old.labels ≡ [] }
+    requires world { IsNew world.old }
+    requires form { IsFirstForm lines.now }
+    requires lines { length lines.now ≤ 2000000 }
+    ensures run { IsRunTo world.new log.new.labels }
+    ensures follows { OnOk result (Follows lines.now log.new.labels) }
+{
+    for line in lines {
+        play_line(alloc, line, log, world)?;
+    }
+    Ok(())
+}
+
+// One line: its labels, from the first to the last.
+fn play_line(
+    alloc: Global,
+    line: &Line,
+    log: &mut RunLog,
+    world: &mut World,
+) -> Result<(), AllocError>
+    requires run { IsRunTo world.old log.old.labels }
+    requires comes { CanPlay log.old.labels line.now }
+    requires idle { NoneInHand world.old }
+    requires room { length log.old.labels + 40 < 2 ^ 32 - 2 }
+    ensures run { IsRunTo world.new log.new.labels }
+    ensures few { length log.new.labels ≤ length log.old.labels + 40 }
+    ensures idle { OnOk result (NoneInHand world.new) }
+    ensures answers { OnOk result (GrowsBy log.old.labels log.new.labels (AnswersLine (last log.old.labels) line.now)) }
+{
+    match line {
+        Line::Nodes(count) => world.event(alloc, &Event::Nodes(*count), log),
+        Line::Call(client, op) => play_call(alloc, *client, op, log, world),
+        _ => unreachable!(),
+    }
+}
+
+// A call of a client, from its beginning to its end.
+fn play_call(
+    alloc: Global,
+    client: u8,
+    op: &Op,
+    log: &mut RunLog,
+    world: &mut World,
+) -> Result<(), AllocError>
+    requires run { IsRunTo world.old log.old.labels }
+    requires client { client < 100 }
+    requires built { IsBuilt op.now }
+    requires idle { NoneInHand world.old }
+    requires room { length log.old.labels + 40 < 2 ^ 32 - 2 }
+    ensures run { IsRunTo world.new log.new.labels }
+    ensures few { length log.new.labels ≤ length log.old.labels + 40 }
+    ensures idle { OnOk result (NoneInHand world.new) }
+    ensures answers { OnOk result (GrowsBy log.old.labels log.new.labels (IsWholeCall (last log.old.labels) (Client client) op.now)) }
+{
+    begin(alloc, client, op, log, world)?;
+    finish(alloc, client, log, world)
+}
+
+// The steps of the client's call in hand, to its end.
+fn finish(alloc: Global, client: u8, log: &mut RunLog, world: &mut World) -> Result<(), AllocError>
+    requires run { IsRunTo world.old log.old.labels }
+    requires client { client < 100 }
+    requires alone { NoneBut client world.old }
+    requires room { length log.old.labels + left_of world.old (Client client) < 2 ^ 32 - 2 }
+    ensures run { IsRunTo world.new log.new.labels }
+    ensures few { length log.new.labels ≤ length log.old.labels + left_of world.old (Client client) }
+    ensures idle { OnOk result (NoneInHand world.new) }
+    ensures steps { OnOk result (GrowsBy log.old.labels log.new.labels (IsFinish (hand_at world.old.hands client))) }
+{
+    'stepping: while world.in_hand(client) {
+        step(alloc, client, log, world)?;
+    }
+    Ok(())
+}
+
+// The beginning of a call, or the word that answers it.
+fn begin(
+    alloc: Global,
+    client: u8,
+    op: &Op,
+    log: &mut RunLog,
+    world: &mut World,
+) -> Result<(), AllocError>
+    requires run { IsRunTo world.old log.old.labels }
+    requires client { client < 100 }
+    requires built { IsBuilt op.now }
+    requires idle { NoneInHand world.old }
+    requires room { length log.old.labels < 2 ^ 32 - 2 }
+    ensures run { IsRunTo world.new log.new.labels }
+    ensures happens { OnOk result (Happens (happenings.Begin (Client client) op.now) world.old world.new log.old.labels log.new.labels) }
+    ensures err { OnErr result (log.new.labels ≡ log.old.labels) }
+{
+    let event = Event::Begin(ActorName::Client(client), op.clone()?);
+    world.event(alloc, &event, log)
+}
+
+// The next step of the client's call in hand.
+fn step(alloc: Global, client: u8, log: &mut RunLog, world: &mut World) -> Result<(), AllocError>
+    requires run { IsRunTo world.old log.old.labels }
+    requires client { client < 100 }
+    requires alone { NoneBut client world.old }
+    requires room { length log.old.labels < 2 ^ 32 - 2 }
+    ensures run { IsRunTo world.new log.new.labels }
+    ensures happens { OnOk result (Happens (happenings.Step (Actor (Client client)) false) world.old world.new log.old.labels log.new.labels) }
+    ensures err { OnErr result (log.new.labels ≡ log.old.labels) }
+{
+    let event = Event::Step(Who::Actor(ActorName::Client(client)), false);
+    world.event(alloc, &event, log)
+}

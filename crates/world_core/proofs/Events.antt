@@ -1,0 +1,211 @@
+-- An event that came is answered by its label, which adds to the run.
+use Rattle.std.proofs.Common.{◌≡◌, ◌≢◌, inl, inr, ℕ, Bool, List, [], ◌∷◌, ◌++◌, refl, sym, ap, subst, ◌∙◌, cond}
+use Rattle.std.specs.Prelude.{Option, Some, None, slice_get, slice_set}
+use Rattle.ckpt_types.specs.declared.answers.Outcome.{Outcome}
+use Rattle.ckpt_types.specs.declared.identities.ActorName.{ActorName}
+use Rattle.ckpt_types.specs.declared.identities.ActorName.TheVariants.{Client, Node}
+use Rattle.ckpt_types.specs.declared.identities.CallId.{CallId}
+use Rattle.ckpt_types.specs.declared.identities.Who.TheVariants as whos
+use Rattle.ckpt_types.specs.declared.operation.Op.{Op}
+use Rattle.run_labels.specs.declared.labels.Label.{Label}
+use Rattle.run_labels.specs.declared.labels.Label.TheVariants as labels
+use Rattle.world_core.specs.declared.hands.InHand.{InHand}
+use Rattle.world_core.specs.declared.world.Event.{Event}
+use Rattle.world_core.specs.declared.world.Event.TheVariants as happenings
+use Rattle.world_core.specs.declared.world.World.{World}
+use Rattle.world_core.specs.Calls.{left}
+use Rattle.world_core.specs.Places.{or_none}
+use Rattle.world_core.specs.Machine.{Machine}
+use Rattle.world_core.specs.Shows.{Does, History, hand_at, shown_hand}
+use Rattle.world_core.specs.Invariant.{Alone}
+use Rattle.world_core.specs.Runs.{IsRunTo, MayHappen, Happens, Answers, AnswersBegin, AnswersStep, IsStepOf, IsIdleWord, GoesOn, KeepsOthers, last}
+use Rattle.world_core.specs.Happenings.{ComesNow, IsAnswered, IsStep, BeginsOrSays}
+use Rattle.std.proofs.lemmas.Bool.{eq-eqb}
+use Rattle.world_core.proofs.Places.{get_set, there_is, tests_differ}
+use Rattle.world_core.proofs.Running.{goes_on, nearer}
+use Rattle.world_core.proofs.Words.{cluster_is_empty}
+
+-- ---- what comes
+
+pub comes_now : (w : World) (log : List Label) (event : Event) → MayHappen w log event → ComesNow w event
+comes_now w log (happenings.Nodes n) may = (may.comes.0, cluster_is_empty w (subst (IsRunTo w) may.comes.1 may.run))
+comes_now w log (happenings.Begin (Client c) op) may = (may.comes.0.0, may.comes.1)
+comes_now w log (happenings.Begin (Node r) op) may = absurd may.comes.0
+comes_now w log (happenings.Step (whos.Actor (Client c)) finish) may = may.comes.0
+comes_now w log (happenings.Step (whos.Actor (Node r)) finish) may = absurd may.comes
+comes_now w log (happenings.Step (whos.Call call) finish) may = absurd may.comes
+
+-- ---- the calls in hand after it
+
+-- one place of the list is set
+pub hand_set : (hands : List (Option InHand)) (c : ℕ) (p old : Option InHand) → slice_get hands c ≡ Some old → hand_at (slice_set hands c p) c ≡ p
+hand_set hands c p old there = ap or_none (get_set hands c p old c there ∙ (λ i. cond (eq-eqb c c refl i) (Some p) (slice_get hands c)))
+
+-- and no other
+pub hand_other : (hands : List (Option InHand)) (c d : ℕ) (p old : Option InHand) → slice_get hands c ≡ Some old → d ≢ c → hand_at (slice_set hands c p) d ≡ hand_at hands d
+hand_other hands c d p old there apart = ap or_none (get_set hands c p old d there ∙ (λ i. cond (tests_differ d c apart i) (Some p) (slice_get hands d)))
+
+-- a client with a call in hand has a place
+pub place_of_hand : (hands : List (Option InHand)) (c : ℕ) (hand : InHand) → hand_at hands c ≡ Some hand → slice_get hands c ≡ Some (Some hand)
+place_of_hand hands c hand held = go (slice_get hands c) held where
+  go : (o : Option (Option InHand)) → or_none o ≡ Some hand → o ≡ Some (Some hand)
+  go None e = absurd (cc e)
+  go (Some p) e = ap Some e
+
+goes_on_left : (call : CallId) (op : Op) (end : Option Outcome) (next : InHand) → next.call ≡ call → next.op ≡ op → GoesOn call op end (left end next)
+goes_on_left call op (Some end) next same_call same_op = tt
+goes_on_left call op None next same_call same_op = (same_call, same_op)
+
+-- what a step leaves of the call is in hand after it, and the other calls are as they were
+pub step_hand : (c : ℕ) (old new : World) (label : Label) (step : IsStep c old new label) → hand_at new.hands c ≡ left step.end step.next
+step_hand c old new label step =
+    ap (λ hands. hand_at hands c) step.hands ∙ hand_set old.hands c (left step.end step.next) (Some step.hand) (place_of_hand old.hands c step.hand step.held)
+
+step_others : (c d : ℕ) (old new : World) (label : Label) → IsStep c old new label → d ≢ c → hand_at new.hands d ≡ hand_at old.hands d
+step_others c d old new label step apart =
+    ap (λ hands. hand_at hands d) step.hands ∙ hand_other old.hands c d (left step.end step.next) (Some step.hand) (place_of_hand old.hands c step.hand step.held) apart
+
+idle_hands : (a : ActorName) (finish : Bool) (old new : World) (label : Label) → IsIdleWord a finish old new label → new.hands ≡ old.hands
+idle_hands a finish old new (labels.Word who word said) is = is.2
+idle_hands a finish old new (labels.Began call op end) is = absurd is
+idle_hands a finish old new (labels.Stepped call op verb k r reply end pieces) is = absurd is
+idle_hands a finish old new (labels.Failed node failed) is = absurd is
+idle_hands a finish old new (labels.Joined node incarnation) is = absurd is
+idle_hands a finish old new (labels.Moved moment) is = absurd is
+idle_hands a finish old new (labels.Pulled ckpt reply) is = absurd is
+idle_hands a finish old new (labels.Put ckpt node reply) is = absurd is
+idle_hands a finish old new (labels.Shown ckpt replicas) is = absurd is
+idle_hands a finish old new (labels.Nodes count) is = absurd is
+
+-- ---- the label of a beginning
+
+module _ (c : ℕ) (op : Op) (old new : World) where
+  begin_does_answer : (label : Label) → BeginsOrSays c op old new label → AnswersBegin (Client c) op old new label
+  begin_does_answer (labels.Began call begun end) is =
+      let there = there_is old.hands c is.within in
+      let hand = ap (λ hands. hand_at hands c) is.hands ∙ hand_set old.hands c (left end is.hand) there.0 there.1 in
+      (is.actor, is.op_is, subst (GoesOn call op end) (sym hand) (goes_on_left call op end is.hand is.same_call is.same_op))
+  begin_does_answer (labels.Word who word said) is = is
+  begin_does_answer (labels.Stepped call word verb k r reply end pieces) is = absurd is
+  begin_does_answer (labels.Failed node failed) is = absurd is
+  begin_does_answer (labels.Joined node incarnation) is = absurd is
+  begin_does_answer (labels.Moved moment) is = absurd is
+  begin_does_answer (labels.Pulled ckpt reply) is = absurd is
+  begin_does_answer (labels.Put ckpt node reply) is = absurd is
+  begin_does_answer (labels.Shown ckpt replicas) is = absurd is
+  begin_does_answer (labels.Nodes count) is = absurd is
+
+  begin_others : (label : Label) (d : ℕ) → BeginsOrSays c op old new label → d ≢ c → hand_at new.hands d ≡ hand_at old.hands d
+  begin_others (labels.Began call begun end) d is apart =
+      let there = there_is old.hands c is.within in
+      ap (λ hands. hand_at hands d) is.hands ∙ hand_other old.hands c d (left end is.hand) there.0 there.1 apart
+  begin_others (labels.Word who word said) d is apart = ap (λ hands. hand_at hands d) is.2
+  begin_others (labels.Stepped call word verb k r reply end pieces) d is apart = absurd is
+  begin_others (labels.Failed node failed) d is apart = absurd is
+  begin_others (labels.Joined node incarnation) d is apart = absurd is
+  begin_others (labels.Moved moment) d is apart = absurd is
+  begin_others (labels.Pulled ckpt reply) d is apart = absurd is
+  begin_others (labels.Put ckpt node reply) d is apart = absurd is
+  begin_others (labels.Shown ckpt replicas) d is apart = absurd is
+  begin_others (labels.Nodes count) d is apart = absurd is
+
+  -- nobody else has a call in hand where it begins
+  begin_alone : (log : List Label) (label : Label) → IsRunTo old log → ((d : ℕ) → d ≢ c → hand_at old.hands d ≡ None) → BeginsOrSays c op old new label → Alone (last log) label
+  begin_alone log (labels.Began call begun end) run others is = alone where
+    h : History
+    h = run.shows.history
+
+    in_hand : (a : ActorName) → a ≢ call.actor → (last log).in_hand a ≡ None
+    in_hand (Client d) apart = ap (λ (m : Machine). m.in_hand (Client d)) run.shows.same ∙ ap (shown_hand (h.kept d) (h.steps d)) (others d (λ same. apart (ap Client same ∙ sym is.actor)))
+    in_hand (Node r) apart = ap (λ (m : Machine). m.in_hand (Node r)) run.shows.same
+
+    alone : (a : ActorName) → a ≢ call.actor → (last log).in_hand a ≡ None
+    alone = in_hand
+  begin_alone log (labels.Word who word said) run others is = tt
+  begin_alone log (labels.Stepped call word verb k r reply end pieces) run others is = tt
+  begin_alone log (labels.Failed node failed) run others is = tt
+  begin_alone log (labels.Joined node incarnation) run others is = tt
+  begin_alone log (labels.Moved moment) run others is = tt
+  begin_alone log (labels.Pulled ckpt reply) run others is = tt
+  begin_alone log (labels.Put ckpt node reply) run others is = tt
+  begin_alone log (labels.Shown ckpt replicas) run others is = tt
+  begin_alone log (labels.Nodes count) run others is = tt
+
+-- ---- the label of a step
+
+step_alone : (log : List Label) (c : ℕ) (old new : World) (label : Label) → IsStep c old new label → Alone (last log) label
+step_alone log c old new label step =
+    subst (Alone (last log)) (sym step.label_is) tt
+
+idle_alone : (log : List Label) (a : ActorName) (finish : Bool) (old new : World) (label : Label) → IsIdleWord a finish old new label → Alone (last log) label
+idle_alone log a finish old new (labels.Word who word said) is = tt
+idle_alone log a finish old new (labels.Began call op end) is = absurd is
+idle_alone log a finish old new (labels.Stepped call op verb k r reply end pieces) is = tt
+idle_alone log a finish old new (labels.Failed node failed) is = tt
+idle_alone log a finish old new (labels.Joined node incarnation) is = tt
+idle_alone log a finish old new (labels.Moved moment) is = tt
+idle_alone log a finish old new (labels.Pulled ckpt reply) is = tt
+idle_alone log a finish old new (labels.Put ckpt node reply) is = tt
+idle_alone log a finish old new (labels.Shown ckpt replicas) is = tt
+idle_alone log a finish old new (labels.Nodes count) is = tt
+
+step_answers : (log : List Label) (c : ℕ) (finish : Bool) (old new : World) (label : Label) → IsRunTo old log → IsStep c old new label → AnswersStep (Client c) finish (hand_at old.hands c) old new label
+step_answers log c finish old new label run step =
+    let after_it = step_hand c old new label step in
+    let does = subst (Does old new) step.label_is step.does in
+    let fewer = nearer old new log c step.hand step.next step.op step.verb step.ckpt step.node step.reply step.end step.pieces run step.held does after_it in
+    let goes = subst (GoesOn step.hand.call step.hand.op step.end) (sym after_it) (goes_on_left step.hand.call step.hand.op step.end step.next step.same_call step.same_op) in
+    subst (λ p. AnswersStep (Client c) finish p old new label) (sym step.held)
+    (subst (IsStepOf (Client c) (Some step.hand) old new) (sym step.label_is) (refl, goes, fewer))
+
+-- ---- any event
+
+pub does_label : (event : Event) (old new : World) (label : Label) → IsAnswered event old new label → Does old new label
+does_label (happenings.Nodes n) old new label is = is.does
+does_label (happenings.Begin (Client c) op) old new label is = is.does
+does_label (happenings.Begin (Node r) op) old new label is = absurd is
+does_label (happenings.Step (whos.Actor (Client c)) finish) old new label (inl step) = step.does
+does_label (happenings.Step (whos.Actor (Client c)) finish) old new label (inr idle) = idle.does
+does_label (happenings.Step (whos.Actor (Node r)) finish) old new label is = absurd is
+does_label (happenings.Step (whos.Call call) finish) old new label is = absurd is
+
+alone_label : (event : Event) (log : List Label) (old new : World) (label : Label) → MayHappen old log event → IsAnswered event old new label → Alone (last log) label
+alone_label (happenings.Nodes n) log old new label may is = subst (Alone (last log)) (sym is.label_is) tt
+alone_label (happenings.Begin (Client c) op) log old new label may is = begin_alone c op old new log label may.run may.comes.0.1 is.begins
+alone_label (happenings.Begin (Node r) op) log old new label may is = absurd is
+alone_label (happenings.Step (whos.Actor (Client c)) finish) log old new label may (inl step) = step_alone log c old new label step
+alone_label (happenings.Step (whos.Actor (Client c)) finish) log old new label may (inr idle) = idle_alone log (Client c) finish old new label idle.word
+alone_label (happenings.Step (whos.Actor (Node r)) finish) log old new label may is = absurd is
+alone_label (happenings.Step (whos.Call call) finish) log old new label may is = absurd is
+
+answers_label : (event : Event) (log : List Label) (old new : World) (label : Label) → IsRunTo old log → IsAnswered event old new label → Answers event old new label
+answers_label (happenings.Nodes n) log old new label run is = (is.label_is, is.hands)
+answers_label (happenings.Begin (Client c) op) log old new label run is = begin_does_answer c op old new label is.begins
+answers_label (happenings.Begin (Node r) op) log old new label run is = absurd is
+answers_label (happenings.Step (whos.Actor (Client c)) finish) log old new label run (inl step) = step_answers log c finish old new label run step
+answers_label (happenings.Step (whos.Actor (Client c)) finish) log old new label run (inr idle) = subst (λ p. AnswersStep (Client c) finish p old new label) (sym idle.none) idle.word
+answers_label (happenings.Step (whos.Actor (Node r)) finish) log old new label run is = absurd is
+answers_label (happenings.Step (whos.Call call) finish) log old new label run is = absurd is
+
+keeps_others : (event : Event) (old new : World) (label : Label) → IsAnswered event old new label → KeepsOthers event old new
+keeps_others (happenings.Nodes n) old new label is = tt
+keeps_others (happenings.Begin (Client c) op) old new label is = λ d apart. begin_others c op old new label d is.begins apart
+keeps_others (happenings.Begin (Node r) op) old new label is = absurd is
+keeps_others (happenings.Step (whos.Actor (Client c)) finish) old new label (inl step) = λ d apart. step_others c d old new label step apart
+keeps_others (happenings.Step (whos.Actor (Client c)) finish) old new label (inr idle) = λ d apart. ap (λ hands. hand_at hands d) (idle_hands (Client c) finish old new label idle.word)
+keeps_others (happenings.Step (whos.Actor (Node r)) finish) old new label is = absurd is
+keeps_others (happenings.Step (whos.Call call) finish) old new label is = absurd is
+
+-- the run goes on by the label that answers the event
+pub run_with : (event : Event) (old new : World) (log longer : List Label) (label : Label) → MayHappen old log event → IsAnswered event old new label → longer ≡ log ++ label ∷ [] → IsRunTo new longer
+run_with event old new log longer label may is grows =
+    subst (IsRunTo new) (sym grows) (goes_on old new log label may.run (alone_label event log old new label may is) (does_label event old new label is))
+
+-- and the label answers it
+pub happens_with : (event : Event) (old new : World) (log longer : List Label) (label : Label) → MayHappen old log event → IsAnswered event old new label → longer ≡ log ++ label ∷ [] → Happens event old new log longer
+happens_with event old new log longer label may is grows = record {
+  label = label;
+  grows = grows;
+  answers = answers_label event log old new label may.run is;
+  others = keeps_others event old new label is;
+}

@@ -1,0 +1,177 @@
+-- What each step of the record makes of each entry.
+use Rattle.std.proofs.Common.{◌≡◌, inl, inr, ℕ, ◌+◌, ◌≤◌, Bool, true, false, List, [], ◌∷◌, ◌++◌, refl, sym, ap, subst, ◌∙◌, cond, arith}
+use Rattle.std.specs.Prelude.{Option, Some, None, IsSomeAnd, not, ◌==◌, slice_index, filter}
+use Rattle.std.proofs.lemmas.Bool.{eqb-true}
+use Rattle.ckpt_types.specs.declared.attributes.CreationAttributes.{CreationAttributes}
+use Rattle.ckpt_types.specs.declared.identities.CallId.{CallId}
+use Rattle.node_msgs.specs.declared.next.RecordStep.{RecordStep}
+use Rattle.node_msgs.specs.declared.next.RecordStep.TheVariants as events
+use Rattle.world_core.specs.declared.drivers.Driver.{Driver}
+use Rattle.world_core.specs.declared.drivers.Driver.TheVariants as drivers
+use Rattle.world_core.specs.declared.open_call.Making.{Making}
+use Rattle.world_core.specs.declared.record.Entry.{Entry}
+use Rattle.world_core.specs.declared.replica.Replica.{Replica}
+use Rattle.world_core.specs.declared.world.World.{World}
+use Rattle.world_core.specs.Places.{change_key}
+use Rattle.world_core.specs.RecordState.{RecordState, identity_of, entry_of, named, stays, referred, made_with, new_entry, created_as, opened, finished, undone}
+use Rattle.world_core.specs.Serving.{replica_in, opened_replica}
+use Rattle.world_core.specs.Driving.{event_change, event_after, at_ckpt, making_ckpt, identity_in}
+use Rattle.world_core.specs.Machine.{Machine, CallState}
+use Rattle.world_core.specs.Shows.{History, Fits, FitsReserved, Facts, IsEventReady, IsFinishable, AllUpTo, IdentitiesRise, machine_of, where_not_complete, shown_reservation}
+use Rattle.world_core.proofs.Entries.{IsLeft, KeepsIdentity, none_above, rises_filtered, rises_changed, rises_pushed, filter_leaves}
+use Rattle.world_core.proofs.Places.{find_changed, find_pushed, not_changed}
+use Rattle.world_core.proofs.Recording.{GoesAt, NodeGoes, zero_there}
+
+goes_same : (k : ℕ) (o : Option Entry) (r : ℕ) (y : Option Replica) → GoesAt k o o r y
+goes_same k None r y = tt
+goes_same k (Some e) r y = (refl, refl, inl refl)
+
+goes_left : (k : ℕ) (old mid new : Option Entry) (r : ℕ) (y : Option Replica) → GoesAt k old mid r y → IsLeft mid new → GoesAt k old new r y
+goes_left k old mid new r y goes (inl none) = subst (λ (o : Option Entry). GoesAt k old o r y) (sym none) tt
+goes_left k old mid new r y goes (inr same) = subst (λ (o : Option Entry). GoesAt k old o r y) (sym same) goes
+
+-- ---- an entry changed at its identity
+
+record Quiet (f : Entry → Entry) : Type 0 where
+  identity : (e : Entry) → (f e).identity ≡ e.identity
+  complete : (e : Entry) → (f e).complete ≡ e.complete
+  attributes : (e : Entry) → (f e).attributes ≡ e.attributes
+  made : (e : Entry) → (f e).made ≡ e.made
+
+quiet_referred : (c : ℕ) → Quiet (referred c)
+quiet_referred c = record { identity = λ e. refl; complete = λ e. refl; attributes = λ e. refl; made = λ e. refl }
+
+-- the entry x of identity k becomes f x, and no other changes
+changed_goes : (f : Entry → Entry) → KeepsIdentity f → (k j r : ℕ) (xs : List Entry) (x : Entry) (y : Option Replica) → entry_of k xs ≡ Some x → (j ≡ k → GoesAt j (Some x) (Some (f x)) r y) → GoesAt j (entry_of j xs) (entry_of j (change_key identity_of k f xs)) r y
+changed_goes f q k j r xs x y is goes = subst (λ (o : Option Entry). GoesAt j (entry_of j xs) o r y) (sym (find_changed identity_of k f q xs x j is)) (by_test (j == k) refl) where
+  by_test : (b : Bool) → (j == k) ≡ b → GoesAt j (entry_of j xs) (cond b (Some (f x)) (entry_of j xs)) r y
+  by_test false t = goes_same j (entry_of j xs) r y
+  by_test true t = let s : j ≡ k = eqb-true j k t in subst (λ (o : Option Entry). GoesAt j o (Some (f x)) r y) (sym (ap (λ j. entry_of j xs) s ∙ is)) (goes s)
+
+quiet_goes : (f : Entry → Entry) → Quiet f → (k j r : ℕ) (xs : List Entry) (y : Option Replica) → GoesAt j (entry_of j xs) (entry_of j (change_key identity_of k f xs)) r y
+quiet_goes f q k j r xs y = by_found (entry_of k xs) refl where
+  by_found : (o : Option Entry) → entry_of k xs ≡ o → GoesAt j (entry_of j xs) (entry_of j (change_key identity_of k f xs)) r y
+  by_found None e = subst (λ (ys : List Entry). GoesAt j (entry_of j xs) (entry_of j ys) r y) (sym (not_changed identity_of k f xs e)) (goes_same j (entry_of j xs) r y)
+  by_found (Some x) e = changed_goes f q.identity k j r xs x y e (λ s. (q.attributes x, q.made x, inl (ap (λ cs. slice_index cs r) (q.complete x))))
+
+-- ---- a making that is finished
+
+-- a node that has reserved has the replica that a reservation makes
+reserved_there : (k r u : ℕ) (f : Option Entry) (e : Entry) (y : Option Replica) → f ≡ Some e → slice_index e.complete r ≡ 0 → where_not_complete f r (shown_reservation u y) ≡ Some u → FitsReserved k f r y → y ≡ Some (opened_replica k e.attributes e.made)
+reserved_there k r u f e y is free reserved fits = at y has (subst (λ (f : Option Entry). FitsReserved k f r y) is fits) where
+  has : shown_reservation u y ≡ Some u
+  has = sym (ap (λ f. where_not_complete f r (shown_reservation u y)) is ∙ ap (λ b. cond b (shown_reservation u y) None) (ap (λ n. n == 0) free)) ∙ reserved
+
+  at : (y : Option Replica) → shown_reservation u y ≡ Some u → FitsReserved k (Some e) r y → y ≡ Some (opened_replica k e.attributes e.made)
+  at None has fits = absurd (cc has)
+  at (Some x) has fits = ap Some (fits free)
+
+made_goes : (up : List ℕ) (c k r : ℕ) (e : Entry) (y : Option Replica) → slice_index e.complete r ≡ 0 → ((slice_index up r == 0) ≡ false → y ≡ Some (opened_replica k e.attributes e.made)) → GoesAt k (Some e) (Some (made_with up c e)) r y
+made_goes up c k r e y zero has = (refl, refl, by_test (slice_index up r == 0) refl) where
+  by_test : (b : Bool) → (slice_index up r == 0) ≡ b → NodeGoes k e (made_with up c e) r y
+  by_test true t = inl (eqb-true (slice_index up r) 0 t ∙ sym zero)
+  by_test false t = inr (zero, refl, has t)
+
+-- ---- a making that begins
+
+pushed_goes : (n : ℕ) (xs : List Entry) (new : Entry) (j r : ℕ) (y : ℕ → Option Replica) → AllUpTo n xs → new.identity ≡ n + 1 → slice_index new.complete r ≡ 0 → y (n + 1) ≡ None → GoesAt j (entry_of j xs) (entry_of j (xs ++ new ∷ [])) r (y j)
+pushed_goes n xs new j r y upto is zero none = subst (λ (o : Option Entry). GoesAt j (entry_of j xs) o r (y j)) (sym (find_pushed identity_of (n + 1) xs new j is (none_above n (n + 1) xs upto (omega arith)))) (by_test (j == (n + 1)) refl) where
+  by_test : (b : Bool) → (j == (n + 1)) ≡ b → GoesAt j (entry_of j xs) (cond b (Some new) (entry_of j xs)) r (y j)
+  by_test false t = goes_same j (entry_of j xs) r (y j)
+  by_test true t =
+      let s : j ≡ n + 1 = eqb-true j (n + 1) t in
+      subst (λ (o : Option Entry). GoesAt j o (Some new) r (y j)) (sym (none_above n j xs upto (omega (arith, s)))) (zero, ap y s ∙ none)
+
+-- ---- every step
+
+-- what a step of the record leaves as it was, whatever the step
+pub record KeepsUp (old new : RecordState) : Type 0 where
+  pub up : new.up ≡ old.up
+  pub last : old.last_identity ≤ new.last_identity
+
+keeps_all : (R : RecordState) → KeepsUp R R
+keeps_all R = record { up = refl; last = omega arith }
+
+created_keeps : (call : CallId) (name : List ℕ) (a : Option CreationAttributes) (R : RecordState) → KeepsUp R (created_as call name a R)
+created_keeps call name None R = keeps_all R
+created_keeps call name (Some a) R = record { up = refl; last = omega arith }
+
+at_keeps : (o : Option ℕ) (R : RecordState) (change : ℕ → RecordState) → ((k : ℕ) → KeepsUp R (change k)) → KeepsUp R (at_ckpt o R change)
+at_keeps None R change keeps = keeps_all R
+at_keeps (Some k) R change keeps = keeps k
+
+change_keeps : (call : CallId) (x : Driver) (step : RecordStep) (R : RecordState) → KeepsUp R (event_change call x step R)
+change_keeps call (drivers.Enter r) step R = record { up = refl; last = omega arith }
+change_keeps call (drivers.Open o) events.Create R = created_keeps call o.ask.name o.ask.attrs R
+change_keeps call (drivers.Open o) events.Open R = at_keeps (identity_in (named o.ask.name R.entries)) R (λ k. opened k o.ask.client R) (λ k. record { up = refl; last = omega arith })
+change_keeps call (drivers.Open o) events.Finish R = at_keeps (making_ckpt o.making) R (λ k. finished k o.ask.client R) (λ k. record { up = refl; last = omega arith })
+change_keeps call (drivers.Open o) events.Undo R = at_keeps (making_ckpt o.making) R (λ k. undone k R) (λ k. record { up = refl; last = omega arith })
+change_keeps call (drivers.Open o) step R = keeps_all R
+change_keeps call x step R = keeps_all R
+
+pub event_keeps : (call : CallId) (x : Driver) (step : RecordStep) (R : RecordState) → KeepsUp R (event_after call x step R)
+event_keeps call x step R = let k = change_keeps call x step R in record { up = k.up; last = k.last }
+
+some_of : {X : Type 0} (o : Option X) (P : X → Type 0) → IsSomeAnd o P → (x : X) × (o ≡ Some x) × P x
+some_of None P h = absurd h
+some_of (Some x) P h = (x, refl, h)
+
+module _ (w : World) (h : History) (facts : Facts (machine_of w h)) (fits : Fits w h) where
+  abbrev m : Machine
+  m = machine_of w h
+
+  abbrev R : RecordState
+  R = w.cluster
+
+  -- the entries after a step of the record, before the sweep: each goes on, and they rise
+  abbrev Goes : RecordState → Type 0
+  Goes N = ((j r : ℕ) → GoesAt j (entry_of j R.entries) (entry_of j N.entries) r (replica_in w.nodes j r)) × IdentitiesRise N.entries
+
+  all_go : Goes R
+  all_go = (λ j r. goes_same j (entry_of j R.entries) r (replica_in w.nodes j r), facts.rises)
+
+  created_go : (call : CallId) (name : List ℕ) (a : Option CreationAttributes) → Goes (created_as call name a R)
+  created_go call name None = all_go
+  created_go call name (Some a) = (
+    λ j r. pushed_goes R.last_identity R.entries (new_entry call name a R) j r (λ j. replica_in w.nodes j r) facts.up_to refl (zero_there r) (fits.fresh (R.last_identity + 1) r (omega arith)),
+    rises_pushed R.last_identity R.entries (new_entry call name a R) (omega arith) facts.up_to facts.rises,
+  )
+
+  opened_go : (c : ℕ) (k : Option ℕ) → Goes (at_ckpt k R (λ k. opened k c R))
+  opened_go c None = all_go
+  opened_go c (Some k) = (λ j r. quiet_goes (referred c) (quiet_referred c) k j r R.entries (replica_in w.nodes j r), rises_changed (referred c) (λ e. refl) k R.entries facts.rises)
+
+  undone_go : (k : Option ℕ) → Goes (at_ckpt k R (λ k. undone k R))
+  undone_go None = all_go
+  undone_go (Some k) =
+      let p = λ (e : Entry). not (e.identity == k) in
+      (λ j r. goes_left j (entry_of j R.entries) (entry_of j R.entries) (entry_of j (filter p R.entries)) r (replica_in w.nodes j r) (goes_same j (entry_of j R.entries) r (replica_in w.nodes j r)) (filter_leaves p R.entries facts.rises j), rises_filtered p R.entries facts.rises)
+
+  finished_go : (c : ℕ) (s : CallState) (making : Option Making) → IsFinishable m making → Goes (at_ckpt (making_ckpt making) R (λ k. finished k c R))
+  finished_go c s None ready = absurd ready
+  finished_go c s (Some making) ready =
+      let k = making.ckpt in
+      let there = some_of (entry_of k R.entries) (λ (e : Entry). (e.generation ≡ 1) × ((r : ℕ) → slice_index e.complete r ≡ 0)) ready.1 in
+      let e : Entry = there.0 in
+      let is : entry_of k R.entries ≡ Some e = there.1 in
+      let has = λ (r : ℕ) (up : (slice_index R.up r == 0) ≡ false). reserved_there k r (slice_index R.up r) (entry_of k R.entries) e (replica_in w.nodes k r) is (there.2.1 r) (ready.0 r up) (fits.reserved k r) in (
+        λ j r. changed_goes (made_with R.up c) (λ e. refl) k j r R.entries e (replica_in w.nodes j r) is
+            (λ s. subst (λ (j : ℕ). GoesAt j (Some e) (Some (made_with R.up c e)) r (replica_in w.nodes j r)) (sym s) (made_goes R.up c k r e (replica_in w.nodes k r) (there.2.1 r) (has r))),
+        rises_changed (made_with R.up c) (λ e. refl) k R.entries facts.rises,
+      )
+
+  change_go : (call : CallId) (s : CallState) (x : Driver) (step : RecordStep) → IsEventReady m s x step → Goes (event_change call x step R)
+  change_go call s (drivers.Enter r) step ready = all_go
+  change_go call s (drivers.Open o) events.Create ready = created_go call o.ask.name o.ask.attrs
+  change_go call s (drivers.Open o) events.Open ready = opened_go o.ask.client (identity_in (named o.ask.name R.entries))
+  change_go call s (drivers.Open o) events.Finish ready = finished_go o.ask.client s o.making ready
+  change_go call s (drivers.Open o) events.Undo ready = undone_go (making_ckpt o.making)
+  change_go call s (drivers.Open o) step ready = absurd ready
+  change_go call s x step ready = absurd ready
+
+  -- and after the sweep
+  pub event_goes : (call : CallId) (s : CallState) (x : Driver) (step : RecordStep) → IsEventReady m s x step → (j r : ℕ) → GoesAt j (entry_of j R.entries) (entry_of j (event_after call x step R).entries) r (replica_in w.nodes j r)
+  event_goes call s x step ready j r =
+      let go = change_go call s x step ready in
+      let N : RecordState = event_change call x step R in
+      goes_left j (entry_of j R.entries) (entry_of j N.entries) (entry_of j (filter (stays N.moment) N.entries)) r (replica_in w.nodes j r) (go.0 j r) (filter_leaves (stays N.moment) N.entries go.1 j)

@@ -1,0 +1,66 @@
+-- The call in hand of a client, as the machine that is shown has it.
+use Rattle.std.proofs.Common.{◌≡◌, ℕ, List, ◌∷◌, refl, sym, ap, subst, ◌∙◌}
+use Rattle.std.specs.Prelude.{Option, Some, None, slice_get}
+use Rattle.ckpt_types.specs.declared.identities.ActorName.TheVariants.{Client}
+use Rattle.ckpt_types.specs.declared.answers.Outcome.{Outcome}
+use Rattle.ckpt_types.specs.declared.identities.CallId.{CallId}
+use Rattle.ckpt_types.specs.declared.operation.Op.{Op}
+use Rattle.node_msgs.specs.declared.next.Next.{Next}
+use Rattle.world_core.specs.declared.hands.InHand.{InHand}
+use Rattle.world_core.specs.declared.tables.Handle.{Handle}
+use Rattle.world_core.specs.declared.world.World.{World}
+use Rattle.world_core.specs.Calls.{number_of, left}
+use Rattle.world_core.specs.TableState.{TableState}
+use Rattle.world_core.specs.Driving.{StepDone, driver_next, driver_taken}
+use Rattle.world_core.specs.HandSteps.{hand_taken}
+use Rattle.world_core.specs.Happenings.{room_in}
+use Rattle.world_core.specs.Machine.{Machine, CallState}
+use Rattle.world_core.specs.Steps.{due, driver_of, room_of}
+use Rattle.world_core.specs.Shows.{IsShown, History, Fits, FitsHand, Facts, machine_of, handles_in, hand_at, shown_hand}
+
+-- the call with its history
+abbrev pub state_in : History → ℕ → InHand → CallState
+state_in h c hand = record { call = hand.call; op = hand.op; kept = h.kept c; steps = h.steps c; snapshot = None }
+
+module _ (w : World) (h : History) (c : ℕ) (hand : InHand) (held : hand_at w.hands c ≡ Some hand) where
+  pub in_hand_is : (machine_of w h).in_hand (Client c) ≡ Some (state_in h c hand)
+  in_hand_is = ap (shown_hand (h.kept c) (h.steps c)) held
+
+  -- it is where its steps have led it
+  pub driver_is : Fits w h → hand.driver ≡ driver_of (state_in h c hand)
+  driver_is fits = subst (FitsHand (h.kept c) (h.steps c)) held (fits.hands c)
+
+  -- it is the client's
+  pub actor_is : Facts (machine_of w h) → hand.call.actor ≡ Client c
+  actor_is facts = facts.callers (Client c) (state_in h c hand) in_hand_is
+
+  pub in_hand_at : Facts (machine_of w h) → (machine_of w h).in_hand hand.call.actor ≡ Some (state_in h c hand)
+  in_hand_at facts = ap (machine_of w h).in_hand (actor_is facts) ∙ in_hand_is
+
+  -- what the code finds due is due
+  pub due_is : Facts (machine_of w h) → Fits w h → (n : Next) → driver_next w.cluster (room_in w c) hand.driver ≡ n → due (machine_of w h) (state_in h c hand) ≡ n
+  due_is facts fits n next = (λ i. driver_next w.cluster (room_of (machine_of w h) (number_of (actor_is facts i))) (sym (driver_is fits) i)) ∙ next
+
+-- the call in hand of a client is the client's
+pub caller_is : (w : World) (c : ℕ) (hand : InHand) → hand_at w.hands c ≡ Some hand → IsShown w → hand.call.actor ≡ Client c
+caller_is w c hand held shown = actor_is w shown.shows.history c hand held (subst Facts shown.shows.same shown.facts)
+
+-- what the machine's facts say of the call in hand, holds of it in the world
+pub call_fact : (w : World) (c : ℕ) (hand : InHand) (P : CallId → Op → Type 0) → hand_at w.hands c ≡ Some hand → (shown : IsShown w) → ((s : CallState) → shown.state.in_hand (Client c) ≡ Some s → P s.call s.op) → P hand.call hand.op
+call_fact w c hand P held shown fact =
+    let h = shown.shows.history in
+    fact (state_in h c hand) (ap (λ (m : Machine). m.in_hand (Client c)) shown.shows.same ∙ in_hand_is w h c hand held)
+
+-- and what they say of a client's handles holds of its table
+pub handles_fact : (w : World) (c : ℕ) (t : TableState) (P : List Handle → Type 0) → slice_get w.tables c ≡ Some t → (shown : IsShown w) → P (shown.state.handles c) → P t.handles
+handles_fact w c t P table shown fact = subst P (ap (λ (m : Machine). m.handles c) shown.shows.same ∙ ap handles_in table) fact
+
+-- a call that is told of a step goes on with it, or has ended
+pub left_shown : (h : History) (c : ℕ) (hand : InHand) (done : StepDone) (end : Option Outcome) →
+    left end (record (state_in h c hand) { steps = done ∷ h.steps c }) ≡ shown_hand (h.kept c) (done ∷ h.steps c) (left end (hand_taken done hand))
+left_shown h c hand done None = refl
+left_shown h c hand done (Some o) = refl
+
+pub left_fits : (h : History) (c : ℕ) (hand : InHand) (done : StepDone) (end : Option Outcome) → hand.driver ≡ driver_of (state_in h c hand) → FitsHand (h.kept c) (done ∷ h.steps c) (left end (hand_taken done hand))
+left_fits h c hand done None driver = ap (driver_taken done) driver
+left_fits h c hand done (Some o) driver = tt

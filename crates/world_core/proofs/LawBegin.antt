@@ -1,0 +1,230 @@
+-- A call begins.
+use Rattle.std.proofs.Common.{◌≡◌, ℕ, ◌+◌, ◌<◌, ◌≤◌, inl, inr, List, [], ◌∷◌, Option, Some, None, is_some, Bool, true, false, cond, ◌==◌, ◌||◌, ℤ, refl, sym, ap, subst, ◌∙◌, arith}
+use Rattle.std.specs.Prelude.{Contains, int_lt, pos}
+use Rattle.std.proofs.lemmas.Bool.{or_parts}
+use Rattle.std.proofs.lemmas.Option.{same_Some}
+use Rattle.std.proofs.lemmas.List.Elements.{Contains-append_right}
+use Rattle.ckpt_types.specs.declared.answers.Outcome.{Outcome}
+use Rattle.ckpt_types.specs.declared.attributes.CreationAttributes.{CreationAttributes}
+use Rattle.ckpt_types.specs.declared.identities.ActorName.{ActorName}
+use Rattle.ckpt_types.specs.declared.identities.ActorName.TheVariants.{Client, Node}
+use Rattle.ckpt_types.specs.declared.identities.CallId.{CallId}
+use Rattle.ckpt_types.specs.declared.open_flags.OpenFlags.{OpenFlags}
+use Rattle.ckpt_types.specs.declared.operation.Op.{Op}
+use Rattle.ckpt_types.specs.declared.operation.Op.TheVariants as ops
+use Rattle.ckpt_types.specs.declared.update.ReadElement.{ReadElement}
+use Rattle.ckpt_types.specs.declared.update.Update.{Update}
+use Rattle.ckpt_types.specs.Attributes.{has_bad_open_flags}
+use Rattle.run_labels.specs.declared.labels.Label.TheVariants as labels
+use Rattle.world_core.specs.declared.drivers.Driver.{Driver}
+use Rattle.world_core.specs.declared.drivers.Driver.TheVariants as drivers
+use Rattle.world_core.specs.declared.open_call.Making.{Making}
+use Rattle.world_core.specs.declared.tables.Handle.{Handle}
+use Rattle.world_core.specs.Calls.{same_actor, number_of, IsClient, put_actor}
+use Rattle.world_core.specs.Places.{find_key}
+use Rattle.world_core.specs.RecordState.{client_key, is_live_client, first_nodes}
+use Rattle.world_core.specs.TableState.{handle_number}
+use Rattle.world_core.specs.Driving.{driver_start}
+use Rattle.world_core.specs.Beginning.{begin_end, if_live, on_handle, open_begin, attributes_are_bad, name_is_bad, IsBuilt}
+use Rattle.world_core.specs.Machine.{Machine, CallState}
+use Rattle.world_core.specs.Steps.{IsBegun, MayBegin, handle_of_number, handle_in, named_handle, kept_at, begun}
+use Rattle.world_core.specs.Runs.{Counts}
+use Rattle.world_core.specs.Invariant.{Working, maker_by, slot_by, AreGoodAttributes, IsMade, IsMakingOrNone, IsAt, Alone, InvariantWith, Invariant}
+use Rattle.world_core.proofs.LawMoves.{same_actor-refl, same_actor-true}
+use Rattle.world_core.proofs.LawEnds.{no_slot, IsGoodEntry-as}
+
+-- ---- what a beginning that goes on has passed
+
+-- a test that did not refuse
+pub passed : (b : Bool) (why : Outcome) (o : Option Outcome) → cond b (Some why) o ≡ None → (b ≡ false) × (o ≡ None)
+passed true why o e = absurd (cc e)
+passed false why o e = (refl, e)
+
+-- what is said of a client that is live goes on only where it is
+if_live-None : (live : Bool) (o : Option Outcome) → if_live live o ≡ None → (live ≡ true) × (o ≡ None)
+if_live-None true o e = (refl, e)
+if_live-None false o e = absurd (cc e)
+
+-- what is said on a handle goes on only where there is one
+on_handle-None : (h : Option Handle) (bad : Bool) (may : OpenFlags → Bool) → on_handle h bad may ≡ None → (x : Handle) × (h ≡ Some x)
+on_handle-None None bad may e = absurd (cc e)
+on_handle-None (Some x) bad may e = (x, refl)
+
+-- good attributes
+attributes_are_bad-false : (flags : ℕ) (a : Option CreationAttributes) → attributes_are_bad flags a ≡ false → AreGoodAttributes a
+attributes_are_bad-false flags None good = tt
+attributes_are_bad-false flags (Some a) good = (or_parts _ _ good).1
+
+-- an open that goes on has good attributes
+open_begin-None : (name : List ℕ) (flags : ℕ) (timeout : ℤ) (a : Option CreationAttributes) → open_begin name flags timeout a ≡ None → AreGoodAttributes a
+open_begin-None name flags timeout a e =
+    let (good_flags, rest) = passed (has_bad_open_flags flags) _ _ e in
+    let (good, none) = passed (name_is_bad name || int_lt timeout (pos 0) || attributes_are_bad flags a) _ None rest in
+    attributes_are_bad-false flags a (or_parts _ _ good).1
+
+-- ---- the handle of a place
+
+-- the handle found under a number is among them
+find_key-Contains : (n : ℕ) (handles : List Handle) (h : Handle) → find_key handle_number n handles ≡ Some h → Contains handles h
+find_key-Contains n [] h e = absurd (cc e)
+find_key-Contains n (x ∷ xs) h e =
+    elim (x.number == n) as (λ b. cond b (Some x) (find_key handle_number n xs) ≡ Some h → Contains (x ∷ xs) h) [
+      | true ↦ λ here. (0, omega arith, same_Some x h here)
+      | false ↦ λ there. Contains-append_right (x ∷ []) xs h (find_key-Contains n xs h there)
+    ] e
+
+-- and under a number that may be none
+handle_of_number-Contains : (handles : List Handle) (n : Option ℕ) (h : Handle) → handle_of_number handles n ≡ Some h → Contains handles h
+handle_of_number-Contains handles None h e = absurd (cc e)
+handle_of_number-Contains handles (Some n) h e = find_key-Contains n handles h e
+
+-- the checkpoint of a place's handle is there and made
+handle_in-made : (hand : Option Working) (m : Machine) (c : ℕ) (place : Option ℕ) (h : Handle) → InvariantWith hand m → handle_in m c place ≡ Some h → IsMade m h.ckpt
+handle_in-made hand m c None h inv e = absurd (cc e)
+handle_in-made hand m c (Some place) h inv e = (inv.handles c h (handle_of_number-Contains (m.handles c) (m.places c place) h e)).1
+
+-- ---- where a call begins
+
+-- a client is live only where n0 is up
+live_up : (hand : Option Working) (m : Machine) (c : ℕ) → InvariantWith hand m → is_live_client c m.cluster ≡ true → m.cluster.up ≡ first_nodes 1
+live_up hand m c inv live = elim inv.up [
+  | inl none ↦ absurd (let e : false ≡ true = ap (λ clients. is_some (find_key client_key c clients)) (sym none.1) ∙ live in cc)
+  | inr first ↦ first
+]
+
+-- a client's number is below 100
+IsClient-number : (a : ActorName) → IsClient a → number_of a < 100
+IsClient-number (Client c) is = is
+IsClient-number (Node r) is = absurd is
+
+module _ (hand : Option Working) (m : Machine) (call : CallId) (inv : InvariantWith hand m) (client : IsClient call.actor) (number : 1 ≤ call.number) where
+  abbrev state_with : Op → Option Handle → CallState
+  state_with op h = record { call = call; op = op; kept = kept_at m.cluster (number_of call.actor) h; steps = []; snapshot = None }
+
+  abbrev start_with : Op → Option Handle → Driver
+  start_with op h = driver_start call op (kept_at m.cluster (number_of call.actor) h)
+
+  -- a call that begins is where its operation begins, makes nothing, and owns no slot
+  record Starts (op : Op) (h : Option Handle) : Type 0 where
+    at : IsAt m (state_with op h) (start_with op h)
+    makes : (k : ℕ) → maker_by call k (start_with op h) ≡ None
+    owns : (k : ℕ) → slot_by (state_with op h) k (start_with op h) ≡ None
+
+  -- a write on a handle starts with nothing staged
+  starts_write : (place : ℕ) (update : Update) (h : Option Handle) → ((x : Handle) → h ≡ Some x → IsMade m x.ckpt) → (x : Handle) × (h ≡ Some x) → Starts (ops.Write place update) h
+  starts_write place update h made (x, is) = subst (Starts (ops.Write place update)) (sym is) (record {
+    at = record { call = refl; write = tt; phase = refl; made = made x is; owned = inl refl };
+    makes = λ k. refl;
+    owns = λ k. no_slot (k == x.ckpt);
+  })
+
+  -- a read on a handle
+  starts_read : (place : ℕ) (elements : List ReadElement) (h : Option Handle) → ((x : Handle) → h ≡ Some x → IsMade m x.ckpt) → (x : Handle) × (h ≡ Some x) → Starts (ops.Read place elements) h
+  starts_read place elements h made (x, is) = subst (Starts (ops.Read place elements)) (sym is) (record {
+    at = record { read = tt; made = made x is };
+    makes = λ k. refl;
+    owns = λ k. refl;
+  })
+
+  -- each operation that goes on
+  starts : (op : Op) (h : Option Handle) → IsBuilt op → MayBegin m.cluster (number_of call.actor) op → begin_end (is_live_client (number_of call.actor) m.cluster) h op ≡ None → ((x : Handle) → h ≡ Some x → IsMade m x.ckpt) → Starts op h
+  starts (ops.Client r version callbacks) h built may goes made = record { at = record { op = refl; up = may.1 }; makes = λ k. refl; owns = λ k. refl }
+  starts (ops.Open place name flags timeout a) h built may goes made =
+      let (live, rest) = if_live-None (is_live_client (number_of call.actor) m.cluster) _ goes in
+      record {
+        at = record {
+          number = number;
+          client = refl;
+          within = IsClient-number call.actor client;
+          built = built;
+          asks = (refl, refl);
+          asked = open_begin-None name flags timeout a rest;
+          up = live_up hand m (number_of call.actor) inv live;
+          making = tt;
+          room = λ some. absurd (cc some);
+        };
+        makes = λ k. refl;
+        owns = λ k. refl;
+      }
+  starts (ops.Write place update) h built may goes made = starts_write place update h made (on_handle-None h _ _ (if_live-None (is_live_client (number_of call.actor) m.cluster) _ goes).1)
+  starts (ops.Read place elements) h built may goes made = starts_read place elements h made (on_handle-None h _ _ (if_live-None (is_live_client (number_of call.actor) m.cluster) _ goes).1)
+  starts op h built may goes made = absurd built
+
+-- ---- the state after a beginning
+
+-- what a call is making is so with other numbers and hands
+IsMakingOrNone-apart : (m : Machine) (next : ActorName → ℕ) (f : ActorName → Option CallState) (making : Option Making) → IsMakingOrNone m making → IsMakingOrNone (record m { next = next; in_hand = f }) making
+IsMakingOrNone-apart m next f None at = tt
+IsMakingOrNone-apart m next f (Some making) at = record { there = at.there; reserved = at.reserved }
+
+-- a call is where it is with other numbers and hands
+pub IsAt-apart : (m : Machine) (next : ActorName → ℕ) (f : ActorName → Option CallState) (s : CallState) (d : Driver) → IsAt m s d → IsAt (record m { next = next; in_hand = f }) s d
+IsAt-apart m next f s (drivers.Enter r) at = record { op = at.op; up = at.up }
+IsAt-apart m next f s (drivers.Open o) at = record { number = at.number; client = at.client; within = at.within; built = at.built; asks = at.asks; asked = at.asked; up = at.up; making = IsMakingOrNone-apart m next f o.making at.making; room = at.room }
+IsAt-apart m next f s (drivers.Update u) at = record { call = at.call; write = at.write; phase = at.phase; made = at.made; owned = at.owned }
+IsAt-apart m next f s (drivers.Active a) at = record { read = at.read; made = at.made }
+
+-- where the caller has none in hand and nobody else has, nobody has
+all_idle : (m : Machine) (call : CallId) (op : Op) (end : Option Outcome) → Alone m (labels.Began call op end) → m.in_hand call.actor ≡ None → (a : ActorName) → m.in_hand a ≡ None
+all_idle m call op end alone none a =
+    elim (same_actor a call.actor) as (λ b. same_actor a call.actor ≡ b → m.in_hand a ≡ None) [
+      | true ↦ λ is. ap m.in_hand (same_actor-true a call.actor is) ∙ none
+      | false ↦ λ is. alone a (λ same. let e : false ≡ true = sym is ∙ ap (λ b. same_actor b call.actor) same ∙ same_actor-refl call.actor in cc)
+    ] refl
+
+-- where nobody has a call in hand there is none
+none_in_hand : (hand : Option Working) (m : Machine) → InvariantWith hand m → ((a : ActorName) → m.in_hand a ≡ None) → hand ≡ None
+none_in_hand None m inv none = refl
+none_in_hand (Some w) m inv none =
+    absurd (let e : None ≡ Some w.state = sym (none w.state.call.actor) ∙ inv.in_hand w.state.call.actor ∙ ap (λ b. cond b (Some w.state) None) (same_actor-refl w.state.call.actor) in cc)
+
+-- the next numbers count up from 1
+next_more : (f : ActorName → ℕ) (a b : ActorName) → ((c : ActorName) → 1 ≤ f c) → 1 ≤ put_actor f a (f a + 1) b
+next_more f a b from_one = elim (same_actor b a) as (λ t. 1 ≤ cond t (f a + 1) (f b)) [ true ↦ omega arith | false ↦ from_one b ]
+
+-- a beginning with no call in hand leaves the invariant
+begun_with : (m : Machine) (call : CallId) (op : Op) (end : Option Outcome) → InvariantWith None m → Alone m (labels.Began call op end) → IsBegun m call op end → Invariant (begun m call op end)
+begun_with m call op (Some o) inv alone is = record {
+  hand = None;
+  holds = record {
+    up = inv.up;
+    rises = inv.rises;
+    up_to = inv.up_to;
+    in_use = inv.in_use;
+    entries = inv.entries;
+    handles = inv.handles;
+    next = λ a. next_more m.next call.actor a inv.next;
+    in_hand = λ a. elim (same_actor a call.actor) as (λ b. cond b None (m.in_hand a) ≡ None) [ true ↦ refl | false ↦ inv.in_hand a ];
+    working = tt;
+  };
+}
+begun_with m call op None inv alone is =
+    let first = starts None m call inv is.client (subst (λ n. 1 ≤ n) (sym is.number) (inv.next call.actor)) op (named_handle m call.actor op) is.built is.may (sym is.answer)
+    (λ x found. handle_in-made None m (number_of call.actor) _ x inv found) in
+    record {
+      hand = Some (record { state = state_with None m call inv is.client (subst (λ n. 1 ≤ n) (sym is.number) (inv.next call.actor)) op (named_handle m call.actor op); driver = driver_start call op (kept_at m.cluster (number_of call.actor) (named_handle m call.actor op)) });
+      holds = record {
+        up = inv.up;
+        rises = inv.rises;
+        up_to = inv.up_to;
+        in_use = inv.in_use;
+        entries = λ k e found. IsGoodEntry-as None _ None _ e (m.replicas k 0) (sym (first.makes k)) (sym (first.owns k)) (inv.entries k e found);
+        handles = inv.handles;
+        next = λ a. next_more m.next call.actor a inv.next;
+        in_hand = λ a. ap (cond (same_actor a call.actor) (Some _)) (inv.in_hand a);
+        working = (refl, IsAt-apart m (begun m call op None).next (begun m call op None).in_hand _ (driver_start call op (kept_at m.cluster (number_of call.actor) (named_handle m call.actor op))) first.at);
+      };
+    }
+
+-- a beginning leaves the invariant
+pub Invariant-begun : (m : Machine) (call : CallId) (op : Op) (end : Option Outcome) → Invariant m → Alone m (labels.Began call op end) → IsBegun m call op end → Invariant (begun m call op end)
+Invariant-begun m call op end inv alone is = begun_with m call op end (subst (λ hand. InvariantWith hand m) (none_in_hand inv.hand m inv.holds (all_idle m call op end alone is.none_in_hand)) inv.holds) alone is
+
+-- a beginning counts one number on
+pub Counts-begun : (m : Machine) (call : CallId) (op : Op) (end : Option Outcome) (n : ℕ) → Counts m n → Counts (begun m call op end) (n + 1)
+Counts-begun m call op end n counts = record {
+  next = λ a. elim (same_actor a call.actor) as (λ b. cond b (m.next call.actor + 1) (m.next a) ≤ n + 1 + 1) [ true ↦ omega (arith, counts.next call.actor) | false ↦ omega (arith, counts.next a) ];
+  effects = λ k r x is. omega (arith, counts.effects k r x is);
+  identity = omega arith;
+  references = λ k e c is. omega (arith, counts.references k e c is);
+}

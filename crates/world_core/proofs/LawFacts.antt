@@ -1,0 +1,231 @@
+-- What the code relies on holds wherever the invariant does.
+use Rattle.std.proofs.Common.{◌≡◌, ℕ, zero, suc, ◌<◌, inl, inr, length, Option, Some, None, Bool, true, false, cond, not, ◌==◌, nat_le, nat_lt, refl, sym, ap, subst, ◌∙◌, arith}
+use Rattle.std.specs.Prelude.{IsSome, ◌≤◌, slice_index}
+use Rattle.std.proofs.lemmas.Bool.{leb-false, ltb-true, and_parts}
+use Rattle.ckpt_types.specs.declared.ais_error.AisError.TheVariants.{Exist, NoResources}
+use Rattle.ckpt_types.specs.declared.answers.Cause.TheVariants.{Plain, Count}
+use Rattle.ckpt_types.specs.declared.answers.Outcome.TheVariants.{Refused}
+use Rattle.ckpt_types.specs.declared.attributes.CreationAttributes.{CreationAttributes}
+use Rattle.ckpt_types.specs.declared.calls.OpenAsk.{OpenAsk}
+use Rattle.ckpt_types.specs.declared.identities.ActorName.{ActorName}
+use Rattle.ckpt_types.specs.declared.identities.CallId.{CallId}
+use Rattle.node_msgs.specs.declared.requests.Request.{Request}
+use Rattle.node_msgs.specs.declared.requests.Request.TheVariants as requests
+use Rattle.node_msgs.specs.declared.next.Next.{Next}
+use Rattle.node_msgs.specs.declared.next.Next.TheVariants.{Serve, Event, End}
+use Rattle.node_msgs.specs.declared.next.RecordStep.TheVariants as events
+use Rattle.world_core.specs.declared.drivers.Driver.{Driver}
+use Rattle.world_core.specs.declared.drivers.Driver.TheVariants as drivers
+use Rattle.world_core.specs.declared.open_call.Making.{Making}
+use Rattle.world_core.specs.declared.open_call.OpenCall.{OpenCall}
+use Rattle.world_core.specs.declared.reading.ActiveCall.{ActiveCall}
+use Rattle.world_core.specs.declared.record.Entry.{Entry}
+use Rattle.world_core.specs.declared.update_call.UpdateCall.{UpdateCall}
+use Rattle.world_core.specs.Calls.{client_of}
+use Rattle.world_core.specs.RecordState.{RecordState, entry_of, named, is_up, first_nodes, no_nodes}
+use Rattle.world_core.specs.Serving.{IsReadyFor, IsStaged}
+use Rattle.world_core.specs.Driving.{driver_next, on_named, on_free_name, accepts, reserve_or_finish, first_lacking}
+use Rattle.world_core.specs.Beginning.{IsBuilt}
+use Rattle.world_core.specs.Machine.{Machine, CallState}
+use Rattle.world_core.specs.Steps.{due, driver_of, room_of, seen_at, seen, seen_slot, staged_moment}
+use Rattle.world_core.specs.Shows.{IsServable, IsReservable, AllReserved, IsEventReady, Facts}
+use Rattle.world_core.specs.Invariant.{Working, IsMakingEntry, IsAt, InvariantWith, Invariant}
+use Rattle.world_core.proofs.LawMoves.{in_hand_of-Some, IsSomeAnd-from, IsSomeAnd-more}
+use Rattle.world_core.proofs.LawEnds.{slice_index-replicate, slice_index-first}
+use Rattle.world_core.proofs.LawMade.{made_seen}
+use Rattle.world_core.proofs.LawMaking.{making_entry, making_is, open_next-unreserved, open_next-reserved}
+use Rattle.world_core.proofs.LawUpdate.{update_is, unstaged, staged_there, update_next-unstaged, update_next-staged, staged_moment-unstaged, unstaged_at, staged_at, own_slot}
+use Rattle.world_core.proofs.LawRead.{active_next-made, read_at}
+
+-- a due stage has the moment of the slots that stand
+abbrev pub HasMoment : Machine → Request → Type 0
+HasMoment m (requests.Stage call k t) = staged_moment m k ≡ t
+HasMoment m request = Unit {0}
+
+-- what the code relies on of what is due
+abbrev pub IsDueReady : Machine → CallState → Driver → Next → Type 0
+IsDueReady m s d (Serve r request) = (r < 8) × IsServable m r request × HasMoment m request
+IsDueReady m s d (Event step) = IsEventReady m s d step
+IsDueReady m s d (End o) = Unit {0}
+
+-- ---- a client
+
+-- a node that is up is one of eight
+up_within : (r : ℕ) (R : RecordState) → is_up r R ≡ true → r < 8
+up_within r R up = ltb-true r 8 (and_parts (nat_lt r 8) _ up).0
+
+-- a client enters where there is room
+enter_ready : (m : Machine) (s : CallState) (r : ℕ) → InvariantWith (Some (record { state = s; driver = drivers.Enter r })) m → (room : Bool) → IsDueReady m s (drivers.Enter r) (driver_next m.cluster room (drivers.Enter r))
+enter_ready m s r inv room =
+    elim (nat_le 64 (length m.cluster.clients)) as (λ b. nat_le 64 (length m.cluster.clients) ≡ b → IsDueReady m s (drivers.Enter r) (cond b (End (Refused NoResources (Count 64))) (Event events.Enter))) [
+      | true ↦ λ full. tt
+      | false ↦ λ room. (up_within r m.cluster inv.working.1.up, leb-false 64 (length m.cluster.clients) room)
+    ] refl
+
+-- ---- an open
+
+module _ (m : Machine) (s : CallState) (call : CallId) (ask : OpenAsk) where
+  abbrev asking : OpenCall
+  asking = record { call = call; ask = ask; making = None }
+
+  -- of a name that is free
+  free_ready : (room : Bool) (a : Option CreationAttributes) → ask.attrs ≡ a → IsDueReady m s (drivers.Open asking) (on_free_name m.cluster room a)
+  free_ready room None given = tt
+  free_ready false (Some a) given = tt
+  free_ready true (Some a) given =
+      elim (nat_le 16 (length m.cluster.entries)) as (λ b. nat_le 16 (length m.cluster.entries) ≡ b → IsDueReady m s (drivers.Open asking) (cond b (End (Refused NoResources (Count 16))) (Event events.Create))) [
+        | true ↦ λ full. tt
+        | false ↦ λ few. (leb-false 16 (length m.cluster.entries) few, IsSomeAnd-from ask.attrs (λ a. Unit {0}) a given tt)
+      ] refl
+
+  -- of a name that a checkpoint has
+  entry_ready : (room accepted : Bool) (e : Entry) → named ask.name m.cluster.entries ≡ Some e → IsDueReady m s (drivers.Open asking) (cond (not accepted) (End (Refused Exist Plain)) (cond (not room) (End (Refused NoResources (Count 32))) (Event events.Open)))
+  entry_ready room false e found = tt
+  entry_ready false true e found = tt
+  entry_ready true true e found = IsSomeAnd-from (named ask.name m.cluster.entries) (λ e. Unit {0}) e found tt
+
+  -- of any name
+  named_ready : (room : Bool) (o : Option Entry) → named ask.name m.cluster.entries ≡ o → IsDueReady m s (drivers.Open asking) (on_named m.cluster room ask.attrs o)
+  named_ready room None found = free_ready room ask.attrs refl
+  named_ready room (Some e) found = entry_ready room (accepts ask.attrs e) e found
+
+-- ---- a making
+
+-- a checkpoint in the making can be reserved on n0
+reservable : (e : Entry) → IsMakingEntry e → IsReservable e 0
+reservable e good = record { not_complete = ap (λ nodes. slice_index nodes 0) good.complete; well_formed = good.well_formed }
+
+-- and finished where n0 has reserved
+finishable : (e : Entry) → IsMakingEntry e → (e.generation ≡ 1) × ((r : ℕ) → slice_index e.complete r ≡ 0)
+finishable e good = (good.generation, λ r. ap (λ nodes. slice_index nodes r) good.complete ∙ slice_index-replicate 8 r)
+
+-- n0 has reserved, which is all that is up
+all_reserved : (m : Machine) (k : ℕ) → m.cluster.up ≡ first_nodes 1 → m.reserved k 0 ≡ Some 1 → AllReserved m k
+all_reserved m k first reserved zero up = reserved ∙ ap (λ nodes. Some (slice_index nodes 0)) (sym first)
+all_reserved m k first reserved (suc r) up =
+    let down : slice_index m.cluster.up (suc r) ≡ 0 = slice_index-first m.cluster.up r first in
+    absurd (let e : true ≡ false = sym (ap (λ n. n == 0) down) ∙ up in cc)
+
+module _ (m : Machine) (s : CallState) (call : CallId) (ask : OpenAsk) where
+  abbrev making_at : Making → Driver
+  making_at making = drivers.Open (record { call = call; ask = ask; making = Some making })
+
+  abbrev IsHere : Making → Type 0
+  IsHere making = InvariantWith (Some (record { state = s; driver = making_at making })) m
+
+  -- it reserves
+  unreserved_ready : (k : ℕ) → IsHere (record { ckpt = k; reserved = no_nodes; refused = false }) → (room : Bool) → IsDueReady m s (making_at (record { ckpt = k; reserved = no_nodes; refused = false })) (driver_next m.cluster room (making_at (record { ckpt = k; reserved = no_nodes; refused = false })))
+  unreserved_ready k inv room = subst (IsDueReady m s (making_at (record { ckpt = k; reserved = no_nodes; refused = false }))) (sym (open_next-unreserved m s call ask k inv room))
+      (omega arith, IsSomeAnd-more (entry_of k m.cluster.entries) IsMakingEntry (λ e. IsReservable e 0) reservable (making_entry m s call ask (record { ckpt = k; reserved = no_nodes; refused = false }) inv), tt)
+
+  -- it is finished
+  reserved_ready : (k : ℕ) → IsHere (record { ckpt = k; reserved = first_nodes 1; refused = false }) → m.reserved k 0 ≡ Some 1 → (room : Bool) → IsDueReady m s (making_at (record { ckpt = k; reserved = first_nodes 1; refused = false })) (driver_next m.cluster room (making_at (record { ckpt = k; reserved = first_nodes 1; refused = false })))
+  reserved_ready k inv reserved room = subst (IsDueReady m s (making_at (record { ckpt = k; reserved = first_nodes 1; refused = false }))) (sym (open_next-reserved m s call ask k room inv.working.1.up))
+      (all_reserved m k inv.working.1.up reserved, IsSomeAnd-more (entry_of k m.cluster.entries) IsMakingEntry _ finishable (making_entry m s call ask (record { ckpt = k; reserved = first_nodes 1; refused = false }) inv))
+
+  -- or undone
+  making_ready : (making : Making) → IsHere making → (room : Bool) → IsDueReady m s (making_at making) (driver_next m.cluster room (making_at making))
+  making_ready making inv room =
+      elim making.refused as (λ b. making.refused ≡ b → IsDueReady m s (making_at making) (cond b (Event events.Undo) (reserve_or_finish making.ckpt (first_lacking 0 m.cluster.up making.reserved)))) [
+        | true ↦ λ is. tt
+        | false ↦ λ is. elim inv.working.1.making.reserved [
+          | inl none ↦
+              let P : Making → Type 0 = λ at. IsHere at → IsDueReady m s (making_at at) (driver_next m.cluster room (making_at at)) in
+              let same = making_is making no_nodes false none is in
+              let ready = subst P (sym same) (λ inv. unreserved_ready making.ckpt inv room) inv in
+              subst (λ b. IsDueReady m s (making_at making) (cond b (Event events.Undo) (reserve_or_finish making.ckpt (first_lacking 0 m.cluster.up making.reserved)))) is ready
+          | inr first ↦
+              let P : Making → Type 0 = λ at. IsHere at → m.reserved at.ckpt 0 ≡ Some 1 → IsDueReady m s (making_at at) (driver_next m.cluster room (making_at at)) in
+              let same = making_is making (first_nodes 1) false first.0 is in
+              let ready = subst P (sym same) (λ inv reserved. reserved_ready making.ckpt inv reserved room) inv first.1 in
+              subst (λ b. IsDueReady m s (making_at making) (cond b (Event events.Undo) (reserve_or_finish making.ckpt (first_lacking 0 m.cluster.up making.reserved)))) is ready
+        ]
+      ] refl
+
+-- ---- an update
+
+-- an update stages, or commits a slot of its own
+update_ready : (m : Machine) (s : CallState) (u : UpdateCall) → InvariantWith (Some (record { state = s; driver = drivers.Update u })) m → (room : Bool) → IsDueReady m s (drivers.Update u) (driver_next m.cluster room (drivers.Update u))
+update_ready m s u inv room =
+    let P : UpdateCall → Type 0 = λ v. InvariantWith (Some (record { state = s; driver = drivers.Update v })) m → IsDueReady m s (drivers.Update v) (driver_next m.cluster room (drivers.Update v)) in
+    elim inv.working.1.owned [
+      | inl none ↦ subst P (sym (update_is u s.call no_nodes inv.working.1.call none inv.working.1.phase)) (λ inv. unstaged_ready inv) inv
+      | inr first ↦ subst P (sym (update_is u s.call (first_nodes 1) inv.working.1.call first inv.working.1.phase)) (λ inv. staged_ready inv) inv
+    ]
+  where
+    unstaged_ready : InvariantWith (Some (record { state = s; driver = drivers.Update (unstaged s.call u.ckpt u.moment) })) m → IsDueReady m s (drivers.Update (unstaged s.call u.ckpt u.moment)) (driver_next m.cluster room (drivers.Update (unstaged s.call u.ckpt u.moment)))
+    unstaged_ready inv =
+        let at = unstaged_at m s u.ckpt u.moment inv in
+        subst (IsDueReady m s (drivers.Update (unstaged s.call u.ckpt u.moment))) (sym (update_next-unstaged m s u.ckpt u.moment inv room))
+        (omega arith, IsSomeAnd-from (seen_at m u.ckpt 0) (IsReadyFor (requests.Stage s.call u.ckpt m.cluster.moment)) (seen u.ckpt at.entry.attributes at.replica) (made_seen m u.ckpt None at) tt, staged_moment-unstaged m s u.ckpt u.moment inv)
+
+    staged_ready : InvariantWith (Some (record { state = s; driver = drivers.Update (staged_there s.call u.ckpt u.moment) })) m → IsDueReady m s (drivers.Update (staged_there s.call u.ckpt u.moment)) (driver_next m.cluster room (drivers.Update (staged_there s.call u.ckpt u.moment)))
+    staged_ready inv =
+        let at = staged_at m s u.ckpt u.moment inv in
+        subst (IsDueReady m s (drivers.Update (staged_there s.call u.ckpt u.moment))) (sym (update_next-staged m s u.ckpt u.moment inv room)) (
+          omega arith,
+          IsSomeAnd-from (seen_at m u.ckpt 0) (IsReadyFor (requests.Commit s.call u.ckpt)) (seen u.ckpt at.entry.attributes at.replica) (made_seen m u.ckpt (Some (own_slot s u.moment)) at)
+              (IsSomeAnd-from (seen_slot at.replica.slot) (IsStaged s.call (seen u.ckpt at.entry.attributes at.replica)) _ (ap seen_slot at.is.slot) (record { owner = refl; fits = at.is.fits })),
+          tt,
+        )
+
+-- ---- a read
+
+-- a read asks the active
+read_ready : (m : Machine) (s : CallState) (a : ActiveCall) → InvariantWith (Some (record { state = s; driver = drivers.Active a })) m → (room : Bool) → IsDueReady m s (drivers.Active a) (driver_next m.cluster room (drivers.Active a))
+read_ready m s a inv room =
+    let at = read_at m s a inv in
+    subst (IsDueReady m s (drivers.Active a)) (sym (active_next-made m s a inv room)) (omega arith, IsSomeAnd-from (seen_at m a.ckpt 0) (IsReadyFor (requests.Read a.ckpt)) (seen a.ckpt at.entry.attributes at.replica) (made_seen m a.ckpt None at) tt, tt)
+
+-- ---- any call
+
+-- an open, making something or not
+open_ready : (m : Machine) (s : CallState) (call : CallId) (ask : OpenAsk) (making : Option Making) → InvariantWith (Some (record { state = s; driver = drivers.Open (record { call = call; ask = ask; making = making }) })) m → (room : Bool)
+    → IsDueReady m s (drivers.Open (record { call = call; ask = ask; making = making })) (driver_next m.cluster room (drivers.Open (record { call = call; ask = ask; making = making })))
+open_ready m s call ask None inv room = named_ready m s call ask room (named ask.name m.cluster.entries) refl
+open_ready m s call ask (Some making) inv room = making_ready m s call ask making inv room
+
+-- what is due of any call
+driver_ready : (m : Machine) (s : CallState) (d : Driver) → InvariantWith (Some (record { state = s; driver = d })) m → (room : Bool) → IsDueReady m s d (driver_next m.cluster room d)
+driver_ready m s (drivers.Enter r) inv room = enter_ready m s r inv room
+driver_ready m s (drivers.Open o) inv room = open_ready m s o.call o.ask o.making inv room
+driver_ready m s (drivers.Update u) inv room = update_ready m s u inv room
+driver_ready m s (drivers.Active a) inv room = read_ready m s a inv room
+
+-- the call that an actor has in hand is the actor's, and what is due of it is ready
+hand_ready : (hand : Option Working) (m : Machine) (a : ActorName) (s : CallState) → InvariantWith hand m → m.in_hand a ≡ Some s → (s.call.actor ≡ a) × IsDueReady m s (driver_of s) (due m s)
+hand_ready None m a s inv here = absurd (let e : None ≡ Some s = sym (inv.in_hand a) ∙ here in cc)
+hand_ready (Some w) m a s inv here =
+    let (same, is) = in_hand_of-Some w a s (sym (inv.in_hand a) ∙ here) in (
+      ap (λ (t : CallState). t.call.actor) (sym same) ∙ sym is,
+      subst (λ t. IsDueReady m t (driver_of t) (due m t)) same
+          (subst (λ d. IsDueReady m w.state d (driver_next m.cluster (room_of m (client_of w.state.call)) d)) (sym inv.working.0) (driver_ready m w.state w.driver inv (room_of m (client_of w.state.call)))),
+    )
+
+-- the call that an actor has in hand is where its steps have led it
+hand_at_its_place : (hand : Option Working) (m : Machine) (a : ActorName) (s : CallState) → InvariantWith hand m → m.in_hand a ≡ Some s → IsAt m s (driver_of s)
+hand_at_its_place None m a s inv here = absurd (let e : None ≡ Some s = sym (inv.in_hand a) ∙ here in cc)
+hand_at_its_place (Some w) m a s inv here = subst (λ t. IsAt m t (driver_of t)) (in_hand_of-Some w a s (sym (inv.in_hand a) ∙ here)).0 (subst (λ d. IsAt m w.state d) (sym inv.working.0) inv.working.1)
+
+-- where the call in hand of an actor is
+pub is_at : (m : Machine) (a : ActorName) (s : CallState) → Invariant m → m.in_hand a ≡ Some s → IsAt m s (driver_of s)
+is_at m a s inv here = hand_at_its_place inv.hand m a s inv.holds here
+
+-- an open has a place for its handle and a number from 1, and with a checkpoint in the making room for the handle
+open_fits : (m : Machine) (a : ActorName) (s : CallState) (o : OpenCall) → Invariant m → m.in_hand a ≡ Some s → driver_of s ≡ drivers.Open o → (1 ≤ s.call.number) × IsBuilt s.op × (IsSome o.making → room_of m (client_of s.call) ≡ true)
+open_fits m a s o inv here is =
+    let at = subst (IsAt m s) is (is_at m a s inv here) in
+    (at.number, at.built, λ some. ap (room_of m) (sym at.client) ∙ at.room some)
+
+-- what the code relies on
+pub facts : (m : Machine) → Invariant m → Facts m
+facts m inv = record {
+  callers = λ a s here. (hand_ready inv.hand m a s inv.holds here).0;
+  rises = inv.holds.rises;
+  up_to = inv.holds.up_to;
+  ready = λ a s r request here is. let ready = subst (IsDueReady m s (driver_of s)) is (hand_ready inv.hand m a s inv.holds here).1 in (ready.0, ready.1);
+  moments = λ a s r call k t here is free. (subst (IsDueReady m s (driver_of s)) is (hand_ready inv.hand m a s inv.holds here).1).2;
+  events = λ a s step here is. subst (IsDueReady m s (driver_of s)) is (hand_ready inv.hand m a s inv.holds here).1;
+  opens = λ a s o here is. open_fits m a s o inv here is;
+  numbered = λ c h among. (inv.holds.handles c h among).0;
+}

@@ -1,0 +1,244 @@
+-- Entries looked up by their identities, after one is added, changed or taken away, and after a sweep that takes none.
+use Rattle.std.proofs.Common.{◌≡◌, ℕ, zero, suc, ◌+◌, ◌<◌, ◌≤◌, List, [], ◌∷◌, ◌++◌, length, filter, Option, Some, None, is_some, Bool, true, false, cond, not, ◌||◌, ◌==◌, ℤ, refl, sym, ap, subst, ◌∙◌, arith}
+use Rattle.std.specs.Prelude.{find, slice_index, slice_set}
+use Rattle.std.specs.List.{list_any}
+use Rattle.std.proofs.lemmas.Bool.{eqb-true, eqb-false, eq-eqb, ne_eqb, or_right}
+use Rattle.std.proofs.lemmas.Option.{same_Some}
+use Rattle.world_core.specs.declared.record.Entry.{Entry}
+use Rattle.world_core.specs.RecordState.{identity_of, entry_of, stays, has_references, referred}
+use Rattle.world_core.specs.Places.{find_key, change_key}
+use Rattle.world_core.specs.Shows.{AllAbove, IdentitiesRise, AllUpTo}
+use Rattle.world_core.specs.Invariant.{is_in_use, AllInUse}
+
+-- ---- tests
+
+-- two tests of which the first excludes the second can be made in either order
+two_tests : {X : Type 0} (b c : Bool) (x : X) (o p : Option X) → (b ≡ true → c ≡ false) → cond c p (cond b (Some x) o) ≡ cond b (Some x) (cond c p o)
+two_tests true true x o p apart = absurd (let e : true ≡ false = apart refl in cc)
+two_tests true false x o p apart = refl
+two_tests false c x o p apart = refl
+
+-- ---- a list by key
+
+-- what is found has the key
+pub find_key-key : {X : Type 0} (key : X → ℕ) (k : ℕ) (xs : List X) (x : X) → find_key key k xs ≡ Some x → key x ≡ k
+find_key-key key k [] x e = absurd (cc e)
+find_key-key key k (y ∷ xs) x e =
+    elim (key y == k) as (λ b. (key y == k) ≡ b → cond b (Some y) (find_key key k xs) ≡ Some x → key x ≡ k) [
+      | true ↦ λ is found. ap key (sym (same_Some y x found)) ∙ eqb-true (key y) k is
+      | false ↦ λ is found. find_key-key key k xs x found
+    ] refl e
+
+-- an equation tested in either order
+pub eqb-comm : (a b : ℕ) → (a == b) ≡ (b == a)
+eqb-comm a b =
+    elim (a == b) as (λ t. (a == b) ≡ t → t ≡ (b == a)) [
+      | true ↦ λ is. sym (eq-eqb b a (sym (eqb-true a b is)))
+      | false ↦ λ is. sym (ne_eqb b a (λ same. eqb-false a b is (sym same)))
+    ] refl
+
+-- what is not found under one key has another
+pub find_key-None : {X : Type 0} (key : X → ℕ) (k : ℕ) (y : X) (xs : List X) → find_key key k (y ∷ xs) ≡ None → ((key y == k) ≡ false) × (find_key key k xs ≡ None)
+find_key-None key k y xs e =
+    elim (key y == k) as (λ b. (key y == k) ≡ b → cond b (Some y) (find_key key k xs) ≡ None → ((key y == k) ≡ false) × (find_key key k xs ≡ None)) [
+      | true ↦ λ is none. absurd (cc none)
+      | false ↦ λ is none. (is, none)
+    ] refl e
+
+-- an element with one key has no other
+apart_keys : (y k j : ℕ) → (y == j) ≡ false → (y == k) ≡ true → (k == j) ≡ false
+apart_keys y k j other same = subst (λ n. (n == j) ≡ false) (eqb-true y k same) other
+
+-- one more at the end, under a key that was free
+pub find_key-push : {X : Type 0} (key : X → ℕ) (k : ℕ) (xs : List X) (x : X) → find_key key (key x) xs ≡ None → find_key key k (xs ++ x ∷ []) ≡ cond (k == key x) (Some x) (find_key key k xs)
+find_key-push key k [] x none = ap (λ b. cond b (Some x) None) (eqb-comm (key x) k)
+find_key-push key k (y ∷ xs) x none =
+    let (other, rest) = find_key-None key (key x) y xs none in
+    ap (cond (key y == k) (Some y)) (find_key-push key k xs x rest)
+    ∙ sym (two_tests (key y == k) (k == key x) y (find_key key k xs) (Some x) (apart_keys (key y) k (key x) other))
+
+-- all of a key taken away
+pub find_key-without : {X : Type 0} (key : X → ℕ) (j k : ℕ) (xs : List X) → find_key key k (filter (λ x. not (key x == j)) xs) ≡ cond (k == j) None (find_key key k xs)
+find_key-without {X} key j k [] = elim (k == j) as (λ b. ◌≡◌ {A = Option X} None (cond b None None)) [ true ↦ refl | false ↦ refl ]
+find_key-without key j k (y ∷ xs) =
+    elim (key y == j) as (λ b. (key y == j) ≡ b → find_key key k (cond (not b) (y ∷ filter (λ x. not (key x == j)) xs) (filter (λ x. not (key x == j)) xs)) ≡ cond (k == j) None (find_key key k (y ∷ xs))) [
+      | true ↦ λ is.
+          find_key-without key j k xs
+          ∙ ap (λ b. cond b None (find_key key k xs)) (ap (λ n. k == n) (sym (eqb-true (key y) j is)) ∙ eqb-comm k (key y))
+          ∙ hidden (key y == k) y (find_key key k xs)
+          ∙ ap (λ b. cond b None (find_key key k (y ∷ xs))) (eqb-comm (key y) k ∙ ap (λ n. k == n) (eqb-true (key y) j is))
+      | false ↦ λ is.
+          ap (cond (key y == k) (Some y)) (find_key-without key j k xs)
+          ∙ sym (two_tests (key y == k) (k == j) y (find_key key k xs) None (apart_keys (key y) k j is))
+    ] refl
+  where
+    hidden : {X : Type 0} (b : Bool) (y : X) (o : Option X) → cond b None o ≡ cond b None (cond b (Some y) o)
+    hidden true y o = refl
+    hidden false y o = refl
+
+-- the one of a key changed, which keeps its key
+pub find_key-change_key : {X : Type 0} (key : X → ℕ) (j k : ℕ) (f : X → X) → ((x : X) → key (f x) ≡ key x) → (xs : List X) (x : X) → find_key key j xs ≡ Some x → find_key key k (change_key key j f xs) ≡ cond (k == j) (Some (f x)) (find_key key k xs)
+find_key-change_key key j k f same [] x e = absurd (cc e)
+find_key-change_key key j k f same (y ∷ xs) x e =
+    elim (key y == j) as (λ b. (key y == j) ≡ b → cond b (Some y) (find_key key j xs) ≡ Some x → find_key key k (cond b (f y ∷ xs) (y ∷ change_key key j f xs)) ≡ cond (k == j) (Some (f x)) (find_key key k (y ∷ xs))) [
+      | true ↦ λ is found.
+          let turned : (key y == k) ≡ (k == j) = eqb-comm (key y) k ∙ ap (λ n. k == n) (eqb-true (key y) j is) in
+          ap (λ n. cond (n == k) (Some (f y)) (find_key key k xs)) (same y)
+          ∙ ap (λ b. cond b (Some (f y)) (find_key key k xs)) turned
+          ∙ ap (λ z. cond (k == j) (Some (f z)) (find_key key k xs)) (same_Some y x found)
+          ∙ over (k == j) (Some (f x)) (Some y) (find_key key k xs)
+          ∙ ap (λ b. cond (k == j) (Some (f x)) (cond b (Some y) (find_key key k xs))) (sym turned)
+      | false ↦ λ is found.
+          ap (cond (key y == k) (Some y)) (find_key-change_key key j k f same xs x found)
+          ∙ sym (two_tests (key y == k) (k == j) y (find_key key k xs) (Some (f x)) (apart_keys (key y) k j is))
+    ] refl e
+  where
+    over : {X : Type 0} (b : Bool) (a c z : Option X) → cond b a z ≡ cond b a (cond b c z)
+    over true a c z = refl
+    over false a c z = refl
+
+-- ---- entries in rising order
+
+-- an entry found among those above n has an identity above n
+pub AllAbove-entry_of : (n k : ℕ) (entries : List Entry) (e : Entry) → AllAbove n entries → entry_of k entries ≡ Some e → n < k
+AllAbove-entry_of n k [] e above found = absurd (cc found)
+AllAbove-entry_of n k (x ∷ xs) e above found =
+    elim (x.identity == k) as (λ b. (x.identity == k) ≡ b → cond b (Some x) (entry_of k xs) ≡ Some e → n < k) [
+      | true ↦ λ is here. subst (λ j. n < j) (eqb-true x.identity k is) above.0
+      | false ↦ λ is there. AllAbove-entry_of n k xs e above.1 there
+    ] refl found
+
+-- beyond the identity last given no entry is found
+pub entry_of-beyond : (n k : ℕ) (entries : List Entry) → AllUpTo n entries → n < k → entry_of k entries ≡ None
+entry_of-beyond n k [] up_to beyond = refl
+entry_of-beyond n k (x ∷ xs) up_to beyond =
+    let le : x.identity ≤ n = up_to.0 in
+    ap (λ b. cond b (Some x) (entry_of k xs)) (ne_eqb x.identity k (λ same. omega (arith, same, le, beyond))) ∙ entry_of-beyond n k xs up_to.1 beyond
+
+-- the entry that passes a test is the one of its identity
+pub entry_of-find : (p : Entry → Bool) (entries : List Entry) (e : Entry) → IdentitiesRise entries → find p entries ≡ Some e → entry_of e.identity entries ≡ Some e
+entry_of-find p [] e rises found = absurd (cc found)
+entry_of-find p (x ∷ xs) e rises found =
+    elim (p x) as (λ b. cond b (Some x) (find p xs) ≡ Some e → entry_of e.identity (x ∷ xs) ≡ Some e) [
+      | true ↦ λ here. subst (λ y. entry_of y.identity (x ∷ xs) ≡ Some y) (same_Some x e here) (ap (λ b. cond b (Some x) (entry_of x.identity xs)) (eq-eqb x.identity x.identity refl))
+      | false ↦ λ there.
+          let found = entry_of-find p xs e rises.1 there in
+          let beyond = AllAbove-entry_of x.identity e.identity xs e rises.0 found in
+          ap (λ b. cond b (Some x) (entry_of e.identity xs)) (ne_eqb x.identity e.identity (λ same. omega (arith, same, beyond))) ∙ found
+    ] found
+
+-- a change that keeps the identities leaves all above n
+pub AllAbove-change_key : (f : Entry → Entry) → ((e : Entry) → (f e).identity ≡ e.identity) → (n k : ℕ) (entries : List Entry) → AllAbove n entries → AllAbove n (change_key identity_of k f entries)
+AllAbove-change_key f same n k [] above = tt
+AllAbove-change_key f same n k (x ∷ xs) above =
+    elim (x.identity == k) as (λ b. AllAbove n (cond b (f x ∷ xs) (x ∷ change_key identity_of k f xs))) [
+      | true ↦ (subst (λ j. n < j) (sym (same x)) above.0, above.1)
+      | false ↦ (above.0, AllAbove-change_key f same n k xs above.1)
+    ]
+
+-- and all up to n
+pub AllUpTo-change_key : (f : Entry → Entry) → ((e : Entry) → (f e).identity ≡ e.identity) → (n k : ℕ) (entries : List Entry) → AllUpTo n entries → AllUpTo n (change_key identity_of k f entries)
+AllUpTo-change_key f same n k [] up_to = tt
+AllUpTo-change_key f same n k (x ∷ xs) up_to =
+    elim (x.identity == k) as (λ b. AllUpTo n (cond b (f x ∷ xs) (x ∷ change_key identity_of k f xs))) [
+      | true ↦ (subst (λ j. j ≤ n) (sym (same x)) up_to.0, up_to.1)
+      | false ↦ (up_to.0, AllUpTo-change_key f same n k xs up_to.1)
+    ]
+
+-- and the identities rising
+pub IdentitiesRise-change_key : (f : Entry → Entry) → ((e : Entry) → (f e).identity ≡ e.identity) → (k : ℕ) (entries : List Entry) → IdentitiesRise entries → IdentitiesRise (change_key identity_of k f entries)
+IdentitiesRise-change_key f same k [] rises = tt
+IdentitiesRise-change_key f same k (x ∷ xs) rises =
+    elim (x.identity == k) as (λ b. IdentitiesRise (cond b (f x ∷ xs) (x ∷ change_key identity_of k f xs))) [
+      | true ↦ (subst (λ j. AllAbove j xs) (sym (same x)) rises.0, rises.1)
+      | false ↦ (AllAbove-change_key f same x.identity k xs rises.0, IdentitiesRise-change_key f same k xs rises.1)
+    ]
+
+-- some taken away leave all above n
+pub AllAbove-filter : (p : Entry → Bool) (n : ℕ) (entries : List Entry) → AllAbove n entries → AllAbove n (filter p entries)
+AllAbove-filter p n [] above = tt
+AllAbove-filter p n (x ∷ xs) above = elim (p x) as (λ b. AllAbove n (cond b (x ∷ filter p xs) (filter p xs))) [ true ↦ (above.0, AllAbove-filter p n xs above.1) | false ↦ AllAbove-filter p n xs above.1 ]
+
+-- and all up to n
+pub AllUpTo-filter : (p : Entry → Bool) (n : ℕ) (entries : List Entry) → AllUpTo n entries → AllUpTo n (filter p entries)
+AllUpTo-filter p n [] up_to = tt
+AllUpTo-filter p n (x ∷ xs) up_to = elim (p x) as (λ b. AllUpTo n (cond b (x ∷ filter p xs) (filter p xs))) [ true ↦ (up_to.0, AllUpTo-filter p n xs up_to.1) | false ↦ AllUpTo-filter p n xs up_to.1 ]
+
+-- and the identities rising
+pub IdentitiesRise-filter : (p : Entry → Bool) (entries : List Entry) → IdentitiesRise entries → IdentitiesRise (filter p entries)
+IdentitiesRise-filter p [] rises = tt
+IdentitiesRise-filter p (x ∷ xs) rises =
+    elim (p x) as (λ b. IdentitiesRise (cond b (x ∷ filter p xs) (filter p xs))) [ true ↦ (AllAbove-filter p x.identity xs rises.0, IdentitiesRise-filter p xs rises.1) | false ↦ IdentitiesRise-filter p xs rises.1 ]
+
+-- and all in use
+pub AllInUse-filter : (p : Entry → Bool) (entries : List Entry) → AllInUse entries → AllInUse (filter p entries)
+AllInUse-filter p [] used = tt
+AllInUse-filter p (x ∷ xs) used = elim (p x) as (λ b. AllInUse (cond b (x ∷ filter p xs) (filter p xs))) [ true ↦ (used.0, AllInUse-filter p xs used.1) | false ↦ AllInUse-filter p xs used.1 ]
+
+-- one more above n leaves all above n
+pub AllAbove-push : (n : ℕ) (entries : List Entry) (new : Entry) → AllAbove n entries → n < new.identity → AllAbove n (entries ++ new ∷ [])
+AllAbove-push n [] new above beyond = (beyond, tt)
+AllAbove-push n (x ∷ xs) new above beyond = (above.0, AllAbove-push n xs new above.1 beyond)
+
+-- the next one leaves all up to the next
+pub AllUpTo-push : (n : ℕ) (entries : List Entry) (new : Entry) → AllUpTo n entries → new.identity ≡ n + 1 → AllUpTo (n + 1) (entries ++ new ∷ [])
+AllUpTo-push n [] new up_to next = (omega (arith, next), tt)
+AllUpTo-push n (x ∷ xs) new up_to next = (let le : x.identity ≤ n = up_to.0 in omega (arith, le), AllUpTo-push n xs new up_to.1 next)
+
+-- and the identities rising
+pub IdentitiesRise-push : (n : ℕ) (entries : List Entry) (new : Entry) → IdentitiesRise entries → AllUpTo n entries → n < new.identity → IdentitiesRise (entries ++ new ∷ [])
+IdentitiesRise-push n [] new rises up_to beyond = (tt, tt)
+IdentitiesRise-push n (x ∷ xs) new rises up_to beyond =
+    (AllAbove-push x.identity xs new rises.0 (let le : x.identity ≤ n = up_to.0 in omega (arith, le, beyond)), IdentitiesRise-push n xs new rises.1 up_to.1 beyond)
+
+-- one more in use leaves all in use
+pub AllInUse-push : (entries : List Entry) (new : Entry) → AllInUse entries → is_in_use new ≡ true → AllInUse (entries ++ new ∷ [])
+AllInUse-push [] new used in_use = (in_use, tt)
+AllInUse-push (x ∷ xs) new used in_use = (used.0, AllInUse-push xs new used.1 in_use)
+
+-- one changed, which is in use still, leaves all in use
+pub AllInUse-change_key : (f : Entry → Entry) (k : ℕ) (entries : List Entry) → AllInUse entries → ((e : Entry) → entry_of k entries ≡ Some e → is_in_use e ≡ true → is_in_use (f e) ≡ true) → AllInUse (change_key identity_of k f entries)
+AllInUse-change_key f k [] used still = tt
+AllInUse-change_key f k (x ∷ xs) used still =
+    elim (x.identity == k) as (λ b. (x.identity == k) ≡ b → AllInUse (cond b (f x ∷ xs) (x ∷ change_key identity_of k f xs))) [
+      | true ↦ λ is. (still x (ap (λ b. cond b (Some x) (entry_of k xs)) is) used.0, used.1)
+      | false ↦ λ is. (used.0, AllInUse-change_key f k xs used.1 (λ e found in_use. still e (ap (λ b. cond b (Some x) (entry_of k xs)) is ∙ found) in_use))
+    ] refl
+
+-- ---- the sweep
+
+-- a test that passes by its first part
+or_more : (a b c : Bool) → (a || b) ≡ true → (a || b || c) ≡ true
+or_more true b c e = refl
+or_more false true c e = refl
+or_more false false c e = absurd (cc e)
+
+-- where all are in use the sweep takes none
+pub filter-stays : (t : ℤ) (entries : List Entry) → AllInUse entries → filter (stays t) entries ≡ entries
+filter-stays t [] used = refl
+filter-stays t (x ∷ xs) used =
+    ap (λ b. cond b (x ∷ filter (stays t) xs) (filter (stays t) xs)) (or_more (is_some x.making) (has_references x) _ used.0) ∙ ap (λ es. x ∷ es) (filter-stays t xs used.1)
+
+-- one reference more leaves references
+pub list_any-one_more : (counts : List ℕ) (c : ℕ) → list_any (λ n. not (n == 0)) counts ≡ true → list_any (λ n. not (n == 0)) (slice_set counts c (slice_index counts c + 1)) ≡ true
+list_any-one_more [] c any = any
+list_any-one_more (n ∷ ns) zero any = ap (λ b. not b || list_any (λ n. not (n == 0)) ns) (ne_eqb (n + 1) 0 (λ same. omega (arith, same)))
+list_any-one_more (n ∷ ns) (suc c) any =
+    elim (not (n == 0)) as (λ b. (b || list_any (λ n. not (n == 0)) ns) ≡ true → (b || list_any (λ n. not (n == 0)) (slice_set ns c (slice_index ns c + 1))) ≡ true) [
+      | true ↦ λ any. refl
+      | false ↦ λ any. list_any-one_more ns c any
+    ] any
+
+-- and of a client makes some
+pub list_any-first : (counts : List ℕ) (c : ℕ) → c < length counts → list_any (λ n. not (n == 0)) (slice_set counts c (slice_index counts c + 1)) ≡ true
+list_any-first [] c within = absurd (omega (arith, within))
+list_any-first (n ∷ ns) zero within = ap (λ b. not b || list_any (λ n. not (n == 0)) ns) (ne_eqb (n + 1) 0 (λ same. omega (arith, same)))
+list_any-first (n ∷ ns) (suc c) within = or_right (not (n == 0)) _ (list_any-first ns c (omega arith))
+
+-- an entry with a reference more is in use still
+pub is_in_use-referred : (c : ℕ) (e : Entry) → is_in_use e ≡ true → is_in_use (referred c e) ≡ true
+is_in_use-referred c e used =
+    elim (is_some e.making) as (λ b. (b || has_references e) ≡ true → (b || has_references (referred c e)) ≡ true) [
+      | true ↦ λ used. refl
+      | false ↦ λ used. list_any-one_more e.references c used
+    ] used

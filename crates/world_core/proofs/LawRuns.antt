@@ -1,0 +1,38 @@
+-- A run goes on by one label.
+use Rattle.std.proofs.Common.{◌≡◌, ◌+◌, List, [], ◌∷◌, ◌++◌, length, refl, sym, subst}
+use Rattle.std.proofs.lemmas.List.{length_push}
+use Rattle.run_labels.specs.declared.labels.Label.{Label}
+use Rattle.world_core.specs.Machine.{Machine, empty_cluster}
+use Rattle.world_core.specs.Steps.{IsDue, after}
+use Rattle.world_core.specs.Guards.{Allowed}
+use Rattle.world_core.specs.Runs.{last_from, last, IsRunFrom, IsRun, Counts}
+use Rattle.world_core.specs.Invariant.{Alone, Invariant}
+use Rattle.world_core.proofs.Law.{law, counts}
+
+-- the state after one label more
+pub last_from-push : (m : Machine) (log : List Label) (l : Label) → last_from m (log ++ l ∷ []) ≡ after (last_from m log) l
+last_from-push m [] l = refl
+last_from-push m (x ∷ log) l = last_from-push (after m x) log l
+
+-- the same from the empty cluster
+pub last-push : (log : List Label) (l : Label) → last (log ++ l ∷ []) ≡ after (last log) l
+last-push log l = last_from-push empty_cluster log l
+
+-- from any state, labels that may come go on by one that may come
+pub IsRunFrom-push : (m : Machine) (log : List Label) (l : Label) → IsRunFrom m log → Allowed (last_from m log) l → IsDue (last_from m log) l → IsRunFrom m (log ++ l ∷ [])
+IsRunFrom-push m [] l run allowed due = (allowed, due, tt)
+IsRunFrom-push m (x ∷ log) l run allowed due = (run.0, run.1, IsRunFrom-push (after m x) log l run.2 allowed due)
+
+-- a run of the machine goes on by a label that is allowed and due
+pub run_more : (log : List Label) (l : Label) → IsRun log → Allowed (last log) l → IsDue (last log) l → IsRun (log ++ l ∷ [])
+run_more log l run allowed due = IsRunFrom-push empty_cluster log l run allowed due
+
+-- a run with its invariant and its counts goes on by any label that is due with nobody else's call in hand
+pub run_goes_on : (log : List Label) (l : Label) → IsRun log → Invariant (last log) → Counts (last log) (length log) → Alone (last log) l → IsDue (last log) l
+    → IsRun (log ++ l ∷ []) × Invariant (last (log ++ l ∷ [])) × Counts (last (log ++ l ∷ [])) (length (log ++ l ∷ []))
+run_goes_on log l run inv few alone due =
+    let (allowed, after_it) = law (last log) l inv alone due in (
+      run_more log l run allowed due,
+      subst Invariant (sym (last-push log l)) after_it,
+      subst (λ n. Counts (last (log ++ l ∷ [])) n) (sym (length_push log l)) (subst (λ m. Counts m (length log + 1)) (sym (last-push log l)) (counts (last log) l (length log) inv due few)),
+    )

@@ -1,0 +1,188 @@
+-- The machine's maps, changed at one place.
+use Rattle.std.proofs.Common.{◌≡◌, ℕ, ◌<◌, Bool, true, false, List, [], refl, sym, ap, subst, ◌∙◌, cond, arith}
+use Rattle.std.specs.Prelude.{Option, Some, None, ◌==◌, ◌&&◌, slice_get, slice_set, slice_index}
+use Rattle.std.proofs.lemmas.Bool.{eqb-true, false≢true}
+use Rattle.ckpt_types.specs.declared.identities.ActorName.{ActorName}
+use Rattle.ckpt_types.specs.declared.identities.ActorName.TheVariants.{Client, Node}
+use Rattle.ckpt_types.specs.declared.identities.CallId.{CallId}
+use Rattle.ckpt_types.specs.declared.operation.Op.{Op}
+use Rattle.node_msgs.specs.declared.requests.Request.{Request}
+use Rattle.node_msgs.specs.declared.requests.Request.TheVariants.{Commit}
+use Rattle.world_core.specs.declared.hands.InHand.{InHand}
+use Rattle.world_core.specs.declared.record.Entry.{Entry}
+use Rattle.world_core.specs.declared.replica.Replica.{Replica}
+use Rattle.world_core.specs.declared.replica.Slot.{Slot}
+use Rattle.world_core.specs.Calls.{put_actor}
+use Rattle.world_core.specs.Places.{find_key, change_key, list_or, or_none, put, put2}
+use Rattle.world_core.specs.RecordState.{RecordState, entry_of, complete_of}
+use Rattle.world_core.specs.Serving.{replica_key, ckpt_of, replica_in, replica_after, committed, served}
+use Rattle.world_core.specs.Driving.{StepDone, Kept}
+use Rattle.world_core.specs.Machine.{Effect}
+use Rattle.world_core.specs.Shows.{History, shown_replica, shown_reservation, shown_hand, where_complete, where_not_complete, complete_replica, reserved_in, hand_at, hand_of, FitsReplica, FitsReserved, FitsHand}
+use Rattle.world_core.proofs.Places.{find_changed, get_set}
+
+-- ---- tests of places
+
+pub both_true : (j k q r : ℕ) → ((j == k) && (q == r)) ≡ true → (j ≡ k) × (q ≡ r)
+both_true j k q r e = by_tests (j == k) (q == r) refl refl e where
+  by_tests : (a b : Bool) → (j == k) ≡ a → (q == r) ≡ b → (a && b) ≡ true → (j ≡ k) × (q ≡ r)
+  by_tests true true f g e = (eqb-true j k f, eqb-true q r g)
+  by_tests true false f g e = absurd cc
+  by_tests false b f g e = absurd cc
+
+pub same_there : {X : Type 0} (b : Bool) (x y : X) → (b ≡ true → y ≡ x) → cond b x y ≡ y
+same_there true x y e = sym (e refl)
+same_there false x y e = refl
+
+-- what stands at a place already changes nothing there
+pub put2_same : {X : Type 0} (f : ℕ → ℕ → X) (k r : ℕ) (x : X) → f k r ≡ x → put2 f k r x ≡ f
+put2_same f k r x is =
+    let one = λ (j q : ℕ). same_there ((j == k) && (q == r)) x (f j q) (λ e. let s = both_true j k q r e in ap (λ (y : ℕ × ℕ). f y.0 y.1) (λ i. (s.0 i, s.1 i)) ∙ is) in
+    λ i j q. one j q i
+
+-- ---- the nodes, changed at one
+
+pub slice_there : {X : Type 0} (o : Option (List X)) (f : List X → Option X) (x : X) → f [] ≡ None → f (list_or o) ≡ Some x → (xs : List X) × (o ≡ Some xs)
+slice_there None f x none e = let s : None ≡ Some x = sym none ∙ e in absurd cc
+slice_there (Some xs) f x none e = (xs, refl)
+
+pub node_case : {X : Type 0} (a b : Bool) (y : Option X) (f : List X → Option X) (xs new : List X) (o : Option (List X)) → (b ≡ true → list_or o ≡ xs) → f new ≡ cond a y (f xs) →
+    f (list_or (cond b (Some new) o)) ≡ cond (a && b) y (f (list_or o))
+node_case true true y f xs new o s e = e
+node_case false true y f xs new o s e = e ∙ ap f (sym (s refl))
+node_case true false y f xs new o s e = refl
+node_case false false y f xs new o s e = refl
+
+after_key : (request : Request) (op : Op) (x : Replica) → replica_key (replica_after request op x) ≡ replica_key x
+after_key (Commit call k) op x = by_slot x.slot where
+  by_slot : (o : Option Slot) → replica_key (committed x o) ≡ replica_key x
+  by_slot None = refl
+  by_slot (Some slot) = refl
+after_key request op x = refl
+
+-- after a request to one node, the replica of each checkpoint on each node
+pub served_at : (nodes : List (List Replica)) (r : ℕ) (request : Request) (op : Op) (x : Replica) → replica_in nodes (ckpt_of request) r ≡ Some x →
+    (j q : ℕ) → replica_in (served nodes r request op) j q ≡ cond ((j == ckpt_of request) && (q == r)) (Some (replica_after request op x)) (replica_in nodes j q)
+served_at nodes r request op x is j q =
+    let there = slice_there (slice_get nodes r) (find_key replica_key (ckpt_of request)) x refl is in
+    let xs = there.0 in
+    let at : find_key replica_key (ckpt_of request) xs ≡ Some x = ap (λ o. find_key replica_key (ckpt_of request) (list_or o)) (sym there.1) ∙ is in
+    let new = change_key replica_key (ckpt_of request) (replica_after request op) xs in
+    let set : served nodes r request op ≡ slice_set nodes r new = ap (λ o. slice_set nodes r (change_key replica_key (ckpt_of request) (replica_after request op) (list_or o))) there.1 in
+    let got : slice_get (slice_set nodes r new) q ≡ cond (q == r) (Some new) (slice_get nodes q) = get_set nodes r new xs q there.1 in
+    ap (λ ns. replica_in ns j q) set ∙ ap (λ o. find_key replica_key j (list_or o)) got
+    ∙ node_case (j == ckpt_of request) (q == r) (Some (replica_after request op x)) (find_key replica_key j) xs new (slice_get nodes q)
+    (λ e. ap (λ q. list_or (slice_get nodes q)) (eqb-true q r e) ∙ ap list_or there.1)
+    (find_changed replica_key (ckpt_of request) (replica_after request op) (after_key request op) xs x j at)
+
+-- ---- the replicas, changed at one place where the node is complete
+
+complete_case : (b : Bool) (c : ℕ) (y o : Option Replica) → (b ≡ true → (c == 0) ≡ false) → where_complete c (cond b y o) ≡ cond b y (where_complete c o)
+complete_case true c y o e = let h = e refl in rw h refl
+complete_case false c y o e = refl
+
+complete_there : (R : RecordState) (k r j q : ℕ) → (slice_index (complete_of (entry_of k R.entries)) r == 0) ≡ false → ((j == k) && (q == r)) ≡ true → (slice_index (complete_of (entry_of j R.entries)) q == 0) ≡ false
+complete_there R k r j q complete e = let s = both_true j k q r e in subst (λ (y : ℕ × ℕ). (slice_index (complete_of (entry_of y.0 R.entries)) y.1 == 0) ≡ false) (λ i. (sym s.0 i, sym s.1 i)) complete
+
+-- the complete replicas, where the nodes have another one at one place
+pub complete_at : (R : RecordState) (nodes new : List (List Replica)) (k r : ℕ) (x : Replica) → ((j q : ℕ) → replica_in new j q ≡ cond ((j == k) && (q == r)) (Some x) (replica_in nodes j q)) → (slice_index (complete_of (entry_of k R.entries)) r == 0) ≡ false →
+    (j q : ℕ) → complete_replica R new j q ≡ cond ((j == k) && (q == r)) (Some x) (complete_replica R nodes j q)
+complete_at R nodes new k r x at complete j q =
+    ap (where_complete (slice_index (complete_of (entry_of j R.entries)) q)) (at j q)
+    ∙ complete_case ((j == k) && (q == r)) (slice_index (complete_of (entry_of j R.entries)) q) (Some x) (replica_in nodes j q) (complete_there R k r j q complete)
+
+shown_case : (b : Bool) (E F : List Effect) (o p : CallId) (x : Replica) (y : Option Replica) → cond b (shown_replica E o (Some x)) (shown_replica F p y) ≡ shown_replica (cond b E F) (cond b o p) (cond b (Some x) y)
+shown_case true E F o p x y = refl
+shown_case false E F o p x y = refl
+
+-- the machine's replicas, changed at one place
+pub put_replica : (effects : ℕ → ℕ → List Effect) (origins : ℕ → ℕ → CallId) (old new : ℕ → ℕ → Option Replica) (k r : ℕ) (E : List Effect) (o : CallId) (x : Replica) → ((j q : ℕ) → new j q ≡ cond ((j == k) && (q == r)) (Some x) (old j q)) →
+    put2 (λ j q. shown_replica (effects j q) (origins j q) (old j q)) k r (shown_replica E o (Some x)) ≡ (λ j q. shown_replica (put2 effects k r E j q) (put2 origins k r o j q) (new j q))
+put_replica effects origins old new k r E o x same =
+    let one : (j q : ℕ) → put2 (λ j q. shown_replica (effects j q) (origins j q) (old j q)) k r (shown_replica E o (Some x)) j q ≡ shown_replica (put2 effects k r E j q) (put2 origins k r o j q) (new j q)
+    = λ j q. shown_case ((j == k) && (q == r)) E (effects j q) o (origins j q) x (old j q) ∙ ap (shown_replica (put2 effects k r E j q) (put2 origins k r o j q)) (sym (same j q)) in
+    λ i j q. one j q i
+
+fits_case : (b : Bool) (k j : ℕ) (e f : Option Entry) (E F : List Effect) (x : Replica) (y : Option Replica) → (b ≡ true → (j ≡ k) × (f ≡ e)) → FitsReplica k e E (Some x) → FitsReplica j f F y → FitsReplica j f (cond b E F) (cond b (Some x) y)
+fits_case true k j e f E F x y s h g = let t = s refl in subst (λ (z : ℕ × Option Entry). FitsReplica z.0 z.1 E (Some x)) (λ i. (sym t.0 i, sym t.1 i)) h
+fits_case false k j e f E F x y s h g = g
+
+-- and how they fit
+pub fits_replica : (R : RecordState) (effects : ℕ → ℕ → List Effect) (old new : ℕ → ℕ → Option Replica) (k r : ℕ) (E : List Effect) (x : Replica) → ((j q : ℕ) → new j q ≡ cond ((j == k) && (q == r)) (Some x) (old j q)) →
+    FitsReplica k (entry_of k R.entries) E (Some x) → ((j q : ℕ) → FitsReplica j (entry_of j R.entries) (effects j q) (old j q)) → (j q : ℕ) → FitsReplica j (entry_of j R.entries) (put2 effects k r E j q) (new j q)
+fits_replica R effects old new k r E x same one all j q =
+    subst (FitsReplica j (entry_of j R.entries) (put2 effects k r E j q)) (sym (same j q))
+    (fits_case ((j == k) && (q == r)) k j (entry_of k R.entries) (entry_of j R.entries) E (effects j q) x (old j q) (λ e. let s = (both_true j k q r e).0 in (s, ap (λ j. entry_of j R.entries) s)) one (all j q))
+
+-- ---- the reservations: a complete node has none, and needs none
+
+reservation_case : (u : ℕ) (b : Bool) (y x : Replica) (o : Option Replica) → (b ≡ true → o ≡ Some x) → shown_reservation u (cond b (Some y) o) ≡ shown_reservation u o
+reservation_case u true y x o s = sym (ap (shown_reservation u) (s refl))
+reservation_case u false y x o s = refl
+
+-- the machine's reservations stay where a replica takes the place of another
+pub reserved_same : (R : RecordState) (nodes new : List (List Replica)) (k r : ℕ) (y x : Replica) → replica_in nodes k r ≡ Some x → ((j q : ℕ) → replica_in new j q ≡ cond ((j == k) && (q == r)) (Some y) (replica_in nodes j q)) →
+    (j q : ℕ) → reserved_in R nodes j q ≡ reserved_in R new j q
+reserved_same R nodes new k r y x is at j q =
+    let there = λ (e : ((j == k) && (q == r)) ≡ true). let s = both_true j k q r e in ap (λ (z : ℕ × ℕ). replica_in nodes z.0 z.1) (λ i. (s.0 i, s.1 i)) ∙ is in
+    ap (where_not_complete (entry_of j R.entries) q) (sym (reservation_case (slice_index R.up q) ((j == k) && (q == r)) y x (replica_in nodes j q) there) ∙ ap (shown_reservation (slice_index R.up q)) (sym (at j q)))
+
+-- a complete node has reserved nothing
+pub none_reserved : (k : ℕ) (e : Option Entry) (r : ℕ) (x : Option Replica) → (slice_index (complete_of e) r == 0) ≡ false → FitsReserved k e r x
+none_reserved k None r x h = tt
+none_reserved k (Some e) r x h = λ z. absurd (false≢true (sym h ∙ ap (λ n. n == 0) z))
+
+pub fits_reserved_case : (b : Bool) (k : ℕ) (e : Option Entry) (r : ℕ) (x : Replica) (o : Option Replica) → (b ≡ true → FitsReserved k e r (Some x)) → FitsReserved k e r o → FitsReserved k e r (cond b (Some x) o)
+fits_reserved_case true k e r x o h g = h refl
+fits_reserved_case false k e r x o h g = g
+
+-- what is reserved still fits where a complete node has another replica
+pub fits_reserved : (R : RecordState) (nodes new : List (List Replica)) (k r : ℕ) (x : Replica) → ((j q : ℕ) → replica_in new j q ≡ cond ((j == k) && (q == r)) (Some x) (replica_in nodes j q)) → (slice_index (complete_of (entry_of k R.entries)) r == 0) ≡ false →
+    ((j q : ℕ) → FitsReserved j (entry_of j R.entries) q (replica_in nodes j q)) → (j q : ℕ) → FitsReserved j (entry_of j R.entries) q (replica_in new j q)
+fits_reserved R nodes new k r x at complete all j q =
+    subst (FitsReserved j (entry_of j R.entries) q) (sym (at j q))
+    (fits_reserved_case ((j == k) && (q == r)) j (entry_of j R.entries) q x (replica_in nodes j q) (λ e. none_reserved j (entry_of j R.entries) q (Some x) (complete_there R k r j q complete e)) (all j q))
+
+fresh_case : (b : Bool) (x : Replica) (o : Option Replica) → (b ≡ true → ⊥) → o ≡ None → cond b (Some x) o ≡ None
+fresh_case true x o never none = absurd (never refl)
+fresh_case false x o never none = none
+
+-- of checkpoints above the last no node has a replica, where the one that is put is not above
+pub fits_fresh : (last : ℕ) (nodes new : List (List Replica)) (k r : ℕ) (x : Replica) → ((j q : ℕ) → replica_in new j q ≡ cond ((j == k) && (q == r)) (Some x) (replica_in nodes j q)) → (last < k → ⊥) → ((j q : ℕ) → last < j → replica_in nodes j q ≡ None) →
+    (j q : ℕ) → last < j → replica_in new j q ≡ None
+fits_fresh last nodes new k r x at there all j q above =
+    at j q ∙ fresh_case ((j == k) && (q == r)) x (replica_in nodes j q) (λ e. let s : j ≡ k = (both_true j k q r e).0 in there (omega (arith, above, s))) (all j q above)
+
+-- ---- the calls in hand
+
+there_is : (o : Option (Option InHand)) (h : InHand) → or_none o ≡ Some h → (p : Option InHand) × (o ≡ Some p)
+there_is None h e = absurd cc
+there_is (Some p) h e = (p, refl)
+
+none_case : (b : Bool) (p : Option InHand) (o : Option (Option InHand)) → or_none (cond b (Some p) o) ≡ cond b p (or_none o)
+none_case true p o = refl
+none_case false p o = refl
+
+pub hand_set : (hands : List (Option InHand)) (c : ℕ) (h : InHand) (p : Option InHand) → hand_at hands c ≡ Some h → (d : ℕ) → hand_at (slice_set hands c p) d ≡ cond (d == c) p (hand_at hands d)
+hand_set hands c h p is d = let t = there_is (slice_get hands c) h is in ap or_none (get_set hands c p t.0 d t.1) ∙ none_case (d == c) p (slice_get hands d)
+
+hand_case : (b : Bool) (k l : Kept) (new old : List StepDone) (p o : Option InHand) → (b ≡ true → k ≡ l) → cond b (shown_hand l new p) (shown_hand k old o) ≡ shown_hand k (cond b new old) (cond b p o)
+hand_case true k l new old p o e = ap (λ k. shown_hand k new p) (sym (e refl))
+hand_case false k l new old p o e = refl
+
+-- the calls in hand, where client c's is another now
+pub put_hand : (h : History) (hands : List (Option InHand)) (c : ℕ) (old : InHand) (p : Option InHand) (new : List StepDone) → hand_at hands c ≡ Some old →
+    (a : ActorName) → put_actor (hand_of h hands) (Client c) (shown_hand (h.kept c) new p) a ≡ hand_of (record h { steps = put h.steps c new }) (slice_set hands c p) a
+put_hand h hands c old p new is (Client d) = hand_case (d == c) (h.kept d) (h.kept c) new (h.steps d) p (hand_at hands d) (λ e. ap h.kept (eqb-true d c e)) ∙ ap (shown_hand (h.kept d) (put h.steps c new d)) (sym (hand_set hands c old p is d))
+put_hand h hands c old p new is (Node r) = refl
+
+fits_hand_case : (b : Bool) (k l : Kept) (new old : List StepDone) (p o : Option InHand) → (b ≡ true → k ≡ l) → FitsHand l new p → FitsHand k old o → FitsHand k (cond b new old) (cond b p o)
+fits_hand_case true k l new old p o e h g = subst (λ (k : Kept). FitsHand k new p) (sym (e refl)) h
+fits_hand_case false k l new old p o e h g = g
+
+-- and how they fit
+pub fits_hand : (h : History) (hands : List (Option InHand)) (c : ℕ) (old : InHand) (p : Option InHand) (new : List StepDone) → hand_at hands c ≡ Some old →
+    FitsHand (h.kept c) new p → ((d : ℕ) → FitsHand (h.kept d) (h.steps d) (hand_at hands d)) → (d : ℕ) → FitsHand (h.kept d) (put h.steps c new d) (hand_at (slice_set hands c p) d)
+fits_hand h hands c old p new is one all d =
+    subst (FitsHand (h.kept d) (put h.steps c new d)) (sym (hand_set hands c old p is d))
+    (fits_hand_case (d == c) (h.kept d) (h.kept c) new (h.steps d) p (hand_at hands d) (λ e. ap h.kept (eqb-true d c e)) one (all d))

@@ -1,0 +1,89 @@
+-- A new world shows the empty cluster.
+use Rattle.std.proofs.Common.{◌≡◌, ℕ, zero, suc, [], refl, sym, ap, subst, ◌∙◌}
+use Rattle.std.specs.Prelude.{Option, Some, None, ◌==◌, replicate, slice_get, slice_index, if◌then◌else◌}
+use Rattle.ckpt_types.specs.declared.identities.ActorName.{ActorName}
+use Rattle.ckpt_types.specs.declared.identities.ActorName.TheVariants.{Client, Node}
+use Rattle.world_core.specs.declared.world.World.{World}
+use Rattle.world_core.specs.RecordState.{RecordState, entry_of}
+use Rattle.world_core.specs.TableState.{TableState}
+use Rattle.world_core.specs.Serving.{replica_in}
+use Rattle.world_core.specs.Machine.{empty_cluster}
+use Rattle.world_core.specs.Shows.{History, Shows, Fits, FitsReplica, FitsReserved, FitsHand, machine_of, complete_replica, handles_in, hand_of, next_of, place_in, reserved_in, shown_hand, shown_replica, where_complete}
+use Rattle.world_core.specs.Invariant.{Invariant}
+use Rattle.world_core.specs.Runs.{IsNew, IsRunTo}
+use Rattle.world_core.proofs.Law.{counts_empty}
+use Rattle.world_core.proofs.Recording.{zero_there}
+
+-- nodes without replicas have none
+none_there : (k r : ℕ) → replica_in (replicate 8 []) k r ≡ None
+none_there k zero = refl
+none_there k (suc zero) = refl
+none_there k (suc (suc zero)) = refl
+none_there k (suc (suc (suc zero))) = refl
+none_there k (suc (suc (suc (suc zero)))) = refl
+none_there k (suc (suc (suc (suc (suc zero))))) = refl
+none_there k (suc (suc (suc (suc (suc (suc zero)))))) = refl
+none_there k (suc (suc (suc (suc (suc (suc (suc zero))))))) = refl
+none_there k (suc (suc (suc (suc (suc (suc (suc (suc r)))))))) = refl
+
+abbrev nothing : History
+nothing = record {
+  effects = λ k r. [];
+  origins = λ k r. record { actor = Client 0; number = 0 };
+  kept = λ c. record { ckpt = None; node = 0 };
+  steps = λ c. [];
+}
+
+no_handles : (o : Option TableState) → ((t : TableState) → o ≡ Some t → (t.handles ≡ []) × ((p : ℕ) → slice_index t.places p ≡ 0)) → [] ≡ handles_in o
+no_handles None new = refl
+no_handles (Some t) new = sym (new t refl).0
+
+no_place : (o : Option TableState) (p : ℕ) → ((t : TableState) → o ≡ Some t → (t.handles ≡ []) × ((p : ℕ) → slice_index t.places p ≡ 0)) → None ≡ place_in o p
+no_place None p new = refl
+no_place (Some t) p new = sym (ap (λ (n : ℕ). if n == 0 then None else Some n) ((new t refl).1 p))
+
+module _ (w : World) (new : IsNew w) where
+  no_replica : (k r : ℕ) → complete_replica w.cluster w.nodes k r ≡ None
+  no_replica k r = ap (λ R. complete_replica R w.nodes k r) new.cluster ∙ ap (λ (n : ℕ). where_complete n (replica_in w.nodes k r)) (zero_there r)
+
+  nexts : (a : ActorName) → 1 ≡ next_of w.tables a
+  nexts (Client c) = sym (new.next c)
+  nexts (Node r) = refl
+
+  hands : (a : ActorName) → None ≡ hand_of nothing w.hands a
+  hands (Client c) = sym (ap (shown_hand (record { ckpt = None; node = 0 }) []) (new.hands c))
+  hands (Node r) = refl
+
+  shows_nothing : empty_cluster ≡ machine_of w nothing
+  shows_nothing =
+      let replicas = λ (k r : ℕ). sym (ap (shown_replica [] (record { actor = Client 0; number = 0 })) (no_replica k r)) in
+      let reserved = λ (k r : ℕ). sym (ap (λ R. reserved_in R w.nodes k r) new.cluster) in
+      λ i. record {
+        cluster = sym new.cluster i;
+        replicas = λ k r. replicas k r i;
+        reserved = λ k r. reserved k r i;
+        snapshots = λ k. None;
+        handles = λ c. no_handles (slice_get w.tables c) (new.tables c) i;
+        places = λ c p. no_place (slice_get w.tables c) p (new.tables c) i;
+        iterations = λ c p. None;
+        pending = λ c. [];
+        next = λ a. nexts a i;
+        in_hand = λ a. hands a i;
+        operations = λ call. None;
+      }
+
+  fits_nothing : Fits w nothing
+  fits_nothing = record {
+    replicas = λ k r. subst (FitsReplica k (entry_of k w.cluster.entries) []) (sym (no_replica k r)) tt;
+    reserved = λ k r. subst (λ (R : RecordState). FitsReserved k (entry_of k R.entries) r (replica_in w.nodes k r)) (sym new.cluster) tt;
+    fresh = λ k r above. ap (λ nodes. replica_in nodes k r) new.nodes ∙ none_there k r;
+    hands = λ c. subst (FitsHand (record { ckpt = None; node = 0 }) []) (sym (new.hands c)) tt;
+  }
+
+  -- a new world shows the empty cluster
+  pub new_shows : Shows w empty_cluster
+  new_shows = record { history = nothing; same = shows_nothing; fits = fits_nothing }
+
+-- no label yet is a run to it, where the invariant holds of the empty cluster
+pub new_run : (w : World) → Invariant empty_cluster → IsNew w → IsRunTo w []
+new_run w invariant new = record { run = tt; shows = new_shows w new; invariant = invariant; counts = counts_empty }

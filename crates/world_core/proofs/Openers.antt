@@ -1,0 +1,196 @@
+-- An open's driver is of an open of its client, and asks for a handle only where there is room: laws of the definitions.
+use Rattle.std.proofs.Common.{◌≡◌, ℕ, ℤ, ◌<◌, Bool, true, false, List, [], ◌∷◌, refl, sym, ap, subst, ◌∙◌, cond}
+use Rattle.std.specs.Prelude.{Option, Some, None, IsSomeAnd, not, nat_le, length}
+use Rattle.ckpt_types.specs.declared.answers.Outcome.{Outcome}
+use Rattle.ckpt_types.specs.declared.attributes.CreationAttributes.{CreationAttributes}
+use Rattle.ckpt_types.specs.declared.calls.OpenAsk.{OpenAsk}
+use Rattle.ckpt_types.specs.declared.identities.CallId.{CallId}
+use Rattle.ckpt_types.specs.declared.operation.Op.{Op}
+use Rattle.ckpt_types.specs.declared.operation.Op.TheVariants as ops
+use Rattle.node_msgs.specs.declared.next.RecordStep.{RecordStep}
+use Rattle.node_msgs.specs.declared.next.RecordStep.TheVariants as events
+use Rattle.node_msgs.specs.declared.next.Next.{Next}
+use Rattle.node_msgs.specs.declared.next.Next.TheVariants.{Event, End}
+use Rattle.run_labels.specs.declared.words.Verb.{Verb}
+use Rattle.run_labels.specs.declared.words.Verb.TheVariants as verbs
+use Rattle.run_labels.specs.declared.labels.StepReply.{StepReply}
+use Rattle.run_labels.specs.declared.labels.StepReply.TheVariants as words
+use Rattle.world_core.specs.declared.drivers.Driver.{Driver}
+use Rattle.world_core.specs.declared.drivers.Driver.TheVariants as drivers
+use Rattle.world_core.specs.declared.hands.InHand.{InHand}
+use Rattle.world_core.specs.declared.open_call.Making.{Making}
+use Rattle.world_core.specs.declared.open_call.OpenCall.{OpenCall}
+use Rattle.world_core.specs.declared.reading.ActiveCall.{ActiveCall}
+use Rattle.world_core.specs.declared.record.Entry.{Entry}
+use Rattle.world_core.specs.declared.update_call.UpdateCall.{UpdateCall}
+use Rattle.world_core.specs.declared.update_call.UpdatePhase.{UpdatePhase}
+use Rattle.world_core.specs.declared.update_call.UpdatePhase.TheVariants.{Staging, Committing}
+use Rattle.world_core.specs.declared.world.World.{World}
+use Rattle.world_core.specs.Calls.{number_of, client_of}
+use Rattle.world_core.specs.RecordState.{RecordState, entry_of, named}
+use Rattle.world_core.specs.Driving.{StepDone, Kept, first_lacking, last_having, accepts, on_named, reserve_or_finish, by_making, create_taken, reserve_taken, with_making, open_taken_by, commit_at, by_phase, update_on, on_active, active_on, on_kept, driver_start, driver_state, driver_taken, driver_next, event_ckpt, identity_in, making_ckpt}
+use Rattle.world_core.specs.Beginning.{opened_place, IsBuilt}
+use Rattle.world_core.specs.Shows.{IsShown, Facts, hand_at}
+use Rattle.world_core.proofs.Held.{driver_is, actor_is}
+use Rattle.world_core.proofs.RecordEvent.{EventNeeds, GivesHandle}
+
+-- ---- whose an open is
+
+-- the driver of an open is of the call's client, and the operation names a place
+pub record IsOpener (call : CallId) (op : Op) (o : OpenCall) : Type 0 where
+  pub call_is : o.call ≡ call
+  pub client : o.ask.client ≡ client_of call
+  pub place : IsSomeAnd (opened_place op) (λ p. Unit {0})
+
+abbrev Opens : CallId → Op → Driver → Type 0
+Opens call op (drivers.Open o) = IsOpener call op o
+Opens call op driver = Unit {0}
+
+record Same (o p : OpenCall) : Type 0 where
+  call : p.call ≡ o.call
+  ask : p.ask ≡ o.ask
+
+making_same : (o : OpenCall) (m : Option Making) (change : Making → Making) → Same o (with_making o m change)
+making_same o None change = record { call = refl; ask = refl }
+making_same o (Some m) change = record { call = refl; ask = refl }
+
+create_same : (d : StepDone) (o : OpenCall) (reply : StepReply) → Same o (create_taken d o reply)
+create_same d o words.Ok = record { call = refl; ask = refl }
+create_same d o reply = record { call = refl; ask = refl }
+
+reserve_same : (d : StepDone) (o : OpenCall) (reply : StepReply) → Same o (reserve_taken d o reply)
+reserve_same d o words.Ok = making_same o o.making _
+reserve_same d o words.Memory = making_same o o.making _
+reserve_same d o reply = record { call = refl; ask = refl }
+
+taken_same : (d : StepDone) (o : OpenCall) (verb : Verb) → Same o (open_taken_by d o verb)
+taken_same d o verbs.Create = create_same d o d.reply
+taken_same d o verbs.Reserve = reserve_same d o d.reply
+taken_same d o verb = record { call = refl; ask = refl }
+
+opens_kept : (call : CallId) (op : Op) (o : Option ℕ) (start : ℕ → Driver) → ((k : ℕ) → Opens call op (start k)) → Opens call op (on_kept o start)
+opens_kept call op None start h = tt
+opens_kept call op (Some k) start h = h k
+
+opens_start : (call : CallId) (op : Op) (kept : Kept) → Opens call op (driver_start call op kept)
+opens_start call (ops.Open place name flags timeout a) kept = record { call_is = refl; client = refl; place = tt }
+opens_start call (ops.Write place update) kept = opens_kept call (ops.Write place update) kept.ckpt _ (λ k. tt)
+opens_start call (ops.Read place elements) kept = opens_kept call (ops.Read place elements) kept.ckpt _ (λ k. tt)
+opens_start call op kept = tt
+
+opens_taken : (call : CallId) (op : Op) (d : StepDone) (x : Driver) → Opens call op x → Opens call op (driver_taken d x)
+opens_taken call op d (drivers.Open o) h = let s = taken_same d o d.verb in record { call_is = s.call ∙ h.call_is; client = ap (λ (ask : OpenAsk). ask.client) s.ask ∙ h.client; place = h.place }
+opens_taken call op d x h = tt
+
+opens_steps : (call : CallId) (op : Op) (kept : Kept) (steps : List StepDone) → Opens call op (driver_state call op kept steps)
+opens_steps call op kept [] = opens_start call op kept
+opens_steps call op kept (d ∷ steps) = opens_taken call op d (driver_state call op kept steps) (opens_steps call op kept steps)
+
+module _ (w : World) (c : ℕ) (hand : InHand) (held : hand_at w.hands c ≡ Some hand) (shown : IsShown w) where
+  opens_hand : Opens hand.call hand.op hand.driver
+  opens_hand = let h = shown.shows.history in subst (Opens hand.call hand.op) (sym (driver_is w h c hand held shown.shows.fits)) (opens_steps hand.call hand.op (h.kept c) (h.steps c))
+
+  -- the driver of an open in hand is of that open
+  pub opener_is : (o : OpenCall) → hand.driver ≡ drivers.Open o → IsOpener hand.call hand.op o
+  opener_is o is = subst (Opens hand.call hand.op) is opens_hand
+
+  -- and asks for its client
+  pub asks_for : (o : OpenCall) → hand.driver ≡ drivers.Open o → o.ask.client ≡ c
+  asks_for o is = (opener_is o is).client ∙ ap number_of (actor_is w shown.shows.history c hand held (subst Facts shown.shows.same shown.facts))
+
+  place_of : (step : RecordStep) (x : Driver) → GivesHandle step → EventNeeds w.cluster x step → Opens hand.call hand.op x → IsSomeAnd (opened_place hand.op) (λ p. Unit {0})
+  place_of events.Open (drivers.Open o) gives needs opens = opens.place
+  place_of events.Finish (drivers.Open o) gives needs opens = opens.place
+  place_of events.Open x gives needs opens = absurd needs
+  place_of events.Finish x gives needs opens = absurd needs
+  place_of step x gives needs opens = absurd gives
+
+  -- where a step gives a handle, the operation names the place for it
+  pub place_there : (step : RecordStep) → GivesHandle step → EventNeeds w.cluster hand.driver step → IsSomeAnd (opened_place hand.op) (λ p. Unit {0})
+  place_there step gives needs = place_of step hand.driver gives needs opens_hand
+
+-- and there is the checkpoint that it is for
+pub ckpt_there : (R : RecordState) (step : RecordStep) (x : Driver) → GivesHandle step → EventNeeds R x step → IsSomeAnd (event_ckpt R x step) (λ k. Unit {0})
+ckpt_there R events.Open (drivers.Open o) gives needs = by_name (named o.ask.name R.entries) needs where
+  by_name : (e : Option Entry) → IsSomeAnd e (λ e. Unit {0}) → IsSomeAnd (identity_in e) (λ k. Unit {0})
+  by_name None h = absurd h
+  by_name (Some e) h = tt
+ckpt_there R events.Finish (drivers.Open o) gives needs = by_making o.making needs where
+  by_making : (m : Option Making) → IsSomeAnd m (λ making. IsSomeAnd (entry_of making.ckpt R.entries) (λ e. Unit {0})) → IsSomeAnd (making_ckpt m) (λ k. Unit {0})
+  by_making None h = absurd h
+  by_making (Some m) h = tt
+ckpt_there R events.Open x gives needs = absurd needs
+ckpt_there R events.Finish x gives needs = absurd needs
+ckpt_there R step x gives needs = absurd gives
+
+-- the place that an operation that is built names is one of 100
+pub place_within : (op : Op) (place : ℕ) → IsBuilt op → opened_place op ≡ Some place → place < 100
+place_within (ops.Open p name flags timeout a) place built is = let s : p ≡ place = cc in subst (λ (p : ℕ). p < 100) s built.0
+place_within op place built is = absurd (cc is)
+
+-- ---- where a call opens, or begins a making, there is room for a handle
+
+-- a next step that asks for room is due only where there is some
+abbrev HasRoomFor : Bool → Next → Type 0
+HasRoomFor room (Event events.Open) = room ≡ true
+HasRoomFor room (Event events.Create) = room ≡ true
+HasRoomFor room next = Unit {0}
+
+room_create : (room b : Bool) (x y : Outcome) → HasRoomFor room (cond (not room) (End x) (cond b (End y) (Event events.Create)))
+room_create true true x y = tt
+room_create true false x y = refl
+room_create false b x y = tt
+
+room_open : (b room : Bool) (x y : Outcome) → HasRoomFor room (cond b (End x) (cond (not room) (End y) (Event events.Open)))
+room_open true room x y = tt
+room_open false true x y = refl
+room_open false false x y = tt
+
+room_named : (R : RecordState) (room : Bool) (a : Option CreationAttributes) (e : Option Entry) → HasRoomFor room (on_named R room a e)
+room_named R room None None = tt
+room_named R room (Some a) None = room_create room (nat_le 16 (length R.entries)) _ _
+room_named R room a (Some e) = room_open (not (accepts a e)) room _ _
+
+room_making : (R : RecordState) (room : Bool) (o : OpenCall) (m : Option Making) → HasRoomFor room (by_making R room o m)
+room_making R room o None = room_named R room o.ask.attrs (named o.ask.name R.entries)
+room_making R room o (Some m) = by_test m.refused (first_lacking 0 R.up m.reserved) where
+  by_test : (b : Bool) (r : Option ℕ) → HasRoomFor room (cond b (Event events.Undo) (reserve_or_finish m.ckpt r))
+  by_test true r = tt
+  by_test false None = tt
+  by_test false (Some r) = tt
+
+room_commit : (room : Bool) (u : UpdateCall) (last : Option ℕ) → HasRoomFor room (commit_at u last)
+room_commit room u None = tt
+room_commit room u (Some r) = tt
+
+room_phase : (room : Bool) (u : UpdateCall) (now : ℤ) (first last : Option ℕ) (phase : UpdatePhase) → HasRoomFor room (by_phase u now first last phase)
+room_phase room u now (Some r) last Staging = tt
+room_phase room u now None last Staging = room_commit room u last
+room_phase room u now first last Committing = room_commit room u last
+
+room_update : (room : Bool) (u : UpdateCall) (now : ℤ) (e : Option Entry) → HasRoomFor room (update_on u now e)
+room_update room u now None = tt
+room_update room u now (Some e) = room_phase room u now (first_lacking 0 e.complete u.owned) (last_having 0 e.complete u.owned) u.phase
+
+room_active : (room : Bool) (a : ActiveCall) (e : Option Entry) → HasRoomFor room (active_on a e)
+room_active room a None = tt
+room_active room a (Some e) = at e.active where
+  at : (r : Option ℕ) → HasRoomFor room (on_active a r)
+  at None = tt
+  at (Some r) = tt
+
+room_enter : (room b : Bool) (x : Outcome) → HasRoomFor room (cond b (End x) (Event events.Enter))
+room_enter room true x = tt
+room_enter room false x = tt
+
+room_next : (R : RecordState) (room : Bool) (x : Driver) → HasRoomFor room (driver_next R room x)
+room_next R room (drivers.Enter r) = room_enter room (nat_le 64 (length R.clients)) _
+room_next R room (drivers.Open o) = room_making R room o o.making
+room_next R room (drivers.Update u) = room_update room u R.moment (entry_of u.ckpt R.entries)
+room_next R room (drivers.Active a) = room_active room a (entry_of a.ckpt R.entries)
+
+pub open_room : (R : RecordState) (room : Bool) (x : Driver) → driver_next R room x ≡ Event events.Open → room ≡ true
+open_room R room x e = subst (HasRoomFor room) e (room_next R room x)
+
+pub create_room : (R : RecordState) (room : Bool) (x : Driver) → driver_next R room x ≡ Event events.Create → room ≡ true
+create_room R room x e = subst (HasRoomFor room) e (room_next R room x)

@@ -1,0 +1,170 @@
+-- A run goes on by one label, and what the code may rely on in the world after it.
+use Rattle.std.proofs.Common.{◌≡◌, ℕ, ◌+◌, ◌*◌, ◌-◌, ◌<◌, ◌≤◌, ◌^◌, inl, inr, List, [], ◌∷◌, ◌++◌, length, Option, Some, None, Bool, true, false, cond, not, ◌&&◌, refl, sym, ap, subst, ◌∙◌, arith}
+use Rattle.std.specs.Prelude.{◌==◌}
+use Rattle.std.proofs.lemmas.Bool.{eq-eqb}
+use Rattle.std.proofs.lemmas.Option.{same_Some}
+use Rattle.ckpt_types.specs.declared.answers.Outcome.{Outcome}
+use Rattle.ckpt_types.specs.declared.identities.ActorName.TheVariants.{Client}
+use Rattle.ckpt_types.specs.declared.identities.CallId.{CallId}
+use Rattle.run_labels.specs.declared.words.OpWord.{OpWord}
+use Rattle.run_labels.specs.declared.words.Verb.{Verb}
+use Rattle.run_labels.specs.declared.labels.StepReply.{StepReply}
+use Rattle.run_labels.specs.declared.labels.Label.{Label}
+use Rattle.run_labels.specs.declared.labels.Label.TheVariants.{Stepped}
+use Rattle.world_core.specs.declared.drivers.Driver.{Driver}
+use Rattle.world_core.specs.declared.drivers.Driver.TheVariants as drivers
+use Rattle.world_core.specs.declared.hands.InHand.{InHand}
+use Rattle.world_core.specs.declared.open_call.Making.{Making}
+use Rattle.world_core.specs.declared.record.Entry.{Entry}
+use Rattle.world_core.specs.declared.world.World.{World}
+use Rattle.world_core.specs.Calls.{same_actor, left}
+use Rattle.world_core.specs.RecordState.{RecordState, entry_of, complete_of}
+use Rattle.world_core.specs.Driving.{driver_taken, done_of}
+use Rattle.world_core.specs.Machine.{Machine, Staged, ReplicaState, CallState}
+use Rattle.world_core.specs.Steps.{driver_of, changed, step_of, after}
+use Rattle.world_core.specs.Shows.{Does, Shows, FitsReplica, Facts, IsShown, IsRoomy, machine_of, shown_replica, hand_at}
+use Rattle.world_core.specs.Invariant.{Working, IsGoodState, Alone, InvariantWith, Invariant}
+use Rattle.world_core.specs.Runs.{Counts, IsNew, IsRunTo, last, lacking, having, making_left, steps_left, hand_left, left_of}
+use Rattle.world_core.proofs.Held.{state_in, in_hand_is, in_hand_at, driver_is, actor_is}
+use Rattle.world_core.proofs.Law.{invariant_empty, step_nearer}
+use Rattle.world_core.proofs.LawFacts.{facts}
+use Rattle.world_core.proofs.LawRuns.{last-push, run_goes_on}
+use Rattle.world_core.proofs.New as new_world
+
+-- the world after a log shows the state after it
+pub shown : (w : World) (log : List Label) → IsRunTo w log → IsShown w
+shown w log to = record { state = last log; shows = to.shows; facts = facts (last log) to.invariant }
+
+-- a step that does its label adds it to the run
+pub goes_on : (w w' : World) (log : List Label) (l : Label) → IsRunTo w log → Alone (last log) l → Does w w' l → IsRunTo w' (log ++ l ∷ [])
+goes_on w w' log l to alone does =
+    let known = facts (last log) to.invariant in
+    let more = run_goes_on log l to.run to.invariant to.counts alone (does.due_is (last log) to.shows known) in
+    record { run = more.0; shows = subst (Shows w') (sym (last-push log l)) (does.shows (last log) to.shows known); invariant = more.1; counts = more.2 }
+
+-- no label yet is a run to a new world
+pub new_run : (w : World) → IsNew w → IsRunTo w []
+new_run w new = new_world.new_run w invariant_empty new
+
+-- ---- a step brings its call nearer to its end
+
+-- some steps are left of any call
+from_one : (n : ℕ) → 1 ≤ n + 1
+from_one n = omega arith
+
+making_left-from_one : (R : RecordState) (making : Option Making) → 1 ≤ making_left R making
+making_left-from_one R None = omega arith
+making_left-from_one R (Some making) = elim making.refused as (λ b. 1 ≤ cond b 1 (lacking R.up making.reserved + 1)) [ true ↦ omega arith | false ↦ from_one (lacking R.up making.reserved) ]
+
+-- at least one step is left of a call in hand
+pub steps_left-from_one : (R : RecordState) (d : Driver) → 1 ≤ steps_left R d
+steps_left-from_one R (drivers.Enter r) = omega arith
+steps_left-from_one R (drivers.Open o) = making_left-from_one R o.making
+steps_left-from_one R (drivers.Update u) = from_one _
+steps_left-from_one R (drivers.Active a) = omega arith
+
+-- after a step that does not end it a call is in hand with this step more
+step_of-in_hand : (m : Machine) (s : CallState) (c : ℕ) (verb : Verb) (k r : Option ℕ) (reply : StepReply) → s.call.actor ≡ Client c
+    → (step_of m (Some s) verb k r reply None).in_hand (Client c) ≡ Some (record s { steps = done_of (step_of m (Some s) verb k r reply None).cluster verb k r reply ∷ s.steps })
+step_of-in_hand m s c verb k r reply is = ap (λ b. cond b (Some (record s { steps = done_of (step_of m (Some s) verb k r reply None).cluster verb k r reply ∷ s.steps })) ((changed m s verb k r reply).in_hand (Client c))) (ap (same_actor (Client c)) is ∙ eq-eqb c c refl)
+
+-- after a step fewer steps are left of its call, and none where it has ended
+pub nearer : (w w' : World) (log : List Label) (c : ℕ) (hand next : InHand) (op : OpWord) (verb : Verb) (k r : Option ℕ) (reply : StepReply) (end : Option Outcome) (pieces : Option (List (List ℕ)))
+    → IsRunTo w log → hand_at w.hands c ≡ Some hand → Does w w' (Stepped hand.call op verb k r reply end pieces) → hand_at w'.hands c ≡ left end next → left_of w' (Client c) < left_of w (Client c)
+nearer w w' log c hand next op verb k r reply (Some o) pieces to held does then =
+    subst (λ p. hand_left w'.cluster p < left_of w (Client c)) (sym then) (subst (λ p. 0 < hand_left w.cluster p) (sym held) (let some = steps_left-from_one w.cluster hand.driver in omega (arith, some)))
+nearer w w' log c hand next op verb k r reply None pieces to held does then =
+    let m = last log in
+    let h = to.shows.history in
+    let s = state_in h c hand in
+    let known = facts m to.invariant in
+    let its = subst Facts to.shows.same known in
+    let here : m.in_hand hand.call.actor ≡ Some s = ap (λ (m : Machine). m.in_hand hand.call.actor) to.shows.same ∙ in_hand_at w h c hand held its in
+    let due = does.due_is m to.shows known in
+    let new = does.shows m to.shows known in
+    let m' = after m (Stepped hand.call op verb k r reply None pieces) in
+    let goes : m'.in_hand (Client c) ≡ Some (record s { steps = done_of m'.cluster verb k r reply ∷ s.steps })
+    = subst (λ o. let n = step_of m o verb k r reply None in n.in_hand (Client c) ≡ Some (record s { steps = done_of n.cluster verb k r reply ∷ s.steps })) (sym here) (step_of-in_hand m s c verb k r reply (actor_is w h c hand held its)) in
+    let driver : next.driver ≡ driver_taken (done_of m'.cluster verb k r reply) (driver_of s)
+    = driver_is w' new.history c next then new.fits
+    ∙ ap driver_of (same_Some (state_in new.history c next) (record s { steps = done_of m'.cluster verb k r reply ∷ s.steps }) (sym (in_hand_is w' new.history c next then) ∙ sym (ap (λ (m : Machine). m.in_hand (Client c)) new.same) ∙ goes)) in
+    let now : steps_left m'.cluster (driver_taken (done_of m'.cluster verb k r reply) (driver_of s)) ≡ left_of w' (Client c)
+    = ap (steps_left m'.cluster) (sym driver) ∙ ap (λ (m : Machine). steps_left m.cluster next.driver) new.same ∙ ap (hand_left w'.cluster) (sym then) in
+    let before : steps_left m.cluster (driver_of s) ≡ left_of w (Client c)
+    = ap (steps_left m.cluster) (sym (driver_is w h c hand held to.shows.fits)) ∙ ap (λ (m : Machine). steps_left m.cluster hand.driver) to.shows.same ∙ ap (hand_left w.cluster) (sym held) in
+    subst (λ n. n < left_of w (Client c)) now (subst (λ n. steps_left m'.cluster (driver_taken (done_of m'.cluster verb k r reply) (driver_of s)) < n) before (step_nearer m hand.call op verb k r reply pieces s to.invariant due here))
+
+-- ---- few steps are left of a call
+
+-- a call does not both lack and have a node
+one_of : (none same : Bool) → cond (not none && not same) 1 0 + cond (not none && same) 1 0 ≤ 1
+one_of true same = omega arith
+one_of false true = omega arith
+one_of false false = omega arith
+
+one_more : (a b x y n : ℕ) → a + b ≤ 1 → x + y ≤ n → (a + x) + (b + y) ≤ n + 1
+one_more a b x y n one few = omega (arith, one, few)
+
+-- the nodes that a call lacks and those that it has are no more than the nodes
+lacking_having : (nodes own : List ℕ) → lacking nodes own + having nodes own ≤ length nodes
+lacking_having [] own = omega arith
+lacking_having (n ∷ nodes) [] = omega arith
+lacking_having (n ∷ nodes) (o ∷ own) =
+    let few = one_more _ _ (lacking nodes own) (having nodes own) (length nodes) (one_of (n == 0) (n == o)) (lacking_having nodes own) in
+    omega (arith, few)
+
+-- there are eight nodes
+up_length : (hand : Option Working) (m : Machine) → InvariantWith hand m → length m.cluster.up ≡ 8
+up_length hand m inv = elim inv.up [ inl none ↦ ap length none.0 | inr first ↦ ap length first ]
+
+complete_length : (maker : Option CallId) (staged : Option Staged) (e : Entry) (x : Option ReplicaState) → IsGoodState maker staged e x → length e.complete ≡ 8
+complete_length None staged e x good = ap length good.complete
+complete_length (Some call) staged e x good = ap length good.complete
+
+complete_of-length : (hand : Option Working) (m : Machine) (k : ℕ) → InvariantWith hand m → (o : Option Entry) → entry_of k m.cluster.entries ≡ o → length (complete_of o) ≡ 8
+complete_of-length hand m k inv None is = refl
+complete_of-length hand m k inv (Some e) is = complete_length _ _ e (m.replicas k 0) (inv.entries k e is).state
+
+-- so few steps are left
+making_left-few : (R : RecordState) (making : Option Making) → length R.up ≡ 8 → making_left R making ≤ 20
+making_left-few R None up = omega arith
+making_left-few R (Some making) up = elim making.refused as (λ b. cond b 1 (lacking R.up making.reserved + 1) ≤ 20) [
+  | true ↦ omega arith
+  | false ↦ let few = lacking_having R.up making.reserved in omega (arith, few, up)
+]
+
+update_few : (x y n : ℕ) → x + y ≤ n → n ≡ 8 → 2 * x + y + 1 ≤ 20
+update_few x y n few eight = omega (arith, few, eight)
+
+steps_left-few : (R : RecordState) (d : Driver) → length R.up ≡ 8 → ((k : ℕ) → length (complete_of (entry_of k R.entries)) ≡ 8) → steps_left R d ≤ 20
+steps_left-few R (drivers.Enter r) up complete = omega arith
+steps_left-few R (drivers.Open o) up complete = making_left-few R o.making up
+steps_left-few R (drivers.Update u) up complete = update_few _ _ (length (complete_of (entry_of u.ckpt R.entries))) (lacking_having (complete_of (entry_of u.ckpt R.entries)) u.owned) (complete u.ckpt)
+steps_left-few R (drivers.Active a) up complete = omega arith
+
+hand_left-few : (R : RecordState) (hand : Option InHand) → length R.up ≡ 8 → ((k : ℕ) → length (complete_of (entry_of k R.entries)) ≡ 8) → hand_left R hand ≤ 20
+hand_left-few R None up complete = omega arith
+hand_left-few R (Some hand) up complete = steps_left-few R hand.driver up complete
+
+-- after any run few steps are left of a client's call
+pub few_left : (w : World) (log : List Label) (c : ℕ) → IsRunTo w log → left_of w (Client c) ≤ 20
+few_left w log c to =
+    let inv = subst Invariant to.shows.same to.invariant in
+    hand_left-few w.cluster (hand_at w.hands c) (up_length inv.hand (machine_of w to.shows.history) inv.holds) (λ k. complete_of-length inv.hand (machine_of w to.shows.history) k inv.holds (entry_of k w.cluster.entries) refl)
+
+-- ---- no count is at its end
+
+-- after few labels
+pub roomy : (w : World) (log : List Label) → IsRunTo w log → length log < 2 ^ 32 - 2 → IsRoomy w
+roomy w log to few =
+    let h = to.shows.history in
+    let counts : Counts (machine_of w h) (length log) = subst (λ (m : Machine). Counts m (length log)) to.shows.same to.counts in
+    record {
+      next = λ c. let n = counts.next (Client c) in omega (arith, n, few);
+      updates = λ k r x is.
+          let n = counts.effects k r _ (ap (shown_replica (h.effects k r) (h.origins k r)) is) in
+          let e = (subst (FitsReplica k (entry_of k w.cluster.entries) (h.effects k r)) is (to.shows.fits.replicas k r)).2 in
+          omega (arith, n, e, few);
+      identity = let n = counts.identity in omega (arith, n, few);
+      references = λ k e c is. let n = counts.references k e c is in omega (arith, n, few);
+    }

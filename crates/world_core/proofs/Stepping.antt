@@ -1,0 +1,157 @@
+-- The steps of a call in hand, with the call that the code finds there.
+use Rattle.std.proofs.Common.{◌≡◌, ◌≢◌, ℕ, ◌<◌, ℤ, List, length, refl, sym, ap, subst, ◌∙◌}
+use Rattle.std.proofs.lemmas.Option.{same_Some}
+use Rattle.std.specs.Prelude.{Option, Some, None, IsSomeAnd, slice_set}
+use Rattle.ckpt_types.specs.declared.answers.Answer.TheVariants as answers
+use Rattle.ckpt_types.specs.declared.answers.Outcome.{Outcome}
+use Rattle.node_msgs.specs.declared.requests.Request.{Request}
+use Rattle.node_msgs.specs.declared.requests.Request.TheVariants.{Reserve}
+use Rattle.node_msgs.specs.declared.replies.Reply.{Reply}
+use Rattle.node_msgs.specs.declared.replies.Reply.TheVariants as replies
+use Rattle.node_msgs.specs.declared.next.Next.{Next}
+use Rattle.node_msgs.specs.declared.next.Next.TheVariants.{Serve, End}
+use Rattle.run_labels.specs.declared.words.OpWord.{OpWord}
+use Rattle.run_labels.specs.declared.words.Verb.{Verb}
+use Rattle.run_labels.specs.declared.words.Verb.TheVariants as verbs
+use Rattle.run_labels.specs.declared.labels.StepReply.{StepReply}
+use Rattle.run_labels.specs.declared.labels.StepReply.TheVariants as words
+use Rattle.run_labels.specs.declared.labels.Label.TheVariants.{Stepped}
+use Rattle.run_labels.specs.OpWord.{word_of_op}
+use Rattle.world_core.specs.declared.hands.InHand.{InHand}
+use Rattle.world_core.specs.declared.record.Entry.{Entry}
+use Rattle.world_core.specs.declared.replica.Replica.{Replica}
+use Rattle.world_core.specs.declared.world.World.{World}
+use Rattle.world_core.specs.Calls.{left}
+use Rattle.world_core.specs.RecordState.{entry_of}
+use Rattle.world_core.specs.Serving.{ckpt_of, replica_in, reply_at, pieces_at, served, IsReadyAt, opened_replica, reserved_at}
+use Rattle.world_core.specs.Reserving.{IsReserved}
+use Rattle.world_core.specs.Driving.{driver_next, verb_of, word_of}
+use Rattle.world_core.specs.HandSteps.{hand_taken, hand_end}
+use Rattle.world_core.specs.Steps.{look_word}
+use Rattle.world_core.specs.Shows.{IsShown, IsRoomy, IsReservable, hand_at}
+use Rattle.world_core.specs.Happenings.{room_in, IsNext, IsStep}
+use Rattle.world_core.proofs.Look.{look_done}
+use Rattle.world_core.proofs.Reserve.{reserve_ready, reserve_done, reserve_refused}
+use Rattle.world_core.proofs.Serve.{served_step, serve_node, serve_ready, serve_done}
+
+-- what is next for the call, is next for the one that is found in hand
+pub next_for : (w : World) (c : ℕ) (n : Next) (hand : InHand) → hand_at w.hands c ≡ Some hand → IsNext w c n → driver_next w.cluster (room_in w c) hand.driver ≡ n
+next_for w c n hand held next = ap (λ (h : InHand). driver_next w.cluster (room_in w c) h.driver) (same_Some hand next.hand (sym held ∙ next.held)) ∙ next.next_is
+
+-- what is there is not none
+pub some_held : (o : Option InHand) (hand : InHand) → o ≡ Some hand → o ≢ None
+some_held o hand is none = let z : None ≡ Some hand = sym none ∙ is in absurd (cc z)
+
+-- the step whose answer the record alone decides
+pub look_is : (w : World) (c : ℕ) (o : Outcome) (hand : InHand) (hands : List (Option InHand)) (word : OpWord) (reply : StepReply) → hand_at w.hands c ≡ Some hand → IsNext w c (End o) →
+    hands ≡ slice_set w.hands c None → word ≡ word_of_op hand.op → reply ≡ look_word o → IsStep c w (record w { hands = hands }) (Stepped hand.call word verbs.Look None None reply (Some o) None)
+look_is w c o hand hands word reply held next hands_is word_is reply_is = record {
+  hand = hand;
+  held = held;
+  op = word;
+  verb = verbs.Look;
+  ckpt = None;
+  node = None;
+  reply = reply;
+  end = Some o;
+  pieces = None;
+  label_is = refl;
+  next = hand;
+  same_call = refl;
+  same_op = refl;
+  hands = hands_is;
+  does = look_done w c o hand held (next_for w c (End o) hand held next) hands word reply hands_is word_is reply_is;
+}
+
+-- a step that a node serves
+module _ (w : World) (c r : ℕ) (request : Request) (hand : InHand) (held : hand_at w.hands c ≡ Some hand) (next : IsNext w c (Serve r request)) (other : (k : ℕ) → request ≢ Reserve k) where
+  pub node_there : IsShown w → r < 8
+  node_there = serve_node w c r request hand other held (next_for w c (Serve r request) hand held next)
+
+  pub node_ready : IsShown w → IsRoomy w → IsReadyAt request (replica_in w.nodes (ckpt_of request) r)
+  node_ready = serve_ready w c r request hand other held (next_for w c (Serve r request) hand held next)
+
+  pub serve_is : (now : ℤ) (nodes : List (List Replica)) (hands : List (Option InHand)) (word : OpWord) (verb : Verb) (k : ℕ) (said : StepReply) (reply : Reply) (end : Option Outcome) (pieces : Option (List (List ℕ))) →
+      now ≡ w.cluster.moment → reply ≡ reply_at request hand.op now (replica_in w.nodes (ckpt_of request) r) → pieces ≡ pieces_at request hand.op now (replica_in w.nodes (ckpt_of request) r) → nodes ≡ served w.nodes r request hand.op →
+      end ≡ hand_end (served_step w request r reply) reply (hand_taken (served_step w request r reply) hand) → hands ≡ slice_set w.hands c (left end (hand_taken (served_step w request r reply) hand)) →
+      word ≡ word_of_op hand.op → verb ≡ verb_of request → k ≡ ckpt_of request → said ≡ word_of reply → IsStep c w (record w { nodes = nodes; hands = hands }) (Stepped hand.call word verb (Some k) (Some r) said end pieces)
+  serve_is now nodes hands word verb k said reply end pieces now_is reply_is pieces_is nodes_is end_is hands_is word_is verb_is k_is said_is = record {
+    hand = hand;
+    held = held;
+    op = word;
+    verb = verb;
+    ckpt = Some k;
+    node = Some r;
+    reply = said;
+    end = end;
+    pieces = pieces;
+    label_is = refl;
+    next = hand_taken (served_step w request r reply) hand;
+    same_call = refl;
+    same_op = refl;
+    hands = hands_is;
+    does = serve_done w c r request hand other held (next_for w c (Serve r request) hand held next) hand.op now nodes hands word verb k said reply end pieces refl now_is reply_is pieces_is nodes_is end_is hands_is word_is verb_is k_is said_is;
+  }
+
+some_there : {P : Entry → Type 0} (o : Option Entry) → IsSomeAnd o P → (e : Entry) × (o ≡ Some e) × P e
+some_there None some = absurd some
+some_there (Some e) some = (e, refl, some)
+
+-- a step in which a node is asked to take the storage of a replica
+module _ (w : World) (c r k : ℕ) (next : IsNext w c (Serve r (Reserve k))) where
+  pub reserve_asks : IsShown w → (r < 8) × IsSomeAnd (entry_of k w.cluster.entries) (λ e. IsReservable e r)
+  reserve_asks = reserve_ready w c r k next.hand next.held next.next_is
+
+  abbrev Goes : InHand → List (Option InHand) → OpWord → StepReply → Option Outcome → Reply → World → Type 0
+  Goes hand hands word said end reply mid = hand_at mid.hands c ≡ Some hand → end ≡ hand_end (served_step mid (Reserve k) r reply) reply (hand_taken (served_step mid (Reserve k) r reply) hand) →
+      hands ≡ slice_set mid.hands c (left end (hand_taken (served_step mid (Reserve k) r reply) hand)) → word ≡ word_of_op hand.op → said ≡ word_of reply →
+      IsStep c w (record mid { hands = hands }) (Stepped hand.call word verbs.Reserve (Some k) (Some r) said end None)
+
+  taken_goes : (e : Entry) (hand : InHand) (hands : List (Option InHand)) (word : OpWord) (said : StepReply) (end : Option Outcome) → entry_of k w.cluster.entries ≡ Some e → r < length w.nodes →
+      Goes hand hands word said end (replies.Done answers.Nothing) (record w { nodes = reserved_at w.nodes r (opened_replica k e.attributes e.made) })
+  taken_goes e hand hands word said end there within held end_is hands_is word_is said_is =
+      let nodes = reserved_at w.nodes r (opened_replica k e.attributes e.made) in
+      subst (λ (said : StepReply). IsStep c w (record w { nodes = nodes; hands = hands }) (Stepped hand.call word verbs.Reserve (Some k) (Some r) said end None)) (sym said_is) (record {
+        hand = hand;
+        held = held;
+        op = word;
+        verb = verbs.Reserve;
+        ckpt = Some k;
+        node = Some r;
+        reply = words.Ok;
+        end = end;
+        pieces = None;
+        label_is = refl;
+        next = hand_taken (served_step w (Reserve k) r (replies.Done answers.Nothing)) hand;
+        same_call = refl;
+        same_op = refl;
+        hands = hands_is;
+        does = reserve_done w c r k hand held (next_for w c (Serve r (Reserve k)) hand held next) e nodes hands word end there within refl end_is hands_is word_is;
+      })
+
+  refused_goes : (hand : InHand) (hands : List (Option InHand)) (word : OpWord) (said : StepReply) (end : Option Outcome) → Goes hand hands word said end replies.NoMemory w
+  refused_goes hand hands word said end held end_is hands_is word_is said_is =
+      subst (λ (said : StepReply). IsStep c w (record w { hands = hands }) (Stepped hand.call word verbs.Reserve (Some k) (Some r) said end None)) (sym said_is) (record {
+        hand = hand;
+        held = held;
+        op = word;
+        verb = verbs.Reserve;
+        ckpt = Some k;
+        node = Some r;
+        reply = words.Memory;
+        end = end;
+        pieces = None;
+        label_is = refl;
+        next = hand_taken (served_step w (Reserve k) r replies.NoMemory) hand;
+        same_call = refl;
+        same_op = refl;
+        hands = hands_is;
+        does = reserve_refused w c r k hand held (next_for w c (Serve r (Reserve k)) hand held next) hands word end end_is hands_is word_is;
+      })
+
+  pub reserve_is : (mid : World) (reply : Reply) (hand : InHand) (hands : List (Option InHand)) (word : OpWord) (said : StepReply) (end : Option Outcome) → r < length w.nodes → IsReserved r k w mid reply → Goes hand hands word said end reply mid
+  reserve_is mid (replies.Done answers.Nothing) hand hands word said end within done =
+      let found = some_there (entry_of k w.cluster.entries) done in
+      subst (Goes hand hands word said end (replies.Done answers.Nothing)) (sym found.2) (taken_goes found.0 hand hands word said end found.1 within)
+  reserve_is mid replies.NoMemory hand hands word said end within done = subst (Goes hand hands word said end replies.NoMemory) (sym done) (refused_goes hand hands word said end)
+  reserve_is mid reply hand hands word said end within done = absurd done

@@ -1,0 +1,41 @@
+-- A step that changes nothing but the call that is told of it.
+use Rattle.std.proofs.Common.{◌≡◌, ℕ, ◌∷◌, ◌∙◌}
+use Rattle.std.specs.Prelude.{Option, Some, slice_set}
+use Rattle.ckpt_types.specs.declared.answers.Outcome.{Outcome}
+use Rattle.ckpt_types.specs.declared.identities.ActorName.TheVariants.{Client}
+use Rattle.world_core.specs.declared.hands.InHand.{InHand}
+use Rattle.world_core.specs.declared.world.World.{World}
+use Rattle.world_core.specs.Calls.{put_actor, left}
+use Rattle.world_core.specs.Places.{put}
+use Rattle.world_core.specs.Driving.{StepDone}
+use Rattle.world_core.specs.Machine.{Machine}
+use Rattle.world_core.specs.HandSteps.{hand_taken}
+use Rattle.world_core.specs.Shows.{Fits, History, machine_of, hand_at}
+use Rattle.world_core.proofs.Held.{state_in, driver_is, left_shown, left_fits}
+use Rattle.world_core.proofs.Maps.{put_hand, fits_hand}
+
+-- the history with one step more of a client's call
+abbrev pub with_step : History → ℕ → StepDone → History
+with_step h c done = record h { steps = put h.steps c (done ∷ h.steps c) }
+
+-- the world in which the call of a client is told of a step
+abbrev pub told_world : World → ℕ → InHand → StepDone → Option Outcome → World
+told_world w c hand done end = record w { hands = slice_set w.hands c (left end (hand_taken done hand)) }
+
+module _ (w : World) (h : History) (c : ℕ) (hand : InHand) (done : StepDone) (end : Option Outcome) (actor : hand.call.actor ≡ Client c) (fits : Fits w h) (held : hand_at w.hands c ≡ Some hand) where
+  abbrev m : Machine
+  m = machine_of w h
+
+  pub told_is : record m { in_hand = put_actor m.in_hand hand.call.actor (left end (record (state_in h c hand) { steps = done ∷ h.steps c })) } ≡ machine_of (told_world w c hand done end) (with_step h c done)
+  told_is =
+      let hands = put_hand h w.hands c hand (left end (hand_taken done hand)) (done ∷ h.steps c) held in
+      (λ i. record m { in_hand = put_actor m.in_hand (actor i) (left_shown h c hand done end i) })
+      ∙ (λ i. record (machine_of (told_world w c hand done end) (with_step h c done)) { in_hand = λ a. hands a i })
+
+  pub told_fits : Fits (told_world w c hand done end) (with_step h c done)
+  told_fits = record {
+    replicas = fits.replicas;
+    reserved = fits.reserved;
+    fresh = fits.fresh;
+    hands = fits_hand h w.hands c hand (left end (hand_taken done hand)) (done ∷ h.steps c) held (left_fits h c hand done end (driver_is w h c hand held fits)) fits.hands;
+  }

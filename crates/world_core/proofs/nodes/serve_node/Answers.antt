@@ -1,0 +1,27 @@
+use Rattle.std.proofs.Common.{sym, ap, ◌∙◌, w64, List}
+use Rattle.std.specs.Prelude.{slice_set}
+use Rattle.std.proofs.lemmas.Int.{to_z-of_z}
+use mir.Val.{SFits}
+use Rattle.world_core.specs.declared.replica.Replica.{Replica}
+use Rattle.world_core.specs.Places.{find_key, change_key}
+use Rattle.world_core.specs.Serving.{replica_key, ckpt_of, reply_at, pieces_at, replica_after}
+use Rattle.world_core.proofs.AtKeys.{list_or-slice_get}
+use Rattle.world_core.proofs.nodes.serve_node.Goals as goal
+
+pub returns-clause-reply : goal.returns-clause-reply
+returns-clause-reply c =
+    let fits : SFits w64 c.args.now = c.ranges.now in
+    (simp to_z-of_z at c.serve.ensures.reply)
+    ∙ ap (λ (xs : List Replica). reply_at c.args.request.now c.args.op.now c.args.now (find_key replica_key (ckpt_of c.args.request.now) xs)) (sym (list_or-slice_get c.args.nodes.now c.args.r c.index-nodes-r.result c.requires.node))
+
+pub returns-clause-new : goal.returns-clause-new
+returns-clause-new c =
+    ap (slice_set c.args.nodes.now c.args.r)
+    (c.serve.ensures.new
+    ∙ ap (λ (xs : List Replica). change_key replica_key (ckpt_of c.args.request.now) (replica_after c.args.request.now c.args.op.now) xs) (sym (list_or-slice_get c.args.nodes.now c.args.r c.index-nodes-r.result c.requires.node)))
+
+pub returns-clause-pieces : goal.returns-clause-pieces
+returns-clause-pieces c =
+    let fits : SFits w64 c.args.now = c.ranges.now in
+    (simp to_z-of_z at c.serve.ensures.pieces)
+    ∙ ap (λ (xs : List Replica). pieces_at c.args.request.now c.args.op.now c.args.now (find_key replica_key (ckpt_of c.args.request.now) xs)) (sym (list_or-slice_get c.args.nodes.now c.args.r c.index-nodes-r.result c.requires.node))

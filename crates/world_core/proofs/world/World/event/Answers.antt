@@ -1,0 +1,20 @@
+use Rattle.std.proofs.Common.{ap, ◌∙◌, ◌++◌, ◌∷◌, []}
+use Rattle.world_core.proofs.Events.{run_with, happens_with}
+use Rattle.world_core.proofs.Running.{shown, roomy}
+use Rattle.world_core.proofs.world.World.event.Goals as goal
+
+-- src/world.rt:80:26
+pub happen-requires-clause-shown : goal.happen-requires-clause-shown
+happen-requires-clause-shown c = shown c.args.self.now c.args.log.now.labels c.requires.run
+
+pub happen-requires-clause-roomy : goal.happen-requires-clause-roomy
+happen-requires-clause-roomy c = roomy c.args.self.now c.args.log.now.labels c.requires.run c.requires.few
+
+-- src/world.rt:69:5
+pub returns-clause-run : goal.returns-clause-run
+returns-clause-run c = run_with c.args.event.now c.args.self.now c.happen.new.self c.args.log.now.labels c.push.new.self.labels c.in_ok-label.label c.requires c.in_ok-label.ensures.ok
+    (c.push.ensures.labels ∙ ap (λ labels. labels ++ c.in_ok-label.label ∷ []) c.reserve.ensures.labels)
+
+pub returns-clause-happens : goal.returns-clause-happens
+returns-clause-happens c = happens_with c.args.event.now c.args.self.now c.happen.new.self c.args.log.now.labels c.push.new.self.labels c.in_ok-label.label c.requires c.in_ok-label.ensures.ok
+    (c.push.ensures.labels ∙ ap (λ labels. labels ++ c.in_ok-label.label ∷ []) c.reserve.ensures.labels)

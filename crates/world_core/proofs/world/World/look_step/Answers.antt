@@ -1,0 +1,6 @@
+use Rattle.world_core.proofs.Stepping.{look_is}
+use Rattle.world_core.proofs.world.World.look_step.Goals as goal
+
+-- src/steps.rt:168:5
+pub returns : goal.returns
+returns c = look_is c.args.self.now c.args.c c.args.end c.in-Some.hand.now c.clear.new.self c.word-op.result c.look_word-reply.result c.in-Some.ensures c.requires.next c.clear.ensures c.word-op.ensures c.look_word-reply.ensures

@@ -1,0 +1,27 @@
+use Rattle.std.proofs.Common.{◌∙◌, w64, to_z, of_z}
+use Rattle.std.proofs.lemmas.Int.{to_z-of_z}
+use Rattle.world_core.proofs.Stepping.{node_there, node_ready, serve_is}
+use Rattle.world_core.proofs.world.World.serve_step.Goals as goal
+
+-- src/steps.rt:105:21
+pub serve-reply-requires-clause-node : goal.serve-reply-requires-clause-node
+serve-reply-requires-clause-node c = node_there c.args.self.now c.args.c c.args.r c.args.request.now c.in-Some.hand.now c.in-Some.ensures c.requires.next c.requires.other c.requires.shown
+
+-- src/steps.rt:105:21
+pub serve-reply-requires-clause-ready : goal.serve-reply-requires-clause-ready
+serve-reply-requires-clause-ready c = node_ready c.args.self.now c.args.c c.args.r c.args.request.now c.in-Some.hand.now c.in-Some.ensures c.requires.next c.requires.other c.requires.shown c.requires.roomy
+
+-- src/steps.rt:106:13
+pub take-end-requires-clause-node : goal.take-end-requires-clause-node
+take-end-requires-clause-node c = node_there c.args.self.now c.args.c c.args.r c.args.request.now c.in-Some.hand.now c.in-Some.ensures c.requires.next c.requires.other c.requires.shown
+
+-- src/steps.rt:83:5
+pub returns-clause-ok : goal.returns-clause-ok
+returns-clause-ok c =
+    let w = c.args.self.now in
+    let hand = c.in-Some.hand.now in
+    let held = c.in-Some.ensures in
+    let now = to_z w64 (of_z w64 c.moment-now.result) in
+    let now_is = to_z-of_z w64 c.moment-now.result (record { sfits = c.moment-now.type_inv }) ∙ c.moment-now.ensures in
+    serve_is w c.args.c c.args.r c.args.request.now hand held c.requires.next c.requires.other now c.serve-reply.new.self c.take-end.new.self c.word-op.result c.verb_of.result c.ckpt_of.result c.word_of.result c.serve-reply.result c.take-end.result c.told_pieces.result
+    now_is c.serve-reply.ensures.reply (c.told_pieces.ensures ∙ c.serve-reply.ensures.pieces) c.serve-reply.ensures.new (c.take-end.ensures.end hand held) (c.take-end.ensures.new hand held) c.word-op.ensures c.verb_of.ensures c.ckpt_of.ensures c.word_of.ensures

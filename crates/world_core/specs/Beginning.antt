@@ -1,0 +1,109 @@
+-- What a call answers when it begins, by its arguments, the tables and the record: the first refusal that applies.
+use Rattle.std.specs.Prelude.{◌≡◌, ℕ, ◌<◌, List, length, Option, Some, None, Bool, true, false, not, ◌||◌, ◌==◌, nat_lt, if◌then◌else◌, ℤ, pos, int_lt, Result, Ok, Err}
+use Rattle.ckpt_types.specs.declared.ais_error.AisError.{AisError}
+use Rattle.ckpt_types.specs.declared.ais_error.AisError.TheVariants as errors
+use Rattle.ckpt_types.specs.declared.answers.Cause.TheVariants.{Plain}
+use Rattle.ckpt_types.specs.declared.answers.Outcome.{Outcome}
+use Rattle.ckpt_types.specs.declared.answers.Outcome.TheVariants.{Refused}
+use Rattle.ckpt_types.specs.declared.attributes.CreationAttributes.{CreationAttributes}
+use Rattle.ckpt_types.specs.declared.bytes.TheConstants.{NAME_MAX}
+use Rattle.ckpt_types.specs.declared.identities.TheConstants.{NEVER}
+use Rattle.ckpt_types.specs.declared.open_flags.OpenFlags.{OpenFlags}
+use Rattle.ckpt_types.specs.declared.open_flags.TheConstants.{CHECKPOINT_CREATE}
+use Rattle.ckpt_types.specs.declared.operation.Op.{Op}
+use Rattle.ckpt_types.specs.declared.operation.Op.TheVariants as ops
+use Rattle.ckpt_types.specs.declared.update.Update.{Update}
+use Rattle.ckpt_types.specs.declared.update.Update.TheVariants as updates
+use Rattle.ckpt_types.specs.Attributes.{has_flag, has_bad_open_flags, open_flags_of, is_malformed}
+use Rattle.world_core.specs.declared.tables.Handle.{Handle}
+use Rattle.world_core.specs.declared.world.TheConstants.{VECTOR_MAX}
+
+abbrev pub refused : AisError → Option Outcome
+refused error = Some (Refused error Plain)
+
+abbrev pub name_is_bad : List ℕ → Bool
+name_is_bad name = (length name == 0) || nat_lt NAME_MAX (length name)
+
+-- attributes are given just where the flags ask for a checkpoint to be made, and are well formed
+abbrev pub attributes_are_bad : ℕ → Option CreationAttributes → Bool
+attributes_are_bad flags None = has_flag flags CHECKPOINT_CREATE
+attributes_are_bad flags (Some a) = not (has_flag flags CHECKPOINT_CREATE) || is_malformed a
+
+-- an open: its flags, then its name, timeout and attributes
+abbrev pub open_begin : List ℕ → ℕ → ℤ → Option CreationAttributes → Option Outcome
+open_begin name flags timeout a =
+    if has_bad_open_flags flags then refused errors.BadFlags
+    else if name_is_bad name || int_lt timeout (pos 0) || attributes_are_bad flags a then refused errors.InvalidParam
+    else None
+
+-- a vector has 1 to 64 elements
+abbrev pub vector_is_bad : ℕ → Bool
+vector_is_bad n = (n == 0) || nat_lt VECTOR_MAX n
+
+abbrev pub update_is_bad : Update → Bool
+update_is_bad (updates.Write elements) = vector_is_bad (length elements)
+update_is_bad update = false
+
+-- on a handle: its place stands for one, the arguments are good, and it was opened for this
+abbrev pub on_handle : Option Handle → Bool → (OpenFlags → Bool) → Option Outcome
+on_handle None bad may = refused errors.BadHandle
+on_handle (Some h) bad may = if bad then refused errors.InvalidParam else if not (may h.flags) then refused errors.Access else None
+
+abbrev pub may_write : OpenFlags → Bool
+may_write flags = flags.write
+
+abbrev pub may_read : OpenFlags → Bool
+may_read flags = flags.read
+
+abbrev pub if_live : Bool → Option Outcome → Option Outcome
+if_live true answer = answer
+if_live false answer = refused errors.BadHandle
+
+-- what an operation answers at once, for a client that is live or not, and the handle of its place; none where it goes on
+abbrev pub begin_end : Bool → Option Handle → Op → Option Outcome
+begin_end live h (ops.Client r version callbacks) = None
+begin_end live h (ops.Open place name flags timeout a) = if_live live (open_begin name flags timeout a)
+begin_end live h (ops.Write place update) = if_live live (on_handle h (update_is_bad update) may_write)
+begin_end live h (ops.Read place elements) = if_live live (on_handle h (vector_is_bad (length elements)) may_read)
+begin_end live h op = None
+
+-- the place of the handle that an operation names, and the one that an open names
+abbrev pub handle_place : Op → Option ℕ
+handle_place (ops.Write place update) = Some place
+handle_place (ops.Read place elements) = Some place
+handle_place op = None
+
+abbrev pub opened_place : Op → Option ℕ
+opened_place (ops.Open place name flags timeout a) = Some place
+opened_place op = None
+
+abbrev pub no_flags : OpenFlags
+no_flags = record { read = false; write = false; create = false }
+
+abbrev pub flags_or_none : Result OpenFlags AisError → OpenFlags
+flags_or_none (Ok flags) = flags
+flags_or_none (Err error) = no_flags
+
+-- what an open opens for
+abbrev pub opened_for : Op → OpenFlags
+opened_for (ops.Open place name flags timeout a) = flags_or_none (open_flags_of flags)
+opened_for op = no_flags
+
+-- ---- the operations that are built
+
+-- all replicas, one section
+abbrev pub AreBuilt : Option CreationAttributes → Type 0
+AreBuilt None = Unit {0}
+AreBuilt (Some a) = (a.creation_flags ≡ 1) × (a.max_sections ≡ 1)
+
+abbrev pub IsWrite : Update → Type 0
+IsWrite (updates.Write elements) = Unit {0}
+IsWrite update = ⊥
+
+-- an Initialize, an open with no deadline, a write, a read; the others are not built yet
+abbrev pub IsBuilt : Op → Type 0
+IsBuilt (ops.Client r version callbacks) = r < 8
+IsBuilt (ops.Open place name flags timeout a) = (place < 100) × (timeout ≡ NEVER) × AreBuilt a
+IsBuilt (ops.Write place update) = (place < 100) × IsWrite update
+IsBuilt (ops.Read place elements) = place < 100
+IsBuilt op = ⊥

@@ -1,0 +1,265 @@
+-- Which labels the machine allows: the guards, over all complete replicas at once, and the answers with their causes.
+use Rattle.std.specs.Prelude.{◌≡◌, ◌⊎◌, ℕ, ◌+◌, ◌<◌, ◌≤◌, List, [], ◌∷◌, ◌++◌, length, Option, Some, None, IsSome, IsSomeAnd, Ok, Err, IsOk, Bool, true, false, not, ◌==◌, ◌&&◌, ◌||◌, if◌then◌else◌, slice_index}
+use Rattle.ckpt_types.specs.declared.ais_error.AisError.{AisError}
+use Rattle.ckpt_types.specs.declared.ais_error.AisError.TheVariants as errors
+use Rattle.ckpt_types.specs.declared.answers.Answer.TheVariants as answers
+use Rattle.ckpt_types.specs.declared.answers.Cause.{Cause}
+use Rattle.ckpt_types.specs.declared.answers.Cause.TheVariants.{Plain, Index, Holder, Count}
+use Rattle.ckpt_types.specs.declared.answers.Outcome.{Outcome}
+use Rattle.ckpt_types.specs.declared.answers.Outcome.TheVariants.{Done, Refused, NoMemory}
+use Rattle.ckpt_types.specs.declared.attributes.CreationAttributes.{CreationAttributes}
+use Rattle.ckpt_types.specs.declared.identities.CallId.{CallId}
+use Rattle.ckpt_types.specs.declared.operation.Op.{Op}
+use Rattle.ckpt_types.specs.declared.operation.Op.TheVariants as ops
+use Rattle.ckpt_types.specs.declared.update.ReadElement.{ReadElement}
+use Rattle.ckpt_types.specs.declared.update.Update.{Update}
+use Rattle.ckpt_types.specs.Updates.{Refusal, outcome}
+use Rattle.ckpt_types.specs.Reads.{read}
+use Rattle.run_labels.specs.declared.words.OpWord.{OpWord}
+use Rattle.run_labels.specs.declared.words.Verb.{Verb}
+use Rattle.run_labels.specs.declared.words.Verb.TheVariants as verbs
+use Rattle.run_labels.specs.declared.labels.StepReply.{StepReply}
+use Rattle.run_labels.specs.declared.labels.StepReply.TheVariants as words
+use Rattle.run_labels.specs.declared.labels.Label.{Label}
+use Rattle.run_labels.specs.declared.labels.Label.TheVariants as labels
+use Rattle.run_labels.specs.OpWord.{word_of_op}
+use Rattle.world_core.specs.declared.record.Entry.{Entry}
+use Rattle.world_core.specs.Calls.{same_call, client_of}
+use Rattle.world_core.specs.RecordState.{entry_of, complete_of, named, is_live, is_up}
+use Rattle.world_core.specs.Driving.{accepts}
+use Rattle.world_core.specs.Serving.{update_of}
+use Rattle.world_core.specs.Machine.{Machine, Staged, ReplicaState, CallState}
+use Rattle.world_core.specs.Steps.{Told, IsBegun, IsWord, room_of, staged_moment, effect_of}
+
+-- ---- the complete replicas of a checkpoint, with their nodes, in node order
+
+abbrev pub with_replica : ℕ → Option ReplicaState → List (ℕ × ReplicaState) → List (ℕ × ReplicaState)
+with_replica r None others = others
+with_replica r (Some x) others = (r, x) ∷ others
+
+abbrev pub replicas_from : (ℕ → Option ReplicaState) → ℕ → List ℕ → List (ℕ × ReplicaState)
+replicas_from replicas n [] = []
+replicas_from replicas n (c ∷ cs) = if c == 0 then replicas_from replicas (n + 1) cs else with_replica n (replicas n) (replicas_from replicas (n + 1) cs)
+
+abbrev pub complete_replicas : Machine → ℕ → List (ℕ × ReplicaState)
+complete_replicas m k = replicas_from (m.replicas k) 0 (complete_of (entry_of k m.cluster.entries))
+
+-- each of them has it
+abbrev pub OnEach : (ReplicaState → Type 0) → List (ℕ × ReplicaState) → Type 0
+OnEach P [] = Unit {0}
+OnEach P ((r, x) ∷ others) = P x × OnEach P others
+
+abbrev pub IfSlot : Option Staged → (Staged → Type 0) → Type 0
+IfSlot None P = Unit {0}
+IfSlot (Some slot) P = P slot
+
+abbrev pub owns_slot : CallId → Option Staged → Bool
+owns_slot call None = false
+owns_slot call (Some slot) = same_call slot.owner call
+
+-- a complete replica on another node has a slot of the call
+abbrev pub owned_elsewhere : CallId → ℕ → List (ℕ × ReplicaState) → Bool
+owned_elsewhere call r [] = false
+owned_elsewhere call r ((q, x) ∷ others) = (not (q == r) && owns_slot call x.slot) || owned_elsewhere call r others
+
+-- ---- a checkpoint with its entry, and a node's replica of it
+
+abbrev pub OnReplica : Machine → ℕ → ℕ → (Entry → ReplicaState → Type 0) → Type 0
+OnReplica m k r P = IsSomeAnd (entry_of k m.cluster.entries) (λ e. IsSomeAnd (m.replicas k r) (P e))
+
+-- ---- all-replicas updates
+
+-- staged: the replica has no slot and the update an outcome, all complete replicas have equal effects, and each slot is of this very update
+pub record StageOk (m : Machine) (call : CallId) (update : Update) (k : ℕ) (e : Entry) (x : ReplicaState) : Type 0 where
+  pub free : x.slot ≡ None
+  pub fits : IsOk (outcome e.attributes update (staged_moment m k) x.sections)
+  pub same_effects : OnEach (λ y. y.effects ≡ x.effects) (complete_replicas m k)
+  pub only_own : OnEach (λ y. IfSlot y.slot (λ slot. slot ≡ record { owner = call; origin = call; update = update; moment = staged_moment m k })) (complete_replicas m k)
+
+-- refused: no complete replica has a slot of the call, and the outcome at the record's moment is the refusal
+pub record StageRefused (m : Machine) (call : CallId) (update : Update) (k : ℕ) (end : Option Outcome) (e : Entry) (x : ReplicaState) : Type 0 where
+  pub free : x.slot ≡ None
+  pub none_own : OnEach (λ y. owns_slot call y.slot ≡ false) (complete_replicas m k)
+  pub why : Refusal
+  pub refused : outcome e.attributes update m.cluster.moment x.sections ≡ Err why
+  pub answer : end ≡ Some (Refused why.error (Index why.index))
+
+-- held: another call owns the slot; where that call is live, this one is to try again
+pub record StageHeld (m : Machine) (call by : CallId) (end : Option Outcome) (x : ReplicaState) : Type 0 where
+  pub owner : IsSomeAnd x.slot (λ slot. slot.owner ≡ by)
+  pub another : same_call by call ≡ false
+  pub live : is_live m.cluster by ≡ true
+  pub answer : end ≡ Some (Refused errors.TryAgain (Holder by))
+
+abbrev pub StageRow : Machine → CallState → ℕ → ℕ → StepReply → Option Outcome → Type 0
+StageRow m s k r words.Ok end = OnReplica m k r (StageOk m s.call (update_of s.op) k) × (end ≡ None)
+StageRow m s k r words.Refused end = OnReplica m k r (StageRefused m s.call (update_of s.op) k end)
+StageRow m s k r (words.Held by) end = OnReplica m k r (λ e x. StageHeld m s.call by end x)
+StageRow m s k r reply end = ⊥
+
+-- the replica has the same slot still, or has committed it
+abbrev pub HasSlotOrEffect : ReplicaState → Staged → ReplicaState → Option Staged → Type 0
+HasSlotOrEffect x slot y (Some other) = (other.origin ≡ slot.origin) × (other.update ≡ slot.update) × (other.moment ≡ slot.moment) × (y.effects ≡ x.effects)
+HasSlotOrEffect x slot y None = y.effects ≡ x.effects ++ effect_of slot ∷ []
+
+-- committed: the call owns the slot, whose update is its own or of a call that is not live, and every complete replica has that update staged on equal effects, or has it
+pub record CommitOk (m : Machine) (call : CallId) (k r : ℕ) (end : Option Outcome) (x : ReplicaState) : Type 0 where
+  pub slot : Staged
+  pub staged : x.slot ≡ Some slot
+  pub owner : slot.owner ≡ call
+  pub origin : (slot.origin ≡ call) ⊎ (is_live m.cluster slot.origin ≡ false)
+  pub others : OnEach (λ y. HasSlotOrEffect x slot y y.slot) (complete_replicas m k)
+  -- an update is answered OK by the commit after which no complete replica has a slot of the call
+  pub answer : end ≡ (if owned_elsewhere call r (complete_replicas m k) then None else Some (Done answers.Nothing))
+
+abbrev pub CommitRow : Machine → CallState → ℕ → ℕ → StepReply → Option Outcome → Type 0
+CommitRow m s k r words.Ok end = OnReplica m k r (λ e x. CommitOk m s.call k r end x)
+CommitRow m s k r reply end = ⊥
+
+-- ---- reads, on the active
+
+abbrev pub ReadRow : Machine → List ReadElement → ℕ → ℕ → Told → Type 0
+ReadRow m elements k r t = OnReplica m k r (λ e x. (e.active ≡ Some r) × ReadAnswer m elements x t.reply) where
+  ReadAnswer : Machine → List ReadElement → ReplicaState → StepReply → Type 0
+  ReadAnswer m elements x words.Ok = (pieces : List (List ℕ)) × (read elements m.cluster.moment x.sections ≡ Ok pieces) × (t.pieces ≡ Some pieces) × (t.end ≡ Some (Done answers.Pieces))
+  ReadAnswer m elements x words.Refused = (why : Refusal) × (read elements m.cluster.moment x.sections ≡ Err why) × (t.pieces ≡ None) × (t.end ≡ Some (Refused why.error (Index why.index)))
+  ReadAnswer m elements x reply = ⊥
+
+-- ---- clients, makings and opens
+
+abbrev pub EnterRow : Machine → ℕ → StepReply → Option Outcome → Type 0
+EnterRow m r words.Ok end = (is_up r m.cluster ≡ true) × (length m.cluster.clients < 64) × (end ≡ Some (Done answers.Version))
+EnterRow m r words.Memory end = end ≡ Some NoMemory
+EnterRow m r reply end = ⊥
+
+-- the checkpoint is in the making by the call
+abbrev pub IsMadeBy : Machine → CallId → ℕ → Type 0
+IsMadeBy m call k = IsSomeAnd (entry_of k m.cluster.entries) (λ e. e.making ≡ Some call)
+
+abbrev pub CreateRow : Machine → CallState → List ℕ → Option CreationAttributes → ℕ → StepReply → Option Outcome → Type 0
+CreateRow m s name a k words.Ok end = (named name m.cluster.entries ≡ None) × IsSome a × (room_of m (client_of s.call) ≡ true) × (length m.cluster.entries < 16) × (k ≡ m.cluster.last_identity + 1) × (end ≡ None)
+CreateRow m s name a k words.Memory end = end ≡ Some NoMemory
+CreateRow m s name a k reply end = ⊥
+
+abbrev pub ReserveRow : Machine → CallState → ℕ → ℕ → StepReply → Option Outcome → Type 0
+ReserveRow m s k r words.Ok end = (is_up r m.cluster ≡ true) × IsMadeBy m s.call k × (end ≡ None)
+ReserveRow m s k r words.Memory end = (is_up r m.cluster ≡ true) × IsMadeBy m s.call k × (end ≡ None)
+ReserveRow m s k r reply end = ⊥
+
+-- every node that is up has reserved under its present incarnation
+abbrev pub FinishRow : Machine → CallState → ℕ → StepReply → Option Outcome → Type 0
+FinishRow m s k words.Ok end = IsMadeBy m s.call k × ((r : ℕ) → is_up r m.cluster ≡ true → m.reserved k r ≡ Some (slice_index m.cluster.up r)) × (end ≡ Some (Done (answers.Opened k)))
+FinishRow m s k reply end = ⊥
+
+abbrev pub UndoRow : Machine → CallState → ℕ → StepReply → Option Outcome → Type 0
+UndoRow m s k words.Ok end = IsMadeBy m s.call k × (end ≡ Some NoMemory)
+UndoRow m s k reply end = ⊥
+
+pub record CanOpen (a : Option CreationAttributes) (k : ℕ) (e : Entry) : Type 0 where
+  pub identity : e.identity ≡ k
+  pub made : e.making ≡ None
+  pub accepted : accepts a e ≡ true
+
+abbrev pub OpenRow : Machine → CallState → List ℕ → Option CreationAttributes → ℕ → StepReply → Option Outcome → Type 0
+OpenRow m s name a k words.Ok end = IsSomeAnd (named name m.cluster.entries) (CanOpen a k) × (room_of m (client_of s.call) ≡ true) × (end ≡ Some (Done (answers.Opened k)))
+OpenRow m s name a k words.Memory end = end ≡ Some NoMemory
+OpenRow m s name a k reply end = ⊥
+
+-- ---- what the record and the client's tables decide
+
+abbrev pub OpenLook : Machine → CallState → List ℕ → Option CreationAttributes → AisError → Cause → Type 0
+OpenLook m s name a errors.NotExist Plain = (named name m.cluster.entries ≡ None) × (a ≡ None)
+OpenLook m s name a errors.Exist Plain = IsSomeAnd (named name m.cluster.entries) (λ e. accepts a e ≡ false)
+OpenLook m s name a errors.NoResources (Count n) =
+    (IsAccepted (named name m.cluster.entries) × (room_of m (client_of s.call) ≡ false) × (n ≡ 32))
+    ⊎ ((named name m.cluster.entries ≡ None) × (room_of m (client_of s.call) ≡ true) × (16 ≤ length m.cluster.entries) × (n ≡ 16)) where
+      IsAccepted : Option Entry → Type 0
+      IsAccepted None = IsSome a
+      IsAccepted (Some e) = accepts a e ≡ true
+OpenLook m s name a error cause = ⊥
+
+abbrev pub EnterLook : Machine → AisError → Cause → Type 0
+EnterLook m errors.NoResources (Count n) = (64 ≤ length m.cluster.clients) × (n ≡ 64)
+EnterLook m error cause = ⊥
+
+-- the handle's entry is gone, or a read's checkpoint has no active
+abbrev pub GoneLook : Machine → Option ℕ → AisError → Cause → Type 0
+GoneLook m (Some k) errors.NotExist Plain = entry_of k m.cluster.entries ≡ None
+GoneLook m k error cause = ⊥
+
+abbrev pub NoActiveLook : Machine → Option ℕ → AisError → Cause → Type 0
+NoActiveLook m (Some k) errors.NotExist Plain = HasNoActive (entry_of k m.cluster.entries) where
+  HasNoActive : Option Entry → Type 0
+  HasNoActive None = Unit {0}
+  HasNoActive (Some e) = e.active ≡ None
+NoActiveLook m k error cause = ⊥
+
+abbrev pub LookRefused : Machine → CallState → Op → AisError → Cause → Type 0
+LookRefused m s (ops.Client r version callbacks) error cause = EnterLook m error cause
+LookRefused m s (ops.Open place name flags timeout a) error cause = OpenLook m s name a error cause
+LookRefused m s (ops.Write place update) error cause = GoneLook m s.kept.ckpt error cause
+LookRefused m s (ops.Read place elements) error cause = NoActiveLook m s.kept.ckpt error cause
+LookRefused m s op error cause = ⊥
+
+abbrev pub LookRow : Machine → CallState → Option Outcome → Type 0
+LookRow m s (Some (Refused error cause)) = LookRefused m s s.op error cause
+LookRow m s end = ⊥
+
+-- ---- any step
+
+abbrev pub AtCkpt : Option ℕ → Option ℕ → (ℕ → Type 0) → Type 0
+AtCkpt (Some k) None P = P k
+AtCkpt k r P = ⊥
+
+abbrev pub AtNode : Option ℕ → Option ℕ → (ℕ → ℕ → Type 0) → Type 0
+AtNode (Some k) (Some r) P = P k r
+AtNode k r P = ⊥
+
+abbrev pub AtNodeAlone : Option ℕ → Option ℕ → (ℕ → Type 0) → Type 0
+AtNodeAlone None (Some r) P = P r
+AtNodeAlone k r P = ⊥
+
+-- the operation is an open, of this name and with these attributes
+abbrev pub OfOpen : Op → (List ℕ → Option CreationAttributes → Type 0) → Type 0
+OfOpen (ops.Open place name flags timeout a) P = P name a
+OfOpen op P = ⊥
+
+abbrev pub OfRead : Op → (List ReadElement → Type 0) → Type 0
+OfRead (ops.Read place elements) P = P elements
+OfRead op P = ⊥
+
+abbrev pub OfWrite : Op → Type 0 → Type 0
+OfWrite (ops.Write place update) P = P
+OfWrite op P = ⊥
+
+abbrev pub OfClient : Op → ℕ → Type 0 → Type 0
+OfClient (ops.Client r version callbacks) q P = (q ≡ r) × P
+OfClient op q P = ⊥
+
+abbrev pub Row : Machine → CallState → Verb → Told → Type 0
+Row m s verbs.Enter t = AtNodeAlone t.ckpt t.node (λ r. OfClient s.op r (EnterRow m r t.reply t.end)) × (t.pieces ≡ None)
+Row m s verbs.Open t = AtCkpt t.ckpt t.node (λ k. OfOpen s.op (λ name a. OpenRow m s name a k t.reply t.end)) × (t.pieces ≡ None)
+Row m s verbs.Create t = AtCkpt t.ckpt t.node (λ k. OfOpen s.op (λ name a. CreateRow m s name a k t.reply t.end)) × (t.pieces ≡ None)
+Row m s verbs.Reserve t = AtNode t.ckpt t.node (λ k r. ReserveRow m s k r t.reply t.end) × (t.pieces ≡ None)
+Row m s verbs.Finish t = AtCkpt t.ckpt t.node (λ k. FinishRow m s k t.reply t.end) × (t.pieces ≡ None)
+Row m s verbs.Undo t = AtCkpt t.ckpt t.node (λ k. UndoRow m s k t.reply t.end) × (t.pieces ≡ None)
+Row m s verbs.Stage t = AtNode t.ckpt t.node (λ k r. OfWrite s.op (StageRow m s k r t.reply t.end)) × (t.pieces ≡ None)
+Row m s verbs.Commit t = AtNode t.ckpt t.node (λ k r. OfWrite s.op (CommitRow m s k r t.reply t.end)) × (t.pieces ≡ None)
+Row m s verbs.Read t = AtNode t.ckpt t.node (λ k r. OfRead s.op (λ elements. ReadRow m elements k r t))
+Row m s verbs.Look t = (t.ckpt ≡ None) × (t.node ≡ None) × (t.reply ≡ words.Refused) × LookRow m s t.end × (t.pieces ≡ None)
+Row m s verb t = ⊥
+
+pub record IsAllowedStep (m : Machine) (call : CallId) (op : OpWord) (t : Told) : Type 0 where
+  pub state : CallState
+  pub in_hand : m.in_hand call.actor ≡ Some state
+  pub call_is : state.call ≡ call
+  pub word : word_of_op state.op ≡ op
+  pub row : Row m state t.verb t
+
+-- from m the machine allows this label; a label whose row is not built is not allowed
+abbrev pub Allowed : Machine → Label → Type 0
+Allowed m (labels.Began call op end) = IsBegun m call op end
+Allowed m (labels.Stepped call op verb k r reply end pieces) = IsAllowedStep m call op (record { verb = verb; ckpt = k; node = r; reply = reply; end = end; pieces = pieces })
+Allowed m (labels.Word who word said) = IsWord m who word said
+Allowed m (labels.Nodes n) = (0 < n) × (n < 9) × ((r : ℕ) → is_up r m.cluster ≡ false)
+Allowed m label = ⊥

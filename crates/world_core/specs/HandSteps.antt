@@ -1,0 +1,13 @@
+-- What a step makes of a call in hand.
+use Rattle.std.specs.Prelude.{Option}
+use Rattle.ckpt_types.specs.declared.answers.Outcome.{Outcome}
+use Rattle.node_msgs.specs.declared.replies.Reply.{Reply}
+use Rattle.world_core.specs.declared.hands.InHand.{InHand}
+use Rattle.world_core.specs.Driving.{StepDone, driver_taken, driver_end}
+
+abbrev pub hand_taken : StepDone → InHand → InHand
+hand_taken d h = record h { driver = driver_taken d h.driver }
+
+-- how it ends by a node's reply, being as it is after the step
+abbrev pub hand_end : StepDone → Reply → InHand → Option Outcome
+hand_end d reply h = driver_end d reply h.driver

@@ -1,0 +1,103 @@
+-- What an event does to the world, with the label that answers it.
+use Rattle.std.specs.Prelude.{◌≡◌, ◌⊎◌, ℕ, ◌<◌, List, length, Option, Some, None, Bool, nat_lt, slice_get, slice_set}
+use Rattle.ckpt_types.specs.declared.answers.Outcome.{Outcome}
+use Rattle.ckpt_types.specs.declared.identities.ActorName.TheVariants.{Client}
+use Rattle.ckpt_types.specs.declared.identities.CallId.{CallId}
+use Rattle.ckpt_types.specs.declared.identities.Who.TheVariants as whos
+use Rattle.ckpt_types.specs.declared.operation.Op.{Op}
+use Rattle.node_msgs.specs.declared.next.Next.{Next}
+use Rattle.run_labels.specs.declared.labels.Label.{Label}
+use Rattle.run_labels.specs.declared.labels.Label.TheVariants as labels
+use Rattle.run_labels.specs.declared.labels.StepReply.{StepReply}
+use Rattle.run_labels.specs.declared.words.OpWord.{OpWord}
+use Rattle.run_labels.specs.declared.words.Verb.{Verb}
+use Rattle.world_core.specs.declared.hands.InHand.{InHand}
+use Rattle.world_core.specs.declared.tables.TheConstants.{HANDLES_MAX}
+use Rattle.world_core.specs.declared.world.Event.{Event}
+use Rattle.world_core.specs.declared.world.Event.TheVariants as happenings
+use Rattle.world_core.specs.declared.world.World.{World}
+use Rattle.world_core.specs.Calls.{left}
+use Rattle.world_core.specs.RecordState.{empty_record}
+use Rattle.world_core.specs.Driving.{driver_next}
+use Rattle.world_core.specs.Beginning.{IsBuilt}
+use Rattle.world_core.specs.declared.tables.Handle.{Handle}
+use Rattle.world_core.specs.Steps.{handle_of_number}
+use Rattle.world_core.specs.Shows.{Does, handles_in, place_in, hand_at}
+use Rattle.world_core.specs.Runs.{AnswersBegin, IsIdleWord}
+
+-- the client has a free place for a handle
+abbrev pub room_in : World → ℕ → Bool
+room_in w c = nat_lt (length (handles_in (slice_get w.tables c))) HANDLES_MAX
+
+-- the handle for which a place of the client stands
+abbrev pub handle_named : World → ℕ → Option ℕ → Option Handle
+handle_named w c None = None
+handle_named w c (Some place) = handle_of_number (handles_in (slice_get w.tables c)) (place_in (slice_get w.tables c) place)
+
+-- this is next for the call that the client has in hand
+pub record IsNext (w : World) (c : ℕ) (next : Next) : Type 0 where
+  pub hand : InHand
+  pub held : hand_at w.hands c ≡ Some hand
+  pub next_is : driver_next w.cluster (room_in w c) hand.driver ≡ next
+
+-- the client's call takes a step: it is in hand after it just where the step did not end it
+pub record IsStep (c : ℕ) (old new : World) (label : Label) : Type 0 where
+  pub hand : InHand
+  pub held : hand_at old.hands c ≡ Some hand
+  pub op : OpWord
+  pub verb : Verb
+  pub ckpt : Option ℕ
+  pub node : Option ℕ
+  pub reply : StepReply
+  pub end : Option Outcome
+  pub pieces : Option (List (List ℕ))
+  pub label_is : label ≡ labels.Stepped hand.call op verb ckpt node reply end pieces
+  pub next : InHand
+  pub same_call : next.call ≡ hand.call
+  pub same_op : next.op ≡ hand.op
+  pub hands : new.hands ≡ slice_set old.hands c (left end next)
+  pub does : Does old new label
+
+-- the client has no call in hand, and a word says so
+pub record IsIdle (c : ℕ) (finish : Bool) (old new : World) (label : Label) : Type 0 where
+  pub none : hand_at old.hands c ≡ None
+  pub word : IsIdleWord (Client c) finish old new label
+  pub does : Does old new label
+
+-- the client's call begins: it is in hand just where the beginning did not end it
+pub record IsBeginning (c : ℕ) (op : Op) (old new : World) (call : CallId) (begun : Op) (end : Option Outcome) : Type 0 where
+  pub actor : call.actor ≡ Client c
+  pub op_is : begun ≡ op
+  pub hand : InHand
+  pub same_call : hand.call ≡ call
+  pub same_op : hand.op ≡ op
+  pub within : c < length old.hands
+  pub hands : new.hands ≡ slice_set old.hands c (left end hand)
+
+abbrev pub BeginsOrSays : ℕ → Op → World → World → Label → Type 0
+BeginsOrSays c op old new (labels.Began call begun end) = IsBeginning c op old new call begun end
+BeginsOrSays c op old new label = AnswersBegin (Client c) op old new label
+
+-- a call begins, or a word answers its line
+pub record Begins (c : ℕ) (op : Op) (old new : World) (label : Label) : Type 0 where
+  pub begins : BeginsOrSays c op old new label
+  pub does : Does old new label
+
+pub record BringsUp (n : ℕ) (old new : World) (label : Label) : Type 0 where
+  pub label_is : label ≡ labels.Nodes n
+  pub hands : new.hands ≡ old.hands
+  pub does : Does old new label
+
+-- what the event asks of the world
+abbrev pub ComesNow : World → Event → Type 0
+ComesNow w (happenings.Nodes n) = (n ≡ 1) × (w.cluster ≡ empty_record)
+ComesNow w (happenings.Begin (Client c) op) = (c < 100) × IsBuilt op
+ComesNow w (happenings.Step (whos.Actor (Client c)) finish) = c < 100
+ComesNow w event = ⊥
+
+-- what the event does, with the label that answers it
+abbrev pub IsAnswered : Event → World → World → Label → Type 0
+IsAnswered (happenings.Nodes n) old new label = BringsUp n old new label
+IsAnswered (happenings.Begin (Client c) op) old new label = Begins c op old new label
+IsAnswered (happenings.Step (whos.Actor (Client c)) finish) old new label = IsStep c old new label ⊎ IsIdle c finish old new label
+IsAnswered event old new label = ⊥

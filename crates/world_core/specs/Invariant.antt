@@ -1,0 +1,213 @@
+-- What holds in every state of a run of one node, one call at a time; from it follow the guards, and all that the code relies on.
+use Rattle.std.specs.Prelude.{◌≡◌, ◌≢◌, ◌⊎◌, ℕ, ◌<◌, ◌≤◌, List, [], ◌∷◌, length, Option, Some, None, IsSome, IsSomeAnd, Contains, IsOk, Bool, true, false, ◌||◌, ◌==◌, if◌then◌else◌, is_some, slice_index}
+use Rattle.ckpt_types.specs.declared.attributes.CreationAttributes.{CreationAttributes}
+use Rattle.ckpt_types.specs.declared.calls.OpenAsk.{OpenAsk}
+use Rattle.ckpt_types.specs.declared.identities.ActorName.{ActorName}
+use Rattle.ckpt_types.specs.declared.identities.CallId.{CallId}
+use Rattle.ckpt_types.specs.declared.operation.Op.{Op}
+use Rattle.ckpt_types.specs.declared.operation.Op.TheVariants as ops
+use Rattle.ckpt_types.specs.Attributes.{is_malformed}
+use Rattle.ckpt_types.specs.Updates.{outcome}
+use Rattle.run_labels.specs.declared.labels.Label.{Label}
+use Rattle.run_labels.specs.declared.labels.Label.TheVariants as labels
+use Rattle.world_core.specs.declared.drivers.Driver.{Driver}
+use Rattle.world_core.specs.declared.drivers.Driver.TheVariants as drivers
+use Rattle.world_core.specs.declared.open_call.Making.{Making}
+use Rattle.world_core.specs.declared.open_call.OpenCall.{OpenCall}
+use Rattle.world_core.specs.declared.reading.ActiveCall.{ActiveCall}
+use Rattle.world_core.specs.declared.record.Entry.{Entry}
+use Rattle.world_core.specs.declared.tables.Handle.{Handle}
+use Rattle.world_core.specs.declared.update_call.UpdateCall.{UpdateCall}
+use Rattle.world_core.specs.declared.update_call.UpdatePhase.TheVariants.{Staging}
+use Rattle.world_core.specs.Calls.{same_actor, client_of}
+use Rattle.world_core.specs.RecordState.{entry_of, first_nodes, no_nodes, has_references, is_up}
+use Rattle.world_core.specs.Serving.{update_of}
+use Rattle.world_core.specs.Beginning.{IsBuilt}
+use Rattle.world_core.specs.Machine.{Machine, Staged, ReplicaState, CallState}
+use Rattle.world_core.specs.Steps.{driver_of, room_of}
+use Rattle.world_core.specs.Shows.{IdentitiesRise, AllUpTo}
+
+-- ---- the call in hand
+
+-- a call in hand, and where its steps have led it
+pub record Working : Type 0 where
+  pub state : CallState
+  pub driver : Driver
+
+-- its actor has it in hand, and nobody else has one
+abbrev pub in_hand_of : Option Working → ActorName → Option CallState
+in_hand_of None a = None
+in_hand_of (Some w) a = if same_actor a w.state.call.actor then Some w.state else None
+
+-- the call that has a checkpoint in the making
+abbrev pub maker_if : CallId → ℕ → Option Making → Option CallId
+maker_if call k None = None
+maker_if call k (Some making) = if k == making.ckpt then Some call else None
+
+abbrev pub maker_by : CallId → ℕ → Driver → Option CallId
+maker_by call k (drivers.Open o) = maker_if call k o.making
+maker_by call k (drivers.Enter r) = None
+maker_by call k (drivers.Update u) = None
+maker_by call k (drivers.Active a) = None
+
+abbrev pub maker_of : Option Working → ℕ → Option CallId
+maker_of None k = None
+maker_of (Some w) k = maker_by w.state.call k w.driver
+
+-- the slot that the call has on n0: of its own update, where it owns one
+abbrev pub slot_if : ℕ → Staged → Option Staged
+slot_if incarnation slot = if incarnation == 0 then None else Some slot
+
+abbrev pub slot_by : CallState → ℕ → Driver → Option Staged
+slot_by s k (drivers.Update u) = if k == u.ckpt then slot_if (slice_index u.owned 0) (record { owner = s.call; origin = s.call; update = update_of s.op; moment = u.moment }) else None
+slot_by s k (drivers.Enter r) = None
+slot_by s k (drivers.Open o) = None
+slot_by s k (drivers.Active a) = None
+
+abbrev pub slot_of : Option Working → ℕ → Option Staged
+slot_of None k = None
+slot_of (Some w) k = slot_by w.state k w.driver
+
+-- ---- the checkpoints
+
+-- a staged update has an outcome
+abbrev pub FitsSlot : CreationAttributes → ReplicaState → Option Staged → Type 0
+FitsSlot a x None = Unit {0}
+FitsSlot a x (Some slot) = IsOk (outcome a slot.update slot.moment x.sections)
+
+-- a replica has the slot of the call in hand and no other
+pub record IsGoodReplica (staged : Option Staged) (a : CreationAttributes) (x : ReplicaState) : Type 0 where
+  pub slot : x.slot ≡ staged
+  pub fits : FitsSlot a x staged
+
+-- a checkpoint that is made has its one replica on n0, which is the active
+pub record IsMadeEntry (staged : Option Staged) (e : Entry) (x : Option ReplicaState) : Type 0 where
+  pub complete : e.complete ≡ first_nodes 1
+  pub active : e.active ≡ Some 0
+  pub replica : IsSomeAnd x (IsGoodReplica staged e.attributes)
+
+-- one in the making is as it was created
+pub record IsMakingEntry (e : Entry) : Type 0 where
+  pub complete : e.complete ≡ no_nodes
+  pub generation : e.generation ≡ 1
+  pub well_formed : is_malformed e.attributes ≡ false
+  pub clients : length e.references ≡ 100
+
+abbrev pub IsGoodState : Option CallId → Option Staged → Entry → Option ReplicaState → Type 0
+IsGoodState None staged e x = IsMadeEntry staged e x
+IsGoodState (Some call) staged e x = IsMakingEntry e
+
+-- an entry is in the making by this call, or made and on n0 with this slot
+pub record IsGoodEntry (maker : Option CallId) (staged : Option Staged) (e : Entry) (x : Option ReplicaState) : Type 0 where
+  pub making : e.making ≡ maker
+  pub state : IsGoodState maker staged e x
+
+-- a checkpoint that is in the making or that somebody has open stays in every sweep
+abbrev pub is_in_use : Entry → Bool
+is_in_use e = is_some e.making || has_references e
+
+abbrev pub AllInUse : List Entry → Type 0
+AllInUse [] = Unit {0}
+AllInUse (e ∷ es) = (is_in_use e ≡ true) × AllInUse es
+
+-- a checkpoint is there and made
+abbrev pub IsMade : Machine → ℕ → Type 0
+IsMade m k = IsSomeAnd (entry_of k m.cluster.entries) (λ e. e.making ≡ None)
+
+-- ---- where a call in hand is
+
+abbrev pub IsClientOf : Op → ℕ → Type 0
+IsClientOf (ops.Client r version callbacks) q = q ≡ r
+IsClientOf op q = ⊥
+
+abbrev pub OpensAs : Op → OpenAsk → Type 0
+OpensAs (ops.Open place name flags timeout a) ask = (ask.name ≡ name) × (ask.attrs ≡ a)
+OpensAs op ask = ⊥
+
+abbrev pub IsWriteOf : Op → Type 0
+IsWriteOf (ops.Write place update) = Unit {0}
+IsWriteOf op = ⊥
+
+abbrev pub IsReadOf : Op → Type 0
+IsReadOf (ops.Read place elements) = Unit {0}
+IsReadOf op = ⊥
+
+-- attributes that were given passed their check
+abbrev pub AreGoodAttributes : Option CreationAttributes → Type 0
+AreGoodAttributes None = Unit {0}
+AreGoodAttributes (Some a) = is_malformed a ≡ false
+
+-- what it is making is there, and it has reserved nowhere or on n0
+pub record IsMakingAt (m : Machine) (making : Making) : Type 0 where
+  pub there : IsSome (entry_of making.ckpt m.cluster.entries)
+  pub reserved : (making.reserved ≡ no_nodes) ⊎ ((making.reserved ≡ first_nodes 1) × (m.reserved making.ckpt 0 ≡ Some 1))
+
+abbrev pub IsMakingOrNone : Machine → Option Making → Type 0
+IsMakingOrNone m None = Unit {0}
+IsMakingOrNone m (Some making) = IsMakingAt m making
+
+pub record IsEnterAt (m : Machine) (s : CallState) (r : ℕ) : Type 0 where
+  pub op : IsClientOf s.op r
+  pub up : is_up r m.cluster ≡ true
+
+pub record IsOpenAt (m : Machine) (s : CallState) (o : OpenCall) : Type 0 where
+  pub number : 1 ≤ s.call.number
+  pub client : o.ask.client ≡ client_of s.call
+  pub within : o.ask.client < 100
+  pub built : IsBuilt s.op
+  pub asks : OpensAs s.op o.ask
+  pub asked : AreGoodAttributes o.ask.attrs
+  pub up : m.cluster.up ≡ first_nodes 1
+  pub making : IsMakingOrNone m o.making
+  -- with a checkpoint in the making its client has a free place for the handle
+  pub room : IsSome o.making → room_of m o.ask.client ≡ true
+
+-- an update has staged nowhere, or on n0
+pub record IsUpdateAt (m : Machine) (s : CallState) (u : UpdateCall) : Type 0 where
+  pub call : u.call ≡ s.call
+  pub write : IsWriteOf s.op
+  pub phase : u.phase ≡ Staging
+  pub made : IsMade m u.ckpt
+  pub owned : (u.owned ≡ no_nodes) ⊎ (u.owned ≡ first_nodes 1)
+
+pub record IsReadAt (m : Machine) (s : CallState) (a : ActiveCall) : Type 0 where
+  pub read : IsReadOf s.op
+  pub made : IsMade m a.ckpt
+
+abbrev pub IsAt : Machine → CallState → Driver → Type 0
+IsAt m s (drivers.Enter r) = IsEnterAt m s r
+IsAt m s (drivers.Open o) = IsOpenAt m s o
+IsAt m s (drivers.Update u) = IsUpdateAt m s u
+IsAt m s (drivers.Active a) = IsReadAt m s a
+
+-- its steps have led it there
+abbrev pub IsWorking : Machine → Option Working → Type 0
+IsWorking m None = Unit {0}
+IsWorking m (Some w) = (driver_of w.state ≡ w.driver) × IsAt m w.state w.driver
+
+-- ---- the whole
+
+-- what holds with this call in hand, or with none
+pub record InvariantWith (hand : Option Working) (m : Machine) : Type 0 where
+  -- no node is up and no client live, or n0 alone is up
+  pub up : ((m.cluster.up ≡ no_nodes) × (m.cluster.clients ≡ [])) ⊎ (m.cluster.up ≡ first_nodes 1)
+  pub rises : IdentitiesRise m.cluster.entries
+  pub up_to : AllUpTo m.cluster.last_identity m.cluster.entries
+  pub in_use : AllInUse m.cluster.entries
+  pub entries : (k : ℕ) (e : Entry) → entry_of k m.cluster.entries ≡ Some e → IsGoodEntry (maker_of hand k) (slot_of hand k) e (m.replicas k 0)
+  -- a handle has a number from 1, and its checkpoint is there and made
+  pub handles : (c : ℕ) (h : Handle) → Contains (m.handles c) h → (1 ≤ h.number) × IsMade m h.ckpt
+  pub next : (a : ActorName) → 1 ≤ m.next a
+  pub in_hand : (a : ActorName) → m.in_hand a ≡ in_hand_of hand a
+  pub working : IsWorking m hand
+
+pub record Invariant (m : Machine) : Type 0 where
+  pub hand : Option Working
+  pub holds : InvariantWith hand m
+
+-- ---- one call at a time
+
+-- where a call begins, nobody else has one in hand
+abbrev pub Alone : Machine → Label → Type 0
+Alone m (labels.Began call op end) = (a : ActorName) → a ≢ call.actor → m.in_hand a ≡ None
+Alone m label = Unit {0}

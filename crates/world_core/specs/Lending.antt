@@ -1,0 +1,33 @@
+-- What a call lends to a request, and what it gets back.
+use Rattle.std.specs.Prelude.{◌≡◌, ℕ, ◌≤◌, List, [], length, sum_by, Option, Some, None}
+use Rattle.ckpt_types.specs.declared.answers.Answer.TheVariants as answers
+use Rattle.ckpt_types.specs.declared.operation.Op.{Op}
+use Rattle.ckpt_types.specs.declared.update.ReadElement.{ReadElement}
+use Rattle.node_msgs.specs.declared.requests.Request.{Request}
+use Rattle.node_msgs.specs.declared.requests.Request.TheVariants as requests
+use Rattle.node_msgs.specs.declared.replies.Reply.{Reply}
+use Rattle.node_msgs.specs.declared.replies.Reply.TheVariants as replies
+use Rattle.world_core.specs.declared.nodes.Lent.{Lent}
+use Rattle.world_core.specs.Serving.{update_of, elements_of}
+
+-- how many bytes the elements of a read ask for at most
+abbrev pub bytes_asked : List ReadElement → ℕ
+bytes_asked elements = sum_by (λ e. e.len) elements
+
+-- the elements, and an empty buffer with room for what they may give
+pub record IsLentRead (elements : List ReadElement) (lent : Lent) : Type 0 where
+  pub vector : lent.vector ≡ Some elements
+  pub empty : lent.read.pieces ≡ []
+  pub places : length elements ≤ lent.read.spare_pieces
+  pub bytes : bytes_asked elements ≤ lent.read.spare_bytes
+
+-- a stage is lent the operation's update, and a read its elements and a buffer
+abbrev pub IsLent : Request → Op → Lent → Type 0
+IsLent (requests.Stage call k t) op lent = lent.update ≡ Some (update_of op)
+IsLent (requests.Read k) op lent = IsLentRead (elements_of op) lent
+IsLent request op lent = Unit {0}
+
+-- the pieces that came with a reply
+abbrev pub pieces_told : Reply → List (List ℕ) → Option (List (List ℕ))
+pieces_told (replies.Done answers.Pieces) pieces = Some pieces
+pieces_told reply pieces = None

@@ -1,0 +1,195 @@
+-- Runs of the machine that the world shows.
+use Rattle.std.specs.Prelude.{◌≡◌, ◌≢◌, ℕ, ◌+◌, ◌*◌, ◌-◌, ◌<◌, ◌≤◌, ◌^◌, List, [], ◌∷◌, ◌++◌, length, replicate, Option, Some, None, Bool, true, false, if◌then◌else◌, slice_get, slice_index}
+use Rattle.ckpt_types.specs.declared.answers.Outcome.{Outcome}
+use Rattle.ckpt_types.specs.declared.identities.ActorName.{ActorName}
+use Rattle.ckpt_types.specs.declared.identities.ActorName.TheVariants.{Client}
+use Rattle.ckpt_types.specs.declared.identities.CallId.{CallId}
+use Rattle.ckpt_types.specs.declared.identities.Who.{Who}
+use Rattle.ckpt_types.specs.declared.identities.Who.TheVariants as whos
+use Rattle.ckpt_types.specs.declared.operation.Op.{Op}
+use Rattle.ckpt_types.specs.declared.operation.Op.TheVariants as ops
+use Rattle.run_labels.specs.declared.labels.Label.{Label}
+use Rattle.run_labels.specs.declared.labels.Label.TheVariants as labels
+use Rattle.run_labels.specs.declared.words.LineWord.{LineWord}
+use Rattle.run_labels.specs.declared.words.LineWord.TheVariants as linewords
+use Rattle.run_labels.specs.declared.words.Said.{Said}
+use Rattle.run_labels.specs.declared.words.Said.TheVariants.{Down}
+use Rattle.run_labels.specs.OpWord.{word_of_op}
+use Rattle.world_core.specs.declared.drivers.Driver.{Driver}
+use Rattle.world_core.specs.declared.drivers.Driver.TheVariants as drivers
+use Rattle.world_core.specs.declared.hands.InHand.{InHand}
+use Rattle.world_core.specs.declared.open_call.Making.{Making}
+use Rattle.world_core.specs.declared.record.Entry.{Entry}
+use Rattle.world_core.specs.declared.world.Event.{Event}
+use Rattle.world_core.specs.declared.world.Event.TheVariants as happenings
+use Rattle.world_core.specs.declared.world.World.{World}
+use Rattle.world_core.specs.RecordState.{RecordState, entry_of, complete_of, empty_record, is_up}
+use Rattle.world_core.specs.TableState.{TableState}
+use Rattle.world_core.specs.Driving.{lacks, has}
+use Rattle.world_core.specs.Beginning.{IsBuilt}
+use Rattle.world_core.specs.Machine.{Machine, ReplicaState, empty_cluster}
+use Rattle.world_core.specs.Steps.{IsDue, after}
+use Rattle.world_core.specs.Shows.{Shows, hand_at, next_in}
+use Rattle.world_core.specs.Guards.{Allowed}
+use Rattle.world_core.specs.Invariant.{Invariant}
+
+-- ---- runs
+
+-- the state after a list of labels
+abbrev pub last_from : Machine → List Label → Machine
+last_from m [] = m
+last_from m (l ∷ ls) = last_from (after m l) ls
+
+abbrev pub last : List Label → Machine
+last log = last_from empty_cluster log
+
+-- each label is allowed where it comes, and is the due one
+abbrev pub IsRunFrom : Machine → List Label → Type 0
+IsRunFrom m [] = Unit {0}
+IsRunFrom m (l ∷ ls) = Allowed m l × IsDue m l × IsRunFrom (after m l) ls
+
+-- the log is a run of the checkpoint machine from the empty cluster
+abbrev pub IsRun : List Label → Type 0
+IsRun log = IsRunFrom empty_cluster log
+
+-- ---- counts
+
+-- what counts up is no more than so many
+pub record Counts (m : Machine) (n : ℕ) : Type 0 where
+  pub next : (a : ActorName) → m.next a ≤ n + 1
+  pub effects : (k r : ℕ) (x : ReplicaState) → m.replicas k r ≡ Some x → length x.effects ≤ n
+  pub identity : m.cluster.last_identity ≤ n
+  pub references : (k : ℕ) (e : Entry) (c : ℕ) → entry_of k m.cluster.entries ≡ Some e → slice_index e.references c ≤ n
+
+-- ---- the world after a log
+
+-- the log is a run, and the world shows the state after it
+pub record IsRunTo (w : World) (log : List Label) : Type 0 where
+  pub run : IsRun log
+  pub shows : Shows w (last log)
+  pub invariant : Invariant (last log)
+  pub counts : Counts (last log) (length log)
+
+-- the world as it begins
+pub record IsNew (w : World) : Type 0 where
+  pub cluster : w.cluster ≡ empty_record
+  pub nodes : w.nodes ≡ replicate 8 []
+  pub next : (c : ℕ) → next_in (slice_get w.tables c) ≡ 1
+  pub tables : (c : ℕ) (t : TableState) → slice_get w.tables c ≡ Some t → (t.handles ≡ []) × ((p : ℕ) → slice_index t.places p ≡ 0)
+  pub hands : (c : ℕ) → hand_at w.hands c ≡ None
+
+-- ---- events
+
+-- the events that a line of a script can give, as far as they are built: one node, and one call at a time
+abbrev pub NoneButOf : World → ActorName → Type 0
+NoneButOf w (Client c) = (c < 100) × ((d : ℕ) → d ≢ c → hand_at w.hands d ≡ None)
+NoneButOf w a = ⊥
+
+abbrev pub OneActor : World → Who → Type 0
+OneActor w (whos.Actor a) = NoneButOf w a
+OneActor w who = ⊥
+
+abbrev pub Comes : World → List Label → Event → Type 0
+Comes w log (happenings.Nodes n) = (n ≡ 1) × (log ≡ [])
+Comes w log (happenings.Begin a op) = NoneButOf w a × IsBuilt op
+Comes w log (happenings.Step who finish) = OneActor w who
+
+-- how many of the nodes the call lacks, and has
+abbrev pub lacking : List ℕ → List ℕ → ℕ
+lacking [] own = 0
+lacking (c ∷ cs) [] = 0
+lacking (c ∷ cs) (o ∷ os) = (if lacks c o then 1 else 0) + lacking cs os
+
+abbrev pub having : List ℕ → List ℕ → ℕ
+having [] own = 0
+having (c ∷ cs) [] = 0
+having (c ∷ cs) (o ∷ os) = (if has c o then 1 else 0) + having cs os
+
+abbrev pub making_left : RecordState → Option Making → ℕ
+making_left R None = 10
+making_left R (Some m) = if m.refused then 1 else lacking R.up m.reserved + 1
+
+-- at most so many steps are left of a call
+abbrev pub steps_left : RecordState → Driver → ℕ
+steps_left R (drivers.Enter r) = 1
+steps_left R (drivers.Open o) = making_left R o.making
+steps_left R (drivers.Update u) = let complete = complete_of (entry_of u.ckpt R.entries) in 2 * lacking complete u.owned + having complete u.owned + 1
+steps_left R (drivers.Active a) = 1
+
+abbrev pub hand_left : RecordState → Option InHand → ℕ
+hand_left R None = 0
+hand_left R (Some h) = steps_left R h.driver
+
+abbrev pub left_of : World → ActorName → ℕ
+left_of w (Client c) = hand_left w.cluster (hand_at w.hands c)
+left_of w a = 0
+
+-- a call is in hand after a label just where the label did not end it
+abbrev pub GoesOn : CallId → Op → Option Outcome → Option InHand → Type 0
+GoesOn call op (Some end) None = Unit {0}
+GoesOn call op (Some end) (Some h) = ⊥
+GoesOn call op None None = ⊥
+GoesOn call op None (Some h) = (h.call ≡ call) × (h.op ≡ op)
+
+abbrev pub GoesOnAt : World → CallId → Op → Option Outcome → ActorName → Type 0
+GoesOnAt w call op end (Client c) = GoesOn call op end (hand_at w.hands c)
+GoesOnAt w call op end a = ⊥
+
+-- DOWN is said of a node that is not up
+abbrev pub SaysTrue : Op → Said → World → Type 0
+SaysTrue (ops.Client r version callbacks) Down w = is_up r w.cluster ≡ false
+SaysTrue op Down w = ⊥
+SaysTrue op said w = Unit {0}
+
+-- the label that answers the beginning of a call: its beginning, or a word that leaves the calls in hand as they are
+abbrev pub AnswersBegin : ActorName → Op → World → World → Label → Type 0
+AnswersBegin a op old new (labels.Began call begun end) = (call.actor ≡ a) × (begun ≡ op) × GoesOnAt new call op end a
+AnswersBegin a op old new (labels.Word who word said) = (who ≡ whos.Actor a) × (word ≡ linewords.Op (word_of_op op)) × (new.hands ≡ old.hands) × SaysTrue op said old
+AnswersBegin a op old new label = ⊥
+
+-- the label that answers a step of the call in hand: its next step, by which it ends or comes nearer to its end
+abbrev pub IsStepOf : ActorName → Option InHand → World → World → Label → Type 0
+IsStepOf a (Some h) old new (labels.Stepped call op verb k r reply end pieces) = (call ≡ h.call) × GoesOnAt new h.call h.op end a × (left_of new a < left_of old a)
+IsStepOf a hand old new label = ⊥
+
+abbrev pub step_word : Bool → LineWord
+step_word true = linewords.Finish
+step_word false = linewords.Step
+
+abbrev pub IsIdleWord : ActorName → Bool → World → World → Label → Type 0
+IsIdleWord a finish old new (labels.Word who word said) = (who ≡ whos.Actor a) × (word ≡ step_word finish) × (new.hands ≡ old.hands)
+IsIdleWord a finish old new label = ⊥
+
+abbrev pub AnswersStep : ActorName → Bool → Option InHand → World → World → Label → Type 0
+AnswersStep a finish None old new label = IsIdleWord a finish old new label
+AnswersStep a finish (Some h) old new label = IsStepOf a (Some h) old new label
+
+abbrev pub hand_of_actor : World → ActorName → Option InHand
+hand_of_actor w (Client c) = hand_at w.hands c
+hand_of_actor w a = None
+
+-- a label answers an event
+abbrev pub Answers : Event → World → World → Label → Type 0
+Answers (happenings.Nodes n) old new label = (label ≡ labels.Nodes n) × (new.hands ≡ old.hands)
+Answers (happenings.Begin a op) old new label = AnswersBegin a op old new label
+Answers (happenings.Step (whos.Actor a) finish) old new label = AnswersStep a finish (hand_of_actor old a) old new label
+Answers (happenings.Step who finish) old new label = ⊥
+
+-- the calls of other clients are as they were
+abbrev pub KeepsOthers : Event → World → World → Type 0
+KeepsOthers (happenings.Begin (Client c) op) old new = (d : ℕ) → d ≢ c → hand_at new.hands d ≡ hand_at old.hands d
+KeepsOthers (happenings.Step (whos.Actor (Client c)) finish) old new = (d : ℕ) → d ≢ c → hand_at new.hands d ≡ hand_at old.hands d
+KeepsOthers event old new = Unit {0}
+
+-- one label more, which answers the event
+pub record Happens (event : Event) (old new : World) (log longer : List Label) : Type 0 where
+  pub label : Label
+  pub grows : longer ≡ log ++ label ∷ []
+  pub answers : Answers event old new label
+  pub others : KeepsOthers event old new
+
+-- an event that may come, in the world after a log
+pub record MayHappen (w : World) (log : List Label) (event : Event) : Type 0 where
+  pub run : IsRunTo w log
+  pub few : length log < 2 ^ 32 - 2
+  pub comes : Comes w log event

@@ -1,0 +1,151 @@
+-- What a node answers to a request, and what becomes of its one replica.
+use Rattle.std.specs.Prelude.{◌≡◌, ℕ, ◌+◌, ◌-◌, ◌<◌, ◌^◌, List, [], ◌∷◌, ◌++◌, Option, Some, None, Result, Ok, Err, IsOk, IsSomeAnd, ℤ, slice_get, slice_set}
+use Rattle.std.specs.Result.{result_ok}
+use Rattle.ckpt_types.specs.declared.answers.Answer.TheVariants as answers
+use Rattle.ckpt_types.specs.declared.attributes.CreationAttributes.{CreationAttributes}
+use Rattle.ckpt_types.specs.declared.identities.CallId.{CallId}
+use Rattle.ckpt_types.specs.declared.operation.Op.{Op}
+use Rattle.ckpt_types.specs.declared.operation.Op.TheVariants as ops
+use Rattle.ckpt_types.specs.declared.update.ReadElement.{ReadElement}
+use Rattle.ckpt_types.specs.declared.update.Update.{Update}
+use Rattle.ckpt_types.specs.declared.update.Update.TheVariants as updates
+use Rattle.ckpt_types.specs.Sections.{Section, opening}
+use Rattle.ckpt_types.specs.Updates.{Refusal, outcome}
+use Rattle.ckpt_types.specs.Reads.{read}
+use Rattle.node_msgs.specs.declared.requests.Request.{Request}
+use Rattle.node_msgs.specs.declared.requests.Request.TheVariants as requests
+use Rattle.node_msgs.specs.declared.replies.Reply.{Reply}
+use Rattle.node_msgs.specs.declared.replies.Reply.TheVariants as replies
+use Rattle.world_core.specs.declared.replica.Replica.{Replica}
+use Rattle.world_core.specs.declared.replica.Slot.{Slot}
+use Rattle.world_core.specs.Places.{find_key, change_key, list_or}
+
+-- ---- what travels beside a request
+
+abbrev pub update_of : Op → Update
+update_of (ops.Create place update) = update
+update_of (ops.Delete place update) = update
+update_of (ops.Expire place update) = update
+update_of (ops.Write place update) = update
+update_of (ops.Over place update) = update
+update_of _ = updates.Nothing
+
+abbrev pub elements_of : Op → List ReadElement
+elements_of (ops.Read place elements) = elements
+elements_of _ = []
+
+-- ---- a reply of one replica
+
+abbrev pub done_or_refused : {A : Type 0} → Reply → Result A Refusal → Reply
+done_or_refused done (Ok x) = done
+done_or_refused done (Err why) = replies.Refused why.error why.index
+
+-- another slot holds the update off; else the sections decide
+abbrev pub stage_reply : Result (List Section) Refusal → Option Slot → Reply
+stage_reply after (Some slot) = replies.Held slot.owner
+stage_reply after None = done_or_refused (replies.Done answers.Nothing) after
+
+abbrev pub stage_slot : Result (List Section) Refusal → Slot → Option Slot → Option Slot
+stage_slot after new (Some slot) = Some slot
+stage_slot (Ok sections) new None = Some new
+stage_slot (Err why) new None = None
+
+abbrev pub or_same : Result (List Section) Refusal → List Section → List Section
+or_same (Ok sections) old = sections
+or_same (Err why) old = old
+
+-- the sections are the outcome of the staged update, and the slot is gone
+abbrev pub committed : Replica → Option Slot → Replica
+committed x None = x
+committed x (Some slot) = record x {
+  store = record x.store { sections = or_same (outcome x.store.attributes slot.update slot.moment x.store.sections) x.store.sections };
+  count = x.count + 1;
+  slot = None;
+}
+
+-- the answer of a replica to a request of a call with this operation, at the record's moment
+abbrev pub reply_of : Request → Op → ℤ → Replica → Reply
+reply_of (requests.Stage call k t) op now x = stage_reply (outcome x.store.attributes (update_of op) t x.store.sections) x.slot
+reply_of (requests.Commit call k) op now x = replies.Done answers.Nothing
+reply_of (requests.Read k) op now x = done_or_refused (replies.Done answers.Pieces) (read (elements_of op) now x.store.sections)
+reply_of _ op now x = replies.NoReplica
+
+-- and what the replica becomes
+abbrev pub replica_after : Request → Op → Replica → Replica
+replica_after (requests.Stage call k t) op x = record x { slot = stage_slot (outcome x.store.attributes (update_of op) t x.store.sections) (record { owner = call; update = update_of op; moment = t }) x.slot }
+replica_after (requests.Commit call k) op x = committed x x.slot
+replica_after _ op x = x
+
+-- and the pieces that a read gives
+abbrev pub pieces_of : Request → Op → ℤ → Replica → Option (List (List ℕ))
+pieces_of (requests.Read k) op now x = result_ok (read (elements_of op) now x.store.sections)
+pieces_of _ op now x = None
+
+-- ---- when a request may come
+
+-- a slot that its owner may commit
+pub record IsStaged (call : CallId) (x : Replica) (slot : Slot) : Type 0 where
+  pub owner : slot.owner ≡ call
+  pub fits : IsOk (outcome x.store.attributes slot.update slot.moment x.store.sections)
+
+abbrev pub IsReadyFor : Request → Replica → Type 0
+IsReadyFor (requests.Commit call k) x = IsSomeAnd x.slot (IsStaged call x)
+IsReadyFor _ x = Unit {0}
+
+pub record IsReady (request : Request) (x : Replica) : Type 0 where
+  pub asked : IsReadyFor request x
+  pub room : x.count < 2 ^ 64 - 1
+
+abbrev pub IsReadyAt : Request → Option Replica → Type 0
+IsReadyAt request None = Unit {0}
+IsReadyAt request (Some x) = IsReady request x
+
+-- ---- the nodes
+
+abbrev pub ckpt_of : Request → ℕ
+ckpt_of (requests.Reserve k) = k
+ckpt_of (requests.Stage call k t) = k
+ckpt_of (requests.Claim call k owner) = k
+ckpt_of (requests.Commit call k) = k
+ckpt_of (requests.Withdraw call k) = k
+ckpt_of (requests.Apply call k) = k
+ckpt_of (requests.Mark call k) = k
+ckpt_of (requests.Element call k) = k
+ckpt_of (requests.Unmark call k) = k
+ckpt_of (requests.Read k) = k
+ckpt_of (requests.Status k) = k
+ckpt_of (requests.Iterate call k choice) = k
+ckpt_of (requests.Next call k) = k
+ckpt_of (requests.Pull call k) = k
+ckpt_of (requests.Install call k) = k
+
+abbrev pub replica_key : Replica → ℕ
+replica_key x = x.ckpt
+
+-- the replica of a checkpoint on a node, complete or reserved
+abbrev pub replica_in : List (List Replica) → ℕ → ℕ → Option Replica
+replica_in nodes k r = find_key replica_key k (list_or (slice_get nodes r))
+
+abbrev pub reply_at : Request → Op → ℤ → Option Replica → Reply
+reply_at request op now None = replies.NoReplica
+reply_at request op now (Some x) = reply_of request op now x
+
+abbrev pub pieces_at : Request → Op → ℤ → Option Replica → Option (List (List ℕ))
+pieces_at request op now None = None
+pieces_at request op now (Some x) = pieces_of request op now x
+
+-- the nodes after a request to one of them
+abbrev pub served : List (List Replica) → ℕ → Request → Op → List (List Replica)
+served nodes r request op = slice_set nodes r (change_key replica_key (ckpt_of request) (replica_after request op) (list_or (slice_get nodes r)))
+
+-- a replica as a reservation makes it: the opening sections, no update, no slot
+abbrev pub opened_replica : ℕ → CreationAttributes → ℤ → Replica
+opened_replica k a made = record { ckpt = k; store = record { attributes = a; sections = opening a made }; count = 0; generation = 1; slot = None }
+
+abbrev pub added : Option Replica → Replica → List Replica → List Replica
+added None new xs = xs ++ new ∷ []
+added (Some x) new xs = xs
+
+-- the nodes after a reservation at one of them; what is reserved already stays
+abbrev pub reserved_at : List (List Replica) → ℕ → Replica → List (List Replica)
+reserved_at nodes r new = slice_set nodes r (added (replica_in nodes new.ckpt r) new (list_or (slice_get nodes r)))

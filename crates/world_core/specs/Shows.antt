@@ -1,0 +1,236 @@
+-- How the world shows the machine's state.
+use Rattle.std.specs.Prelude.{◌≡◌, ℕ, ◌-◌, ◌^◌, ◌<◌, ◌≤◌, List, [], ◌∷◌, length, Option, Some, None, IsSome, IsSomeAnd, Contains, true, false, ◌==◌, if◌then◌else◌, ℤ, slice_get, slice_index}
+use Rattle.ckpt_types.specs.declared.identities.ActorName.{ActorName}
+use Rattle.ckpt_types.specs.declared.identities.ActorName.TheVariants.{Client, Node}
+use Rattle.ckpt_types.specs.declared.identities.CallId.{CallId}
+use Rattle.ckpt_types.specs.Attributes.{is_malformed}
+use Rattle.node_msgs.specs.declared.requests.Request.{Request}
+use Rattle.node_msgs.specs.declared.requests.Request.TheVariants as requests
+use Rattle.node_msgs.specs.declared.next.RecordStep.{RecordStep}
+use Rattle.node_msgs.specs.declared.next.RecordStep.TheVariants as events
+use Rattle.node_msgs.specs.declared.next.Next.TheVariants.{Serve, Event}
+use Rattle.run_labels.specs.declared.labels.Label.{Label}
+use Rattle.world_core.specs.declared.drivers.Driver.{Driver}
+use Rattle.world_core.specs.declared.drivers.Driver.TheVariants as drivers
+use Rattle.world_core.specs.declared.hands.InHand.{InHand}
+use Rattle.world_core.specs.declared.open_call.Making.{Making}
+use Rattle.world_core.specs.declared.open_call.OpenCall.{OpenCall}
+use Rattle.world_core.specs.declared.record.Entry.{Entry}
+use Rattle.world_core.specs.declared.replica.Replica.{Replica}
+use Rattle.world_core.specs.declared.replica.Slot.{Slot}
+use Rattle.world_core.specs.declared.tables.Handle.{Handle}
+use Rattle.world_core.specs.declared.world.World.{World}
+use Rattle.world_core.specs.Calls.{client_of}
+use Rattle.world_core.specs.Places.{or_none}
+use Rattle.world_core.specs.RecordState.{RecordState, entry_of, complete_of, named}
+use Rattle.world_core.specs.TableState.{TableState}
+use Rattle.world_core.specs.Serving.{ckpt_of, replica_in, opened_replica, IsReadyFor}
+use Rattle.world_core.specs.Driving.{StepDone, Kept, driver_state}
+use Rattle.world_core.specs.Beginning.{IsBuilt}
+use Rattle.world_core.specs.Machine.{Machine, Effect, Staged, ReplicaState, CallState}
+use Rattle.world_core.specs.Steps.{IsDue, after, due, driver_of, room_of, seen_at, staged_moment}
+
+-- ---- what the machine keeps and the code does not
+
+pub record History : Type 0 where
+  -- by checkpoint and node
+  pub effects : ℕ → ℕ → List Effect
+  pub origins : ℕ → ℕ → CallId
+  -- by client, for its call in hand
+  pub kept : ℕ → Kept
+  pub steps : ℕ → List StepDone
+
+-- ---- the replicas
+
+abbrev pub shown_slot : CallId → Option Slot → Option Staged
+shown_slot origin None = None
+shown_slot origin (Some s) = Some (record { owner = s.owner; origin = origin; update = s.update; moment = s.moment })
+
+-- the code keeps a count in place of the effects, and no origin
+abbrev pub shown_replica : List Effect → CallId → Option Replica → Option ReplicaState
+shown_replica effects origin None = None
+shown_replica effects origin (Some x) = Some (record { sections = x.store.sections; effects = effects; generation = x.generation; slot = shown_slot origin x.slot; marks = None })
+
+abbrev pub where_complete : ℕ → Option Replica → Option Replica
+where_complete incarnation x = if incarnation == 0 then None else x
+
+-- the replica that a node has of a checkpoint for which it is complete
+abbrev pub complete_replica : RecordState → List (List Replica) → ℕ → ℕ → Option Replica
+complete_replica R nodes k r = where_complete (slice_index (complete_of (entry_of k R.entries)) r) (replica_in nodes k r)
+
+abbrev pub shown_reservation : ℕ → Option Replica → Option ℕ
+shown_reservation incarnation None = None
+shown_reservation incarnation (Some x) = Some incarnation
+
+abbrev pub where_not_complete : Option Entry → ℕ → Option ℕ → Option ℕ
+where_not_complete None r reservation = None
+where_not_complete (Some e) r reservation = if slice_index e.complete r == 0 then reservation else None
+
+-- a node has reserved where it has a replica of a checkpoint that is there, for which it is not complete
+abbrev pub reserved_in : RecordState → List (List Replica) → ℕ → ℕ → Option ℕ
+reserved_in R nodes k r = where_not_complete (entry_of k R.entries) r (shown_reservation (slice_index R.up r) (replica_in nodes k r))
+
+-- ---- the clients
+
+abbrev pub next_in : Option TableState → ℕ
+next_in None = 1
+next_in (Some t) = t.next
+
+abbrev pub handles_in : Option TableState → List Handle
+handles_in None = []
+handles_in (Some t) = t.handles
+
+-- 0 stands for no handle
+abbrev pub numbered : ℕ → Option ℕ
+numbered n = if n == 0 then None else Some n
+
+abbrev pub place_in : Option TableState → ℕ → Option ℕ
+place_in None p = None
+place_in (Some t) p = numbered (slice_index t.places p)
+
+abbrev pub next_of : List TableState → ActorName → ℕ
+next_of tables (Client c) = next_in (slice_get tables c)
+next_of tables (Node r) = 1
+
+-- ---- the calls in hand
+
+abbrev pub hand_at : List (Option InHand) → ℕ → Option InHand
+hand_at hands c = or_none (slice_get hands c)
+
+abbrev pub shown_hand : Kept → List StepDone → Option InHand → Option CallState
+shown_hand kept steps None = None
+shown_hand kept steps (Some h) = Some (record { call = h.call; op = h.op; kept = kept; steps = steps; snapshot = None })
+
+abbrev pub hand_of : History → List (Option InHand) → ActorName → Option CallState
+hand_of h hands (Client c) = shown_hand (h.kept c) (h.steps c) (hand_at hands c)
+hand_of h hands (Node r) = None
+
+-- ---- the machine's state, as the world shows it with a history
+
+abbrev pub machine_of : World → History → Machine
+machine_of w h = record {
+  cluster = w.cluster;
+  replicas = λ k r. shown_replica (h.effects k r) (h.origins k r) (complete_replica w.cluster w.nodes k r);
+  reserved = reserved_in w.cluster w.nodes;
+  snapshots = λ k. None;
+  handles = λ c. handles_in (slice_get w.tables c);
+  places = λ c p. place_in (slice_get w.tables c) p;
+  iterations = λ c p. None;
+  pending = λ c. [];
+  next = next_of w.tables;
+  in_hand = hand_of h w.hands;
+  operations = λ call. None;
+}
+
+abbrev pub HasAttributes : Option Entry → Replica → Type 0
+HasAttributes None x = Unit {0}
+HasAttributes (Some e) x = x.store.attributes ≡ e.attributes
+
+-- a complete replica has its checkpoint's number and attributes, and counts its effects
+abbrev pub FitsReplica : ℕ → Option Entry → List Effect → Option Replica → Type 0
+FitsReplica k e effects None = Unit {0}
+FitsReplica k e effects (Some x) = (x.ckpt ≡ k) × HasAttributes e x × (length effects ≡ x.count)
+
+abbrev pub IsOpening : ℕ → Entry → Option Replica → Type 0
+IsOpening k e None = Unit {0}
+IsOpening k e (Some x) = x ≡ opened_replica k e.attributes e.made
+
+-- what a node that is not complete has of a checkpoint is what a reservation makes
+abbrev pub FitsReserved : ℕ → Option Entry → ℕ → Option Replica → Type 0
+FitsReserved k None r x = Unit {0}
+FitsReserved k (Some e) r x = slice_index e.complete r ≡ 0 → IsOpening k e x
+
+-- a call is where its steps have led it
+abbrev pub FitsHand : Kept → List StepDone → Option InHand → Type 0
+FitsHand kept steps None = Unit {0}
+FitsHand kept steps (Some h) = h.driver ≡ driver_state h.call h.op kept steps
+
+pub record Fits (w : World) (h : History) : Type 0 where
+  pub replicas : (k r : ℕ) → FitsReplica k (entry_of k w.cluster.entries) (h.effects k r) (complete_replica w.cluster w.nodes k r)
+  pub reserved : (k r : ℕ) → FitsReserved k (entry_of k w.cluster.entries) r (replica_in w.nodes k r)
+  -- of a checkpoint that is not made yet no node has one
+  pub fresh : (k r : ℕ) → w.cluster.last_identity < k → replica_in w.nodes k r ≡ None
+  pub hands : (c : ℕ) → FitsHand (h.kept c) (h.steps c) (hand_at w.hands c)
+
+-- the machine's state is the world's, with some history that fits
+pub record Shows (w : World) (m : Machine) : Type 0 where
+  pub history : History
+  pub same : m ≡ machine_of w history
+  pub fits : Fits w history
+
+-- ---- what the code may rely on in every state of a run
+
+-- the identities rise, up to the one last given
+abbrev pub AllAbove : ℕ → List Entry → Type 0
+AllAbove n [] = Unit {0}
+AllAbove n (e ∷ es) = (n < e.identity) × AllAbove n es
+
+abbrev pub IdentitiesRise : List Entry → Type 0
+IdentitiesRise [] = Unit {0}
+IdentitiesRise (e ∷ es) = AllAbove e.identity es × IdentitiesRise es
+
+abbrev pub AllUpTo : ℕ → List Entry → Type 0
+AllUpTo n [] = Unit {0}
+AllUpTo n (e ∷ es) = (e.identity ≤ n) × AllUpTo n es
+
+-- a replica can be reserved: the checkpoint is there, the node is not complete, and the attributes passed their check
+pub record IsReservable (e : Entry) (r : ℕ) : Type 0 where
+  pub not_complete : slice_index e.complete r ≡ 0
+  pub well_formed : is_malformed e.attributes ≡ false
+
+-- what a due request asks of its node
+abbrev pub IsServable : Machine → ℕ → Request → Type 0
+IsServable m r (requests.Reserve k) = IsSomeAnd (entry_of k m.cluster.entries) (λ e. IsReservable e r)
+IsServable m r request = IsSomeAnd (seen_at m (ckpt_of request) r) (IsReadyFor request)
+
+abbrev pub IsFree : ReplicaState → Type 0
+IsFree x = x.slot ≡ None
+
+-- every node that is up has reserved under its present incarnation
+abbrev pub AllReserved : Machine → ℕ → Type 0
+AllReserved m k = (r : ℕ) → (slice_index m.cluster.up r == 0) ≡ false → m.reserved k r ≡ Some (slice_index m.cluster.up r)
+
+abbrev pub IsFinishable : Machine → Option Making → Type 0
+IsFinishable m None = ⊥
+IsFinishable m (Some making) = AllReserved m making.ckpt × IsSomeAnd (entry_of making.ckpt m.cluster.entries) (λ e. (e.generation ≡ 1) × ((r : ℕ) → slice_index e.complete r ≡ 0))
+
+-- what a due step of the record asks of it
+abbrev pub IsEventReady : Machine → CallState → Driver → RecordStep → Type 0
+IsEventReady m s (drivers.Enter r) events.Enter = (r < 8) × (length m.cluster.clients < 64)
+IsEventReady m s (drivers.Open o) events.Create = (length m.cluster.entries < 16) × IsSomeAnd o.ask.attrs (λ a. Unit {0})
+IsEventReady m s (drivers.Open o) events.Open = IsSomeAnd (named o.ask.name m.cluster.entries) (λ e. Unit {0})
+IsEventReady m s (drivers.Open o) events.Finish = IsFinishable m o.making
+IsEventReady m s (drivers.Open o) events.Undo = IsSomeAnd o.making (λ making. Unit {0})
+IsEventReady m s driver step = ⊥
+
+pub record Facts (m : Machine) : Type 0 where
+  -- a call in hand is its actor's
+  pub callers : (a : ActorName) (s : CallState) → m.in_hand a ≡ Some s → s.call.actor ≡ a
+  pub rises : IdentitiesRise m.cluster.entries
+  pub up_to : AllUpTo m.cluster.last_identity m.cluster.entries
+  pub ready : (a : ActorName) (s : CallState) (r : ℕ) (request : Request) → m.in_hand a ≡ Some s → due m s ≡ Serve r request → (r < 8) × IsServable m r request
+  -- a due stage has the moment of the slots that stand
+  pub moments : (a : ActorName) (s : CallState) (r : ℕ) (call : CallId) (k : ℕ) (t : ℤ) → m.in_hand a ≡ Some s → due m s ≡ Serve r (requests.Stage call k t) → IsSomeAnd (m.replicas k r) IsFree → staged_moment m k ≡ t
+  pub events : (a : ActorName) (s : CallState) (step : RecordStep) → m.in_hand a ≡ Some s → due m s ≡ Event step → IsEventReady m s (driver_of s) step
+  -- an open has a place for its handle and a number from 1, and with a checkpoint in the making room for the handle
+  pub opens : (a : ActorName) (s : CallState) (o : OpenCall) → m.in_hand a ≡ Some s → driver_of s ≡ drivers.Open o → (1 ≤ s.call.number) × IsBuilt s.op × (IsSome o.making → room_of m (client_of s.call) ≡ true)
+  -- the numbers of handles are from 1
+  pub numbered : (c : ℕ) (h : Handle) → Contains (m.handles c) h → 1 ≤ h.number
+
+-- the world shows a state that has the facts
+pub record IsShown (w : World) : Type 0 where
+  pub state : Machine
+  pub shows : Shows w state
+  pub facts : Facts state
+
+-- the label is the due one with its due answer in each state with the facts that the world showed, and the world shows the state after it
+pub record Does (old new : World) (label : Label) : Type 0 where
+  pub due_is : (m : Machine) → Shows old m → Facts m → IsDue m label
+  pub shows : (m : Machine) → Shows old m → Facts m → Shows new (after m label)
+
+-- no count is at its end
+pub record IsRoomy (w : World) : Type 0 where
+  pub next : (c : ℕ) → next_in (slice_get w.tables c) < 2 ^ 32 - 1
+  pub updates : (k r : ℕ) (x : Replica) → complete_replica w.cluster w.nodes k r ≡ Some x → x.count < 2 ^ 64 - 1
+  pub identity : w.cluster.last_identity < 2 ^ 32 - 1
+  pub references : (k : ℕ) (e : Entry) (c : ℕ) → entry_of k w.cluster.entries ≡ Some e → slice_index e.references c < 2 ^ 32 - 1

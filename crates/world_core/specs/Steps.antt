@@ -1,0 +1,322 @@
+-- Which label is due, with its answer, and the state after a label.
+use Rattle.std.specs.Prelude.{◌≡◌, ◌≢◌, ◌⊎◌, ℕ, ◌+◌, List, [], ◌∷◌, ◌++◌, length, Option, Some, None, IsTrue, Bool, true, false, ◌==◌, nat_lt, if◌then◌else◌, ℤ, slice_index}
+use Rattle.ckpt_types.specs.declared.answers.Answer.TheVariants as answers
+use Rattle.ckpt_types.specs.declared.answers.Outcome.{Outcome}
+use Rattle.ckpt_types.specs.declared.answers.Outcome.TheVariants.{Done, NoMemory}
+use Rattle.ckpt_types.specs.declared.attributes.CreationAttributes.{CreationAttributes}
+use Rattle.ckpt_types.specs.declared.identities.ActorName.{ActorName}
+use Rattle.ckpt_types.specs.declared.identities.CallId.{CallId}
+use Rattle.ckpt_types.specs.declared.identities.Who.{Who}
+use Rattle.ckpt_types.specs.declared.identities.Who.TheVariants.{Actor}
+use Rattle.ckpt_types.specs.declared.operation.Op.{Op}
+use Rattle.ckpt_types.specs.declared.operation.Op.TheVariants as ops
+use Rattle.ckpt_types.specs.declared.update.Update.{Update}
+use Rattle.ckpt_types.specs.Sections.{opening}
+use Rattle.ckpt_types.specs.Updates.{outcome}
+use Rattle.node_msgs.specs.declared.requests.Request.{Request}
+use Rattle.node_msgs.specs.declared.requests.Request.TheVariants as requests
+use Rattle.node_msgs.specs.declared.replies.Reply.{Reply}
+use Rattle.node_msgs.specs.declared.replies.Reply.TheVariants as replies
+use Rattle.node_msgs.specs.declared.next.RecordStep.{RecordStep}
+use Rattle.node_msgs.specs.declared.next.RecordStep.TheVariants as events
+use Rattle.node_msgs.specs.declared.next.Next.{Next}
+use Rattle.node_msgs.specs.declared.next.Next.TheVariants.{Serve, Event, End}
+use Rattle.run_labels.specs.declared.words.OpWord.{OpWord}
+use Rattle.run_labels.specs.declared.words.OpWord.TheVariants as opwords
+use Rattle.run_labels.specs.declared.words.Verb.{Verb}
+use Rattle.run_labels.specs.declared.words.Verb.TheVariants as verbs
+use Rattle.run_labels.specs.declared.words.LineWord.{LineWord}
+use Rattle.run_labels.specs.declared.words.LineWord.TheVariants as linewords
+use Rattle.run_labels.specs.declared.words.Said.{Said}
+use Rattle.run_labels.specs.declared.words.Said.TheVariants.{Busy, Idle, Live, Down}
+use Rattle.run_labels.specs.declared.labels.StepReply.{StepReply}
+use Rattle.run_labels.specs.declared.labels.StepReply.TheVariants as words
+use Rattle.run_labels.specs.declared.labels.Label.{Label}
+use Rattle.run_labels.specs.declared.labels.Label.TheVariants as labels
+use Rattle.run_labels.specs.OpWord.{word_of_op}
+use Rattle.world_core.specs.declared.drivers.Driver.{Driver}
+use Rattle.world_core.specs.declared.record.Entry.{Entry}
+use Rattle.world_core.specs.declared.record.LiveClient.{LiveClient}
+use Rattle.world_core.specs.declared.replica.Replica.{Replica}
+use Rattle.world_core.specs.declared.replica.Slot.{Slot}
+use Rattle.world_core.specs.declared.tables.Handle.{Handle}
+use Rattle.world_core.specs.declared.tables.TheConstants.{HANDLES_MAX}
+use Rattle.world_core.specs.Calls.{number_of, client_of, IsClient, put_actor, left}
+use Rattle.world_core.specs.Places.{find_key, put, put2}
+use Rattle.world_core.specs.RecordState.{RecordState, entry_of, complete_of, client_key, is_live_client, is_up, no_nodes, brought_up}
+use Rattle.world_core.specs.TableState.{handle_number}
+use Rattle.world_core.specs.Serving.{update_of, ckpt_of, reply_at, pieces_at, or_same}
+use Rattle.world_core.specs.Driving.{Kept, driver_state, driver_next, driver_taken, driver_end, done_of, word_of, verb_of, event_verb, event_ckpt, event_node, event_end, event_after, takes_memory}
+use Rattle.world_core.specs.Beginning.{begin_end, handle_place, opened_place, opened_for, IsBuilt}
+use Rattle.world_core.specs.Machine.{Machine, Effect, Applied, Staged, ReplicaState, CallState}
+
+-- ---- what the code sees of one replica
+
+abbrev pub seen_slot : Option Staged → Option Slot
+seen_slot None = None
+seen_slot (Some s) = Some (record { owner = s.owner; update = s.update; moment = s.moment })
+
+abbrev pub seen : ℕ → CreationAttributes → ReplicaState → Replica
+seen k a x = record { ckpt = k; store = record { attributes = a; sections = x.sections }; count = length x.effects; generation = x.generation; slot = seen_slot x.slot }
+
+abbrev pub seen_by : ℕ → Option Entry → Option ReplicaState → Option Replica
+seen_by k None x = None
+seen_by k (Some e) None = None
+seen_by k (Some e) (Some x) = Some (seen k e.attributes x)
+
+abbrev pub seen_at : Machine → ℕ → ℕ → Option Replica
+seen_at m k r = seen_by k (entry_of k m.cluster.entries) (m.replicas k r)
+
+-- ---- what is due
+
+abbrev pub driver_of : CallState → Driver
+driver_of s = driver_state s.call s.op s.kept s.steps
+
+-- the client has a free place for a handle
+abbrev pub room_of : Machine → ℕ → Bool
+room_of m c = nat_lt (length (m.handles c)) HANDLES_MAX
+
+abbrev pub due : Machine → CallState → Next
+due m s = driver_next m.cluster (room_of m (client_of s.call)) (driver_of s)
+
+-- a reservation is done or refused for memory; every other answer is that of the one replica
+abbrev pub MayAnswer : Machine → CallState → Request → ℕ → Reply → Type 0
+MayAnswer m s (requests.Reserve k) r answer = (answer ≡ replies.Done answers.Nothing) ⊎ (answer ≡ replies.NoMemory)
+MayAnswer m s request r answer = answer ≡ reply_at request s.op m.cluster.moment (seen_at m (ckpt_of request) r)
+
+abbrev pub look_word : Outcome → StepReply
+look_word (Done answer) = words.Done
+look_word o = words.Refused
+
+-- the parts of a step's label behind its call
+pub record Told : Type 0 where
+  pub verb : Verb
+  pub ckpt : Option ℕ
+  pub node : Option ℕ
+  pub reply : StepReply
+  pub end : Option Outcome
+  pub pieces : Option (List (List ℕ))
+
+pub record IsServed (m : Machine) (s : CallState) (r : ℕ) (request : Request) (t : Told) : Type 0 where
+  pub answer : Reply
+  pub may : MayAnswer m s request r answer
+  pub verb : t.verb ≡ verb_of request
+  pub ckpt : t.ckpt ≡ Some (ckpt_of request)
+  pub node : t.node ≡ Some r
+  pub reply : t.reply ≡ word_of answer
+  pub pieces : t.pieces ≡ pieces_at request s.op m.cluster.moment (seen_at m (ckpt_of request) r)
+  pub end : t.end ≡ (let done = done_of m.cluster t.verb t.ckpt t.node t.reply in driver_end done answer (driver_taken done (driver_of s)))
+
+-- a step of the record is done, or what takes memory is refused it and ends
+pub record IsEvent (m : Machine) (s : CallState) (step : RecordStep) (t : Told) : Type 0 where
+  pub verb : t.verb ≡ event_verb step
+  pub ckpt : t.ckpt ≡ event_ckpt m.cluster (driver_of s) step
+  pub node : t.node ≡ event_node (driver_of s) step
+  pub pieces : t.pieces ≡ None
+  pub answer : ((t.reply ≡ words.Ok) × (t.end ≡ event_end step t.ckpt)) ⊎ (IsTrue (takes_memory step) × (t.reply ≡ words.Memory) × (t.end ≡ Some NoMemory))
+
+-- the step is the due one, and its reply and end are the answers of the one replica that it asks and of the call's own steps
+abbrev pub IsDone : Machine → CallState → Next → Told → Type 0
+IsDone m s (Serve r request) t = IsServed m s r request t
+IsDone m s (Event step) t = IsEvent m s step t
+IsDone m s (End o) t = t ≡ record { verb = verbs.Look; ckpt = None; node = None; reply = look_word o; end = Some o; pieces = None }
+
+pub record IsDueStep (m : Machine) (call : CallId) (op : OpWord) (t : Told) : Type 0 where
+  pub state : CallState
+  pub in_hand : m.in_hand call.actor ≡ Some state
+  pub call_is : state.call ≡ call
+  pub word : word_of_op state.op ≡ op
+  pub done : IsDone m state (due m state) t
+
+-- ---- a beginning
+
+-- the handle for which a place of a client stands
+abbrev pub handle_of_number : List Handle → Option ℕ → Option Handle
+handle_of_number handles None = None
+handle_of_number handles (Some n) = find_key handle_number n handles
+
+abbrev pub handle_in : Machine → ℕ → Option ℕ → Option Handle
+handle_in m c None = None
+handle_in m c (Some place) = handle_of_number (m.handles c) (m.places c place)
+
+abbrev pub named_handle : Machine → ActorName → Op → Option Handle
+named_handle m a op = handle_in m (number_of a) (handle_place op)
+
+abbrev pub ckpt_of_handle : Option Handle → Option ℕ
+ckpt_of_handle None = None
+ckpt_of_handle (Some h) = Some h.ckpt
+
+abbrev pub node_of_client : Option LiveClient → ℕ
+node_of_client None = 0
+node_of_client (Some live) = live.node
+
+-- what a call keeps at its beginning
+abbrev pub kept_at : RecordState → ℕ → Option Handle → Kept
+kept_at R c h = record { ckpt = ckpt_of_handle h; node = node_of_client (find_key client_key c R.clients) }
+
+-- an Initialize begins for a client that is not live, on a node that is up
+abbrev pub MayBegin : RecordState → ℕ → Op → Type 0
+MayBegin R c (ops.Client r version callbacks) = (is_live_client c R ≡ false) × (is_up r R ≡ true)
+MayBegin R c op = Unit {0}
+
+pub record IsBegun (m : Machine) (call : CallId) (op : Op) (end : Option Outcome) : Type 0 where
+  pub client : IsClient call.actor
+  pub built : IsBuilt op
+  pub number : call.number ≡ m.next call.actor
+  pub none_in_hand : m.in_hand call.actor ≡ None
+  pub may : MayBegin m.cluster (number_of call.actor) op
+  pub answer : end ≡ begin_end (is_live_client (number_of call.actor) m.cluster) (named_handle m call.actor op) op
+
+-- ---- a word in place of a call
+
+abbrev pub IsSaid : Machine → ActorName → LineWord → Said → Type 0
+IsSaid m a (linewords.Op w) Busy = m.in_hand a ≢ None
+IsSaid m a (linewords.Op opwords.Client) Live = (m.in_hand a ≡ None) × (is_live_client (number_of a) m.cluster ≡ true)
+IsSaid m a (linewords.Op opwords.Client) Down = (m.in_hand a ≡ None) × (is_live_client (number_of a) m.cluster ≡ false) × ((r : ℕ) × (is_up r m.cluster ≡ false))
+IsSaid m a (linewords.Op w) said = ⊥
+IsSaid m a linewords.Step Idle = m.in_hand a ≡ None
+IsSaid m a linewords.Step said = ⊥
+IsSaid m a linewords.Finish Idle = m.in_hand a ≡ None
+IsSaid m a linewords.Finish said = ⊥
+
+abbrev pub IsWord : Machine → Who → LineWord → Said → Type 0
+IsWord m (Actor a) word said = IsSaid m a word said
+IsWord m who word said = ⊥
+
+-- the label is due in this state; what is not built is not due
+abbrev pub IsDue : Machine → Label → Type 0
+IsDue m (labels.Began call op end) = IsBegun m call op end
+IsDue m (labels.Stepped call op verb k r reply end pieces) = IsDueStep m call op (record { verb = verb; ckpt = k; node = r; reply = reply; end = end; pieces = pieces })
+IsDue m (labels.Word who word said) = IsWord m who word said
+IsDue m (labels.Nodes n) = (n ≡ 1) × (m.cluster.up ≡ no_nodes)
+IsDue m label = ⊥
+
+-- ---- the state after a label
+
+-- a replica as a checkpoint's opening makes it
+abbrev pub opened_state : Entry → ReplicaState
+opened_state e = record { sections = opening e.attributes e.made; effects = []; generation = e.generation; slot = None; marks = None }
+
+-- a node that is not complete has no replica, one that becomes complete has the opening one
+abbrev pub replica_under : Option Entry → ℕ → ℕ → Option ReplicaState → Option ReplicaState
+replica_under None before r old = None
+replica_under (Some e) before r old = if slice_index e.complete r == 0 then None else if before == 0 then Some (opened_state e) else old
+
+abbrev pub replicas_under : RecordState → RecordState → (ℕ → ℕ → Option ReplicaState) → ℕ → ℕ → Option ReplicaState
+replicas_under old new replicas k r = replica_under (entry_of k new.entries) (slice_index (complete_of (entry_of k old.entries)) r) r (replicas k r)
+
+-- a reservation goes with its entry, and when its node is complete
+abbrev pub reservation_under : Option Entry → ℕ → Option ℕ → Option ℕ
+reservation_under None r old = None
+reservation_under (Some e) r old = if slice_index e.complete r == 0 then old else None
+
+abbrev pub with_record : Machine → RecordState → Machine
+with_record m R = record m {
+  cluster = R;
+  replicas = replicas_under m.cluster R m.replicas;
+  reserved = λ k r. reservation_under (entry_of k R.entries) r (m.reserved k r);
+}
+
+-- the moment of the first slot on a complete node, or the record's
+abbrev pub moment_of_slot : Option Staged → ℤ → ℤ
+moment_of_slot None t = t
+moment_of_slot (Some slot) t = slot.moment
+
+abbrev pub moment_or : Option ReplicaState → ℤ → ℤ
+moment_or None t = t
+moment_or (Some x) t = moment_of_slot x.slot t
+
+abbrev pub moment_from : (ℕ → Option ReplicaState) → ℤ → ℕ → List ℕ → ℤ
+moment_from replicas t n [] = t
+moment_from replicas t n (c ∷ cs) = if c == 0 then moment_from replicas t (n + 1) cs else moment_or (replicas n) (moment_from replicas t (n + 1) cs)
+
+abbrev pub staged_moment : Machine → ℕ → ℤ
+staged_moment m k = moment_from (m.replicas k) m.cluster.moment 0 (complete_of (entry_of k m.cluster.entries))
+
+abbrev pub with_slot : CallId → Update → ℤ → ReplicaState → ReplicaState
+with_slot call update t x = record x { slot = Some (record { owner = call; origin = call; update = update; moment = t }) }
+
+abbrev pub effect_of : Staged → Effect
+effect_of slot = Applied slot.origin slot.update slot.moment
+
+abbrev pub committed_slot : CreationAttributes → ReplicaState → Option Staged → ReplicaState
+committed_slot a x None = x
+committed_slot a x (Some slot) = record x {
+  sections = or_same (outcome a slot.update slot.moment x.sections) x.sections;
+  effects = x.effects ++ effect_of slot ∷ [];
+  slot = None;
+}
+
+abbrev pub with_committed : Option Entry → ReplicaState → ReplicaState
+with_committed None x = x
+with_committed (Some e) x = committed_slot e.attributes x x.slot
+
+abbrev pub change_replica : Machine → ℕ → ℕ → Option ReplicaState → (ReplicaState → ReplicaState) → Machine
+change_replica m k r None change = m
+change_replica m k r (Some x) change = record m { replicas = put2 m.replicas k r (Some (change x)) }
+
+abbrev pub on_ok : StepReply → Machine → Machine → Machine
+on_ok words.Ok m after_it = after_it
+on_ok reply m after_it = m
+
+abbrev pub at_some : Option ℕ → Machine → (ℕ → Machine) → Machine
+at_some None m change = m
+at_some (Some n) m change = change n
+
+-- the handle that an open gives, and the place that stands for it
+abbrev pub creation_flags_of : Option Entry → ℕ
+creation_flags_of None = 0
+creation_flags_of (Some e) = e.attributes.creation_flags
+
+abbrev pub new_handle : RecordState → CallId → Op → ℕ → Handle
+new_handle R call op k = record { number = call.number; ckpt = k; flags = opened_for op; creation_flags = creation_flags_of (entry_of k R.entries) }
+
+abbrev pub with_handle_at : Machine → ℕ → Handle → Option ℕ → Machine
+with_handle_at m c h None = m
+with_handle_at m c h (Some place) = record m { handles = put m.handles c (m.handles c ++ h ∷ []); places = put2 m.places c place (Some h.number) }
+
+-- the opener's handle; m has the record after the step
+abbrev pub with_opened : CallState → Option ℕ → Machine → Machine
+with_opened s None m = m
+with_opened s (Some k) m = with_handle_at m (client_of s.call) (new_handle m.cluster s.call s.op k) (opened_place s.op)
+
+abbrev pub event_done : Machine → CallState → RecordStep → Machine
+event_done m s step = with_record m (event_after s.call (driver_of s) step m.cluster)
+
+-- what a step changes, the call's own steps aside
+abbrev pub changed : Machine → CallState → Verb → Option ℕ → Option ℕ → StepReply → Machine
+changed m s verbs.Enter k r reply = on_ok reply m (event_done m s events.Enter)
+changed m s verbs.Open k r reply = on_ok reply m (with_opened s k (event_done m s events.Open))
+changed m s verbs.Create k r reply = on_ok reply m (event_done m s events.Create)
+changed m s verbs.Reserve k r reply = on_ok reply m (at_some k m (λ k. at_some r m (λ r. record m { reserved = put2 m.reserved k r (Some (slice_index m.cluster.up r)) })))
+changed m s verbs.Finish k r reply = on_ok reply m (with_opened s k (event_done m s events.Finish))
+changed m s verbs.Undo k r reply = on_ok reply m (event_done m s events.Undo)
+changed m s verbs.Stage k r reply = on_ok reply m (at_some k m (λ k. at_some r m (λ r. change_replica m k r (m.replicas k r) (with_slot s.call (update_of s.op) (staged_moment m k)))))
+changed m s verbs.Commit k r reply = on_ok reply m (at_some k m (λ k. at_some r m (λ r. change_replica m k r (m.replicas k r) (with_committed (entry_of k m.cluster.entries)))))
+changed m s verb k r reply = m
+
+-- m is the state after the change: what the call keeps of the record is of then
+abbrev pub stepped : Machine → CallState → Verb → Option ℕ → Option ℕ → StepReply → Option Outcome → Machine
+stepped m s verb k r reply end = record m { in_hand = put_actor m.in_hand s.call.actor (left end (record s { steps = done_of m.cluster verb k r reply ∷ s.steps })) }
+
+abbrev pub step_of : Machine → Option CallState → Verb → Option ℕ → Option ℕ → StepReply → Option Outcome → Machine
+step_of m None verb k r reply end = m
+step_of m (Some s) verb k r reply end = stepped (changed m s verb k r reply) s verb k r reply end
+
+abbrev pub begun : Machine → CallId → Op → Option Outcome → Machine
+begun m call op end = record m {
+  next = put_actor m.next call.actor (m.next call.actor + 1);
+  in_hand = put_actor m.in_hand call.actor (left end (record {
+    call = call;
+    op = op;
+    kept = kept_at m.cluster (number_of call.actor) (named_handle m call.actor op);
+    steps = [];
+    snapshot = None;
+  }));
+}
+
+abbrev pub after : Machine → Label → Machine
+after m (labels.Began call op end) = begun m call op end
+after m (labels.Stepped call op verb k r reply end pieces) = step_of m (m.in_hand call.actor) verb k r reply end
+after m (labels.Nodes n) = record m { cluster = brought_up n m.cluster }
+after m label = m

@@ -1,0 +1,200 @@
+ghost use Rattle.std.specs.Prelude.{◌≡◌, None, not, if◌then◌else◌};
+ghost use Rattle.ckpt_types.specs.declared.ais_error.AisError.TheVariants as errors;
+ghost use Rattle.ckpt_types.specs.Attributes.{has_flag, has_bad_open_flags, is_malformed};
+ghost use Rattle.world_core.specs.Beginning.{refused, name_is_bad, attributes_are_bad, open_begin, vector_is_bad, update_is_bad, on_handle, may_write, may_read, begin_end, handle_place, opened_place, no_flags, opened_for};
+ghost use Rattle.world_core.specs.Steps.{ckpt_of_handle};
+
+use crate::tables::Handle;
+use crate::world::VECTOR_MAX;
+use ckpt_types::{
+    AisError, Bytes, CHECKPOINT_CREATE, Cause, CkptId, CreationAttributes, Moment, NAME_MAX,
+    OPEN_FLAGS_ALL, Op, OpenFlags, Outcome, Update,
+};
+
+/// What a call answers at once, where its client is live or not, and its place stands for this handle; nothing
+/// where the call goes on.
+pub fn begin_end(live: bool, handle: &Option<Handle>, op: &Op) -> Option<Outcome>
+    ensures { result ≡ begin_end live handle.now op.now }
+{
+    match op {
+        Op::Open(_, name, flags, timeout, attributes) => {
+            if live {
+                open_begin(name, *flags, *timeout, attributes)
+            } else {
+                refused(AisError::BadHandle)
+            }
+        }
+        Op::Write(_, update) => {
+            if live {
+                write_begin(handle, update_is_bad(update.value()))
+            } else {
+                refused(AisError::BadHandle)
+            }
+        }
+        Op::Read(_, elements) => {
+            if live {
+                read_begin(handle, vector_is_bad(elements.value().as_slice().len()))
+            } else {
+                refused(AisError::BadHandle)
+            }
+        }
+        _ => None,
+    }
+}
+
+/// The place of the handle that an operation names.
+pub fn handle_place(op: &Op) -> Option<u8>
+    ensures { result ≡ handle_place op.now }
+{
+    match op {
+        Op::Write(place, _) => Some(*place),
+        Op::Read(place, _) => Some(*place),
+        _ => None,
+    }
+}
+
+/// The place that an open names for its handle.
+pub fn opened_place(op: &Op) -> Option<u8>
+    ensures { result ≡ opened_place op.now }
+{
+    match op {
+        Op::Open(place, _, _, _, _) => Some(*place),
+        _ => None,
+    }
+}
+
+/// What an open opens for.
+pub fn opened_for(op: &Op) -> OpenFlags
+    ensures { result ≡ opened_for op.now }
+{
+    match op {
+        Op::Open(_, _, flags, _, _) => match OpenFlags::from_bits(*flags) {
+            Ok(flags) => flags,
+            Err(_) => no_flags(),
+        },
+        _ => no_flags(),
+    }
+}
+
+/// The checkpoint of a handle.
+pub fn ckpt_of_handle(handle: &Option<Handle>) -> Option<CkptId>
+    ensures { result ≡ ckpt_of_handle handle.now }
+{
+    match handle {
+        None => None,
+        Some(handle) => Some(handle.ckpt),
+    }
+}
+
+fn refused(error: AisError) -> Option<Outcome>
+    ensures { result ≡ refused error }
+{
+    Some(Outcome::Refused(error, Cause::Plain))
+}
+
+fn no_flags() -> OpenFlags
+    ensures { result ≡ no_flags }
+{
+    OpenFlags {
+        read: false,
+        write: false,
+        create: false,
+    }
+}
+
+fn open_begin(
+    name: &Bytes,
+    flags: u32,
+    timeout: Moment,
+    attributes: &Option<CreationAttributes>,
+) -> Option<Outcome>
+    ensures { result ≡ open_begin name.now flags timeout attributes.now }
+{
+    if has_bad_open_flags(flags) {
+        refused(AisError::BadFlags)
+    } else if name_is_bad(name) || timeout < 0 || attributes_are_bad(flags, attributes) {
+        refused(AisError::InvalidParam)
+    } else {
+        None
+    }
+}
+
+fn has_bad_open_flags(flags: u32) -> bool
+    ensures { result ≡ has_bad_open_flags flags }
+{
+    flags == 0 || flags > OPEN_FLAGS_ALL
+}
+
+fn has_flag(flags: u32, flag: u32) -> bool
+    ensures { result ≡ has_flag flags flag }
+{
+    flags & flag != 0
+}
+
+fn name_is_bad(name: &Bytes) -> bool
+    ensures { result ≡ name_is_bad name.now }
+{
+    let len = name.as_slice().len();
+    len == 0 || len > NAME_MAX
+}
+
+fn attributes_are_bad(flags: u32, attributes: &Option<CreationAttributes>) -> bool
+    ensures { result ≡ attributes_are_bad flags attributes.now }
+{
+    let creates = has_flag(flags, CHECKPOINT_CREATE);
+    match attributes {
+        None => creates,
+        Some(attributes) => !creates || is_malformed(attributes),
+    }
+}
+
+fn is_malformed(attributes: &CreationAttributes) -> bool
+    ensures { result ≡ is_malformed attributes.now }
+{
+    attributes.check().is_err()
+}
+
+fn vector_is_bad(len: usize) -> bool
+    ensures { result ≡ vector_is_bad len }
+{
+    len == 0 || len > VECTOR_MAX
+}
+
+fn update_is_bad(update: &Update) -> bool
+    ensures { result ≡ update_is_bad update.now }
+{
+    match update {
+        Update::Write(elements) => vector_is_bad(elements.as_slice().len()),
+        _ => false,
+    }
+}
+
+fn write_begin(handle: &Option<Handle>, bad: bool) -> Option<Outcome>
+    ensures { result ≡ on_handle handle.now bad may_write }
+{
+    match handle {
+        None => refused(AisError::BadHandle),
+        Some(handle) => may_begin(bad, handle.flags.write),
+    }
+}
+
+fn read_begin(handle: &Option<Handle>, bad: bool) -> Option<Outcome>
+    ensures { result ≡ on_handle handle.now bad may_read }
+{
+    match handle {
+        None => refused(AisError::BadHandle),
+        Some(handle) => may_begin(bad, handle.flags.read),
+    }
+}
+
+fn may_begin(bad: bool, may: bool) -> Option<Outcome>
+    ensures { result ≡ (if bad then refused errors.InvalidParam else if not may then refused errors.Access else None) }
+{
+    if bad {
+        refused(AisError::InvalidParam)
+    } else if !may {
+        refused(AisError::Access)
+    } else {
+        None
+    }
+}

@@ -1,0 +1,254 @@
+ghost use Rattle.std.specs.Prelude.{◌≡◌, ◌-◌, ◌^◌, ◌<◌, Some, IfOk, pos};
+ghost use Rattle.world_core.specs.Serving.{ckpt_of};
+ghost use Rattle.world_core.specs.Driving.{driver_next, driver_taken, driver_end, driver_start, done_end, done_of, verb_of, word_of, event_verb, event_ckpt, event_node, event_end, opened_end, making_ckpt, takes_memory, on_kept};
+ghost use Rattle.world_core.specs.RecordState.{no_nodes};
+ghost use Rattle.world_core.specs.declared.drivers.Driver.TheVariants.{Update, Active};
+ghost use Rattle.run_labels.specs.declared.labels.StepReply.TheVariants as words;
+
+use crate::messages::word_of;
+use crate::open_call::{Making, OpenCall};
+use crate::reading::{ActiveCall, ActiveKind};
+use crate::record::{CLIENTS_MAX, Record, number_of};
+use crate::update_call::{UpdateCall, UpdatePhase};
+use ckpt_types::{AisError, Answer, CallId, Cause, CkptId, NodeId, Op, OpenAsk, Outcome};
+use node_msgs::{Next, RecordStep, Reply, Request};
+use run_labels::StepReply;
+use std::alloc::AllocError;
+
+/// What drives a call that is in hand.
+#[derive(Debug, Drop)]
+pub enum Driver {
+    /// A client becomes live on the node.
+    Enter(NodeId),
+    /// An open.
+    Open(OpenCall),
+    /// An all-replicas update.
+    Update(UpdateCall),
+    /// A call to the active replica.
+    Active(ActiveCall),
+}
+
+impl Driver {
+    /// The driver of a call that begins, where the handle that it names is of the checkpoint, and its
+    /// client on the node. An open copies its name.
+    pub fn start(
+        call: CallId,
+        op: &Op,
+        ckpt: Option<CkptId>,
+        node: NodeId,
+    ) -> Result<Driver, AllocError>
+        ensures { IfOk result (λ driver. driver ≡ driver_start call op.now (record { ckpt = ckpt; node = node })) }
+    {
+        match op {
+            Op::Client(r, _, _) => Ok(Driver::Enter(*r)),
+            Op::Open(_, name, _, _, attributes) => {
+                let name = name.clone()?;
+                Ok(Driver::Open(OpenCall {
+                    call,
+                    ask: OpenAsk {
+                        name,
+                        attrs: *attributes,
+                        client: number_of(&call.actor),
+                        node,
+                    },
+                    making: None,
+                }))
+            }
+            Op::Write(_, _) => Ok(update_start(call, ckpt)),
+            Op::Read(_, _) => Ok(read_start(call, ckpt)),
+            _ => Ok(Driver::Enter(0)),
+        }
+    }
+
+    /// What the call does next; `room` tells whether its client has a free place for a handle.
+    pub fn next(&self, cluster: &Record, room: bool) -> Next
+        ensures { result ≡ driver_next cluster.now room self.now }
+    {
+        match self {
+            Driver::Enter(_) => {
+                if cluster.clients_len() >= CLIENTS_MAX {
+                    Next::End(Outcome::Refused(
+                        AisError::NoResources,
+                        Cause::Count(CLIENTS_MAX as u32),
+                    ))
+                } else {
+                    Next::Event(RecordStep::Enter)
+                }
+            }
+            Driver::Open(open_call) => open_call.next(cluster, room),
+            Driver::Update(update) => update.next(cluster),
+            Driver::Active(active) => active.next(cluster),
+        }
+    }
+
+    /// The call takes a node's answer. What it ends with, if it ends.
+    pub fn take(
+        &mut self,
+        cluster: &Record,
+        r: NodeId,
+        request: &Request,
+        reply: &Reply,
+    ) -> Option<Outcome>
+        requires { r < 8 }
+        ensures new { self.new ≡ driver_taken (done_of cluster.now (verb_of request.now) (Some (ckpt_of request.now)) (Some r) (word_of reply.now)) self.old }
+        ensures end { result ≡ driver_end (done_of cluster.now (verb_of request.now) (Some (ckpt_of request.now)) (Some r) (word_of reply.now)) reply.now self.new }
+    {
+        self.taken(cluster, r, request, word_of(reply));
+        self.end(cluster, r, request, reply)
+    }
+
+    fn taken(&mut self, cluster: &Record, r: NodeId, request: &Request, word: StepReply)
+        requires { r < 8 }
+        ensures { self.new ≡ driver_taken (done_of cluster.now (verb_of request.now) (Some (ckpt_of request.now)) (Some r) word) self.old }
+    {
+        match self {
+            Driver::Enter(_) | Driver::Active(_) => {}
+            Driver::Open(open_call) => open_call.take(cluster, r, request, word),
+            Driver::Update(update) => update.take(cluster, r, request, word),
+        }
+    }
+
+    fn end(&self, cluster: &Record, r: NodeId, request: &Request, reply: &Reply) -> Option<Outcome>
+        ensures { result ≡ driver_end (done_of cluster.now (verb_of request.now) (Some (ckpt_of request.now)) (Some r) (word_of reply.now)) reply.now self.now }
+    {
+        match reply {
+            Reply::Done(answer) => self.done_end(cluster, r, request, answer),
+            Reply::Held(by) => {
+                if cluster.live(*by) {
+                    Some(Outcome::Refused(AisError::TryAgain, Cause::Holder(*by)))
+                } else {
+                    None
+                }
+            }
+            Reply::Refused(error, index) => Some(Outcome::Refused(*error, Cause::Index(*index))),
+            Reply::NoReplica => Some(Outcome::Refused(AisError::NotExist, Cause::Plain)),
+            _ => None,
+        }
+    }
+
+    fn done_end(
+        &self,
+        cluster: &Record,
+        r: NodeId,
+        request: &Request,
+        answer: &Answer,
+    ) -> Option<Outcome>
+        ensures { result ≡ done_end (done_of cluster.now (verb_of request.now) (Some (ckpt_of request.now)) (Some r) words.Ok) answer.now self.now }
+    {
+        match self {
+            Driver::Enter(_) | Driver::Open(_) => None,
+            Driver::Update(update) => update.end(cluster, r, request, StepReply::Ok),
+            Driver::Active(_) => Some(Outcome::Done(*answer)),
+        }
+    }
+
+    /// The call takes that a step of the record was tried.
+    pub fn told(
+        &mut self,
+        cluster: &Record,
+        step: &RecordStep,
+        ckpt: Option<CkptId>,
+        node: Option<NodeId>,
+        word: StepReply,
+    )
+        ensures { self.new ≡ driver_taken (done_of cluster.now (event_verb step.now) ckpt node word) self.old }
+    {
+        if let Driver::Open(open_call) = self {
+            open_call.told(cluster, step, ckpt, node, word);
+        }
+    }
+}
+
+fn update_start(call: CallId, ckpt: Option<CkptId>) -> Driver
+    ensures { result ≡ on_kept ckpt (λ k. Update (record { call = call; ckpt = k; owned = no_nodes; moment = pos 0; phase = UpdatePhase.Staging })) }
+{
+    match ckpt {
+        None => Driver::Enter(0),
+        Some(ckpt) => Driver::Update(UpdateCall {
+            call,
+            ckpt,
+            owned: [0; 8],
+            moment: 0,
+            phase: UpdatePhase::Staging,
+        }),
+    }
+}
+
+fn read_start(call: CallId, ckpt: Option<CkptId>) -> Driver
+    ensures { result ≡ on_kept ckpt (λ k. Active (record { call = call; ckpt = k; kind = ActiveKind.Read })) }
+{
+    match ckpt {
+        None => Driver::Enter(0),
+        Some(ckpt) => Driver::Active(ActiveCall {
+            call,
+            ckpt,
+            kind: ActiveKind::Read,
+        }),
+    }
+}
+
+/// The checkpoint of a step of the record, before it is done.
+pub fn event_ckpt(cluster: &Record, driver: &Driver, step: &RecordStep) -> Option<CkptId>
+    requires { cluster.now.last_identity < 2 ^ 32 - 1 }
+    ensures { result ≡ event_ckpt cluster.now driver.now step.now }
+{
+    let Driver::Open(open_call) = driver else {
+        return None;
+    };
+    match step {
+        RecordStep::Create => Some(cluster.last_identity() + 1),
+        RecordStep::Open => cluster.identity_named(&open_call.ask.name),
+        RecordStep::Finish | RecordStep::Undo => making_ckpt(&open_call.making),
+        _ => None,
+    }
+}
+
+fn making_ckpt(making: &Option<Making>) -> Option<CkptId>
+    ensures { result ≡ making_ckpt making.now }
+{
+    match making {
+        None => None,
+        Some(making) => Some(making.ckpt),
+    }
+}
+
+/// The node of a step of the record.
+pub fn event_node(driver: &Driver, step: &RecordStep) -> Option<NodeId>
+    ensures { result ≡ event_node driver.now step.now }
+{
+    match (driver, step) {
+        (Driver::Enter(r), RecordStep::Enter) => Some(*r),
+        _ => None,
+    }
+}
+
+/// How a call ends by a step of the record that was done, on its checkpoint.
+pub fn event_end(step: &RecordStep, ckpt: Option<CkptId>) -> Option<Outcome>
+    ensures { result ≡ event_end step.now ckpt }
+{
+    match step {
+        RecordStep::Enter => Some(Outcome::Done(Answer::Version)),
+        RecordStep::Open | RecordStep::Finish => opened_end(ckpt),
+        RecordStep::Undo => Some(Outcome::NoMemory),
+        _ => None,
+    }
+}
+
+fn opened_end(ckpt: Option<CkptId>) -> Option<Outcome>
+    ensures { result ≡ opened_end ckpt }
+{
+    match ckpt {
+        None => None,
+        Some(ckpt) => Some(Outcome::Done(Answer::Opened(ckpt))),
+    }
+}
+
+/// Whether a step of the record takes memory, and may be refused it.
+pub fn takes_memory(step: &RecordStep) -> bool
+    ensures { result ≡ takes_memory step.now }
+{
+    match step {
+        RecordStep::Enter | RecordStep::Open | RecordStep::Create => true,
+        _ => false,
+    }
+}

@@ -1,0 +1,380 @@
+ghost use Rattle.std.specs.Prelude.{◌≡◌, ◌≢◌, ◌<◌, [], length, replicate, Some, None, is_some, IfOk, IfSome, MatchOption, slice_set};
+ghost use Rattle.run_labels.specs.OpWord.{word_of_op};
+ghost use Rattle.world_core.specs.Calls.{left};
+ghost use Rattle.world_core.specs.Serving.{update_of, elements_of, ckpt_of};
+ghost use Rattle.world_core.specs.Lending.{bytes_asked, IsLentRead, IsLent};
+ghost use Rattle.world_core.specs.Driving.{done_of, verb_of, word_of, event_verb};
+ghost use Rattle.world_core.specs.HandSteps.{hand_taken, hand_end};
+ghost use Rattle.world_core.specs.Shows.{hand_at};
+ghost use Rattle.world_core.specs.declared.hands.InHand.{InHand};
+
+use crate::drivers::Driver;
+use crate::nodes::Lent;
+use crate::record::Record;
+use ckpt_types::{
+    CallId, CkptId, NodeId, Op, Outcome, ReadBuf, ReadElement, ReadVector, SharedReads,
+    SharedUpdate, Update,
+};
+use node_msgs::{RecordStep, Reply, Request};
+use run_labels::{OpWord, StepReply};
+use std::alloc::{AllocError, Global};
+use std::marker::Model;
+
+/// A call that is begun and not ended.
+#[derive(Drop)]
+pub struct InHand {
+    /// The call.
+    pub call: CallId,
+    /// What it asks for.
+    pub op: Op,
+    /// What drives it.
+    pub driver: Driver,
+}
+
+/// The call in hand of each client, c0 to c99.
+#[derive(Drop)]
+pub struct Hands {
+    list: Vec<Option<InHand>>,
+}
+
+impl Model for Hands {
+    ghost use Rattle.std.specs.Prelude.{List, Option, length, ◌≡◌};
+    ghost use Rattle.world_core.specs.declared.hands.InHand.{InHand};
+
+    ghost Value = { List (Option InHand) };
+
+    ghost view = { λ hands. hands.list.items };
+
+    ghost invariant = { λ hands. length hands.list.items ≡ 100 };
+}
+
+impl InHand {
+    /// The first word of the line that asked for the call.
+    pub fn word(&self) -> OpWord
+        ensures { result ≡ word_of_op self.now.op }
+    {
+        OpWord::of(&self.op)
+    }
+
+    /// What travels beside a request of the call: a share of its update, or of its elements with a buffer that
+    /// has room for what they may give.
+    pub fn lend(&self, alloc: Global, request: &Request) -> Result<Lent, AllocError>
+        ensures { IfOk result (λ lent. IsLent request.now self.now.op lent) }
+    {
+        match request {
+            Request::Stage(_, _, _) => lend_update(alloc, &self.op),
+            Request::Read(_) => lend_read(alloc, &self.op),
+            _ => lend_nothing(alloc),
+        }
+    }
+
+    fn take(
+        &mut self,
+        cluster: &Record,
+        r: NodeId,
+        request: &Request,
+        reply: &Reply,
+    ) -> Option<Outcome>
+        requires { r < 8 }
+        ensures new { self.new ≡ hand_taken (done_of cluster.now (verb_of request.now) (Some (ckpt_of request.now)) (Some r) (word_of reply.now)) self.old }
+        ensures end { result ≡ hand_end (done_of cluster.now (verb_of request.now) (Some (ckpt_of request.now)) (Some r) (word_of reply.now)) reply.now self.new }
+    {
+        self.driver.take(cluster, r, request, reply)
+    }
+
+    fn told(
+        &mut self,
+        cluster: &Record,
+        step: &RecordStep,
+        ckpt: Option<CkptId>,
+        node: Option<NodeId>,
+        word: StepReply,
+    )
+        ensures { self.new ≡ hand_taken (done_of cluster.now (event_verb step.now) ckpt node word) self.old }
+    {
+        self.driver.told(cluster, step, ckpt, node, word);
+    }
+}
+
+impl Hands {
+    /// No call is in hand. All room is taken here.
+    pub fn new(alloc: Global) -> Result<Hands, AllocError>
+        ensures { IfOk result (λ hands. hands ≡ replicate 100 None) }
+    {
+        Ok(Hands {
+            list: new_list(alloc)?,
+        })
+    }
+
+    /// The call in hand of a client.
+    pub fn find(&self, c: u8) -> Option<&InHand>
+        ensures { MatchOption result (hand_at self.now c ≡ None) (λ hand. hand_at self.now c ≡ Some hand.now) }
+    {
+        find(self.list.as_slice(), c as usize)
+    }
+
+    /// Whether a client has a call in hand.
+    pub fn has(&self, c: u8) -> bool
+        ensures { result ≡ is_some (hand_at self.now c) }
+    {
+        has(self.list.as_slice(), c as usize)
+    }
+
+    /// A client's call takes a node's answer, and is in hand no more where that ends it. What it ends with.
+    pub fn take(
+        &mut self,
+        c: u8,
+        cluster: &Record,
+        r: NodeId,
+        request: &Request,
+        reply: &Reply,
+    ) -> Option<Outcome>
+        requires held { hand_at self.old c ≢ None }
+        requires node { r < 8 }
+        ensures new { (h : InHand) → hand_at self.old c ≡ Some h → self.new ≡ slice_set self.old c (left result (hand_taken (done_of cluster.now (verb_of request.now) (Some (ckpt_of request.now)) (Some r) (word_of reply.now)) h)) }
+        ensures end { (h : InHand) → hand_at self.old c ≡ Some h → result ≡ hand_end (done_of cluster.now (verb_of request.now) (Some (ckpt_of request.now)) (Some r) (word_of reply.now)) reply.now (hand_taken (done_of cluster.now (verb_of request.now) (Some (ckpt_of request.now)) (Some r) (word_of reply.now)) h) }
+    {
+        take_at(
+            self.list.as_mut_slice(),
+            c as usize,
+            cluster,
+            r,
+            request,
+            reply,
+        )
+    }
+
+    /// A client's call takes that a step of the record was tried, and is in hand no more where that ends it.
+    pub fn told(
+        &mut self,
+        c: u8,
+        cluster: &Record,
+        step: &RecordStep,
+        ckpt: Option<CkptId>,
+        node: Option<NodeId>,
+        word: StepReply,
+        end: &Option<Outcome>,
+    )
+        requires { hand_at self.old c ≢ None }
+        ensures { (h : InHand) → hand_at self.old c ≡ Some h → self.new ≡ slice_set self.old c (left end.now (hand_taken (done_of cluster.now (event_verb step.now) ckpt node word) h)) }
+    {
+        told_at(
+            self.list.as_mut_slice(),
+            c as usize,
+            cluster,
+            step,
+            ckpt,
+            node,
+            word,
+            end,
+        );
+    }
+
+    /// A client's call is in hand no more.
+    pub fn clear(&mut self, c: u8)
+        requires { hand_at self.old c ≢ None }
+        ensures { self.new ≡ slice_set self.old c None }
+    {
+        clear_at(self.list.as_mut_slice(), c as usize);
+    }
+
+    /// A client's call is in hand from now on, unless it has ended.
+    pub fn begin(&mut self, c: u8, hand: InHand, end: &Option<Outcome>)
+        requires { c < 100 }
+        ensures new { self.new ≡ slice_set self.old c (left end.now hand) }
+        ensures within { c < length self.old }
+    {
+        begin_at(self.list.as_mut_slice(), c as usize, hand, end);
+    }
+}
+
+fn new_list(alloc: Global) -> Result<Vec<Option<InHand>>, AllocError>
+    ensures { IfOk result (λ list. list.items ≡ replicate 100 None) }
+{
+    let mut list = Vec::with_capacity(alloc, 100)?;
+    for _n in 0..100u8 {
+        list.push(None)?;
+    }
+    Ok(list)
+}
+
+fn find(list: &[Option<InHand>], c: usize) -> Option<&InHand>
+    ensures { MatchOption result (hand_at list.now c ≡ None) (λ hand. hand_at list.now c ≡ Some hand.now) }
+{
+    match list.get(c) {
+        None => None,
+        Some(hand) => hand.as_ref(),
+    }
+}
+
+fn has(list: &[Option<InHand>], c: usize) -> bool
+    ensures { result ≡ is_some (hand_at list.now c) }
+{
+    match list.get(c) {
+        None => false,
+        Some(hand) => hand.is_some(),
+    }
+}
+
+fn take_at(
+    list: &mut [Option<InHand>],
+    c: usize,
+    cluster: &Record,
+    r: NodeId,
+    request: &Request,
+    reply: &Reply,
+) -> Option<Outcome>
+    requires held { hand_at list.old c ≢ None }
+    requires node { r < 8 }
+    ensures new { (h : InHand) → hand_at list.old c ≡ Some h → list.new ≡ slice_set list.old c (left result (hand_taken (done_of cluster.now (verb_of request.now) (Some (ckpt_of request.now)) (Some r) (word_of reply.now)) h)) }
+    ensures end { (h : InHand) → hand_at list.old c ≡ Some h → result ≡ hand_end (done_of cluster.now (verb_of request.now) (Some (ckpt_of request.now)) (Some r) (word_of reply.now)) reply.now (hand_taken (done_of cluster.now (verb_of request.now) (Some (ckpt_of request.now)) (Some r) (word_of reply.now)) h) }
+{
+    settle(&mut list[c], cluster, r, request, reply)
+}
+
+fn settle(
+    slot: &mut Option<InHand>,
+    cluster: &Record,
+    r: NodeId,
+    request: &Request,
+    reply: &Reply,
+) -> Option<Outcome>
+    requires held { slot.old ≢ None }
+    requires node { r < 8 }
+    ensures new { (h : InHand) → slot.old ≡ Some h → slot.new ≡ left result (hand_taken (done_of cluster.now (verb_of request.now) (Some (ckpt_of request.now)) (Some r) (word_of reply.now)) h) }
+    ensures end { (h : InHand) → slot.old ≡ Some h → result ≡ hand_end (done_of cluster.now (verb_of request.now) (Some (ckpt_of request.now)) (Some r) (word_of reply.now)) reply.now (hand_taken (done_of cluster.now (verb_of request.now) (Some (ckpt_of request.now)) (Some r) (word_of reply.now)) h) }
+{
+    let Some(hand) = slot else { unreachable!() };
+    let end = hand.take(cluster, r, request, reply);
+    if end.is_some() {
+        *slot = None;
+    }
+    end
+}
+
+fn told_at(
+    list: &mut [Option<InHand>],
+    c: usize,
+    cluster: &Record,
+    step: &RecordStep,
+    ckpt: Option<CkptId>,
+    node: Option<NodeId>,
+    word: StepReply,
+    end: &Option<Outcome>,
+)
+    requires { hand_at list.old c ≢ None }
+    ensures { (h : InHand) → hand_at list.old c ≡ Some h → list.new ≡ slice_set list.old c (left end.now (hand_taken (done_of cluster.now (event_verb step.now) ckpt node word) h)) }
+{
+    settle_told(&mut list[c], cluster, step, ckpt, node, word, end);
+}
+
+fn settle_told(
+    slot: &mut Option<InHand>,
+    cluster: &Record,
+    step: &RecordStep,
+    ckpt: Option<CkptId>,
+    node: Option<NodeId>,
+    word: StepReply,
+    end: &Option<Outcome>,
+)
+    requires { slot.old ≢ None }
+    ensures { (h : InHand) → slot.old ≡ Some h → slot.new ≡ left end.now (hand_taken (done_of cluster.now (event_verb step.now) ckpt node word) h) }
+{
+    let Some(hand) = slot else { unreachable!() };
+    match end {
+        None => hand.told(cluster, step, ckpt, node, word),
+        Some(_) => *slot = None,
+    }
+}
+
+fn clear_at(list: &mut [Option<InHand>], c: usize)
+    requires { hand_at list.old c ≢ None }
+    ensures { list.new ≡ slice_set list.old c None }
+{
+    list[c] = None;
+}
+
+fn begin_at(list: &mut [Option<InHand>], c: usize, hand: InHand, end: &Option<Outcome>)
+    requires { c < length list.old }
+    ensures { list.new ≡ slice_set list.old c (left end.now hand) }
+{
+    match end {
+        None => list[c] = Some(hand),
+        Some(_) => list[c] = None,
+    }
+}
+
+fn lend_nothing(alloc: Global) -> Result<Lent, AllocError> {
+    Ok(Lent {
+        read: ReadBuf::reserve(alloc, 0, 0)?,
+        vector: None,
+        update: None,
+    })
+}
+
+fn lend_update(alloc: Global, op: &Op) -> Result<Lent, AllocError>
+    ensures { IfOk result (λ lent. lent.update ≡ Some (update_of op.now)) }
+{
+    Ok(Lent {
+        read: ReadBuf::reserve(alloc, 0, 0)?,
+        vector: None,
+        update: Some(share_update(alloc, op)?),
+    })
+}
+
+fn lend_read(alloc: Global, op: &Op) -> Result<Lent, AllocError>
+    ensures { IfOk result (IsLentRead (elements_of op.now)) }
+{
+    let vector = share_elements(alloc, op)?;
+    let read = reserve_for(alloc, vector.value().as_slice())?;
+    Ok(Lent {
+        read,
+        vector: Some(vector),
+        update: None,
+    })
+}
+
+fn reserve_for(alloc: Global, elements: &[ReadElement]) -> Result<ReadBuf, AllocError>
+    ensures { IfOk result (λ read. read ≡ record { pieces = []; spare_pieces = length elements.now; spare_bytes = bytes_asked elements.now }) }
+{
+    let Some(bytes) = bytes_asked(elements) else {
+        return Err(AllocError);
+    };
+    ReadBuf::reserve(alloc, elements.len(), bytes)
+}
+
+// How many bytes the elements ask for at most, where that can be counted.
+fn bytes_asked(elements: &[ReadElement]) -> Option<usize>
+    ensures { IfSome result (λ n. n ≡ bytes_asked elements.now) }
+{
+    let mut total: u64 = 0;
+    for element in elements {
+        let Some(more) = total.checked_add(element.len) else {
+            return None;
+        };
+        total = more;
+    }
+    usize::try_from(total).ok()
+}
+
+fn share_update(alloc: Global, op: &Op) -> Result<SharedUpdate, AllocError>
+    ensures { IfOk result (λ update. update ≡ update_of op.now) }
+{
+    match op {
+        Op::Create(_, update)
+        | Op::Delete(_, update)
+        | Op::Expire(_, update)
+        | Op::Write(_, update)
+        | Op::Over(_, update) => update.share(),
+        _ => SharedUpdate::new(alloc, Update::Nothing),
+    }
+}
+
+fn share_elements(alloc: Global, op: &Op) -> Result<SharedReads, AllocError>
+    ensures { IfOk result (λ elements. elements ≡ elements_of op.now) }
+{
+    match op {
+        Op::Read(_, elements) => elements.share(),
+        _ => SharedReads::new(alloc, ReadVector::from_vec(Vec::new(alloc))),
+    }
+}

@@ -1,0 +1,159 @@
+ghost use Rattle.std.specs.Prelude.{◌≡◌, ◌<◌, Some};
+ghost use Rattle.world_core.specs.RecordState.{named};
+ghost use Rattle.world_core.specs.Serving.{ckpt_of};
+ghost use Rattle.world_core.specs.Driving.{accepts, on_free_name, on_entry_named, on_named, on_making, made_of, create_taken, open_next, open_taken, done_of, verb_of, event_verb};
+
+use crate::by_node::first_lacking;
+use crate::record::{CHECKPOINTS_MAX, Entry, Record};
+use crate::tables::HANDLES_MAX;
+use ckpt_types::{AisError, CallId, Cause, CkptId, CreationAttributes, NodeId, OpenAsk, Outcome};
+use node_msgs::{Next, RecordStep, Request};
+use run_labels::StepReply;
+
+/// A checkpoint that an open is making.
+#[derive(Clone, Copy, Debug)]
+pub struct Making {
+    /// The checkpoint.
+    pub ckpt: CkptId,
+    /// By node, the incarnation under which it has reserved, or 0.
+    pub reserved: [u32; 8],
+    /// A reservation was refused for memory.
+    pub refused: bool,
+}
+
+/// The driver of an open.
+#[derive(Debug, Drop)]
+pub struct OpenCall {
+    /// The call.
+    pub call: CallId,
+    /// What it asks of the record.
+    pub ask: OpenAsk,
+    /// What it is making, if it is.
+    pub making: Option<Making>,
+}
+
+impl Making {
+    fn next(&self, cluster: &Record) -> Next
+        ensures { result ≡ on_making cluster.now self.now }
+    {
+        if self.refused {
+            return Next::Event(RecordStep::Undo);
+        }
+        match first_lacking(&cluster.up(), &self.reserved) {
+            Some(r) => Next::Serve(r, Request::Reserve(self.ckpt)),
+            None => Next::Event(RecordStep::Finish),
+        }
+    }
+}
+
+impl OpenCall {
+    /// What it does next; `room` tells whether the client has a free place for a handle.
+    pub fn next(&self, cluster: &Record, room: bool) -> Next
+        ensures { result ≡ open_next cluster.now room self.now }
+    {
+        match &self.making {
+            None => self.named_next(cluster, room),
+            Some(making) => making.next(cluster),
+        }
+    }
+
+    fn named_next(&self, cluster: &Record, room: bool) -> Next
+        ensures { result ≡ on_named cluster.now room self.now.ask.attrs (named self.now.ask.name cluster.now.entries) }
+    {
+        match cluster.named(&self.ask.name) {
+            None => free_next(cluster, room, &self.ask.attrs),
+            Some(entry) => entry_next(room, &self.ask.attrs, entry),
+        }
+    }
+
+    /// It takes a node's answer.
+    pub fn take(&mut self, cluster: &Record, r: NodeId, request: &Request, word: StepReply)
+        requires { r < 8 }
+        ensures { self.new ≡ open_taken (done_of cluster.now (verb_of request.now) (Some (ckpt_of request.now)) (Some r) word) self.old }
+    {
+        let Request::Reserve(_) = request else {
+            return;
+        };
+        let Some(making) = &mut self.making else {
+            return;
+        };
+        match word {
+            StepReply::Ok => {
+                let up = cluster.up();
+                making.reserved[r as usize] = up[r as usize];
+            }
+            StepReply::Memory => making.refused = true,
+            _ => {}
+        }
+    }
+
+    /// It takes that a step of the record was tried.
+    pub fn told(
+        &mut self,
+        cluster: &Record,
+        step: &RecordStep,
+        ckpt: Option<CkptId>,
+        node: Option<NodeId>,
+        word: StepReply,
+    )
+        ensures { self.new ≡ open_taken (done_of cluster.now (event_verb step.now) ckpt node word) self.old }
+    {
+        if let (RecordStep::Create, StepReply::Ok) = (step, word) {
+            self.making = made_of(ckpt);
+        }
+    }
+}
+
+fn made_of(ckpt: Option<CkptId>) -> Option<Making>
+    ensures { result ≡ made_of ckpt }
+{
+    match ckpt {
+        None => None,
+        Some(ckpt) => Some(Making {
+            ckpt,
+            reserved: [0; 8],
+            refused: false,
+        }),
+    }
+}
+
+fn accepts(attributes: &Option<CreationAttributes>, entry: &Entry) -> bool
+    ensures { result ≡ accepts attributes.now entry.now }
+{
+    match attributes {
+        None => true,
+        Some(attributes) => entry.attributes.same_but_retention(attributes),
+    }
+}
+
+fn free_next(cluster: &Record, room: bool, attributes: &Option<CreationAttributes>) -> Next
+    ensures { result ≡ on_free_name cluster.now room attributes.now }
+{
+    match attributes {
+        None => Next::End(Outcome::Refused(AisError::NotExist, Cause::Plain)),
+        Some(_) => {
+            if !room {
+                Next::End(Outcome::Refused(AisError::NoResources, Cause::Count(HANDLES_MAX as u32)))
+            } else if cluster.entries_len() >= CHECKPOINTS_MAX {
+                Next::End(Outcome::Refused(
+                    AisError::NoResources,
+                    Cause::Count(CHECKPOINTS_MAX as u32),
+                ))
+            } else {
+                Next::Event(RecordStep::Create)
+            }
+        }
+    }
+}
+
+fn entry_next(room: bool, attributes: &Option<CreationAttributes>, entry: &Entry) -> Next
+    ensures { result ≡ on_entry_named room attributes.now entry.now }
+{
+    if !accepts(attributes, entry) {
+        Next::End(Outcome::Refused(AisError::Exist, Cause::Plain))
+    } else if !room {
+        Next::End(Outcome::Refused(AisError::NoResources, Cause::Count(HANDLES_MAX as u32)))
+    } else {
+        Next::Event(RecordStep::Open)
+    }
+}

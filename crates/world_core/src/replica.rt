@@ -1,0 +1,170 @@
+ghost use Rattle.std.specs.Prelude.{◌≡◌, ◌-◌, ◌^◌, ◌<◌, ◌≤◌, length, IsSomeAnd, IfOk, [], Some, false};
+ghost use Rattle.ckpt_types.specs.Attributes.{is_malformed};
+ghost use Rattle.std.specs.Result.{result_ok};
+ghost use Rattle.ckpt_types.specs.declared.answers.Answer.TheVariants as answers;
+ghost use Rattle.ckpt_types.specs.declared.identities.CallId.{CallId};
+ghost use Rattle.ckpt_types.specs.Updates.{outcome};
+ghost use Rattle.ckpt_types.specs.Reads.{read};
+ghost use Rattle.node_msgs.specs.declared.replies.Reply.TheVariants as replies;
+ghost use Rattle.update_rules.specs.Told.{told};
+ghost use Rattle.world_core.specs.Serving.{update_of, elements_of, stage_reply, stage_slot, committed, done_or_refused, reply_of, replica_after, pieces_of, IsStaged, IsReady, opened_replica};
+ghost use Rattle.world_core.specs.Lending.{bytes_asked, IsLentRead, IsLent, pieces_told};
+
+use crate::nodes::Lent;
+use ckpt_types::{
+    Answer, CallId, CkptId, CreationAttributes, Moment, Op, ReadBuf, ReadElement, SharedUpdate,
+    Update,
+};
+use node_msgs::{Reply, Request};
+use section_store::Store;
+use std::alloc::{AllocError, Global};
+use update_rules::Refused;
+
+/// A staged update.
+#[derive(Drop)]
+pub struct Slot {
+    /// The call that owns it.
+    pub owner: CallId,
+    /// The update.
+    pub update: SharedUpdate,
+    /// The moment at which it is done.
+    pub moment: Moment,
+}
+
+/// One checkpoint on one node.
+#[derive(Drop)]
+pub struct Replica {
+    /// The checkpoint.
+    pub ckpt: CkptId,
+    /// Its sections.
+    pub store: Store,
+    /// How many updates it has taken.
+    pub count: u64,
+    /// Its own generation.
+    pub generation: u64,
+    /// The update that is staged on it, if one is.
+    pub slot: Option<Slot>,
+}
+
+impl Replica {
+    /// A replica as a reservation makes it: the opening sections, no update, no slot.
+    pub fn open(
+        alloc: Global,
+        ckpt: CkptId,
+        attributes: &CreationAttributes,
+        made: Moment,
+    ) -> Result<Replica, AllocError>
+        requires { is_malformed attributes.now ≡ false }
+        ensures { IfOk result (λ replica. replica ≡ opened_replica ckpt attributes.now made) }
+    {
+        Ok(Replica {
+            ckpt,
+            store: Store::reserve(alloc, attributes, made)?,
+            count: 0,
+            generation: 1,
+            slot: None,
+        })
+    }
+
+    /// The answer to a request of a call with this operation, at the moment. What travels beside it is lent.
+    pub fn serve(&mut self, request: &Request, op: &Op, now: Moment, lent: &mut Lent) -> Reply
+        requires ready { IsReady request.now self.old }
+        requires lent { IsLent request.now op.now lent.old }
+        ensures reply { result ≡ reply_of request.now op.now now self.old }
+        ensures new { self.new ≡ replica_after request.now op.now self.old }
+        ensures pieces { pieces_told result lent.new.read.pieces ≡ pieces_of request.now op.now now self.old }
+    {
+        match request {
+            Request::Stage(call, _, moment) => self.stage_lent(*call, op, *moment, lent),
+            Request::Commit(_, _) => {
+                self.commit();
+                Reply::Done(Answer::Nothing)
+            }
+            Request::Read(_) => self.read_lent(op, now, lent),
+            _ => Reply::NoReplica,
+        }
+    }
+
+    fn stage_lent(&mut self, call: CallId, op: &Op, moment: Moment, lent: &mut Lent) -> Reply
+        requires { lent.old.update ≡ Some (update_of op.now) }
+        ensures reply { result ≡ stage_reply (outcome self.old.store.attributes (update_of op.now) moment self.old.store.sections) self.old.slot }
+        ensures new { self.new ≡ record self.old { slot = stage_slot (outcome self.old.store.attributes (update_of op.now) moment self.old.store.sections) (record { owner = call; update = update_of op.now; moment = moment }) self.old.slot } }
+    {
+        let Some(update) = lent.update.take() else {
+            unreachable!()
+        };
+        self.stage(call, update, moment)
+    }
+
+    fn stage(&mut self, call: CallId, update: SharedUpdate, moment: Moment) -> Reply
+        ensures reply { result ≡ stage_reply (outcome self.old.store.attributes update moment self.old.store.sections) self.old.slot }
+        ensures new { self.new ≡ record self.old { slot = stage_slot (outcome self.old.store.attributes update moment self.old.store.sections) (record { owner = call; update = update; moment = moment }) self.old.slot } }
+    {
+        if let Some(slot) = &self.slot {
+            return Reply::Held(slot.owner);
+        }
+        if let Err(refused) = check(&self.store, update.value(), moment) {
+            return Reply::Refused(refused.error, refused.index);
+        }
+        self.slot = Some(Slot {
+            owner: call,
+            update,
+            moment,
+        });
+        Reply::Done(Answer::Nothing)
+    }
+
+    // The sections become the outcome of the staged update. It takes no memory.
+    fn commit(&mut self)
+        requires staged { IsSomeAnd self.old.slot (λ slot. (call : CallId) × IsStaged call self.old slot) }
+        requires room { self.old.count < 2 ^ 64 - 1 }
+        ensures { self.new ≡ committed self.old self.old.slot }
+    {
+        let Some(slot) = &self.slot else {
+            unreachable!()
+        };
+        self.store.apply(slot.update.value(), slot.moment);
+        self.count += 1;
+        self.slot = None;
+    }
+
+    fn read_lent(&self, op: &Op, now: Moment, lent: &mut Lent) -> Reply
+        requires { IsLentRead (elements_of op.now) lent.old }
+        ensures reply { result ≡ done_or_refused (replies.Done answers.Pieces) (read (elements_of op.now) now self.now.store.sections) }
+        ensures pieces { pieces_told result lent.new.read.pieces ≡ result_ok (read (elements_of op.now) now self.now.store.sections) }
+    {
+        let Some(vector) = &lent.vector else {
+            unreachable!()
+        };
+        read(&self.store, vector.value().as_slice(), now, &mut lent.read)
+    }
+}
+
+// Puts the pieces of a read into the empty buffer, or refuses it.
+fn read(store: &Store, elements: &[ReadElement], now: Moment, out: &mut ReadBuf) -> Reply
+    requires few { length elements.now < 2 ^ 32 }
+    requires empty { out.old.pieces ≡ [] }
+    requires places { length elements.now ≤ out.old.spare_pieces }
+    requires bytes { bytes_asked elements.now ≤ out.old.spare_bytes }
+    ensures reply { result ≡ done_or_refused (replies.Done answers.Pieces) (read elements.now now store.now.sections) }
+    ensures pieces { pieces_told result out.new.pieces ≡ result_ok (read elements.now now store.now.sections) }
+{
+    if let Err(refused) = check_read(store, elements, now) {
+        return Reply::Refused(refused.error, refused.index);
+    }
+    store.read_into(elements, now, out);
+    Reply::Done(Answer::Pieces)
+}
+
+fn check(store: &Store, update: &Update, now: Moment) -> Result<(), Refused>
+    ensures { result ≡ told (outcome store.now.attributes update.now now store.now.sections) }
+{
+    update_rules::check(store.attributes(), store, update, now)
+}
+
+fn check_read(store: &Store, elements: &[ReadElement], now: Moment) -> Result<(), Refused>
+    requires { length elements.now < 2 ^ 32 }
+    ensures { result ≡ told (read elements.now now store.now.sections) }
+{
+    update_rules::check_read(store, elements, now)
+}

@@ -1,0 +1,276 @@
+ghost use Rattle.std.specs.Prelude.{◌≡◌, ◌≢◌, ◌⊎◌, ℕ, ◌<◌, Some, None, IsSomeAnd, IfOk, OnErr, true, length, nat_lt, slice_get, slice_set};
+ghost use Rattle.ckpt_types.specs.declared.identities.ActorName.TheVariants.{Client};
+ghost use Rattle.ckpt_types.specs.declared.identities.Who.TheVariants as whos;
+ghost use Rattle.node_msgs.specs.declared.next.Next.TheVariants as nexts;
+ghost use Rattle.node_msgs.specs.declared.requests.Request.{Request};
+ghost use Rattle.node_msgs.specs.declared.requests.Request.TheVariants as requests;
+ghost use Rattle.run_labels.specs.declared.labels.Label.TheVariants as labels;
+ghost use Rattle.run_labels.specs.declared.words.Said.TheVariants.{Idle};
+ghost use Rattle.world_core.specs.Giving.{gives_handle};
+ghost use Rattle.world_core.specs.RecordState.{entry_of};
+ghost use Rattle.world_core.specs.declared.tables.TheConstants.{HANDLES_MAX};
+ghost use Rattle.world_core.specs.Steps.{creation_flags_of};
+ghost use Rattle.world_core.specs.TableState.{TableState, with_handle};
+ghost use Rattle.world_core.specs.Reserving.{IsReserved};
+ghost use Rattle.world_core.specs.Runs.{step_word};
+ghost use Rattle.world_core.specs.Shows.{IsShown, IsRoomy, IsReservable, handles_in};
+ghost use Rattle.world_core.specs.Happenings.{IsNext, IsStep, IsIdle};
+
+use crate::beginning::{opened_for, opened_place};
+use crate::drivers::{event_ckpt, event_end, event_node};
+use crate::messages::{ckpt_of, event_verb, look_word, verb_of, word_of};
+use crate::nodes::told_pieces;
+use crate::record::Record;
+use crate::tables::{Handle, Tables};
+use crate::world::World;
+use ckpt_types::{ActorName, Answer, CkptId, NodeId, OpenFlags, Outcome, Who};
+use node_msgs::{Next, RecordStep, Reply, Request};
+use run_labels::{Label, LineWord, Said, StepReply, Verb};
+use std::alloc::{AllocError, Global};
+
+impl World {
+    /// The call of a client takes its next step, or a word says that it has none in hand. Want of memory leaves
+    /// the world as it was; where the step's own memory is refused, the call is told so instead.
+    pub fn step(&mut self, alloc: Global, c: u8, finish: bool) -> Result<Label, AllocError>
+        requires client { c < 100 }
+        requires shown { IsShown self.old }
+        requires roomy { IsRoomy self.old }
+        ensures ok { IfOk result (λ label. IsStep c self.old self.new label ⊎ IsIdle c finish self.old self.new label) }
+        ensures err { OnErr result (self.new ≡ self.old) }
+    {
+        let next = match self.hands.find(c) {
+            None => return Ok(idle(c, finish)),
+            Some(hand) => hand.driver.next(&self.cluster, self.tables.has_room(c)),
+        };
+        match next {
+            Next::Serve(r, Request::Reserve(ckpt)) => self.reserve_step(alloc, c, r, ckpt),
+            Next::Serve(r, request) => self.serve_step(alloc, c, r, &request),
+            Next::Event(step) => Ok(self.record_step(c, step)),
+            Next::End(end) => Ok(self.look_step(c, end)),
+        }
+    }
+
+    // A node reserves the storage of a replica; where its memory is refused, the call goes on to undo.
+    fn reserve_step(
+        &mut self,
+        alloc: Global,
+        c: u8,
+        r: NodeId,
+        ckpt: CkptId,
+    ) -> Result<Label, AllocError>
+        requires next { IsNext self.old c (nexts.Serve r (requests.Reserve ckpt)) }
+        requires client { c < 100 }
+        requires shown { IsShown self.old }
+        ensures ok { IfOk result (IsStep c self.old self.new) }
+        ensures err { OnErr result (self.new ≡ self.old) }
+    {
+        let request = Request::Reserve(ckpt);
+        let reply = self.reserve(alloc, r, ckpt);
+        let Some(hand) = self.hands.find(c) else {
+            unreachable!()
+        };
+        let call = hand.call;
+        let op = hand.word();
+        let end = self.hands.take(c, &self.cluster, r, &request, &reply);
+        Ok(Label::Stepped {
+            call,
+            op,
+            verb: Verb::Reserve,
+            ckpt: Some(ckpt),
+            node: Some(r),
+            reply: word_of(&reply),
+            end,
+            pieces: None,
+        })
+    }
+
+    // A node answers a request of the call.
+    fn serve_step(
+        &mut self,
+        alloc: Global,
+        c: u8,
+        r: NodeId,
+        request: &Request,
+    ) -> Result<Label, AllocError>
+        requires next { IsNext self.old c (nexts.Serve r request.now) }
+        requires other { (k : ℕ) → request.now ≢ requests.Reserve k }
+        requires client { c < 100 }
+        requires shown { IsShown self.old }
+        requires roomy { IsRoomy self.old }
+        ensures ok { IfOk result (IsStep c self.old self.new) }
+        ensures err { OnErr result (self.new ≡ self.old) }
+    {
+        let Some(hand) = self.hands.find(c) else {
+            unreachable!()
+        };
+        let call = hand.call;
+        let op = hand.word();
+        let mut lent = hand.lend(alloc, request)?;
+        let now = self.cluster.moment();
+        let reply = self.nodes.serve(r, request, &hand.op, now, &mut lent);
+        let end = self.hands.take(c, &self.cluster, r, request, &reply);
+        Ok(Label::Stepped {
+            call,
+            op,
+            verb: verb_of(request),
+            ckpt: Some(ckpt_of(request)),
+            node: Some(r),
+            reply: word_of(&reply),
+            end,
+            pieces: told_pieces(&reply, lent.read),
+        })
+    }
+
+    // The call takes a step of the record; where its memory is refused, the call ends.
+    fn record_step(&mut self, c: u8, step: RecordStep) -> Label
+        requires next { IsNext self.old c (nexts.Event step) }
+        requires client { c < 100 }
+        requires shown { IsShown self.old }
+        requires roomy { IsRoomy self.old }
+        ensures { IsStep c self.old self.new result }
+    {
+        let Some(hand) = self.hands.find(c) else {
+            unreachable!()
+        };
+        let call = hand.call;
+        let op = hand.word();
+        let place = opened_place(&hand.op);
+        let flags = opened_for(&hand.op);
+        let ckpt = event_ckpt(&self.cluster, &hand.driver, &step);
+        let node = event_node(&hand.driver, &step);
+        let verb = event_verb(&step);
+        if self.cluster.apply(call, &hand.driver, step).is_err() {
+            self.hands.clear(c);
+            return Label::Stepped {
+                call,
+                op,
+                verb,
+                ckpt,
+                node,
+                reply: StepReply::Memory,
+                end: Some(Outcome::NoMemory),
+                pieces: None,
+            };
+        }
+        if gives_handle(&step) {
+            give(
+                &mut self.tables,
+                &self.cluster,
+                c,
+                call.number,
+                flags,
+                ckpt,
+                place,
+            );
+        }
+        let end = event_end(&step, ckpt);
+        self.hands
+            .told(c, &self.cluster, &step, ckpt, node, StepReply::Ok, &end);
+        Label::Stepped {
+            call,
+            op,
+            verb,
+            ckpt,
+            node,
+            reply: StepReply::Ok,
+            end,
+            pieces: None,
+        }
+    }
+
+    // The record alone decides how the call ends.
+    fn look_step(&mut self, c: u8, end: Outcome) -> Label
+        requires next { IsNext self.old c (nexts.End end) }
+        requires client { c < 100 }
+        requires shown { IsShown self.old }
+        ensures { IsStep c self.old self.new result }
+    {
+        let Some(hand) = self.hands.find(c) else {
+            unreachable!()
+        };
+        let call = hand.call;
+        let op = hand.word();
+        let reply = look_word(&end);
+        self.hands.clear(c);
+        Label::Stepped {
+            call,
+            op,
+            verb: Verb::Look,
+            ckpt: None,
+            node: None,
+            reply,
+            end: Some(end),
+            pieces: None,
+        }
+    }
+
+    // A node takes the storage of a replica of the checkpoint, which is in the making.
+    fn reserve(&mut self, alloc: Global, r: NodeId, ckpt: CkptId) -> Reply
+        requires node { r < 8 }
+        requires ready { IsSomeAnd (entry_of ckpt self.old.cluster.entries) (λ e. IsReservable e r) }
+        ensures reserved { IsReserved r ckpt self.old self.new result }
+        ensures there { r < length self.old.nodes }
+    {
+        let Some(entry) = self.cluster.entry(ckpt) else {
+            unreachable!()
+        };
+        match self
+            .nodes
+            .reserve(alloc, r, ckpt, &entry.attributes, entry.made)
+        {
+            Ok(()) => Reply::Done(Answer::Nothing),
+            Err(AllocError) => Reply::NoMemory,
+        }
+    }
+}
+
+fn idle(c: u8, finish: bool) -> Label
+    ensures { result ≡ labels.Word (whos.Actor (Client c)) (step_word finish) Idle }
+{
+    let word = if finish {
+        LineWord::Finish
+    } else {
+        LineWord::Step
+    };
+    Label::Word(Who::Actor(ActorName::Client(c)), word, Said::Idle)
+}
+
+// Whether a step of the record gives a handle.
+fn gives_handle(step: &RecordStep) -> bool
+    ensures { result ≡ gives_handle step.now }
+{
+    match step {
+        RecordStep::Open | RecordStep::Finish => true,
+        _ => false,
+    }
+}
+
+// The client gets a handle of the checkpoint, for which the place stands.
+fn give(
+    tables: &mut Tables,
+    cluster: &Record,
+    c: u8,
+    number: u32,
+    flags: OpenFlags,
+    ckpt: Option<CkptId>,
+    place: Option<u8>,
+)
+    requires client { c < 100 }
+    requires room { nat_lt (length (handles_in (slice_get tables.old c))) HANDLES_MAX ≡ true }
+    requires ckpt { ckpt ≢ None }
+    requires place { IsSomeAnd place (λ p. p < 100) }
+    ensures new { (j p : ℕ) (t : TableState) → ckpt ≡ Some j → place ≡ Some p → slice_get tables.old c ≡ Some t → tables.new ≡ slice_set tables.old c (with_handle (record { number = number; ckpt = j; flags = flags; creation_flags = creation_flags_of (entry_of j cluster.now.entries) }) p t) }
+    ensures places { IsSomeAnd (slice_get tables.old c) (λ t. length t.places ≡ 100) }
+{
+    let (Some(ckpt), Some(place)) = (ckpt, place) else {
+        unreachable!()
+    };
+    let creation_flags = cluster.creation_flags(ckpt);
+    let handle = Handle {
+        number,
+        ckpt,
+        flags,
+        creation_flags,
+    };
+    tables.add(c, handle, place);
+}

@@ -1,0 +1,95 @@
+ghost use Rattle.std.specs.Prelude.{◌≡◌, IfOk, OnOk, OnErr, is_some};
+ghost use Rattle.world_core.specs.Shows.{hand_at, IsShown, IsRoomy};
+ghost use Rattle.world_core.specs.Happenings.{ComesNow, IsAnswered};
+ghost use Rattle.world_core.specs.Runs.{IsNew, IsRunTo, MayHappen, Happens};
+
+use crate::hands::Hands;
+use crate::nodes::Nodes;
+use crate::record::Record;
+use crate::tables::Tables;
+use ckpt_types::{ActorName, Op, Who};
+use run_labels::{Label, RunLog};
+use std::alloc::{AllocError, Global};
+
+/// How many elements a vector has at most.
+pub const VECTOR_MAX: usize = 64;
+
+/// What may happen to the cluster.
+#[derive(Debug, Drop)]
+pub enum Event {
+    /// The first nodes come up, so many.
+    Nodes(u8),
+    /// A call begins.
+    Begin(ActorName, Op),
+    /// A call takes its next step; the bool tells that a `finish` line asks for it.
+    Step(Who, bool),
+}
+
+/// The cluster.
+#[derive(Drop)]
+pub struct World {
+    /// What all nodes agree on.
+    pub cluster: Record,
+    /// The nodes with their replicas.
+    pub nodes: Nodes,
+    /// What each client keeps.
+    pub tables: Tables,
+    /// The calls in hand.
+    pub hands: Hands,
+}
+
+impl World {
+    /// A cluster of which no node is up. All the room of its record, nodes, tables and hands is taken here.
+    pub fn new(alloc: Global) -> Result<World, AllocError>
+        ensures { IfOk result IsNew }
+    {
+        Ok(World {
+            cluster: Record::new(alloc)?,
+            nodes: Nodes::new(alloc)?,
+            tables: Tables::new(alloc)?,
+            hands: Hands::new(alloc)?,
+        })
+    }
+
+    /// Whether the client has a call in hand.
+    pub fn in_hand(&self, client: u8) -> bool
+        ensures { result ≡ is_some (hand_at self.now.hands client) }
+    {
+        self.hands.has(client)
+    }
+
+    /// One event, and one label more, which answers it. Want of memory leaves the world and the log as
+    /// they were; a call whose own memory is refused ends with it instead.
+    pub fn event(
+        &mut self,
+        alloc: Global,
+        event: &Event,
+        log: &mut RunLog,
+    ) -> Result<(), AllocError>
+        requires { MayHappen self.old log.old.labels event.now }
+        ensures run { IsRunTo self.new log.new.labels }
+        ensures happens { OnOk result (Happens event.now self.old self.new log.old.labels log.new.labels) }
+        ensures err { OnErr result ((self.new ≡ self.old) × (log.new.labels ≡ log.old.labels)) }
+    {
+        log.reserve(1)?;
+        let label = self.happen(alloc, event)?;
+        log.push(label);
+        Ok(())
+    }
+
+    // The label that answers the event.
+    fn happen(&mut self, alloc: Global, event: &Event) -> Result<Label, AllocError>
+        requires comes { ComesNow self.old event.now }
+        requires shown { IsShown self.old }
+        requires roomy { IsRoomy self.old }
+        ensures ok { IfOk result (IsAnswered event.now self.old self.new) }
+        ensures err { OnErr result (self.new ≡ self.old) }
+    {
+        match event {
+            Event::Nodes(n) => Ok(self.bring_up(*n)),
+            Event::Begin(ActorName::Client(c), op) => self.begin(*c, op),
+            Event::Step(Who::Actor(ActorName::Client(c)), finish) => self.step(alloc, *c, *finish),
+            _ => unreachable!(),
+        }
+    }
+}
