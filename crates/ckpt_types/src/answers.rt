@@ -1,7 +1,6 @@
 use crate::ais_error::AisError;
 use crate::identities::{CallId, CkptId, Moment};
-use crate::section_id::SectionId;
-use crate::sections::{CheckpointDescriptor, SectionDescriptor};
+use crate::sections::{CheckpointDescriptor, SectionFacts};
 
 /// What shows that a refusal is right.
 #[derive(Clone, Copy, Debug, PartialEq, Eq)]
@@ -29,7 +28,8 @@ pub struct Given {
     pub left: u32,
 }
 
-/// What a call that was done answers.
+/// What a call that was done answers. An outcome is moved often, so it is small: strings of bytes that
+/// belong to an answer stand in the caller's buffer, beside it.
 #[derive(Clone, Copy, Debug, PartialEq, Eq)]
 pub enum Answer {
     /// No more than that it was done.
@@ -38,12 +38,12 @@ pub enum Answer {
     Version,
     /// The checkpoint that was opened.
     Opened(CkptId),
-    /// The identifier of the section that was made.
-    Created(SectionId),
+    /// A section was made. Its identifier stands in the caller's buffer.
+    Created,
     /// The bytes of a read, which stand in the caller's buffer.
     Pieces,
-    /// The next section of an iteration.
-    Section(SectionDescriptor),
+    /// The next section of an iteration. Its identifier stands in the caller's buffer.
+    Section(SectionFacts),
     /// The status of a checkpoint.
     Status(CheckpointDescriptor),
     /// The number of updates that the replicas were brought to.

@@ -35,8 +35,8 @@ pub use read_buf::{Pieces, ReadBuf};
 pub use section_id::{SECTION_ID_MAX, SectionId};
 pub use sections::{
     CheckpointDescriptor, Choice, SECTIONS_ANY, SECTIONS_CORRUPTED, SECTIONS_FOREVER,
-    SECTIONS_GEQ_EXPIRATION_TIME, SECTIONS_LEQ_EXPIRATION_TIME, SectionDescriptor, SectionRef,
-    SectionState, Sections,
+    SECTIONS_GEQ_EXPIRATION_TIME, SECTIONS_LEQ_EXPIRATION_TIME, SectionDescriptor, SectionFacts,
+    SectionRef, SectionState, Sections,
 };
 pub use shared::Shared;
 pub use update::{

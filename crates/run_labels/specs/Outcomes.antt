@@ -12,7 +12,7 @@ use Rattle.ckpt_types.specs.declared.answers.Outcome.TheVariants as outcomes
 use Rattle.ckpt_types.specs.declared.attributes.CreationAttributes.{CreationAttributes}
 use Rattle.ckpt_types.specs.declared.identities.CallId.{CallId}
 use Rattle.ckpt_types.specs.declared.sections.CheckpointDescriptor.{CheckpointDescriptor}
-use Rattle.ckpt_types.specs.declared.sections.SectionDescriptor.{SectionDescriptor}
+use Rattle.ckpt_types.specs.declared.sections.SectionFacts.{SectionFacts}
 use Rattle.ckpt_types.specs.AisError.{word_of}
 use Rattle.run_labels.specs.declared.words.OpWord.{OpWord}
 use Rattle.run_labels.specs.declared.words.OpWord.TheVariants as words
@@ -37,23 +37,22 @@ abbrev pub told_version : AisError → List ℕ
 told_version errors.Version = version_text
 told_version _ = []
 
--- one piece of a read
+-- one piece
 abbrev pub piece_text : List ℕ → List ℕ
 piece_text piece = codes " " ++ bytes_text piece
 
--- the pieces of a read, in the order of its elements
+-- the pieces that came with an answer: the bytes of a read in the order of its elements, or the identifier of a section
 abbrev pub pieces_text : Option (List (List ℕ)) → List ℕ
 pieces_text None = []
 pieces_text (Some pieces) = flat_map piece_text pieces
 
--- what an iteration tells of a section
-abbrev pub section_text : SectionDescriptor → List ℕ
-section_text section =
-    codes " " ++ bytes_text section.id
-    ++ codes " " ++ time_text section.expiration
-    ++ codes " " ++ decimal section.size
-    ++ codes " " ++ state_text section.state
-    ++ codes " " ++ time_text section.last_update
+-- what an iteration tells of a section beside its identifier
+abbrev pub facts_text : SectionFacts → List ℕ
+facts_text facts =
+    codes " " ++ time_text facts.expiration
+    ++ codes " " ++ decimal facts.size
+    ++ codes " " ++ state_text facts.state
+    ++ codes " " ++ time_text facts.last_update
 
 -- what a checkpoint is declared to have
 abbrev pub attributes_text : CreationAttributes → List ℕ
@@ -77,9 +76,9 @@ abbrev pub answer_text : Answer → Option (List (List ℕ)) → List ℕ
 answer_text answers.Nothing pieces = []
 answer_text answers.Version pieces = version_text
 answer_text (answers.Opened ckpt) pieces = codes " " ++ ckpt_text ckpt
-answer_text (answers.Created id) pieces = codes " " ++ bytes_text id
+answer_text answers.Created pieces = pieces_text pieces
 answer_text answers.Pieces pieces = pieces_text pieces
-answer_text (answers.Section section) pieces = section_text section
+answer_text (answers.Section facts) pieces = pieces_text pieces ++ facts_text facts
 answer_text (answers.Status status) pieces = status_text status
 answer_text (answers.Pulled count) pieces = codes " " ++ decimal count
 answer_text (answers.Dispatched given) pieces = codes " " ++ decimal given.given ++ codes " " ++ decimal given.left

@@ -1,7 +1,7 @@
 ghost use Rattle.std.specs.Prelude.{◌≡◌, ◌++◌, OnOk, Some, codes, decimal};
 ghost use Rattle.std.specs.List.{flat_map};
 ghost use Rattle.run_labels.specs.Texts.{time_text};
-ghost use Rattle.run_labels.specs.Outcomes.{cause_text, told_version, piece_text, pieces_text, section_text, attributes_text, status_text, answer_text, head_text, done_line, refusal_line, result_line, end_text, stepped_end_text, is_async};
+ghost use Rattle.run_labels.specs.Outcomes.{cause_text, told_version, piece_text, pieces_text, facts_text, attributes_text, status_text, answer_text, head_text, done_line, refusal_line, result_line, end_text, stepped_end_text, is_async};
 
 use crate::texts::{
     append_call, append_ckpt, append_spaced, append_spaced_bytes, append_spaced_state,
@@ -10,7 +10,7 @@ use crate::texts::{
 use crate::words::OpWord;
 use ckpt_types::{
     AisError, Answer, CallId, Cause, CheckpointDescriptor, CreationAttributes, Outcome, Pieces,
-    SectionDescriptor,
+    SectionFacts,
 };
 use std::alloc::AllocError;
 
@@ -129,9 +129,11 @@ fn append_answer(
             append_text(out, " ")?;
             append_ckpt(out, *ckpt)
         }
-        Answer::Created(id) => append_spaced_bytes(out, id.as_slice()),
-        Answer::Pieces => append_pieces(out, pieces),
-        Answer::Section(section) => append_section(out, section),
+        Answer::Created | Answer::Pieces => append_pieces(out, pieces),
+        Answer::Section(facts) => {
+            append_pieces(out, pieces)?;
+            append_facts(out, facts)
+        }
         Answer::Status(status) => append_status(out, status),
         Answer::Pulled(count) => append_spaced(out, *count),
         Answer::Dispatched(given) => {
@@ -141,7 +143,7 @@ fn append_answer(
     }
 }
 
-/// The pieces of a read.
+/// The pieces that came with an answer.
 fn append_pieces(out: &mut Vec<u8>, pieces: &Option<Pieces>) -> Result<(), AllocError>
     ensures { OnOk result (out.new.items ≡ out.old.items ++ pieces_text pieces.now) }
 {
@@ -161,15 +163,14 @@ fn append_each_piece(out: &mut Vec<u8>, pieces: &Pieces) -> Result<(), AllocErro
     Ok(())
 }
 
-/// What an iteration tells of a section.
-fn append_section(out: &mut Vec<u8>, section: &SectionDescriptor) -> Result<(), AllocError>
-    ensures { OnOk result (out.new.items ≡ out.old.items ++ section_text section.now) }
+/// What an iteration tells of a section beside its identifier.
+fn append_facts(out: &mut Vec<u8>, facts: &SectionFacts) -> Result<(), AllocError>
+    ensures { OnOk result (out.new.items ≡ out.old.items ++ facts_text facts.now) }
 {
-    append_spaced_bytes(out, section.id.as_slice())?;
-    append_spaced_time(out, section.expiration)?;
-    append_spaced(out, section.size)?;
-    append_spaced_state(out, section.state)?;
-    append_spaced_time(out, section.last_update)
+    append_spaced_time(out, facts.expiration)?;
+    append_spaced(out, facts.size)?;
+    append_spaced_state(out, facts.state)?;
+    append_spaced_time(out, facts.last_update)
 }
 
 /// The status of a checkpoint.

@@ -65,26 +65,8 @@ fn refused(op: OpWord, error: AisError, cause: Cause) -> Label {
     ended(client(0, 5), op, Outcome::Refused(error, cause))
 }
 
-fn id(bytes: &[u8]) -> Result<SectionId, Fail> {
-    match SectionId::from_slice(bytes) {
-        Some(id) => Ok(id),
-        None => Err(Fail::new("too long")),
-    }
-}
-
-/// What a `next` gave.
-fn given(id: SectionId, expiration: i64, size: u64, state: SectionState) -> Answer {
-    Answer::Section(SectionDescriptor {
-        id,
-        expiration,
-        size,
-        state,
-        last_update: 0,
-    })
-}
-
-/// The end of a read that gave these pieces.
-fn read(alloc: Global, pieces: &[&[u8]]) -> Result<Label, AllocError> {
+/// The pieces that came with an answer.
+fn pieces(alloc: Global, pieces: &[&[u8]]) -> Result<Option<Pieces>, AllocError> {
     let mut buf = ReadBuf::reserve(alloc, pieces.len(), 64)?;
     for piece in pieces {
         let (places, bytes) = buf.spare();
@@ -93,6 +75,37 @@ fn read(alloc: Global, pieces: &[&[u8]]) -> Result<Label, AllocError> {
         }
         buf.push(piece);
     }
+    Ok(Some(Pieces::from_buf(buf)))
+}
+
+/// The end of a call that told an identifier.
+fn told(alloc: Global, op: OpWord, answer: Answer, id: &[u8]) -> Result<Label, AllocError> {
+    Ok(Label::Stepped {
+        call: client(0, 5),
+        op,
+        verb: Verb::Look,
+        ckpt: None,
+        node: None,
+        reply: StepReply::Done,
+        end: Some(Outcome::Done(answer)),
+        pieces: pieces(alloc, &[id])?,
+    })
+}
+
+/// What a `next` told of a section.
+fn facts(expiration: i64, size: u64, state: SectionState) -> Answer {
+    let descriptor = SectionDescriptor {
+        id: SectionId::default(),
+        expiration,
+        size,
+        state,
+        last_update: 0,
+    };
+    Answer::Section(descriptor.facts())
+}
+
+/// The end of a read that gave these pieces.
+fn read(alloc: Global, bytes: &[&[u8]]) -> Result<Label, AllocError> {
     Ok(Label::Stepped {
         call: client(0, 6),
         op: OpWord::Read,
@@ -101,7 +114,7 @@ fn read(alloc: Global, pieces: &[&[u8]]) -> Result<Label, AllocError> {
         node: Some(0),
         reply: StepReply::Ok,
         end: Some(Outcome::Done(Answer::Pieces)),
-        pieces: Some(Pieces::from_buf(buf)),
+        pieces: pieces(alloc, bytes)?,
     })
 }
 
@@ -247,11 +260,11 @@ fn an_answer_has_its_details(rt: HostRuntime) -> Result<(), Fail> {
         number_of_sections: 64,
         memory_used: 448,
     });
-    let created = Answer::Created(id(b"c")?);
-    let first = given(id(b"a")?, NEVER, 0, SectionState::Valid);
-    let corrupted = given(id(b"a")?, 20, 4, SectionState::Corrupted);
+    let alloc = rt.alloc();
+    let first = facts(NEVER, 0, SectionState::Valid);
+    let corrupted = facts(20, 4, SectionState::Corrupted);
     let dispatched = Answer::Dispatched(Given { given: 1, left: 0 });
-    let told = "c0.5 status OK 1 65536 3600000000000 64 1024 8 64 448\n";
+    let status_line = "c0.5 status OK 1 65536 3600000000000 64 1024 8 64 448\n";
     let rows = [
         (
             answered(OpWord::Open, Answer::Opened(1)),
@@ -259,21 +272,21 @@ fn an_answer_has_its_details(rt: HostRuntime) -> Result<(), Fail> {
             "c0.5 open OK K1\n",
         ),
         (
-            answered(OpWord::Create, created),
+            told(alloc, OpWord::Create, Answer::Created, b"c")?,
             look,
             "c0.5 create OK x63\n",
         ),
         (
-            answered(OpWord::Next, first),
+            told(alloc, OpWord::Next, first, b"a")?,
             look,
             "c0.5 next OK x61 end 0 VALID 0\n",
         ),
         (
-            answered(OpWord::Next, corrupted),
+            told(alloc, OpWord::Next, corrupted, b"a")?,
             look,
             "c0.5 next OK x61 20 4 CORRUPTED 0\n",
         ),
-        (answered(OpWord::Status, status), look, told),
+        (answered(OpWord::Status, status), look, status_line),
         (
             answered(OpWord::Sync, Answer::Pulled(1)),
             look,
