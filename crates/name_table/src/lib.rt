@@ -1,0 +1,9 @@
+//! The names of the cluster's checkpoints, each once, with the checkpoint that it is linked to.
+#![tactic(auto)]
+
+mod moves;
+mod names;
+#[cfg(test)]
+mod tests;
+
+pub use names::{Names, PLACES};
