@@ -1,0 +1,33 @@
+-- How a client keeps its handles: in a slab, where each place has the key and the number of one.
+use Rattle.std.specs.Prelude.{◌≡◌, ℕ, ◌≤◌, [], length, map, Option, Some, None}
+use Rattle.slab.specs.Slab.{slab_len, values}
+use Rattle.client_handles.specs.ClientState.{ClientState}
+use Rattle.client_handles.specs.Kept.{handles_up_to, AreNumbered, HaveKeys}
+use Rattle.client_handles.specs.declared.kept.Bound.{Bound}
+use Rattle.client_handles.specs.declared.client.Client.TheInside.{Inside}
+
+-- the number to which a place was set, or 0
+abbrev pub number_of : Option Bound → ℕ
+number_of None = 0
+number_of (Some set) = set.number
+
+abbrev pub client_of : Inside → ClientState
+client_of c = record {
+  callbacks = c.callbacks;
+  last_number = c.last_number;
+  handles = handles_up_to c.last_number c.handles.slots;
+  places = map number_of c.places;
+  iterations = values c.iterations;
+}
+
+-- there is room for 32 handles and 8 iterations, handles and places have their numbers and keys, and no
+-- iteration was begun
+pub record IsSound (c : Inside) : Type 0 where
+  pub room : 32 ≤ c.handles.capacity
+  pub few : slab_len c.handles ≤ 32
+  pub counted : slab_len c.handles ≡ length (handles_up_to c.last_number c.handles.slots)
+  pub numbers : AreNumbered c.last_number c.handles
+  pub keys : HaveKeys c.last_number c.handles c.places
+  pub places : length c.places ≡ 100
+  pub iteration_room : 8 ≤ c.iterations.capacity
+  pub no_iteration : c.iterations.slots ≡ []

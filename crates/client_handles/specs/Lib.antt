@@ -1,0 +1,3 @@
+pub mod Client
+pub mod ClientState
+pub mod Kept

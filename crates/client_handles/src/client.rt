@@ -1,0 +1,171 @@
+ghost use Rattle.std.specs.Prelude.{◌≡◌, ◌-◌, ◌^◌, ◌<◌, IfOk, OnOk, OnErr, IsSome};
+ghost use Rattle.client_handles.specs.ClientState.{handle_numbered, named_handle, has_handle_room, has_iteration_room, new_client, taken, taken_number, released, bound, dropped, IsValid};
+
+use crate::handle_view::HandleView;
+use crate::kept::{Bound, PLACES, copy_of, handle_under, key_of, no_places};
+use ckpt_types::{AisError, CallbackSet, CkptId, Count, OpenFlags};
+use section_iter::Iteration;
+use slab::Slab;
+use std::alloc::{AllocError, Global};
+use std::marker::Model;
+
+/// How many handles a client has open at most.
+pub const HANDLES_MAX: usize = 32;
+
+/// How many iterations a client has at most.
+pub const ITERATIONS_MAX: usize = 8;
+
+/// What one client keeps: its open handles, and the places that stand for them.
+#[derive(Drop)]
+pub struct Client {
+    callbacks: CallbackSet,
+    /// The number of the handle last taken, or 0.
+    last_number: u32,
+    handles: Slab<HandleView>,
+    /// To which handle each place was set last. That handle may be closed since.
+    places: [Option<Bound>; PLACES],
+    iterations: Slab<Iteration>,
+}
+
+impl Model for Client {
+    ghost use Rattle.client_handles.specs.ClientState.{ClientState};
+
+    ghost Value = { ClientState };
+
+    ghost use Rattle.client_handles.specs.Client.{client_of, IsSound};
+
+    ghost view = { client_of };
+
+    ghost invariant = { IsSound };
+}
+
+impl Client {
+    /// A client with no handle, with room for 32 handles and 8 iterations. Of the later calls only `copy`
+    /// takes memory.
+    pub fn new(alloc: Global, callbacks: CallbackSet) -> Result<Client, AllocError>
+        ensures { IfOk result (λ client. client ≡ new_client callbacks) }
+    {
+        Ok(Client {
+            callbacks,
+            last_number: 0,
+            handles: Slab::with_capacity(alloc, HANDLES_MAX)?,
+            places: no_places(),
+            iterations: Slab::with_capacity(alloc, ITERATIONS_MAX)?,
+        })
+    }
+
+    /// The callbacks that the client registered.
+    pub fn callbacks(&self) -> CallbackSet
+        ensures { result ≡ self.now.callbacks }
+    {
+        self.callbacks
+    }
+
+    /// The handle for which a place stands. `BadHandle` where the place was never set, or the handle was
+    /// closed.
+    pub fn handle(&self, place: u8) -> Result<HandleView, AisError>
+        requires { place < 100 }
+        ensures answer { result ≡ named_handle place self.now }
+        ensures valid { IsValid self.now }
+    {
+        let Some(set) = self.places[place as usize] else {
+            return Err(AisError::BadHandle);
+        };
+        match handle_under(&self.handles, set.key, set.number) {
+            Some(handle) => Ok(handle),
+            None => Err(AisError::BadHandle),
+        }
+    }
+
+    /// Whether one handle more may be open.
+    pub fn handle_room(&self) -> bool
+        ensures room { result ≡ has_handle_room self.now }
+        ensures valid { IsValid self.now }
+    {
+        self.handles.len() < HANDLES_MAX
+    }
+
+    /// Whether one iteration more may be begun.
+    pub fn iteration_room(&self) -> bool
+        ensures { result ≡ has_iteration_room self.now }
+    {
+        self.iterations.len() < ITERATIONS_MAX
+    }
+
+    /// Opens one handle more, for which no place stands yet, and tells its number, the next one. Where 32
+    /// are open the answer is that count, and nothing changes.
+    pub fn take_handle(
+        &mut self,
+        id: CkptId,
+        flags: OpenFlags,
+        creation_flags: u32,
+    ) -> Result<u32, Count>
+        requires { self.old.last_number < 2 ^ 32 - 1 }
+        ensures answer { result ≡ taken_number self.old }
+        ensures taken { OnOk result (self.new ≡ taken id flags creation_flags self.old) }
+        ensures unchanged { OnErr result (self.new ≡ self.old) }
+    {
+        if !self.handle_room() {
+            return Err(Count {
+                count: HANDLES_MAX as u32,
+            });
+        }
+        self.last_number += 1;
+        self.handles.insert_reserved(HandleView {
+            id,
+            flags,
+            creation_flags,
+            handle: self.last_number,
+        });
+        Ok(self.last_number)
+    }
+
+    /// Closes the handle of that number. Where none has it nothing changes.
+    pub fn release(&mut self, handle: u32)
+        ensures { self.new ≡ released handle self.old }
+    {
+        if let Some(key) = key_of(&self.handles, handle) {
+            self.handles.remove(key);
+        }
+    }
+
+    /// Lets a place stand for an open handle. Another handle for which it stood before stays open.
+    pub fn bind(&mut self, place: u8, handle: u32)
+        requires place { place < 100 }
+        requires opened { IsSome (handle_numbered handle self.old.handles) }
+        ensures { self.new ≡ bound place handle self.old }
+    {
+        let Some(key) = key_of(&self.handles, handle) else {
+            unreachable!()
+        };
+        self.places[place as usize] = Some(Bound {
+            key,
+            number: handle,
+        });
+    }
+
+    /// Closes the handle for which a place stands, and tells it. `BadHandle` where it stands for none, and
+    /// then nothing changes.
+    pub fn drop_handle(&mut self, place: u8) -> Result<HandleView, AisError>
+        requires { place < 100 }
+        ensures answer { result ≡ named_handle place self.old }
+        ensures dropped { self.new ≡ dropped place self.old }
+    {
+        let handle = self.handle(place)?;
+        self.release(handle.handle);
+        Ok(handle)
+    }
+
+    /// An equal client, with as much room.
+    pub fn copy(&self, alloc: Global) -> Result<Client, AllocError>
+        ensures { IfOk result (λ copy. copy ≡ self.now) }
+    {
+        Ok(Client {
+            callbacks: self.callbacks,
+            last_number: self.last_number,
+            handles: copy_of(&self.handles, HANDLES_MAX)?,
+            places: self.places,
+            iterations: Slab::with_capacity(alloc, ITERATIONS_MAX)?,
+        })
+    }
+}

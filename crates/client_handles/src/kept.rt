@@ -1,0 +1,71 @@
+ghost use Rattle.std.specs.Prelude.{◌≡◌, ◌≢◌, ◌≤◌, ℕ, None, Some, replicate, IfNone, IfOk, IfSome, IsSomeAnd};
+ghost use Rattle.slab.specs.Slab.{get, slab_len};
+ghost use Rattle.client_handles.specs.Kept.{where_numbered};
+ghost use Rattle.client_handles.specs.declared.handle_view.HandleView.{HandleView};
+
+use crate::handle_view::HandleView;
+use slab::Slab;
+use std::alloc::AllocError;
+
+/// How many places a client has for its handles: h0 to h99.
+pub const PLACES: usize = 100;
+
+/// What a place was set to. The number is the generation: where another handle lies under the key
+/// now, it has another number.
+#[derive(Clone, Copy)]
+pub(crate) struct Bound {
+    /// Under which key of the slab the handle lay.
+    pub(crate) key: usize,
+    /// The handle's number.
+    pub(crate) number: u32,
+}
+
+/// Places of which none was set.
+pub(crate) fn no_places() -> [Option<Bound>; PLACES]
+    ensures { result ≡ replicate 100 None }
+{
+    [None; PLACES]
+}
+
+/// The handle under a key, where it has that number.
+pub(crate) fn handle_under(
+    handles: &Slab<HandleView>,
+    key: usize,
+    number: u32,
+) -> Option<HandleView>
+    ensures { result ≡ where_numbered number (get handles.now key) }
+{
+    let found = handles.get(key)?;
+    if found.handle == number {
+        Some(*found)
+    } else {
+        None
+    }
+}
+
+/// The key of the handle of that number.
+pub(crate) fn key_of(handles: &Slab<HandleView>, number: u32) -> Option<usize>
+    ensures found { IfSome result (λ key. IsSomeAnd (get handles.now key) (λ h. h.handle ≡ number)) }
+    ensures absent { IfNone result ((key : ℕ) (h : HandleView) → get handles.now key ≡ Some h → h.handle ≢ number) }
+{
+    for (key, handle) in handles.iter() {
+        if handle.handle == number {
+            return Some(key);
+        }
+    }
+    None
+}
+
+/// A copy of the slab, with room for so many handles.
+pub(crate) fn copy_of(
+    handles: &Slab<HandleView>,
+    room: usize,
+) -> Result<Slab<HandleView>, AllocError>
+    requires { slab_len handles.now ≤ room }
+    ensures slots { IfOk result (λ copy. copy.slots ≡ handles.now.slots) }
+    ensures room { IfOk result (λ copy. room ≤ copy.capacity) }
+{
+    let mut copy = handles.clone()?;
+    copy.reserve(room - copy.len())?;
+    Ok(copy)
+}
