@@ -1,4 +1,11 @@
-mod LongLines
-mod Numbers
-mod Reading
+pub mod Again
+pub mod Built
+mod Canonical
+mod Fitting
+mod Groups
+mod Marking
+mod Rows
+mod Steps
 mod Texts
+mod Told
+mod Writing

@@ -1,152 +1,267 @@
--- The scripts that are read: the forms of their lines, and the first fault of bytes that are no script.
-use Rattle.std.specs.Prelude.{ℕ, ◌+◌, Bool, false, List, [], ◌∷◌, length, map, find, codes, pos, Option, Some, Result, Ok, Err, nat_lt, ◌==◌, if◌then◌else◌, bytes_eq}
-use Rattle.std.specs.List.{slice_split, onto_first}
-use denote.Ref.{Bor}
+-- A script: its lines one after the other, and the first that is at fault.
+use Rattle.std.specs.Prelude.{ℕ, ◌+◌, ◌≤◌, Bool, true, false, not, cond, ◌&&◌, ◌||◌, List, [], ◌∷◌, length, reverse, ℤ, pos, Option, Some, None, is_some, option_map, Result, Ok, Err, nat_le, nat_lt, int_lt, ◌==◌, if◌then◌else◌, bytes_eq, codes, sum_by}
+use Rattle.std.specs.List.{slice_split, onto_first, list_any}
 use Rattle.ckpt_types.specs.declared.attributes.CreationAttributes.{CreationAttributes}
-use Rattle.ckpt_types.specs.declared.calls.Version.{Version}
-use Rattle.ckpt_types.specs.declared.calls.CallbackSet.{CallbackSet}
-use Rattle.ckpt_types.specs.declared.identities.TheConstants.{NEVER}
+use Rattle.ckpt_types.specs.declared.operation.Op.{Op}
 use Rattle.ckpt_types.specs.declared.operation.Op.TheVariants as ops
+use Rattle.ckpt_types.specs.declared.update.Update.{Update}
 use Rattle.ckpt_types.specs.declared.update.Update.TheVariants as updates
-use Rattle.script_lang.specs.declared.faults.Reason.{Reason}
-use Rattle.script_lang.specs.declared.faults.Reason.TheVariants.{Length, NotBuilt}
+use Rattle.script_words.specs.declared.reason.Reason.{Reason}
+use Rattle.script_words.specs.declared.reason.Reason.TheVariants as reasons
+use Rattle.script_words.specs.Words.{or_else}
 use Rattle.script_lang.specs.declared.faults.ScriptFault.{ScriptFault}
 use Rattle.script_lang.specs.declared.forms.LineWord.{LineWord}
-use Rattle.script_lang.specs.declared.forms.LineWord.TheVariants as word
 use Rattle.script_lang.specs.declared.lines.Line.{Line}
-use Rattle.script_lang.specs.declared.lines.Line.TheVariants.{Nodes, Call}
-use Rattle.script_lang.specs.Words.{Class, exactly, a_number, any_number, some_bytes, a_name, Meaning, read, or_reason}
-
--- what the slices hold
-abbrev pub texts : List (Bor (List ℕ)) → List (List ℕ)
-texts ws = map (λ w. w.now) ws
-
--- the byte that parts two words
-abbrev pub is_space : ℕ → Bool
-is_space b = b == 32
-
--- the words of a line: what stands between its spaces; one is empty where two spaces meet, or one stands at an end
-abbrev pub words_of : List ℕ → List (List ℕ)
-words_of line = slice_split is_space line
+use Rattle.script_lang.specs.declared.lines.Line.TheVariants as lines
+use Rattle.script_lang.specs.declared.marks.Marks.{Marks}
+use Rattle.script_lang.specs.Table.{word_of, is_later, begin_is_later, line_in}
 
 -- the lines, each ended by the byte 10; the last may lack it
 abbrev pub text_lines : List ℕ → List (List ℕ)
 text_lines [] = []
 text_lines (b ∷ bs) = if b == 10 then [] ∷ text_lines bs else onto_first b (text_lines bs)
 
--- a line as a function of what words of these classes say, one after the other
-abbrev pub Maker : List Class → Type 0
-Maker [] = Line
-Maker (c ∷ cs) = Meaning c → Maker cs
+-- the byte that parts two words
+abbrev pub is_space : ℕ → Bool
+is_space b = b == 32
 
--- a form of line: the classes of the words behind its first, and the line that they make
-pub record Form : Type 0 where
-  pub classes : List Class
-  pub line : Maker classes
+abbrev pub is_empty : List ℕ → Bool
+is_empty w = length w == 0
 
--- B.2.2
-abbrev pub version_2_2 : Version
-version_2_2 = record { release = 66; major = 2; minor = 2 }
+-- the words of a line: what stands between its spaces; one is empty where two spaces meet, or one stands at an end
+abbrev pub words_of : List ℕ → List (List ℕ)
+words_of line = slice_split is_space line
 
--- neither callback is registered
-abbrev pub no_callbacks : CallbackSet
-no_callbacks = record { opens = false; syncs = false }
+-- a first word whose lines are not built yet
+abbrev pub is_later_word : Option LineWord → Bool
+is_later_word None = false
+is_later_word (Some k) = is_later k
 
--- the attributes of a checkpoint that every replica has at each update, with one section and no retention
-abbrev pub attributes_of : ℕ → ℕ → ℕ → CreationAttributes
-attributes_of size max id_size = record { creation_flags = 1; checkpoint_size = size; retention_duration = pos 0; max_sections = 1; max_section_size = max; max_section_id_size = id_size }
+-- the same of the word behind `begin`
+abbrev pub begins_later : List (List ℕ) → Bool
+begins_later [] = begin_is_later
+begins_later (w ∷ ws) = begin_is_later || is_later_word (word_of w)
 
--- client c0 writes bytes at an offset of the default section, through its handle h0
-abbrev pub write_of : ℕ → List ℕ → Line
-write_of offset bytes = Call 0 (ops.Write 0 (updates.Write (record { id = []; offset = offset; bytes = bytes } ∷ [])))
+-- a line that is not built by its first word, or by the word behind `begin`
+abbrev pub not_built : List (List ℕ) → Bool
+not_built [] = false
+not_built (w ∷ ws) = if bytes_eq w (codes "begin") then begins_later ws else is_later_word (word_of w)
 
--- client c0 reads so many bytes from an offset of the default section on, through its handle h0
-abbrev pub read_of : ℕ → ℕ → Line
-read_of offset len = Call 0 (ops.Read 0 (record { id = []; offset = offset; len = len } ∷ []))
+-- the line that these words say
+unfoldable pub line_of : List (List ℕ) → Result Line Reason
+line_of ws = if not_built ws then Err reasons.NotBuilt else if list_any is_empty ws then Err reasons.Word else line_in ws
 
--- THE FORMS, one row each: the words behind the first, in their order, and the line
-abbrev pub form : LineWord → Form
-form word.Nodes = record {
-  classes = exactly (codes "1") ∷ [];
-  line = λ count. Nodes 1;
-}
-form word.Client = record {
-  classes = exactly (codes "c0") ∷ exactly (codes "n0") ∷ exactly (codes "B.2.2") ∷ exactly (codes "none") ∷ [];
-  line = λ client node version callbacks. Call 0 (ops.Client 0 version_2_2 no_callbacks);
-}
-form word.Open = record {
-  classes = exactly (codes "c0") ∷ exactly (codes "h0") ∷ a_name ∷ exactly (codes "7") ∷ exactly (codes "end") ∷ exactly (codes "1") ∷ any_number ∷ exactly (codes "0") ∷ exactly (codes "1") ∷ any_number ∷ any_number ∷ [];
-  line = λ client place name flags timeout creation size retention sections max id_size. Call 0 (ops.Open 0 name 7 NEVER (Some (attributes_of size max id_size)));
-}
-form word.Write = record {
-  classes = exactly (codes "c0") ∷ exactly (codes "h0") ∷ exactly (codes "x") ∷ any_number ∷ some_bytes ∷ [];
-  line = λ client place id offset bytes. write_of offset bytes;
-}
-form word.Read = record {
-  classes = exactly (codes "c0") ∷ exactly (codes "h0") ∷ exactly (codes "x") ∷ any_number ∷ a_number 0 1024 ∷ [];
-  line = λ client place id offset len. read_of offset len;
-}
+-- a line that is there
+abbrev pub some_line : Result Line Reason → Result (Option Line) Reason
+some_line (Ok x) = Ok (Some x)
+some_line (Err reason) = Err reason
 
--- the first words, as they are spelled
-abbrev pub letters : LineWord → List ℕ
-letters word.Nodes = codes "nodes"
-letters word.Client = codes "client"
-letters word.Open = codes "open"
-letters word.Write = codes "write"
-letters word.Read = codes "read"
+-- what a line says, and nothing where it is empty or a comment
+unfoldable pub reading : List ℕ → Result (Option Line) Reason
+reading [] = Ok None
+reading (b ∷ bs) = if b == 35 then Ok None else some_line (line_of (words_of (b ∷ bs)))
 
--- the words that a line may begin with
-abbrev pub all_words : List LineWord
-all_words = word.Nodes ∷ word.Client ∷ word.Open ∷ word.Write ∷ word.Read ∷ []
+-- WHAT THE LINES BEFORE ALLOW. The lines before are given with the latest first.
 
--- the one of these words that is spelled so
-abbrev pub line_word : List ℕ → Option LineWord
-line_word w = find (λ k. bytes_eq w (letters k)) all_words
+-- the moment behind a line
+abbrev pub moment_after : Line → ℤ → ℤ
+moment_after (lines.At t) now = t
+moment_after _ now = now
 
--- the line of this number may begin with the word: nodes, a client and an open first, then writes and reads
-abbrev pub may_stand : ℕ → LineWord → Bool
-may_stand n word.Nodes = n == 1
-may_stand n word.Client = n == 2
-may_stand n word.Open = n == 3
-may_stand n word.Write = nat_lt 3 n
-may_stand n word.Read = nat_lt 3 n
+abbrev pub moment_of : List Line → ℤ
+moment_of [] = pos 0
+moment_of (x ∷ earlier) = moment_after x (moment_of earlier)
+
+-- the number of lines so far of the block that a line stands in, behind that line
+abbrev pub block_after : Line → Option ℕ → Option ℕ
+block_after lines.Race block = Some 0
+block_after lines.End block = None
+block_after _ block = option_map (λ n. n + 1) block
+
+abbrev pub block_of : List Line → Option ℕ
+block_of [] = None
+block_of (x ∷ earlier) = block_after x (block_of earlier)
+
+abbrev pub block_size : Option ℕ → ℕ
+block_size None = 0
+block_size (Some n) = n
+
+-- how many bytes a call asks to read
+abbrev pub asked_by : Op → ℕ
+asked_by (ops.Read place elements) = sum_by (λ e. e.len) elements
+asked_by _ = 0
+
+abbrev pub asked_in : Line → ℕ
+asked_in (lines.Call client op) = asked_by op
+asked_in (lines.Begin actor op) = asked_by op
+asked_in _ = 0
+
+abbrev pub asked_of : List Line → ℕ
+asked_of [] = 0
+asked_of (x ∷ earlier) = asked_in x + asked_of earlier
+
+abbrev pub is_show : Line → Bool
+is_show (lines.Show k) = true
+is_show _ = false
+
+abbrev pub shows_after : Line → ℕ → ℕ
+shows_after x n = if is_show x then n + 1 else n
+
+abbrev pub shows_of : List Line → ℕ
+shows_of [] = 0
+shows_of (x ∷ earlier) = shows_after x (shows_of earlier)
+
+abbrev pub no_lines : List Line → Bool
+no_lines [] = true
+no_lines (x ∷ earlier) = false
+
+-- what the lines before tell of themselves
+unfoldable pub marks_of : List Line → Marks
+marks_of earlier = record { none = no_lines earlier; moment = moment_of earlier; block = block_of earlier; asked = asked_of earlier; shows = shows_of earlier }
+
+-- the same with one line more
+unfoldable pub marks_after : Line → Marks → Marks
+marks_after x m = record { none = false; moment = moment_after x m.moment; block = block_after x m.block; asked = asked_in x + m.asked; shows = shows_after x m.shows }
+
+abbrev pub is_nodes : Line → Bool
+is_nodes (lines.Nodes n) = true
+is_nodes _ = false
+
+-- the moment would fall
+abbrev pub goes_back : Line → ℤ → Bool
+goes_back (lines.At t) now = int_lt t now
+goes_back _ now = false
+
+-- a call that may stand in a block: none that begins or ends a client, or is asynchronous, or dispatches
+abbrev pub may_race_op : Op → Bool
+may_race_op (ops.Client n v set) = false
+may_race_op ops.Finalize = false
+may_race_op (ops.OpenAsync h i b f a) = false
+may_race_op (ops.SyncAsync h i) = false
+may_race_op (ops.Dispatch f) = false
+may_race_op _ = true
+
+-- what may stand in a block, or ends it
+abbrev pub may_race : Line → Bool
+may_race (lines.Call client op) = may_race_op op
+may_race (lines.Fail n) = true
+may_race lines.End = true
+may_race _ = false
+
+abbrev pub is_end : Line → Bool
+is_end lines.End = true
+is_end _ = false
+
+-- a line that may not stand in the block, or is one too many; or an end without a block
+abbrev pub breaks_block : Line → Option ℕ → Bool
+breaks_block x None = is_end x
+breaks_block x (Some n) = not (may_race x) || (nat_le 256 n && not (is_end x))
+
+-- the fault of a line where it stands
+unfoldable pub order_fault : Marks → Line → Option Reason
+order_fault m x =
+    if cond m.none (not (is_nodes x)) (is_nodes x) then Some reasons.Nodes
+    else if goes_back x m.moment then Some reasons.Moment
+    else if breaks_block x m.block then Some reasons.Race
+    else None
+
+-- and of what the script asks for in all
+unfoldable pub limit_fault : Marks → Line → Option Reason
+limit_fault m x =
+    if nat_lt 16777216 (m.asked + asked_in x) then Some reasons.Reads
+    else if is_show x && nat_le 16 m.shows then Some reasons.Shows
+    else None
+
+-- THE NARROWER FORMS THAT ARE NOT BUILT YET
+
+-- creation flags without those of the active replica and of collocated checkpoints, and one section at most
+abbrev pub is_later_declared : CreationAttributes → Bool
+is_later_declared a = a.creation_flags == 2 || a.creation_flags == 4 || a.creation_flags == 10 || a.creation_flags == 12 || nat_le 2 a.max_sections
+
+abbrev pub is_later_attributes : Option CreationAttributes → Bool
+is_later_attributes None = false
+is_later_attributes (Some a) = is_later_declared a
+
+-- a write of several elements
+abbrev pub is_later_update : Update → Bool
+is_later_update (updates.Write elements) = nat_le 2 (length elements)
+is_later_update _ = false
+
+abbrev pub is_later_op : Op → Bool
+is_later_op (ops.Client node version set) = set.opens || set.syncs
+is_later_op (ops.Open place name flags timeout attributes) = is_later_attributes attributes
+is_later_op (ops.OpenAsync place invocation name flags attributes) = is_later_attributes attributes
+is_later_op (ops.Write place update) = is_later_update update
+is_later_op (ops.Read place elements) = nat_le 2 (length elements)
+is_later_op _ = false
+
+-- more than one node, or a call as above
+abbrev pub is_later_line : Line → Bool
+is_later_line (lines.Nodes n) = nat_le 2 n
+is_later_line (lines.Call client op) = is_later_op op
+is_later_line (lines.Begin actor op) = is_later_op op
+is_later_line _ = false
+
+abbrev pub form_fault : Line → Option Reason
+form_fault x = if is_later_line x then Some reasons.NotBuilt else None
+
+-- the first fault of a line that is read, in their order
+unfoldable pub fault_after : Marks → Line → Option Reason
+fault_after m x = or_else (order_fault m x) (or_else (limit_fault m x) (form_fault x))
+
+abbrev pub fault_of : List Line → Line → Option Reason
+fault_of earlier x = fault_after (marks_of earlier) x
+
+-- what no line that was taken has passed
+abbrev pub IsSmall : Marks → Type 0
+IsSmall m = (block_size m.block ≤ 256) × (m.asked ≤ 16777216) × (m.shows ≤ 16)
+
+-- HOW FAR A SCRIPT IS READ: the lines counted, the line of the last race, and what was said, the latest first
+pub record Progress : Type 0 where
+  pub number : ℕ
+  pub race : ℕ
+  pub earlier : List Line
+
+abbrev pub start : Progress
+start = record { number = 0; race = 0; earlier = [] }
+
+abbrev pub fault : {X : Type 0} → ℕ → Reason → Result X ScriptFault
+fault n r = Err (record { line = n; reason = r })
+
+abbrev pub is_race : Line → Bool
+is_race lines.Race = true
+is_race _ = false
+
+-- a line more
+abbrev pub with_line : Progress → Line → Progress
+with_line p x = record { number = p.number + 1; race = if is_race x then p.number + 1 else p.race; earlier = x ∷ p.earlier }
+
+abbrev pub if_allowed : Progress → Line → Option Reason → Result Progress ScriptFault
+if_allowed p x None = Ok (with_line p x)
+if_allowed p x (Some r) = fault (p.number + 1) r
+
+abbrev pub after_reading : Progress → Result (Option Line) Reason → Result Progress ScriptFault
+after_reading p (Err r) = fault (p.number + 1) r
+after_reading p (Ok None) = Ok (record p { number = p.number + 1 })
+after_reading p (Ok (Some x)) = if_allowed p x (fault_of p.earlier x)
+
+-- one more line of the text: the 10,001st is too many
+unfoldable pub step : Progress → List ℕ → Result Progress ScriptFault
+step p text = if nat_le 10000 p.number then fault (p.number + 1) reasons.Lines else after_reading p (reading text)
 
 -- the second step, if the first gave a value
-infixl 10 ◌>>=◌
-abbrev pub ◌>>=◌ : {A B : Type 0} → Result A Reason → (A → Result B Reason) → Result B Reason
-(Ok x) >>= f = f x
-(Err reason) >>= f = Err reason
+abbrev pub and_then : {A B : Type 0} → Result A ScriptFault → (A → Result B ScriptFault) → Result B ScriptFault
+and_then (Ok x) f = f x
+and_then (Err e) f = Err e
 
--- the line that the words in front make, each of its class; what stands behind them is left aside
-abbrev pub made : (cs : List Class) → Maker cs → List (List ℕ) → Result Line Reason
-made [] line ws = Ok line
-made (c ∷ cs) line [] = Err NotBuilt
-made (c ∷ cs) line (w ∷ ws) = do
-  v ← read c w
-  made cs (line v) ws
+unfoldable pub steps : Progress → List (List ℕ) → Result Progress ScriptFault
+steps p [] = Ok p
+steps p (text ∷ rest) = and_then (step p text) (λ q. steps q rest)
 
--- the line that the words behind the first make by the form of the first, which has as many
-unfoldable pub said_by : LineWord → List (List ℕ) → Result Line Reason
-said_by k ws = if length ws == length (form k).classes then made (form k).classes (form k).line ws else Err NotBuilt
+-- a block that is left open is the fault of its first line
+abbrev pub finished : Progress → Result (List Line) ScriptFault
+finished p = if is_some (block_of p.earlier) then fault p.race reasons.Race else Ok (reverse p.earlier)
 
--- the line of this number that the words say
-unfoldable pub line_at : ℕ → List (List ℕ) → Result Line Reason
-line_at n [] = Err NotBuilt
-line_at n (w ∷ ws) = do
-  k ← or_reason NotBuilt (line_word w)
-  if may_stand n k then said_by k ws else Err NotBuilt
-
--- a line and those behind it; of two faults the first is told
-abbrev pub before : ℕ → Result Line Reason → Result (List Line) ScriptFault → Result (List Line) ScriptFault
-before n (Err reason) others = Err (record { line = n; reason = reason })
-before n (Ok line) (Ok lines) = Ok (line ∷ lines)
-before n (Ok line) (Err fault) = Err fault
-
--- the lines that the texts say, the first of this number, or the first that is at fault
-unfoldable pub lines_from : ℕ → List (List ℕ) → Result (List Line) ScriptFault
-lines_from n [] = Ok []
-lines_from n (text ∷ rest) = before n (line_at n (words_of text)) (lines_from (n + 1) rest)
-
--- THE SCRIPT that the bytes spell, or what is wrong with them
+-- THE SCRIPT that the bytes spell, or the first line at fault
 unfoldable pub script_of : List ℕ → Result (List Line) ScriptFault
-script_of bytes = if nat_lt 262144 (length bytes) then Err (record { line = 0; reason = Length }) else lines_from 1 (text_lines bytes)
+script_of bytes = if nat_lt 262144 (length bytes) then fault 0 reasons.Length else and_then (steps start (text_lines bytes)) finished

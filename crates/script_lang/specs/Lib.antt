@@ -1,4 +1,6 @@
+pub mod BuiltScripts
 pub mod Faults
-pub mod FirstForm
 pub mod Grammar
-pub mod Words
+pub mod Scripts
+pub mod Spelling
+pub mod Table

@@ -1,228 +1,287 @@
-ghost use Rattle.std.specs.Prelude.{◌≡◌, ◌<◌, ◌∷◌, [], ℕ, IfOk};
-ghost use Rattle.script_lang.specs.declared.forms.LineWord.TheVariants as word;
-ghost use Rattle.script_lang.specs.Faults.{Reads};
-ghost use Rattle.script_lang.specs.FirstForm.{IsLineAt};
-ghost use Rattle.script_lang.specs.Grammar.{texts, attributes_of, said_by, line_word, may_stand, line_at};
+ghost use Rattle.std.specs.Prelude.{◌≡◌};
+ghost use Rattle.script_words.specs.Reasons.{Reads};
+ghost use Rattle.script_lang.specs.Table.{texts, word_of, word_of_first, word_of_second, word_of_third, is_later as spec_is_later, may_begin as spec_may_begin, begun as spec_begun, said_by, plain, begun_by, begin};
 
-use crate::faults::{LineError, Reason};
 use crate::lines::Line;
-use crate::words;
-use ckpt_types::{
-    CallbackSet, CreationAttributes, IoElement, NEVER, OPEN_FLAGS_ALL, Op, ReadElement, SectionId,
-    Shared, Update, Vector, Version, WR_ALL_REPLICAS,
-};
-use std::alloc::{AllocError, Global};
-
-// The most bytes that a read asks for.
-const READ_BYTES_MAX: u64 = 1_024;
+use crate::{call_forms, line_forms};
+use ckpt_types::{ActorName, Op};
+use script_words::{LineError, Reason};
+use std::alloc::Global;
 
 /// The first word of a line.
 #[derive(Clone, Copy, Debug)]
 pub(crate) enum LineWord {
     Nodes,
     Client,
+    Finalize,
     Open,
+    OpenAsync,
+    Close,
+    Unlink,
+    Retain,
+    Active,
+    Status,
+    Create,
+    Delete,
+    Expire,
+    Iter,
+    Next,
+    EndIter,
     Write,
+    Over,
     Read,
+    Sync,
+    SyncAsync,
+    Dispatch,
+    Step,
+    Finish,
+    Copy,
+    Fail,
+    Join,
+    At,
+    Pull,
+    Put,
+    Propagate,
+    Show,
+    Race,
+    End,
 }
 
-/// The line of this number that the words say.
-#[tactic(auto, unfolding(crate::specs::Grammar::line_at))]
-pub fn line_of_words(alloc: Global, number: u32, words: &[&[u8]]) -> Result<Line, LineError>
-    ensures exact { Reads result (line_at number (texts words.now)) }
-    ensures first_form { IfOk result (IsLineAt number) }
+/// The line that a first word and the words behind it say.
+pub fn plain_line(alloc: Global, word: Option<LineWord>, words: &[&[u8]]) -> Result<Line, LineError>
+    ensures { Reads result (plain word (texts words.now)) }
+{
+    match word {
+        Some(word) => line_named(alloc, word, words),
+        None => Err(LineError::Fault(Reason::Word)),
+    }
+}
+
+/// The line that the words behind `begin` say.
+pub fn begin_line(alloc: Global, words: &[&[u8]]) -> Result<Line, LineError>
+    ensures { Reads result (begin (texts words.now)) }
 {
     let [first, rest @ ..] = words else {
-        return Err(LineError::Fault(Reason::NotBuilt));
+        return Err(LineError::Fault(Reason::Count));
     };
-    let Some(word) = line_word(first) else {
-        return Err(LineError::Fault(Reason::NotBuilt));
+    begun_line(alloc, word_named(first), rest)
+}
+
+fn begun_line(alloc: Global, word: Option<LineWord>, words: &[&[u8]]) -> Result<Line, LineError>
+    ensures { Reads result (begun_by word (texts words.now)) }
+{
+    let Some(word) = word else {
+        return Err(LineError::Fault(Reason::Word));
     };
-    if !may_stand(number, word) {
-        return Err(LineError::Fault(Reason::NotBuilt));
+    if !may_begin(word) {
+        return Err(LineError::Fault(Reason::Word));
     }
-    match word {
-        LineWord::Nodes => nodes_line(rest),
-        LineWord::Client => client_line(rest),
-        LineWord::Open => open_line(alloc, rest),
-        LineWord::Write => write_line(alloc, rest),
-        LineWord::Read => read_line(alloc, rest),
+    let line = line_named(alloc, word, words)?;
+    Ok(begun(line))
+}
+
+// What may stand behind `begin`: a call or a copying.
+fn may_begin(word: LineWord) -> bool
+    ensures { result ≡ spec_may_begin word }
+{
+    matches!(
+        word,
+        LineWord::Client
+            | LineWord::Finalize
+            | LineWord::Open
+            | LineWord::OpenAsync
+            | LineWord::Close
+            | LineWord::Unlink
+            | LineWord::Retain
+            | LineWord::Active
+            | LineWord::Status
+            | LineWord::Create
+            | LineWord::Delete
+            | LineWord::Expire
+            | LineWord::Iter
+            | LineWord::Next
+            | LineWord::EndIter
+            | LineWord::Write
+            | LineWord::Over
+            | LineWord::Read
+            | LineWord::Sync
+            | LineWord::SyncAsync
+            | LineWord::Dispatch
+            | LineWord::Copy
+    )
+}
+
+// The same line, begun and not stepped.
+fn begun(line: Line) -> Line
+    ensures { result ≡ spec_begun line }
+{
+    match line {
+        Line::Call(client, op) => Line::Begin(ActorName::Client(client), op),
+        Line::Copy(node) => Line::Begin(ActorName::Node(node), Op::Copy),
+        other => other,
     }
 }
 
-// The word that a line begins with, if it is one of these.
-fn line_word(word: &[u8]) -> Option<LineWord>
-    ensures { result ≡ line_word word.now }
+// The line of this form that the words behind its first say.
+fn line_named(alloc: Global, word: LineWord, words: &[&[u8]]) -> Result<Line, LineError>
+    ensures { Reads result (said_by word (texts words.now)) }
 {
-    if word == b"nodes".as_slice() {
-        Some(LineWord::Nodes)
-    } else if word == b"client".as_slice() {
-        Some(LineWord::Client)
-    } else if word == b"open".as_slice() {
-        Some(LineWord::Open)
-    } else if word == b"write".as_slice() {
+    match word {
+        LineWord::Nodes => line_forms::nodes_line(words),
+        LineWord::Client => call_forms::client_line(words),
+        LineWord::Finalize => call_forms::finalize_line(words),
+        LineWord::Open => call_forms::open_line(alloc, words),
+        LineWord::OpenAsync => call_forms::open_async_line(alloc, words),
+        LineWord::Close => call_forms::close_line(words),
+        LineWord::Unlink => call_forms::unlink_line(alloc, words),
+        LineWord::Retain => call_forms::retain_line(words),
+        LineWord::Active => call_forms::active_line(words),
+        LineWord::Status => call_forms::status_line(words),
+        LineWord::Create => call_forms::create_line(alloc, words),
+        LineWord::Delete => call_forms::delete_line(alloc, words),
+        LineWord::Expire => call_forms::expire_line(alloc, words),
+        LineWord::Iter => call_forms::iter_line(words),
+        LineWord::Next => call_forms::next_line(words),
+        LineWord::EndIter => call_forms::end_iter_line(words),
+        LineWord::Write => call_forms::write_line(alloc, words),
+        LineWord::Over => call_forms::over_line(alloc, words),
+        LineWord::Read => call_forms::read_line(alloc, words),
+        LineWord::Sync => call_forms::sync_line(words),
+        LineWord::SyncAsync => call_forms::sync_async_line(words),
+        LineWord::Dispatch => call_forms::dispatch_line(words),
+        LineWord::Step => line_forms::step_line(words),
+        LineWord::Finish => line_forms::finish_line(words),
+        LineWord::Copy => line_forms::copy_line(words),
+        LineWord::Fail => line_forms::fail_line(words),
+        LineWord::Join => line_forms::join_line(words),
+        LineWord::At => line_forms::at_line(words),
+        LineWord::Pull => line_forms::pull_line(words),
+        LineWord::Put => line_forms::put_line(words),
+        LineWord::Propagate => line_forms::propagate_line(words),
+        LineWord::Show => line_forms::show_line(words),
+        LineWord::Race => line_forms::race_line(words),
+        LineWord::End => line_forms::end_line(words),
+    }
+}
+
+/// Whether the lines of this first word are not built yet.
+pub fn is_later(word: LineWord) -> bool
+    ensures { result ≡ spec_is_later word }
+{
+    !matches!(
+        word,
+        LineWord::Nodes | LineWord::Client | LineWord::Open | LineWord::Write | LineWord::Read
+    )
+}
+
+/// The first word that is spelled so.
+#[tactic(auto, unfolding(crate::specs::Table::word_of))]
+pub fn word_named(text: &[u8]) -> Option<LineWord>
+    ensures { result ≡ word_of text.now }
+{
+    if let Some(word) = word_in_first(text) {
+        return Some(word);
+    }
+    if let Some(word) = word_in_second(text) {
+        return Some(word);
+    }
+    word_in_third(text)
+}
+
+// A first word of the calls that are most used.
+#[tactic(auto, unfolding(crate::specs::Table::word_of_first))]
+fn word_in_first(text: &[u8]) -> Option<LineWord>
+    ensures { result ≡ word_of_first text.now }
+{
+    if text == b"write".as_slice() {
         Some(LineWord::Write)
-    } else if word == b"read".as_slice() {
+    } else if text == b"read".as_slice() {
         Some(LineWord::Read)
+    } else if text == b"open".as_slice() {
+        Some(LineWord::Open)
+    } else if text == b"client".as_slice() {
+        Some(LineWord::Client)
+    } else if text == b"close".as_slice() {
+        Some(LineWord::Close)
+    } else if text == b"unlink".as_slice() {
+        Some(LineWord::Unlink)
+    } else if text == b"retain".as_slice() {
+        Some(LineWord::Retain)
+    } else if text == b"status".as_slice() {
+        Some(LineWord::Status)
+    } else if text == b"create".as_slice() {
+        Some(LineWord::Create)
+    } else if text == b"delete".as_slice() {
+        Some(LineWord::Delete)
+    } else if text == b"expire".as_slice() {
+        Some(LineWord::Expire)
+    } else if text == b"over".as_slice() {
+        Some(LineWord::Over)
     } else {
         None
     }
 }
 
-// Whether the line of this number may begin with this word.
-fn may_stand(number: u32, word: LineWord) -> bool
-    ensures { result ≡ may_stand number word }
+// A first word of other calls, or of the lines `nodes`, `copy` and `at`.
+#[tactic(auto, unfolding(crate::specs::Table::word_of_second))]
+fn word_in_second(text: &[u8]) -> Option<LineWord>
+    ensures { result ≡ word_of_second text.now }
 {
-    match word {
-        LineWord::Nodes => number == 1,
-        LineWord::Client => number == 2,
-        LineWord::Open => number == 3,
-        LineWord::Write | LineWord::Read => number > 3,
+    if text == b"finalize".as_slice() {
+        Some(LineWord::Finalize)
+    } else if text == b"openasync".as_slice() {
+        Some(LineWord::OpenAsync)
+    } else if text == b"active".as_slice() {
+        Some(LineWord::Active)
+    } else if text == b"iter".as_slice() {
+        Some(LineWord::Iter)
+    } else if text == b"next".as_slice() {
+        Some(LineWord::Next)
+    } else if text == b"enditer".as_slice() {
+        Some(LineWord::EndIter)
+    } else if text == b"sync".as_slice() {
+        Some(LineWord::Sync)
+    } else if text == b"syncasync".as_slice() {
+        Some(LineWord::SyncAsync)
+    } else if text == b"dispatch".as_slice() {
+        Some(LineWord::Dispatch)
+    } else if text == b"copy".as_slice() {
+        Some(LineWord::Copy)
+    } else if text == b"nodes".as_slice() {
+        Some(LineWord::Nodes)
+    } else if text == b"at".as_slice() {
+        Some(LineWord::At)
+    } else {
+        None
     }
 }
 
-#[tactic(auto, unfolding(crate::specs::Grammar::said_by))]
-fn nodes_line(words: &[&[u8]]) -> Result<Line, LineError>
-    ensures exact { Reads result (said_by word.Nodes (texts words.now)) }
-    ensures first_form { IfOk result (IsLineAt 1) }
+// A first word of the other lines.
+#[tactic(auto, unfolding(crate::specs::Table::word_of_third))]
+fn word_in_third(text: &[u8]) -> Option<LineWord>
+    ensures { result ≡ word_of_third text.now }
 {
-    let [count] = words else {
-        return Err(LineError::Fault(Reason::NotBuilt));
-    };
-    words::exactly(count, b"1")?;
-    Ok(Line::Nodes(1))
-}
-
-#[tactic(auto, unfolding(crate::specs::Grammar::said_by))]
-fn client_line(words: &[&[u8]]) -> Result<Line, LineError>
-    ensures exact { Reads result (said_by word.Client (texts words.now)) }
-    ensures first_form { IfOk result (IsLineAt 2) }
-{
-    let [client, node, version, callbacks] = words else {
-        return Err(LineError::Fault(Reason::NotBuilt));
-    };
-    words::exactly(client, b"c0")?;
-    words::exactly(node, b"n0")?;
-    words::exactly(version, b"B.2.2")?;
-    words::exactly(callbacks, b"none")?;
-    let version = Version {
-        release: b'B',
-        major: 2,
-        minor: 2,
-    };
-    let callbacks = CallbackSet {
-        opens: false,
-        syncs: false,
-    };
-    Ok(Line::Call(0, Op::Client(0, version, callbacks)))
-}
-
-#[tactic(auto, unfolding(crate::specs::Grammar::said_by))]
-fn open_line(alloc: Global, words: &[&[u8]]) -> Result<Line, LineError>
-    ensures exact { Reads result (said_by word.Open (texts words.now)) }
-    ensures first_form { IfOk result (IsLineAt 3) }
-{
-    let [
-        client,
-        place,
-        name,
-        flags,
-        timeout,
-        creation,
-        size,
-        retention,
-        sections,
-        max,
-        id,
-    ] = words
-    else {
-        return Err(LineError::Fault(Reason::NotBuilt));
-    };
-    words::exactly(client, b"c0")?;
-    words::exactly(place, b"h0")?;
-    let name = words::name(alloc, name)?;
-    words::exactly(flags, b"7")?;
-    words::exactly(timeout, b"end")?;
-    words::exactly(creation, b"1")?;
-    let checkpoint_size = words::number(0, u64::MAX, size)?;
-    words::exactly(retention, b"0")?;
-    words::exactly(sections, b"1")?;
-    let max_section_size = words::number(0, u64::MAX, max)?;
-    let max_section_id_size = words::number(0, u64::MAX, id)?;
-    let attributes = attributes_of(checkpoint_size, max_section_size, max_section_id_size);
-    let op = Op::Open(0, name, OPEN_FLAGS_ALL, NEVER, Some(attributes));
-    Ok(Line::Call(0, op))
-}
-
-// The attributes of a checkpoint of these sizes, with one section.
-fn attributes_of(
-    checkpoint_size: u64,
-    max_section_size: u64,
-    max_section_id_size: u64,
-) -> CreationAttributes
-    ensures { result ≡ attributes_of checkpoint_size max_section_size max_section_id_size }
-{
-    CreationAttributes {
-        creation_flags: WR_ALL_REPLICAS,
-        checkpoint_size,
-        retention_duration: 0,
-        max_sections: 1,
-        max_section_size,
-        max_section_id_size,
+    if text == b"step".as_slice() {
+        Some(LineWord::Step)
+    } else if text == b"finish".as_slice() {
+        Some(LineWord::Finish)
+    } else if text == b"fail".as_slice() {
+        Some(LineWord::Fail)
+    } else if text == b"join".as_slice() {
+        Some(LineWord::Join)
+    } else if text == b"pull".as_slice() {
+        Some(LineWord::Pull)
+    } else if text == b"put".as_slice() {
+        Some(LineWord::Put)
+    } else if text == b"propagate".as_slice() {
+        Some(LineWord::Propagate)
+    } else if text == b"show".as_slice() {
+        Some(LineWord::Show)
+    } else if text == b"race".as_slice() {
+        Some(LineWord::Race)
+    } else if text == b"end".as_slice() {
+        Some(LineWord::End)
+    } else {
+        None
     }
-}
-
-#[tactic(auto, unfolding(crate::specs::Grammar::said_by))]
-fn write_line(alloc: Global, words: &[&[u8]]) -> Result<Line, LineError>
-    ensures exact { Reads result (said_by word.Write (texts words.now)) }
-    ensures first_form { (n : ℕ) → 3 < n → IfOk result (IsLineAt n) }
-{
-    let [client, place, id, offset, data] = words else {
-        return Err(LineError::Fault(Reason::NotBuilt));
-    };
-    words::exactly(client, b"c0")?;
-    words::exactly(place, b"h0")?;
-    words::exactly(id, b"x")?;
-    let offset = words::number(0, u64::MAX, offset)?;
-    let bytes = words::bytes(alloc, data)?;
-    let element = IoElement {
-        id: SectionId::default(),
-        offset,
-        bytes,
-    };
-    let elements = alone(alloc, element)?;
-    let update = Shared::new(alloc, Update::Write(elements))?;
-    Ok(Line::Call(0, Op::Write(0, update)))
-}
-
-#[tactic(auto, unfolding(crate::specs::Grammar::said_by))]
-fn read_line(alloc: Global, words: &[&[u8]]) -> Result<Line, LineError>
-    ensures exact { Reads result (said_by word.Read (texts words.now)) }
-    ensures first_form { (n : ℕ) → 3 < n → IfOk result (IsLineAt n) }
-{
-    let [client, place, id, offset, len] = words else {
-        return Err(LineError::Fault(Reason::NotBuilt));
-    };
-    words::exactly(client, b"c0")?;
-    words::exactly(place, b"h0")?;
-    words::exactly(id, b"x")?;
-    let offset = words::number(0, u64::MAX, offset)?;
-    let len = words::number(0, READ_BYTES_MAX, len)?;
-    let element = ReadElement {
-        id: SectionId::default(),
-        offset,
-        len,
-    };
-    let elements = alone(alloc, element)?;
-    let reads = Shared::new(alloc, elements)?;
-    Ok(Line::Call(0, Op::Read(0, reads)))
-}
-
-// One element alone.
-fn alone<T: Drop>(alloc: Global, element: T) -> Result<Vector<T>, AllocError>
-    ensures { IfOk result (λ elements. elements ≡ element ∷ []) }
-{
-    let mut elements = Vec::new(alloc);
-    elements.push(element)?;
-    Ok(Vector::from_vec(elements))
 }

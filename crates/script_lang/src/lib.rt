@@ -1,14 +1,21 @@
-//! The reader of cluster scripts, in its first form: one node, one client and one checkpoint.
+//! The reader and the printer of cluster scripts.
 #![tactic(auto)]
 
+mod call_forms;
+mod call_printing;
 mod faults;
 mod forms;
+mod line_forms;
 mod lines;
+mod marks;
 mod parser;
+mod printing;
+mod reading;
 #[cfg(test)]
 mod tests;
-mod words;
 
-pub use faults::{ParseError, Reason, ScriptFault};
+pub use faults::{ParseError, ScriptFault};
 pub use lines::{Line, Script};
 pub use parser::{SCRIPT_BYTES_MAX, parse};
+pub use printing::{print, read_again};
+pub use script_words::Reason;

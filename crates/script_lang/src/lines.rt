@@ -1,4 +1,4 @@
-use ckpt_types::{ActorName, CkptId, Moment, NodeId, Op, RaceBlock, Vector, Who};
+use ckpt_types::{ActorName, CkptId, Moment, NodeId, Op, Vector, Who};
 
 /// A line of a script that is neither empty nor a comment.
 #[derive(Debug, Drop)]
@@ -29,8 +29,10 @@ pub enum Line {
     Propagate(CkptId),
     /// The replicas of a checkpoint are printed.
     Show(CkptId),
-    /// Lines that run at once.
-    Race(RaceBlock),
+    /// The lines from here to `End` run at once: calls, each client's in their order, and failures.
+    Race,
+    /// The race ends.
+    End,
 }
 
 /// The lines of a script, in their order.

@@ -1,26 +1,37 @@
-ghost use Rattle.std.specs.Prelude.{◌≡◌, ◌≤◌, ◌<◌, ◌∷◌, ◌++◌, [], IfOk, OnOk, length, count_by, ◌==◌};
-ghost use Rattle.std.specs.List.{position_or_len};
-ghost use Rattle.script_lang.specs.Faults.{Reads, Parses};
-ghost use Rattle.script_lang.specs.FirstForm.{IsFirstForm, IsLineAt};
-ghost use Rattle.script_lang.specs.Grammar.{is_space, texts, words_of, text_lines, line_at, lines_from, script_of};
+ghost use Rattle.std.specs.Prelude.{◌≡◌, ◌<◌, ◌≤◌, ◌+◌, OnOk, IfErr, IfOk, Ok};
+ghost use Rattle.script_lang.specs.declared.faults.ParseError.TheVariants as parse_errors;
+ghost use Rattle.script_lang.specs.Faults.{Parses, Misses};
+ghost use Rattle.script_lang.specs.BuiltScripts.{IsBuiltScript};
+ghost use Rattle.script_lang.specs.Scripts.{IsScript};
+ghost use Rattle.script_lang.specs.Grammar.{start, step, steps, script_of, finished, if_allowed, fault_of, text_lines};
 
-use crate::faults::{LineError, ParseError, Reason, ScriptFault};
-use crate::forms::line_of_words;
+use crate::faults::{ParseError, ScriptFault};
 use crate::lines::{Line, Script};
+use crate::marks::{Marks, is_race, next_marks};
+use crate::reading::{first_line, read_line, says_nothing};
 use ckpt_types::Vector;
-use std::alloc::{AllocError, Global};
+use script_words::{LineError, Reason};
+use std::alloc::Global;
+use std::marker::Model;
 
 /// The most bytes that a script has.
 pub const SCRIPT_BYTES_MAX: usize = 262_144;
 
-// The most words that a line of any form has.
-const LINE_WORDS_MAX: usize = 12;
+// The most lines that a script has.
+const LINES_MAX: u32 = 10_000;
 
 /// The script that the bytes spell, or the first line at fault. Memory may be refused at any line.
-#[tactic(auto, unfolding(crate::specs::Grammar::script_of))]
 pub fn parse(alloc: Global, bytes: &[u8]) -> Result<Script, ParseError>
     ensures exact { Parses result (script_of bytes.now) }
-    ensures first_form { IfOk result IsFirstForm }
+    ensures script { IfOk result IsScript }
+    ensures built { IfOk result IsBuiltScript }
+{
+    parse_exactly(alloc, bytes)
+}
+
+#[tactic(auto, unfolding(crate::specs::Grammar::script_of))]
+fn parse_exactly(alloc: Global, bytes: &[u8]) -> Result<Script, ParseError>
+    ensures { Parses result (script_of bytes.now) }
 {
     if bytes.len() > SCRIPT_BYTES_MAX {
         let fault = ScriptFault {
@@ -29,86 +40,150 @@ pub fn parse(alloc: Global, bytes: &[u8]) -> Result<Script, ParseError>
         };
         return Err(fault.into());
     }
-    read_lines(alloc, bytes)
+    let mut reader = Reader::new(alloc);
+    read_all(alloc, &mut reader, bytes)?;
+    reader.finish()
 }
 
 // The lines one after the other.
-fn read_lines(alloc: Global, bytes: &[u8]) -> Result<Script, ParseError>
-    requires { length bytes.now ≤ SCRIPT_BYTES_MAX }
-    ensures exact { Parses result (lines_from 1 (text_lines bytes.now)) }
-    ensures first_form { IfOk result IsFirstForm }
+fn read_all(alloc: Global, reader: &mut Reader, bytes: &[u8]) -> Result<(), ParseError>
+    ensures ok { OnOk result (steps reader.old (text_lines bytes.now) ≡ Ok reader.new) }
+    ensures err { IfErr result (λ e. Misses e (steps reader.old (text_lines bytes.now))) }
 {
-    let mut lines = Vec::new(alloc);
-    let mut number: u32 = 0;
     let mut rest = bytes;
     while !rest.is_empty() {
-        let (text, behind) = first_line(rest);
-        number += 1;
-        let line = match read_line(alloc, number, text) {
-            Ok(line) => line,
-            Err(error) => return Err(error.at_line(number)),
-        };
-        add_line(&mut lines, line)?;
+        let (line, behind) = first_line(rest);
+        reader.take(alloc, line)?;
         rest = behind;
     }
-    Ok(Vector::from_vec(lines))
-}
-
-fn add_line(lines: &mut Vec<Line>, line: Line) -> Result<(), AllocError>
-    ensures { OnOk result (lines.new.items ≡ lines.old.items ++ line ∷ []) }
-{
-    lines.push(line)?;
     Ok(())
 }
 
-// The line of this number.
-fn read_line(alloc: Global, number: u32, text: &[u8]) -> Result<Line, LineError>
-    ensures exact { Reads result (line_at number (words_of text.now)) }
-    ensures first_form { IfOk result (IsLineAt number) }
-{
-    if count_spaces(text) >= LINE_WORDS_MAX {
-        return Err(LineError::Fault(Reason::NotBuilt));
-    }
-    let words = words_in(alloc, text)?;
-    line_of_words(alloc, number, &words)
+// What was read of a script so far.
+#[derive(Drop)]
+struct Reader {
+    lines: Vec<Line>,
+    number: u32,
+    race: u32,
+    marks: Marks,
 }
 
-fn count_spaces(text: &[u8]) -> usize
-    ensures { result ≡ count_by is_space text.now }
-{
-    text.iter().filter(|b| **b == b' ').count()
+impl Model for Reader {
+    ghost use Rattle.std.specs.Prelude.{◌≡◌, ◌≤◌, length, reverse};
+    ghost use Rattle.script_lang.specs.Grammar.{Progress, marks_of, IsSmall};
+
+    ghost Value = { Progress };
+
+    ghost view = { λ r. record { number = r.number; race = r.race; earlier = reverse r.lines.items } };
+
+    ghost invariant = { λ r. (r.number ≤ 10000) × (length r.lines.items ≤ r.number) × (r.marks ≡ marks_of (reverse r.lines.items)) × IsSmall r.marks };
 }
 
-// What stands between the spaces of a line.
-fn words_in(alloc: Global, text: &[u8]) -> Result<Vec<&[u8]>, AllocError>
-    ensures { IfOk result (λ words. texts words.items ≡ words_of text.now) }
-{
-    text.split(|b| *b == b' ').collect(alloc)
-}
-
-// The first line, and what lies behind it.
-fn first_line(text: &[u8]) -> (&[u8], &[u8])
-    requires { 1 ≤ length text.now }
-    ensures first { text_lines text.now ≡ result.0.now ∷ text_lines result.1.now }
-    ensures shorter { length result.1.now < length text.now }
-{
-    let end = line_end(text);
-    if end < text.len() {
-        (&text[..end], &text[end + 1..])
-    } else {
-        (text, &[])
-    }
-}
-
-// The place of the first byte that ends a line, or the length.
-fn line_end(text: &[u8]) -> usize
-    ensures value { result ≡ position_or_len (λ b. b == 10) text.now }
-    ensures within { result ≤ length text.now }
-{
-    for (i, b) in text.iter().enumerate() {
-        if *b == b'\n' {
-            return i;
+impl Reader {
+    #[tactic(auto, unfolding(crate::specs::Grammar::marks_of))]
+    fn new(alloc: Global) -> Reader
+        ensures { result ≡ start }
+    {
+        Reader {
+            lines: Vec::new(alloc),
+            number: 0,
+            race: 0,
+            marks: Marks {
+                none: true,
+                moment: 0,
+                block: None,
+                asked: 0,
+                shows: 0,
+            },
         }
     }
-    text.len()
+
+    // One more line of the text.
+    #[tactic(auto, unfolding(crate::specs::Grammar::step))]
+    fn take(&mut self, alloc: Global, text: &[u8]) -> Result<(), ParseError>
+        ensures ok { OnOk result (step self.old text.now ≡ Ok self.new) }
+        ensures err { IfErr result (λ e. Misses e (step self.old text.now)) }
+    {
+        if self.number >= LINES_MAX {
+            return Err(self.fault(Reason::Lines));
+        }
+        if says_nothing(text) {
+            self.skip();
+            return Ok(());
+        }
+        match read_line(alloc, text) {
+            Ok(line) => self.add(line),
+            Err(LineError::NoMemory) => Err(ParseError::NoMemory),
+            Err(LineError::Fault(reason)) => Err(self.fault(reason)),
+        }
+    }
+
+    // The next line has this fault.
+    fn fault(&self, reason: Reason) -> ParseError
+        ensures { result ≡ parse_errors.Fault (record { line = self.now.number + 1; reason = reason }) }
+    {
+        ParseError::Fault(ScriptFault {
+            line: self.number + 1,
+            reason,
+        })
+    }
+
+    // One more line that says nothing.
+    fn skip(&mut self)
+        requires { self.old.number < 10000 }
+        ensures { self.new ≡ record self.old { number = self.old.number + 1 } }
+    {
+        self.number += 1;
+    }
+
+    // One more line that says something.
+    #[tactic(auto, using(crate::proofs::Marking::marks_more))]
+    fn add(&mut self, line: Line) -> Result<(), ParseError>
+        requires { self.old.number < 10000 }
+        ensures ok { OnOk result (if_allowed self.old line (fault_of self.old.earlier line) ≡ Ok self.new) }
+        ensures err { IfErr result (λ e. Misses e (if_allowed self.old line (fault_of self.old.earlier line))) }
+    {
+        let marks = match next_marks(self.marks, &line) {
+            Ok(marks) => marks,
+            Err(reason) => {
+                let_go(line);
+                return Err(self.fault(reason));
+            }
+        };
+        if self.lines.reserve(1).is_err() {
+            let_go(line);
+            return Err(ParseError::NoMemory);
+        }
+        let race = if is_race(&line) {
+            self.number + 1
+        } else {
+            self.race
+        };
+        let Ok(()) = self.lines.push(line) else {
+            unreachable!()
+        };
+        self.number += 1;
+        self.race = race;
+        self.marks = marks;
+        Ok(())
+    }
+
+    // The script, where no block is left open.
+    #[tactic(auto, unfolding(crate::specs::Grammar::marks_of))]
+    fn finish(self) -> Result<Script, ParseError>
+        ensures { Parses result (finished self) }
+    {
+        if self.marks.block.is_some() {
+            return Err(ParseError::Fault(ScriptFault {
+                line: self.race,
+                reason: Reason::Race,
+            }));
+        }
+        Ok(Vector::from_vec(self.lines))
+    }
+}
+
+// Lets the line go.
+fn let_go(line: Line) {
+    let _ = line;
 }

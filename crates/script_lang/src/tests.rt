@@ -1,7 +1,5 @@
-use crate::{Line, ParseError, Reason, ScriptFault, parse};
-use ckpt_types::{NEVER, Op, Update};
+use crate::{ParseError, Reason, SCRIPT_BYTES_MAX, ScriptFault, parse, print};
 use std::alloc::{AllocError, Global};
-use std::process::Abort;
 
 // A script of the first three lines and these.
 macro_rules! opened {
@@ -13,7 +11,7 @@ macro_rules! opened {
     };
 }
 
-// How many lines are read.
+// How many lines a script says.
 fn lines_in(alloc: Global, bytes: &[u8]) -> Result<usize, ParseError> {
     let script = parse(alloc, bytes)?;
     Ok(script.as_slice().len())
@@ -23,70 +21,32 @@ fn fault(line: u32, reason: Reason) -> Result<usize, ParseError> {
     Err(ParseError::Fault(ScriptFault { line, reason }))
 }
 
-#[test]
-fn the_lines_of_a_script_are_read_in_order(rt: HostRuntime) {
-    let text = opened!("write c0 h0 x 0 'abc\nread c0 h0 x 0 16\n");
-    let Ok(script) = parse(rt.alloc(), text.as_bytes()) else {
-        panic!(rt; "it is a script")
-    };
-    let lines = script.as_slice();
-    assert_eq!(rt; lines.len(), 5);
-    assert!(rt; matches!(lines.first(), Some(Line::Nodes(1))));
-    for (at, line) in lines.iter().enumerate() {
-        if let Line::Call(client, op) = line {
-            assert_eq!(rt; *client, 0, "in line {at}");
-            check_op(&rt, at, op);
-        }
-    }
-}
-
-fn check_op(rt: &impl Abort, at: usize, op: &Op) {
-    match op {
-        Op::Client(node, version, callbacks) => {
-            assert_eq!(rt; (at, *node), (1, 0));
-            assert_eq!(rt;
-                (version.release, version.major, version.minor),
-                (b'B', 2, 2)
-            );
-            assert!(rt; !callbacks.opens && !callbacks.syncs);
-        }
-        Op::Open(place, name, flags, timeout, Some(attributes)) => {
-            assert_eq!(rt; (at, *place, *flags, *timeout), (2, 0, 7, NEVER));
-            assert!(rt; name.as_slice() == b"ck".as_slice());
-            assert_eq!(rt; attributes.checkpoint_size, 16);
-            assert_eq!(rt; attributes.max_section_size, 16);
-            assert_eq!(rt; attributes.max_section_id_size, 8);
-        }
-        Op::Write(place, update) => {
-            assert_eq!(rt; (at, *place), (3, 0));
-            let Update::Write(elements) = update.value() else {
-                panic!(rt; "it is a write")
-            };
-            for element in elements.as_slice() {
-                assert_eq!(rt; element.offset, 0);
-                assert!(rt; element.bytes.as_slice() == b"abc".as_slice());
-            }
-        }
-        Op::Read(place, elements) => {
-            assert_eq!(rt; (at, *place), (4, 0));
-            for element in elements.value().as_slice() {
-                assert_eq!(rt; (element.offset, element.len), (0, 16));
-            }
-        }
-        _ => panic!(rt; "no such call is asked for"),
-    }
+// The one spelling of a script.
+fn spelled(alloc: Global, bytes: &[u8]) -> Result<Vec<u8>, ParseError> {
+    let script = parse(alloc, bytes)?;
+    Ok(print(alloc, &script)?.into_vec())
 }
 
 #[test]
-fn a_script_may_stop_after_any_line(rt: HostRuntime) {
+fn each_line_that_is_built_is_read(rt: HostRuntime) {
     let rows = [
         ("", 0),
         ("nodes 1", 1),
         ("nodes 1\n", 1),
-        ("nodes 1\nclient c0 n0 B.2.2 none", 2),
-        (opened!(""), 3),
+        ("\n# one node\n\nnodes 1\n#\n\n", 1),
+        ("#nodes  1 \u{7f}\nnodes 1", 1),
+        (
+            "nodes 1\nclient c99 n7 Z.255.0 none\nclient c0 n0 A.0.255 none",
+            3,
+        ),
+        ("nodes 1\nopen c0 h99 x 4294967295 -9223372036854775808", 2),
+        (
+            "nodes 1\nopen c0 h0 'a 0 0 4294967295 0 end 0 18446744073709551615 0",
+            2,
+        ),
+        ("nodes 1\nopen c0 h0 'a 7 end 9 16 -1 1 16 8", 2),
         (opened!("read c0 h0 x 0 0"), 4),
-        (opened!("read c0 h0 x 18446744073709551615 1024"), 4),
+        (opened!("read c99 h99 'id 18446744073709551615 16777216"), 4),
         (opened!("write c0 h0 x 5 x4aBcDE\nwrite c0 h0 x 0 x\n"), 5),
     ];
     for (text, lines) in rows {
@@ -99,72 +59,158 @@ fn a_script_may_stop_after_any_line(rt: HostRuntime) {
 }
 
 #[test]
-fn the_first_line_of_no_form_is_told(rt: HostRuntime) {
+fn the_first_fault_of_a_line_is_told(rt: HostRuntime) {
     let rows = [
-        ("\n", 1),
-        ("nodes 2", 1),
-        ("nodes 01", 1),
-        ("nodes  1", 1),
-        ("nodes 1 ", 1),
-        (" nodes 1", 1),
-        ("# one node\nnodes 1", 1),
-        ("nodes 1\r\n", 1),
-        ("nodes 1\n\nclient c0 n0 B.2.2 none", 2),
-        ("nodes 1\nnodes 1", 2),
-        ("nodes 1\nclient c0 n0 B.2.2", 2),
+        ("nodes 9", fault(1, Reason::Number)),
+        ("nodes 0", fault(1, Reason::Number)),
+        ("nodes 01", fault(1, Reason::Number)),
+        ("nodes 2", fault(1, Reason::NotBuilt)),
+        ("nodes 8", fault(1, Reason::NotBuilt)),
+        ("nodes", fault(1, Reason::Count)),
+        ("nodes 1 1", fault(1, Reason::Count)),
+        ("nodes  1", fault(1, Reason::Word)),
+        ("nodes 1 ", fault(1, Reason::Word)),
+        (" nodes 1", fault(1, Reason::Word)),
+        (" fail n0", fault(1, Reason::Word)),
+        ("nodes 1\r\n", fault(1, Reason::Number)),
+        ("fail n0", fault(1, Reason::NotBuilt)),
+        ("nodes 1\nfoo", fault(2, Reason::Word)),
+        ("nodes 1\nNodes 1", fault(2, Reason::Word)),
+        ("nodes 1\nnodes 1", fault(2, Reason::Nodes)),
+        ("nodes 1\nnodes 2", fault(2, Reason::Nodes)),
+        ("client c0 n0 B.2.2 none", fault(1, Reason::Nodes)),
+        ("client c0 n0 B.2.2 open", fault(1, Reason::Nodes)),
         (
-            "nodes 1\nclient c0 n0 B.2.2 none\nopen c0 h0 x 7 end 1 16 0 1 16 8",
-            3,
+            "# first\n\nnodes 1\n\nclient c0 n0 B.2",
+            fault(5, Reason::Count),
+        ),
+        ("nodes 1\nclient c0 n0 B.2", fault(2, Reason::Count)),
+        ("nodes 1\nclient c100 n8 B.2.2 none", fault(2, Reason::Word)),
+        (
+            "nodes 1\nclient c0 n0 B.2.2 both",
+            fault(2, Reason::NotBuilt),
+        ),
+        ("nodes 1\nclient c0 n0 B.2.2 all", fault(2, Reason::Word)),
+        ("nodes 1\nat 5\nat 4", fault(2, Reason::NotBuilt)),
+        ("nodes 1\nrace", fault(2, Reason::NotBuilt)),
+        ("nodes 1\nrace  1 ", fault(2, Reason::NotBuilt)),
+        ("nodes 1\nbegin", fault(2, Reason::NotBuilt)),
+        (
+            "nodes 1\nbegin write c0 h0 x 0 'a",
+            fault(2, Reason::NotBuilt),
+        ),
+        ("nodes 1\ncopy\n", fault(2, Reason::NotBuilt)),
+        (
+            opened!("open c0 h0 'ck 7 end 1 16 0 1 16"),
+            fault(4, Reason::Count),
         ),
         (
-            "nodes 1\nclient c0 n0 B.2.2 none\nopen c0 h0 'ck 7 end 1 16 0 1 16",
-            3,
+            opened!("open c0 h0 'ck 7 end 1 16 0 2 16 8"),
+            fault(4, Reason::NotBuilt),
         ),
-        (opened!("write c0 h0 x 00 'a"), 4),
-        (opened!("write c0 h0 x 0 xabc"), 4),
-        (opened!("write c0 h0 x 0 xag"), 4),
-        (opened!("write c0 h0 x 0 '"), 4),
-        (opened!("write c0 h0 x 0 'a\u{7f}"), 4),
-        (opened!("write c0 h0 x 0 abc"), 4),
-        (opened!("read c0 h0 x 0 1025"), 4),
-        (opened!("read c0 h0 x 18446744073709551616 1"), 4),
-        (opened!("read c0 h0 'a 0 1"), 4),
-        (opened!("read c0 h0 x 0 1\nread c0 h0 x -1 1\nat 5"), 5),
+        (
+            opened!("open c0 h0 'ck 7 end 2 16 0 1 16 8"),
+            fault(4, Reason::NotBuilt),
+        ),
+        (
+            opened!("open c0 h0 'ck 7 end 12 16 0 1 16 8"),
+            fault(4, Reason::NotBuilt),
+        ),
+        (
+            opened!("open c0 h0 ck x end 1 16 0 1 16 8"),
+            fault(4, Reason::Bytes),
+        ),
+        (
+            opened!("open c0 h0 'ck x ck 1 16 0 1 16 8"),
+            fault(4, Reason::Number),
+        ),
+        (opened!("write c0 h0 x 0"), fault(4, Reason::Count)),
+        (opened!("write c0 h0 x 00 'a"), fault(4, Reason::Number)),
+        (opened!("write c0 h0 x 0 xabc"), fault(4, Reason::Bytes)),
+        (opened!("write c0 h0 x 0 '"), fault(4, Reason::Bytes)),
+        (opened!("write c0 i0 x 0 'a"), fault(4, Reason::Word)),
+        (
+            opened!("write c0 h0 x 0 'a x 1 'b"),
+            fault(4, Reason::NotBuilt),
+        ),
+        (
+            opened!("write c0 h0 x 0 'a x -1 'b"),
+            fault(4, Reason::Number),
+        ),
+        (
+            opened!("read c0 h0 x 18446744073709551616 1"),
+            fault(4, Reason::Number),
+        ),
+        (opened!("read c0 h0 x 0 16777217"), fault(4, Reason::Reads)),
+        (
+            opened!("read c0 h0 x 0 16777216\nread c1 h0 x 0 0\nread c0 h0 x 0 1"),
+            fault(6, Reason::Reads),
+        ),
+        (
+            opened!("read c0 h0 x 0 16777216 x 0 1"),
+            fault(4, Reason::Reads),
+        ),
     ];
-    for (text, line) in rows {
-        let told = lines_in(rt.alloc(), text.as_bytes());
-        assert_eq!(rt; told, fault(line, Reason::NotBuilt), "at {text}");
+    for (text, told) in rows {
+        assert_eq!(rt; lines_in(rt.alloc(), text.as_bytes()), told, "at {text}");
     }
 }
 
-#[test]
-fn a_name_has_at_most_256_bytes(rt: HostRuntime) -> Result<(), AllocError> {
-    let alloc = rt.alloc();
-    for (len, read) in [(256, Ok(3)), (257, fault(3, Reason::NotBuilt))] {
-        let mut text = Vec::new(alloc);
-        text.extend_from_slice(b"nodes 1\nclient c0 n0 B.2.2 none\nopen c0 h0 '")?;
-        text.extend_from_slice(vec![in alloc; b'a'; len]?.as_slice())?;
-        text.extend_from_slice(b" 7 end 1 16 0 1 16 8")?;
-        assert_eq!(rt; lines_in(alloc, text.as_slice()), read, "at {len}");
+// One node, and so many lines more.
+fn lines_of(alloc: Global, text: &[u8], count: usize) -> Result<Vec<u8>, AllocError> {
+    let mut bytes = Vec::from_slice(alloc, b"nodes 1\n")?;
+    for _ in 0..count {
+        bytes.extend_from_slice(text)?;
     }
-    Ok(())
+    Ok(bytes)
 }
 
 #[test]
-fn too_many_bytes_come_before_all_else(rt: HostRuntime) -> Result<(), AllocError> {
-    let alloc = rt.alloc();
-    for (len, told) in [
-        (262_144, fault(1, Reason::NotBuilt)),
-        (262_145, fault(0, Reason::Length)),
-    ] {
-        let spaces = vec![in alloc; b' '; len]?;
-        assert_eq!(rt; lines_in(alloc, spaces.as_slice()), told, "at {len}");
+fn a_script_has_10000_lines_and_262144_bytes_at_most(rt: HostRuntime) {
+    let read = b"read c0 h0 x 0 1\n".as_slice();
+    let rows = [
+        (read, 9_999, Ok(10_000)),
+        (read, 10_000, fault(10_001, Reason::Lines)),
+        (b"\n".as_slice(), 9_999, Ok(1)),
+        (b"\n".as_slice(), 10_000, fault(10_001, Reason::Lines)),
+        (b"#\n".as_slice(), 12_000, fault(10_001, Reason::Lines)),
+    ];
+    for (text, count, told) in rows {
+        let Ok(bytes) = lines_of(rt.alloc(), text, count) else {
+            panic!(rt; "there is memory")
+        };
+        assert_eq!(rt; lines_in(rt.alloc(), &bytes), told, "with {count} lines");
     }
-    Ok(())
+    let Ok(mut bytes) = lines_of(rt.alloc(), b"#", SCRIPT_BYTES_MAX - 8) else {
+        panic!(rt; "there is memory")
+    };
+    assert_eq!(rt; lines_in(rt.alloc(), &bytes), Ok(1), "with 262,144 bytes");
+    bytes.push(b'#').expect(&rt, "there is memory");
+    assert_eq!(rt; lines_in(rt.alloc(), &bytes), fault(0, Reason::Length));
 }
 
 #[test]
-fn a_reason_is_told_in_words(rt: HostRuntime) {
-    assert_eq!(rt; Reason::Length.word(), "length");
-    assert_eq!(rt; Reason::NotBuilt.word(), "not built");
+fn a_script_has_one_spelling_that_is_read_again(rt: HostRuntime) {
+    let rows = [
+        ("", ""),
+        ("#\n\nnodes 1", "nodes 1\n"),
+        (
+            opened!("# bytes\nwrite c0 h0 'a 5 x4aBcDE\n\nread c0 h0 x61 0 9"),
+            "nodes 1\nclient c0 n0 B.2.2 none\nopen c0 h0 x636b 7 end 1 16 0 1 16 8\nwrite c0 h0 x61 5 x4abcde\nread c0 h0 x61 0 9\n",
+        ),
+        (
+            "nodes 1\nopen c7 h1 x 1 9223372036854775807\nopen c7 h2 '~ 2 -5",
+            "nodes 1\nopen c7 h1 x 1 end\nopen c7 h2 x7e 2 -5\n",
+        ),
+    ];
+    for (text, told) in rows {
+        let Ok(first) = spelled(rt.alloc(), text.as_bytes()) else {
+            panic!(rt; "it is a script: {text}")
+        };
+        assert!(rt; first.as_slice() == told.as_bytes(), "at {text}");
+        let Ok(second) = spelled(rt.alloc(), &first) else {
+            panic!(rt; "its spelling is a script: {text}")
+        };
+        assert!(rt; second.as_slice() == told.as_bytes(), "again at {text}");
+    }
 }

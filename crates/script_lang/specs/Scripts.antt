@@ -1,0 +1,40 @@
+-- What a script is, apart from how it is spelled.
+use Rattle.std.specs.Prelude.{◌≡◌, ◌<◌, ◌≤◌, ◌⊎◌, ⊤, true, false, List, [], ◌∷◌, length, Option, Some, None}
+use Rattle.script_words.specs.Fitting.{Fits}
+use Rattle.script_words.specs.Words.{Class}
+use Rattle.script_lang.specs.declared.forms.LineWord.{LineWord}
+use Rattle.script_lang.specs.declared.lines.Line.{Line}
+use Rattle.script_lang.specs.Table.{Values, Shape, just, maybe, times, Told, form, is_later, begin_is_later, may_begin, begun}
+use Rattle.script_lang.specs.Grammar.{marks_of, order_fault, is_later_line, asked_in, block_of}
+
+-- each value is one that a word of its class can say
+abbrev pub FitAll : (cs : List Class) → Values cs → Type 0
+FitAll [] v = ⊤
+FitAll (c ∷ cs) v = Fits c v.0 × FitAll cs v.1
+
+abbrev pub FitMore : (ds : List Class) → Option (Values ds) → Type 0
+FitMore ds None = ⊤
+FitMore ds (Some v) = FitAll ds v
+
+abbrev pub FitGroups : (ds : List Class) → List (Values ds) → Type 0
+FitGroups ds [] = ⊤
+FitGroups ds (v ∷ vs) = FitAll ds v × FitGroups ds vs
+
+-- the words of a line of this shape can say so
+abbrev pub FitTold : (s : Shape) → Told s → Type 0
+FitTold (just cs) v = FitAll cs v
+FitTold (maybe cs ds) v = FitAll cs v.0 × FitMore ds v.1
+FitTold (times cs ds) v = FitAll cs v.0 × FitGroups ds v.1 × (0 < length v.1) × (length v.1 ≤ 256)
+
+-- a line of a form that is built, plain or behind `begin`
+abbrev pub IsLine : Line → Type 0
+IsLine x = (k : LineWord) × (v : Told (form k).shape) × FitTold (form k).shape v × (is_later k ≡ false) × ((x ≡ (form k).line v) ⊎ ((begin_is_later ≡ false) × (may_begin k ≡ true) × (x ≡ begun ((form k).line v))))
+
+-- behind these lines, the latest first, each line is of its form, may stand where it stands and reads at most 16,777,216 bytes, and no block is left open
+abbrev pub Orderly : List Line → List Line → Type 0
+Orderly earlier [] = block_of earlier ≡ None
+Orderly earlier (x ∷ xs) = IsLine x × (order_fault (marks_of earlier) x ≡ None) × (is_later_line x ≡ false) × (asked_in x ≤ 16777216) × Orderly (x ∷ earlier) xs
+
+-- a script, but for its length and the limits of what it asks for in all
+abbrev pub IsScript : List Line → Type 0
+IsScript xs = Orderly [] xs

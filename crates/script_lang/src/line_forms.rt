@@ -1,0 +1,166 @@
+ghost use Rattle.std.specs.Prelude.{◌≡◌};
+ghost use Rattle.script_words.specs.Reasons.{Reads};
+ghost use Rattle.script_lang.specs.declared.forms.LineWord.TheVariants as word;
+ghost use Rattle.script_lang.specs.Table.{texts, said_by};
+
+use crate::lines::Line;
+use script_words::{LineError, Reason};
+
+// The most steps that a line asks for.
+const STEPS_MAX: u64 = 1_000_000;
+
+/// `nodes`
+#[tactic(auto, unfolding(crate::specs::Table::said_by))]
+pub fn nodes_line(words: &[&[u8]]) -> Result<Line, LineError>
+    ensures { Reads result (said_by word.Nodes (texts words.now)) }
+{
+    let [count] = words else {
+        return Err(LineError::Fault(Reason::Count));
+    };
+    let count = script_words::number(1, 8, count)?;
+    Ok(Line::Nodes(count as u8))
+}
+
+/// `step`
+#[tactic(auto, unfolding(crate::specs::Table::said_by))]
+pub fn step_line(words: &[&[u8]]) -> Result<Line, LineError>
+    ensures { Reads result (said_by word.Step (texts words.now)) }
+{
+    let [who, steps] = words else {
+        return Err(LineError::Fault(Reason::Count));
+    };
+    let who = script_words::who(who)?;
+    let steps = script_words::number(1, STEPS_MAX, steps)?;
+    Ok(Line::Step(who, steps as u32))
+}
+
+/// `finish`
+#[tactic(auto, unfolding(crate::specs::Table::said_by))]
+pub fn finish_line(words: &[&[u8]]) -> Result<Line, LineError>
+    ensures { Reads result (said_by word.Finish (texts words.now)) }
+{
+    let [who] = words else {
+        return Err(LineError::Fault(Reason::Count));
+    };
+    let who = script_words::who(who)?;
+    Ok(Line::Finish(who))
+}
+
+/// `copy`
+#[tactic(auto, unfolding(crate::specs::Table::said_by))]
+pub fn copy_line(words: &[&[u8]]) -> Result<Line, LineError>
+    ensures { Reads result (said_by word.Copy (texts words.now)) }
+{
+    let [node] = words else {
+        return Err(LineError::Fault(Reason::Count));
+    };
+    let node = script_words::node(node)?;
+    Ok(Line::Copy(node))
+}
+
+/// `fail`
+#[tactic(auto, unfolding(crate::specs::Table::said_by))]
+pub fn fail_line(words: &[&[u8]]) -> Result<Line, LineError>
+    ensures { Reads result (said_by word.Fail (texts words.now)) }
+{
+    let [node] = words else {
+        return Err(LineError::Fault(Reason::Count));
+    };
+    let node = script_words::node(node)?;
+    Ok(Line::Fail(node))
+}
+
+/// `join`
+#[tactic(auto, unfolding(crate::specs::Table::said_by))]
+pub fn join_line(words: &[&[u8]]) -> Result<Line, LineError>
+    ensures { Reads result (said_by word.Join (texts words.now)) }
+{
+    let [node] = words else {
+        return Err(LineError::Fault(Reason::Count));
+    };
+    let node = script_words::node(node)?;
+    Ok(Line::Join(node))
+}
+
+/// `at`
+#[tactic(auto, unfolding(crate::specs::Table::said_by))]
+pub fn at_line(words: &[&[u8]]) -> Result<Line, LineError>
+    ensures { Reads result (said_by word.At (texts words.now)) }
+{
+    let [moment] = words else {
+        return Err(LineError::Fault(Reason::Count));
+    };
+    let moment = script_words::moment(moment)?;
+    Ok(Line::At(moment))
+}
+
+/// `pull`
+#[tactic(auto, unfolding(crate::specs::Table::said_by))]
+pub fn pull_line(words: &[&[u8]]) -> Result<Line, LineError>
+    ensures { Reads result (said_by word.Pull (texts words.now)) }
+{
+    let [ckpt] = words else {
+        return Err(LineError::Fault(Reason::Count));
+    };
+    let ckpt = script_words::ckpt(ckpt)?;
+    Ok(Line::Pull(ckpt))
+}
+
+/// `put`
+#[tactic(auto, unfolding(crate::specs::Table::said_by))]
+pub fn put_line(words: &[&[u8]]) -> Result<Line, LineError>
+    ensures { Reads result (said_by word.Put (texts words.now)) }
+{
+    let [ckpt, node] = words else {
+        return Err(LineError::Fault(Reason::Count));
+    };
+    let ckpt = script_words::ckpt(ckpt)?;
+    let node = script_words::node(node)?;
+    Ok(Line::Put(ckpt, node))
+}
+
+/// `propagate`
+#[tactic(auto, unfolding(crate::specs::Table::said_by))]
+pub fn propagate_line(words: &[&[u8]]) -> Result<Line, LineError>
+    ensures { Reads result (said_by word.Propagate (texts words.now)) }
+{
+    let [ckpt] = words else {
+        return Err(LineError::Fault(Reason::Count));
+    };
+    let ckpt = script_words::ckpt(ckpt)?;
+    Ok(Line::Propagate(ckpt))
+}
+
+/// `show`
+#[tactic(auto, unfolding(crate::specs::Table::said_by))]
+pub fn show_line(words: &[&[u8]]) -> Result<Line, LineError>
+    ensures { Reads result (said_by word.Show (texts words.now)) }
+{
+    let [ckpt] = words else {
+        return Err(LineError::Fault(Reason::Count));
+    };
+    let ckpt = script_words::ckpt(ckpt)?;
+    Ok(Line::Show(ckpt))
+}
+
+/// `race`
+#[tactic(auto, unfolding(crate::specs::Table::said_by))]
+pub fn race_line(words: &[&[u8]]) -> Result<Line, LineError>
+    ensures { Reads result (said_by word.Race (texts words.now)) }
+{
+    if !words.is_empty() {
+        return Err(LineError::Fault(Reason::Count));
+    }
+    Ok(Line::Race)
+}
+
+/// `end`
+#[tactic(auto, unfolding(crate::specs::Table::said_by))]
+pub fn end_line(words: &[&[u8]]) -> Result<Line, LineError>
+    ensures { Reads result (said_by word.End (texts words.now)) }
+{
+    if !words.is_empty() {
+        return Err(LineError::Fault(Reason::Count));
+    }
+    Ok(Line::End)
+}

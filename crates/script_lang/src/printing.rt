@@ -1,0 +1,205 @@
+ghost use Rattle.std.specs.Prelude.{◌≡◌, ◌≤◌, ◌++◌, ◌∷◌, [], OnOk, IfOk, Ok, ℕ, List, length, flat_map};
+ghost use Rattle.script_lang.specs.declared.lines.Line.{Line};
+ghost use Rattle.script_lang.specs.declared.lines.Line.TheVariants as said;
+ghost use Rattle.ckpt_types.specs.declared.identities.ActorName.TheVariants as actors;
+ghost use Rattle.script_lang.specs.Grammar.{script_of};
+ghost use Rattle.script_lang.specs.Spelling.{spelling, text_of};
+
+use crate::call_printing::write_call;
+use crate::lines::{Line, Script};
+use ckpt_types::{ActorName, Bytes, CkptId, Moment, NodeId, Op, Who};
+use script_words::{write_ckpt, write_node, write_number, write_time, write_who};
+use std::alloc::{AllocError, Global};
+
+/// The one spelling of a script: words with one space between two, bytes as `x` and lower-case digits,
+/// no empty lines and no comments, and a newline after every line.
+pub fn print(alloc: Global, script: &Script) -> Result<Bytes, AllocError>
+    ensures spelled { IfOk result (λ text. text ≡ spelling script.now) }
+    // A script that was read is read again from its spelling.
+    ensures again { (bytes : List ℕ) → script_of bytes ≡ Ok script.now → IfOk result (λ text. length text ≤ 262144 → script_of text ≡ Ok script.now) }
+{
+    spell(alloc, script)
+}
+
+/// A script that was read has a spelling that is read as the same script.
+pub fn read_again()
+    ensures { (bytes : List ℕ) (script : List Line) → script_of bytes ≡ Ok script → length (spelling script) ≤ 262144 → script_of (spelling script) ≡ Ok script }
+{}
+
+#[tactic(auto, using(crate::proofs::Canonical::spelled_so))]
+fn spell(alloc: Global, script: &Script) -> Result<Bytes, AllocError>
+    ensures { IfOk result (λ text. text ≡ spelling script.now) }
+{
+    let mut out = Vec::new(alloc);
+    write_lines(alloc, &mut out, script.as_slice())?;
+    Ok(Bytes::from_vec(out))
+}
+
+fn write_lines(alloc: Global, out: &mut Vec<u8>, lines: &[Line]) -> Result<(), AllocError>
+    ensures { OnOk result (out.new.items ≡ out.old.items ++ flat_map (λ x. text_of x ++ 10 ∷ []) lines.now) }
+{
+    for line in lines {
+        write_line(alloc, out, line)?;
+        out.extend_from_slice(b"\n")?;
+    }
+    Ok(())
+}
+
+fn write_line(alloc: Global, out: &mut Vec<u8>, line: &Line) -> Result<(), AllocError>
+    ensures { OnOk result (out.new.items ≡ out.old.items ++ text_of line.now) }
+{
+    match line {
+        Line::Nodes(count) => nodes_line(out, *count),
+        Line::Call(client, op) => call_line(alloc, out, *client, op),
+        Line::Begin(actor, op) => begin_line(alloc, out, *actor, op),
+        Line::Step(who, steps) => step_line(out, *who, *steps),
+        Line::Finish(who) => finish_line(out, *who),
+        Line::Copy(node) => copy_line(out, *node),
+        Line::Fail(node) => fail_line(out, *node),
+        Line::Join(node) => join_line(out, *node),
+        Line::At(moment) => at_line(out, *moment),
+        Line::Pull(ckpt) => pull_line(out, *ckpt),
+        Line::Put(ckpt, node) => put_line(out, *ckpt, *node),
+        Line::Propagate(ckpt) => propagate_line(out, *ckpt),
+        Line::Show(ckpt) => show_line(out, *ckpt),
+        Line::Race => race_line(out),
+        Line::End => end_line(out),
+    }
+}
+
+#[tactic(auto, unfolding(crate::specs::Spelling::text_of, crate::specs::Spelling::call_text))]
+fn call_line(alloc: Global, out: &mut Vec<u8>, client: u8, op: &Op) -> Result<(), AllocError>
+    ensures { OnOk result (out.new.items ≡ out.old.items ++ text_of (said.Call client op.now)) }
+{
+    write_call(alloc, out, client, op)
+}
+
+fn begin_line(alloc: Global, out: &mut Vec<u8>, actor: ActorName, op: &Op) -> Result<(), AllocError>
+    ensures { OnOk result (out.new.items ≡ out.old.items ++ text_of (said.Begin actor op.now)) }
+{
+    match actor {
+        ActorName::Client(client) => begin_call_line(alloc, out, client, op),
+        ActorName::Node(node) => begin_copy_line(out, node, op),
+    }
+}
+
+#[tactic(auto, unfolding(crate::specs::Spelling::text_of, crate::specs::Spelling::call_text))]
+fn begin_call_line(alloc: Global, out: &mut Vec<u8>, client: u8, op: &Op) -> Result<(), AllocError>
+    ensures { OnOk result (out.new.items ≡ out.old.items ++ text_of (said.Begin (actors.Client client) op.now)) }
+{
+    out.extend_from_slice(b"begin ")?;
+    write_call(alloc, out, client, op)
+}
+
+#[tactic(auto, unfolding(crate::specs::Spelling::text_of))]
+fn begin_copy_line(out: &mut Vec<u8>, node: NodeId, op: &Op) -> Result<(), AllocError>
+    ensures { OnOk result (out.new.items ≡ out.old.items ++ text_of (said.Begin (actors.Node node) op.now)) }
+{
+    let _ = op;
+    out.extend_from_slice(b"begin copy")?;
+    write_node(out, node)
+}
+
+#[tactic(auto, unfolding(crate::specs::Spelling::text_of))]
+fn nodes_line(out: &mut Vec<u8>, count: u8) -> Result<(), AllocError>
+    ensures { OnOk result (out.new.items ≡ out.old.items ++ text_of (said.Nodes count)) }
+{
+    out.extend_from_slice(b"nodes")?;
+    write_number(out, count as u64)
+}
+
+#[tactic(auto, unfolding(crate::specs::Spelling::text_of))]
+fn step_line(out: &mut Vec<u8>, who: Who, steps: u32) -> Result<(), AllocError>
+    ensures { OnOk result (out.new.items ≡ out.old.items ++ text_of (said.Step who steps)) }
+{
+    out.extend_from_slice(b"step")?;
+    write_who(out, who)?;
+    write_number(out, steps as u64)
+}
+
+#[tactic(auto, unfolding(crate::specs::Spelling::text_of))]
+fn finish_line(out: &mut Vec<u8>, who: Who) -> Result<(), AllocError>
+    ensures { OnOk result (out.new.items ≡ out.old.items ++ text_of (said.Finish who)) }
+{
+    out.extend_from_slice(b"finish")?;
+    write_who(out, who)
+}
+
+#[tactic(auto, unfolding(crate::specs::Spelling::text_of))]
+fn copy_line(out: &mut Vec<u8>, node: NodeId) -> Result<(), AllocError>
+    ensures { OnOk result (out.new.items ≡ out.old.items ++ text_of (said.Copy node)) }
+{
+    out.extend_from_slice(b"copy")?;
+    write_node(out, node)
+}
+
+#[tactic(auto, unfolding(crate::specs::Spelling::text_of))]
+fn fail_line(out: &mut Vec<u8>, node: NodeId) -> Result<(), AllocError>
+    ensures { OnOk result (out.new.items ≡ out.old.items ++ text_of (said.Fail node)) }
+{
+    out.extend_from_slice(b"fail")?;
+    write_node(out, node)
+}
+
+#[tactic(auto, unfolding(crate::specs::Spelling::text_of))]
+fn join_line(out: &mut Vec<u8>, node: NodeId) -> Result<(), AllocError>
+    ensures { OnOk result (out.new.items ≡ out.old.items ++ text_of (said.Join node)) }
+{
+    out.extend_from_slice(b"join")?;
+    write_node(out, node)
+}
+
+#[tactic(auto, unfolding(crate::specs::Spelling::text_of))]
+fn at_line(out: &mut Vec<u8>, moment: Moment) -> Result<(), AllocError>
+    ensures { OnOk result (out.new.items ≡ out.old.items ++ text_of (said.At moment)) }
+{
+    out.extend_from_slice(b"at")?;
+    write_time(out, moment)
+}
+
+#[tactic(auto, unfolding(crate::specs::Spelling::text_of))]
+fn pull_line(out: &mut Vec<u8>, ckpt: CkptId) -> Result<(), AllocError>
+    ensures { OnOk result (out.new.items ≡ out.old.items ++ text_of (said.Pull ckpt)) }
+{
+    out.extend_from_slice(b"pull")?;
+    write_ckpt(out, ckpt)
+}
+
+#[tactic(auto, unfolding(crate::specs::Spelling::text_of))]
+fn put_line(out: &mut Vec<u8>, ckpt: CkptId, node: NodeId) -> Result<(), AllocError>
+    ensures { OnOk result (out.new.items ≡ out.old.items ++ text_of (said.Put ckpt node)) }
+{
+    out.extend_from_slice(b"put")?;
+    write_ckpt(out, ckpt)?;
+    write_node(out, node)
+}
+
+#[tactic(auto, unfolding(crate::specs::Spelling::text_of))]
+fn propagate_line(out: &mut Vec<u8>, ckpt: CkptId) -> Result<(), AllocError>
+    ensures { OnOk result (out.new.items ≡ out.old.items ++ text_of (said.Propagate ckpt)) }
+{
+    out.extend_from_slice(b"propagate")?;
+    write_ckpt(out, ckpt)
+}
+
+#[tactic(auto, unfolding(crate::specs::Spelling::text_of))]
+fn show_line(out: &mut Vec<u8>, ckpt: CkptId) -> Result<(), AllocError>
+    ensures { OnOk result (out.new.items ≡ out.old.items ++ text_of (said.Show ckpt)) }
+{
+    out.extend_from_slice(b"show")?;
+    write_ckpt(out, ckpt)
+}
+
+#[tactic(auto, unfolding(crate::specs::Spelling::text_of))]
+fn race_line(out: &mut Vec<u8>) -> Result<(), AllocError>
+    ensures { OnOk result (out.new.items ≡ out.old.items ++ text_of (said.Race)) }
+{
+    out.extend_from_slice(b"race")
+}
+
+#[tactic(auto, unfolding(crate::specs::Spelling::text_of))]
+fn end_line(out: &mut Vec<u8>) -> Result<(), AllocError>
+    ensures { OnOk result (out.new.items ≡ out.old.items ++ text_of (said.End)) }
+{
+    out.extend_from_slice(b"end")
+}

@@ -1,0 +1,6 @@
+pub mod Fits
+pub mod Numbers
+mod Pairs
+pub mod Places
+pub mod Plain
+pub mod Said

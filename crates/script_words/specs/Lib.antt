@@ -1,0 +1,4 @@
+pub mod Fitting
+pub mod Reasons
+pub mod Spelling
+pub mod Words

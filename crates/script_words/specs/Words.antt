@@ -1,0 +1,163 @@
+-- The classes of words: how the words of each are spelled, and what they say.
+use Rattle.std.specs.Prelude.{ℕ, ◌^◌, ◌-◌, Bool, true, false, not, ◌&&◌, ◌||◌, List, [], ◌∷◌, length, ℤ, pos, neg_ℤ, codes, Option, Some, None, option_map, option_and_then, Result, nat_le, ◌==◌, if◌then◌else◌, bytes_eq}
+use Rattle.std.specs.Str.{all_ascii_digits}
+use Rattle.std.specs.Str.Parse.{digits_value}
+use Rattle.std.specs.List.{list_all, before_first, after_first}
+use Rattle.std.specs.Result.{result_ok}
+use Rattle.hex.specs.Hex.{decode_of}
+use Rattle.ckpt_types.specs.declared.calls.CallbackSet.{CallbackSet}
+use Rattle.ckpt_types.specs.declared.calls.Version.{Version}
+use Rattle.ckpt_types.specs.declared.identities.ActorName.TheVariants as actor
+use Rattle.ckpt_types.specs.declared.identities.CallId.{CallId}
+use Rattle.ckpt_types.specs.declared.identities.Who.{Who}
+use Rattle.ckpt_types.specs.declared.identities.Who.TheVariants as whose
+use Rattle.ckpt_types.specs.declared.update.NewId.{NewId}
+use Rattle.ckpt_types.specs.declared.update.NewId.TheVariants as new_ids
+use Rattle.script_words.specs.declared.reason.Reason.{Reason}
+use Rattle.script_words.specs.declared.reason.Reason.TheVariants as reasons
+use Rattle.script_words.specs.Reasons.{or_reason}
+
+-- the word has a first byte, which is no zero in front of others
+abbrev pub starts_well : List ℕ → Bool
+starts_well [] = false
+starts_well (d ∷ ds) = not (d == 48) || length ds == 0
+
+-- the number that the word says: one or more decimal digits, with no zero in front of others
+unfoldable pub numeral : List ℕ → Option ℕ
+numeral w = if starts_well w && all_ascii_digits w then Some (digits_value 10 w) else None
+
+-- the number that the word says, where it is one from low to high
+unfoldable pub number : ℕ → ℕ → List ℕ → Option ℕ
+number low high w = option_and_then (λ n. if nat_le low n && nat_le n high then Some n else None) (numeral w)
+
+-- a letter and a number from low to high
+unfoldable pub lettered : ℕ → ℕ → ℕ → List ℕ → Option ℕ
+lettered letter low high [] = None
+lettered letter low high (c ∷ w) = if c == letter then number low high w else None
+
+-- `end`, which is 2^63-1; a number from 0; or a minus and a number from 1
+unfoldable pub time_of : List ℕ → Option ℤ
+time_of [] = None
+time_of (c ∷ w) =
+    if bytes_eq (c ∷ w) (codes "end") then Some (pos (2 ^ 63 - 1))
+    else if c == 45 then option_map (λ n. neg_ℤ (pos n)) (number 1 (2 ^ 63) w)
+    else option_map pos (number 0 (2 ^ 63 - 1) (c ∷ w))
+
+-- a byte from `!` to `~`
+abbrev pub is_graphic : ℕ → Bool
+is_graphic b = nat_le 33 b && nat_le b 126
+
+-- the bytes that a word says: `x` and an even number of hexadecimal digits in either case, or `'` and one or more bytes from `!` to `~`
+unfoldable pub bytes_of : List ℕ → Option (List ℕ)
+bytes_of [] = None
+bytes_of (c ∷ w) =
+    if c == 120 then result_ok (decode_of w)
+    else if c == 39 then (if not (length w == 0) && list_all is_graphic w then Some w else None)
+    else None
+
+-- the same, where they are at most 256
+unfoldable pub id_of : List ℕ → Option (List ℕ)
+id_of w = option_and_then (λ bytes. if nat_le (length bytes) 256 then Some bytes else None) (bytes_of w)
+
+-- an identifier; or `gen`, where the service is to make one
+unfoldable pub new_id_of : List ℕ → Option NewId
+new_id_of w = if bytes_eq w (codes "gen") then Some new_ids.Generated else option_map new_ids.Given (id_of w)
+
+abbrev pub is_dot : ℕ → Bool
+is_dot b = b == 46
+
+-- a capital letter and two numbers up to 255, with dots between
+unfoldable pub version_of : List ℕ → Option Version
+version_of [] = None
+version_of (c ∷ []) = None
+version_of (c ∷ d ∷ w) =
+    if nat_le 65 c && nat_le c 90 && d == 46
+    then option_and_then (λ major. option_map (λ minor. record { release = c; major = major; minor = minor }) (number 0 255 (after_first is_dot w))) (number 0 255 (before_first is_dot w))
+    else None
+
+-- which callbacks are registered
+unfoldable pub callbacks_of : List ℕ → Option CallbackSet
+callbacks_of w =
+    if bytes_eq w (codes "none") then Some (record { opens = false; syncs = false })
+    else if bytes_eq w (codes "open") then Some (record { opens = true; syncs = false })
+    else if bytes_eq w (codes "sync") then Some (record { opens = false; syncs = true })
+    else if bytes_eq w (codes "both") then Some (record { opens = true; syncs = true })
+    else None
+
+-- a client, a dot and a number: a call of the client
+unfoldable pub call_of : List ℕ → Option CallId
+call_of w = option_and_then (λ c. option_map (λ n. record { actor = actor.Client c; number = n }) (number 1 (2 ^ 32 - 1) (after_first is_dot w))) (lettered 99 0 99 (before_first is_dot w))
+
+-- the first value, where there is one, else the second
+abbrev pub or_else : {A : Type 0} → Option A → Option A → Option A
+or_else (Some x) other = Some x
+or_else None other = other
+
+-- a client or a node, for its call in hand, or a call
+unfoldable pub who_of : List ℕ → Option Who
+who_of w =
+    or_else (option_map (λ c. whose.Actor (actor.Client c)) (lettered 99 0 99 w))
+    (or_else (option_map (λ n. whose.Actor (actor.Node n)) (lettered 110 0 7 w))
+    (option_map whose.Call (call_of w)))
+
+-- THE CLASSES
+pub data Class : Type 0 where
+  -- `c` and a number to 99
+  a_client : Class
+  -- `n` and a number to 7
+  a_node : Class
+  -- a handle's place, `h` and a number to 99
+  a_place : Class
+  -- an iteration's place, `i` and a number to 99
+  an_iteration : Class
+  -- `K` and a number from 1 to 9999
+  a_ckpt : Class
+  -- a number from one to another
+  a_number : ℕ → ℕ → Class
+  -- a time or `end`
+  a_time : Class
+  -- a time from 0 on, and before the end
+  a_moment : Class
+  some_bytes : Class
+  -- at most 256 bytes
+  an_id : Class
+  -- the same, or `gen`
+  a_new_id : Class
+  a_version : Class
+  the_callbacks : Class
+  -- a client, a node or a call
+  a_who : Class
+
+-- what the words of a class say
+abbrev pub Meaning : Class → Type 0
+Meaning a_client = ℕ
+Meaning a_node = ℕ
+Meaning a_place = ℕ
+Meaning an_iteration = ℕ
+Meaning a_ckpt = ℕ
+Meaning (a_number low high) = ℕ
+Meaning a_time = ℤ
+Meaning a_moment = ℤ
+Meaning some_bytes = List ℕ
+Meaning an_id = List ℕ
+Meaning a_new_id = NewId
+Meaning a_version = Version
+Meaning the_callbacks = CallbackSet
+Meaning a_who = Who
+
+-- what a word says, or why it is not of the class
+unfoldable pub read : (c : Class) → List ℕ → Result (Meaning c) Reason
+read a_client w = or_reason reasons.Word (lettered 99 0 99 w)
+read a_node w = or_reason reasons.Word (lettered 110 0 7 w)
+read a_place w = or_reason reasons.Word (lettered 104 0 99 w)
+read an_iteration w = or_reason reasons.Word (lettered 105 0 99 w)
+read a_ckpt w = or_reason reasons.Word (lettered 75 1 9999 w)
+read (a_number low high) w = or_reason reasons.Number (number low high w)
+read a_time w = or_reason reasons.Number (time_of w)
+read a_moment w = or_reason reasons.Number (option_map pos (number 0 (2 ^ 63 - 2) w))
+read some_bytes w = or_reason reasons.Bytes (bytes_of w)
+read an_id w = or_reason reasons.Bytes (id_of w)
+read a_new_id w = or_reason reasons.Bytes (new_id_of w)
+read a_version w = or_reason reasons.Word (version_of w)
+read the_callbacks w = or_reason reasons.Word (callbacks_of w)
+read a_who w = or_reason reasons.Word (who_of w)

@@ -1,0 +1,333 @@
+ghost use Rattle.std.specs.Prelude.{◌≡◌, ◌≤◌, ◌^◌, IfOk, IfSome, IfNone, length, ◌==◌};
+ghost use Rattle.std.specs.List.{list_all, position_or_len, before_first, after_first};
+ghost use Rattle.std.specs.Str.Parse.{AllDigits, digits_value};
+ghost use Rattle.script_words.specs.Reasons.{Reads};
+ghost use Rattle.script_words.specs.Words.{starts_well, is_graphic, is_dot, number as spec_number, lettered, call_of, read, a_client, a_node, a_place, an_iteration, a_ckpt, a_number, a_time, a_moment, some_bytes, an_id, a_new_id, a_version, the_callbacks, a_who};
+
+use crate::digits::decode_digits;
+use crate::reason::{LineError, Reason};
+use ckpt_types::{
+    ActorName, Bytes, CallId, CallbackSet, CkptId, Moment, NEVER, NewId, NodeId, SectionId,
+    Version, Who,
+};
+use std::alloc::Global;
+
+/// A client, `c` and a number to 99.
+#[tactic(auto, unfolding(crate::specs::Words::read))]
+pub fn client(word: &[u8]) -> Result<u8, LineError>
+    ensures { Reads result (read a_client word.now) }
+{
+    match lettered_of(b'c', 0, 99, word) {
+        Some(n) => Ok(n as u8),
+        None => Err(LineError::Fault(Reason::Word)),
+    }
+}
+
+/// A node, `n` and a number to 7.
+#[tactic(auto, unfolding(crate::specs::Words::read))]
+pub fn node(word: &[u8]) -> Result<NodeId, LineError>
+    ensures { Reads result (read a_node word.now) }
+{
+    match lettered_of(b'n', 0, 7, word) {
+        Some(n) => Ok(n as NodeId),
+        None => Err(LineError::Fault(Reason::Word)),
+    }
+}
+
+/// The place of a handle, `h` and a number to 99.
+#[tactic(auto, unfolding(crate::specs::Words::read))]
+pub fn place(word: &[u8]) -> Result<u8, LineError>
+    ensures { Reads result (read a_place word.now) }
+{
+    match lettered_of(b'h', 0, 99, word) {
+        Some(n) => Ok(n as u8),
+        None => Err(LineError::Fault(Reason::Word)),
+    }
+}
+
+/// The place of an iteration, `i` and a number to 99.
+#[tactic(auto, unfolding(crate::specs::Words::read))]
+pub fn iteration(word: &[u8]) -> Result<u8, LineError>
+    ensures { Reads result (read an_iteration word.now) }
+{
+    match lettered_of(b'i', 0, 99, word) {
+        Some(n) => Ok(n as u8),
+        None => Err(LineError::Fault(Reason::Word)),
+    }
+}
+
+/// A checkpoint, `K` and a number from 1 to 9999.
+#[tactic(auto, unfolding(crate::specs::Words::read))]
+pub fn ckpt(word: &[u8]) -> Result<CkptId, LineError>
+    ensures { Reads result (read a_ckpt word.now) }
+{
+    match lettered_of(b'K', 1, 9999, word) {
+        Some(n) => Ok(n as CkptId),
+        None => Err(LineError::Fault(Reason::Word)),
+    }
+}
+
+/// A number from `low` to `high`.
+#[tactic(auto, unfolding(crate::specs::Words::read))]
+pub fn number(low: u64, high: u64, word: &[u8]) -> Result<u64, LineError>
+    ensures exact { Reads result (read (a_number low high) word.now) }
+    ensures within { IfOk result (λ n. (low ≤ n) × (n ≤ high)) }
+{
+    match number_of(low, high, word) {
+        Some(n) => Ok(n),
+        None => Err(LineError::Fault(Reason::Number)),
+    }
+}
+
+/// A time: decimal digits, behind a minus where it is below 0, or `end`.
+#[tactic(auto, unfolding(crate::specs::Words::read, crate::specs::Words::time_of))]
+pub fn time(word: &[u8]) -> Result<Moment, LineError>
+    ensures { Reads result (read a_time word.now) }
+{
+    match word {
+        [] => Err(LineError::Fault(Reason::Number)),
+        b"end" => Ok(NEVER),
+        [b'-', rest @ ..] => match number_of(1, 9_223_372_036_854_775_808, rest) {
+            Some(n) => Ok(-((n - 1) as i64) - 1),
+            None => Err(LineError::Fault(Reason::Number)),
+        },
+        _ => match number_of(0, 9_223_372_036_854_775_807, word) {
+            Some(n) => Ok(n as i64),
+            None => Err(LineError::Fault(Reason::Number)),
+        },
+    }
+}
+
+/// A moment, from 0 to 2^63-2.
+#[tactic(auto, unfolding(crate::specs::Words::read))]
+pub fn moment(word: &[u8]) -> Result<Moment, LineError>
+    ensures { Reads result (read a_moment word.now) }
+{
+    match number_of(0, 9_223_372_036_854_775_806, word) {
+        Some(n) => Ok(n as i64),
+        None => Err(LineError::Fault(Reason::Number)),
+    }
+}
+
+/// Bytes: in hexadecimal digits behind an `x`, or as they stand behind a quote.
+#[tactic(auto, unfolding(crate::specs::Words::read, crate::specs::Words::bytes_of))]
+pub fn bytes(alloc: Global, word: &[u8]) -> Result<Bytes, LineError>
+    ensures { Reads result (read some_bytes word.now) }
+{
+    match word {
+        [b'x', digits @ ..] => match decode_digits(alloc, digits)? {
+            Some(items) => Ok(Bytes::from_vec(items)),
+            None => Err(LineError::Fault(Reason::Bytes)),
+        },
+        [b'\'', text @ ..] => {
+            if text.is_empty() || !all_graphic(text) {
+                return Err(LineError::Fault(Reason::Bytes));
+            }
+            Ok(Bytes::from_slice(alloc, text)?)
+        }
+        _ => Err(LineError::Fault(Reason::Bytes)),
+    }
+}
+
+fn all_graphic(text: &[u8]) -> bool
+    ensures { result ≡ list_all is_graphic text.now }
+{
+    text.iter().all(|b| 33 <= *b && *b <= 126)
+}
+
+/// The identifier of a section: a bytes word of at most 256 bytes.
+pub fn id(alloc: Global, word: &[u8]) -> Result<SectionId, LineError>
+    ensures { Reads result (read an_id word.now) }
+{
+    if word == b"x".as_slice() {
+        return Ok(SectionId::default());
+    }
+    id_of_bytes(alloc, word)
+}
+
+#[tactic(auto, unfolding(crate::specs::Words::read, crate::specs::Words::id_of))]
+fn id_of_bytes(alloc: Global, word: &[u8]) -> Result<SectionId, LineError>
+    ensures { Reads result (read an_id word.now) }
+{
+    let found = bytes(alloc, word)?;
+    match SectionId::from_slice(found.as_slice()) {
+        Some(id) => Ok(id),
+        None => Err(LineError::Fault(Reason::Bytes)),
+    }
+}
+
+/// The identifier of a new section; or `gen`, where the service is to make one.
+#[tactic(auto, unfolding(crate::specs::Words::read, crate::specs::Words::new_id_of))]
+pub fn new_id(alloc: Global, word: &[u8]) -> Result<NewId, LineError>
+    ensures { Reads result (read a_new_id word.now) }
+{
+    if word == b"gen".as_slice() {
+        return Ok(NewId::Generated);
+    }
+    match id(alloc, word) {
+        Ok(id) => Ok(NewId::Given(id)),
+        Err(error) => Err(error),
+    }
+}
+
+/// A version, as `B.2.2`.
+#[tactic(auto, unfolding(crate::specs::Words::read, crate::specs::Words::version_of))]
+pub fn version(word: &[u8]) -> Result<Version, LineError>
+    ensures { Reads result (read a_version word.now) }
+{
+    let [release, b'.', rest @ ..] = word else {
+        return Err(LineError::Fault(Reason::Word));
+    };
+    if *release < b'A' || b'Z' < *release {
+        return Err(LineError::Fault(Reason::Word));
+    }
+    let (front, back) = at_dot(rest);
+    let Some(major) = number_of(0, 255, front) else {
+        return Err(LineError::Fault(Reason::Word));
+    };
+    let Some(minor) = number_of(0, 255, back) else {
+        return Err(LineError::Fault(Reason::Word));
+    };
+    Ok(Version {
+        release: *release,
+        major: major as u8,
+        minor: minor as u8,
+    })
+}
+
+/// Which callbacks a client registers: `none`, `open`, `sync` or `both`.
+#[tactic(auto, unfolding(crate::specs::Words::read, crate::specs::Words::callbacks_of))]
+pub fn callbacks(word: &[u8]) -> Result<CallbackSet, LineError>
+    ensures { Reads result (read the_callbacks word.now) }
+{
+    if word == b"none".as_slice() {
+        Ok(callback_set(false, false))
+    } else if word == b"open".as_slice() {
+        Ok(callback_set(true, false))
+    } else if word == b"sync".as_slice() {
+        Ok(callback_set(false, true))
+    } else if word == b"both".as_slice() {
+        Ok(callback_set(true, true))
+    } else {
+        Err(LineError::Fault(Reason::Word))
+    }
+}
+
+fn callback_set(opens: bool, syncs: bool) -> CallbackSet
+    ensures { result ≡ record { opens = opens; syncs = syncs } }
+{
+    CallbackSet { opens, syncs }
+}
+
+/// Whose call is stepped: a client, a node, or a call of a client as `c0.5`.
+#[tactic(auto, unfolding(crate::specs::Words::read, crate::specs::Words::who_of))]
+pub fn who(word: &[u8]) -> Result<Who, LineError>
+    ensures { Reads result (read a_who word.now) }
+{
+    if let Some(client) = lettered_of(b'c', 0, 99, word) {
+        return Ok(Who::Actor(ActorName::Client(client as u8)));
+    }
+    if let Some(node) = lettered_of(b'n', 0, 7, word) {
+        return Ok(Who::Actor(ActorName::Node(node as u8)));
+    }
+    match call_named(word) {
+        Some(call) => Ok(Who::Call(call)),
+        None => Err(LineError::Fault(Reason::Word)),
+    }
+}
+
+// A client, a dot and a number from 1.
+#[tactic(auto, unfolding(crate::specs::Words::call_of))]
+fn call_named(word: &[u8]) -> Option<CallId>
+    ensures { result ≡ call_of word.now }
+{
+    let (front, back) = at_dot(word);
+    let client = lettered_of(b'c', 0, 99, front)?;
+    let number = number_of(1, 4_294_967_295, back)?;
+    Some(CallId {
+        actor: ActorName::Client(client as u8),
+        number: number as u32,
+    })
+}
+
+// A letter and a number from `low` to `high`.
+#[tactic(auto, unfolding(crate::specs::Words::lettered))]
+fn lettered_of(letter: u8, low: u64, high: u64, word: &[u8]) -> Option<u64>
+    ensures value { result ≡ lettered letter low high word.now }
+    ensures within { IfSome result (λ n. n ≤ high) }
+{
+    match word {
+        [] => None,
+        [first, rest @ ..] => {
+            if *first == letter {
+                number_of(low, high, rest)
+            } else {
+                None
+            }
+        }
+    }
+}
+
+// The number that a word says, where it is from `low` to `high`.
+#[tactic(auto, using(crate::proofs::Numbers::badly_begun, crate::proofs::Numbers::past_all))]
+fn number_of(low: u64, high: u64, word: &[u8]) -> Option<u64>
+    ensures exact { result ≡ spec_number low high word.now }
+    ensures within { IfSome result (λ n. (low ≤ n) × (n ≤ high)) }
+{
+    if !begins_well(word) {
+        return None;
+    }
+    let n = value_of(word)?;
+    if low <= n && n <= high { Some(n) } else { None }
+}
+
+// Whether the word has a first byte, which is no zero in front of others.
+fn begins_well(word: &[u8]) -> bool
+    ensures { result ≡ starts_well word.now }
+{
+    match word {
+        [] => false,
+        [b'0', _, ..] => false,
+        _ => true,
+    }
+}
+
+// The number that decimal digits say, where it is below 2^64.
+fn value_of(digits: &[u8]) -> Option<u64>
+    ensures some { IfSome result (λ n. AllDigits 10 digits.now × (n ≡ digits_value 10 digits.now)) }
+    ensures none { IfNone result (AllDigits 10 digits.now → 2 ^ 64 ≤ digits_value 10 digits.now) }
+{
+    let mut value: u64 = 0;
+    for digit in digits {
+        if !digit.is_ascii_digit() {
+            return None;
+        }
+        value = value.checked_mul(10)?.checked_add((*digit - b'0') as u64)?;
+    }
+    Some(value)
+}
+
+// What stands before the first dot, and what behind it.
+fn at_dot(word: &[u8]) -> (&[u8], &[u8])
+    ensures { (result.0.now ≡ before_first is_dot word.now) × (result.1.now ≡ after_first is_dot word.now) }
+{
+    let end = place_of(b'.', word);
+    if end < word.len() {
+        (&word[..end], &word[end + 1..])
+    } else {
+        (word, &[])
+    }
+}
+
+/// The first place of a byte, or the length where there is none.
+pub fn place_of(byte: u8, text: &[u8]) -> usize
+    ensures value { result ≡ position_or_len (λ b. b == byte) text.now }
+    ensures within { result ≤ length text.now }
+{
+    for (i, b) in text.iter().enumerate() {
+        if *b == byte {
+            return i;
+        }
+    }
+    text.len()
+}
