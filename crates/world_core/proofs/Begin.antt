@@ -9,36 +9,37 @@ use Rattle.ckpt_types.specs.declared.identities.CallId.{CallId}
 use Rattle.ckpt_types.specs.declared.operation.Op.{Op}
 use Rattle.run_labels.specs.declared.labels.Label.{Label}
 use Rattle.run_labels.specs.declared.labels.Label.TheVariants.{Began}
+use Rattle.client_handles.specs.ClientState.{handle_numbered, handle_at}
+use Rattle.client_handles.specs.declared.handle_view.HandleView.{HandleView}
 use Rattle.world_core.specs.declared.drivers.Driver.{Driver}
 use Rattle.world_core.specs.declared.hands.InHand.{InHand}
-use Rattle.world_core.specs.declared.tables.Handle.{Handle}
 use Rattle.world_core.specs.declared.world.World.{World}
 use Rattle.world_core.specs.Calls.{put_actor, left}
-use Rattle.world_core.specs.Places.{find_key, put, or_none}
-use Rattle.world_core.specs.RecordState.{client_key, is_live_client}
-use Rattle.world_core.specs.TableState.{TableState, handle_number, handle_at, advanced}
+use Rattle.world_core.specs.Places.{put, or_none}
+use Rattle.world_core.specs.RecordState.{is_live_client}
+use Rattle.world_core.specs.TableState.{TableState, advanced}
 use Rattle.world_core.specs.Driving.{StepDone, Kept, driver_start}
 use Rattle.world_core.specs.Beginning.{IsBuilt, begin_end, handle_place}
-use Rattle.world_core.specs.Steps.{IsDue, MayBegin, after, handle_in, handle_of_number, ckpt_of_handle, node_of_client, kept_at}
-use Rattle.world_core.specs.Shows.{Does, Fits, FitsHand, History, machine_of, next_in, next_of, handles_in, place_in, numbered, hand_at, hand_of, shown_hand}
+use Rattle.world_core.specs.Steps.{IsDue, MayBegin, after, handle_in, handle_of_number, kept_at}
+use Rattle.world_core.specs.Shows.{Does, Fits, FitsHand, History, machine_of, next_in, next_of, handles_in, place_in, numbered, last_in, hand_at, hand_of, shown_hand}
 use Rattle.world_core.proofs.Places.{get_set, there_is}
 
 -- the handle for which the place stands that an operation names
-abbrev pub named_in : Option ℕ → TableState → Option Handle
+abbrev pub named_in : Option ℕ → TableState → Option HandleView
 named_in None t = None
-named_in (Some place) t = handle_at place t
+named_in (Some place) t = handle_at place t.client
 
 -- where no handle has the number 0, a place with 0 stands for none
-pub find_numbered : (n : ℕ) (handles : List Handle) → find_key handle_number 0 handles ≡ None → handle_of_number handles (numbered n) ≡ find_key handle_number n handles
+pub find_numbered : (n : ℕ) (handles : List HandleView) → handle_numbered 0 handles ≡ None → handle_of_number handles (numbered n) ≡ handle_numbered n handles
 find_numbered n handles none = by_test (n == 0) refl where
-  by_test : (b : Bool) → (n == 0) ≡ b → handle_of_number handles (cond b None (Some n)) ≡ find_key handle_number n handles
-  by_test true e = sym (ap (λ n. find_key handle_number n handles) (eqb-true n 0 e) ∙ none)
+  by_test : (b : Bool) → (n == 0) ≡ b → handle_of_number handles (cond b None (Some n)) ≡ handle_numbered n handles
+  by_test true e = sym (ap (λ n. handle_numbered n handles) (eqb-true n 0 e) ∙ none)
   by_test false e = refl
 
 -- the machine's handle of an operation is the table's
-pub handle_same : (w : World) (h : History) (c : ℕ) (t : TableState) (place : Option ℕ) → slice_get w.tables c ≡ Some t → find_key handle_number 0 t.handles ≡ None → handle_in (machine_of w h) c place ≡ named_in place t
+pub handle_same : (w : World) (h : History) (c : ℕ) (t : TableState) (place : Option ℕ) → slice_get w.tables c ≡ Some t → handle_numbered 0 t.client.handles ≡ None → handle_in (machine_of w h) c place ≡ named_in place t
 handle_same w h c t None table none = refl
-handle_same w h c t (Some place) table none = ap (λ o. handle_of_number (handles_in o) (place_in o place)) table ∙ find_numbered (slice_index t.places place) t.handles none
+handle_same w h c t (Some place) table none = ap (λ o. handle_of_number (handles_in o) (place_in o place)) table ∙ find_numbered (slice_index t.client.places place) t.client.handles none
 
 next_case : (b : Bool) (t : TableState) (o : Option TableState) (n : ℕ) → n ≡ t.next → cond b (n + 1) (next_in o) ≡ next_in (cond b (Some (advanced t)) o)
 next_case true t o n is = ap (λ n. n + 1) is
@@ -52,6 +53,10 @@ place_case : (b : Bool) (t : TableState) (o : Option TableState) (p : ℕ) → (
 place_case true t o p e = ap (λ o. place_in o p) (e refl)
 place_case false t o p e = refl
 
+last_case : (b : Bool) (t : TableState) (o : Option TableState) → (b ≡ true → o ≡ Some t) → last_in o ≡ last_in (cond b (Some (advanced t)) o)
+last_case true t o e = ap last_in (e refl)
+last_case false t o e = refl
+
 hand_case : (b : Bool) (k l : Kept) (old : List StepDone) (p : Option InHand) (o : Option (Option InHand)) → cond b (shown_hand k [] p) (shown_hand l old (or_none o)) ≡ shown_hand (cond b k l) (cond b [] old) (or_none (cond b (Some p) o))
 hand_case true k l old p o = refl
 hand_case false k l old p o = refl
@@ -60,8 +65,8 @@ fits_case : (b : Bool) (k l : Kept) (old : List StepDone) (p : Option InHand) (o
 fits_case true k l old p o h g = h
 fits_case false k l old p o h g = g
 
-module _ (w : World) (c : ℕ) (op : Op) (t : TableState) (q : Option InHand) (within : c < 100) (built : IsBuilt op) (may : MayBegin w.cluster c op) (table : slice_get w.tables c ≡ Some t) (there : slice_get w.hands c ≡ Some q) (free : hand_at w.hands c ≡ None) (none : find_key handle_number 0 t.handles ≡ None) where
-  abbrev handle : Option Handle
+module _ (w : World) (c : ℕ) (op : Op) (t : TableState) (q : Option InHand) (within : c < 100) (built : IsBuilt op) (may : MayBegin w.cluster c op) (table : slice_get w.tables c ≡ Some t) (there : slice_get w.hands c ≡ Some q) (free : hand_at w.hands c ≡ None) (none : handle_numbered 0 t.client.handles ≡ None) where
+  abbrev handle : Option HandleView
   handle = named_in (handle_place op) t
 
   abbrev kept : Kept
@@ -114,6 +119,7 @@ module _ (w : World) (c : ℕ) (op : Op) (t : TableState) (q : Option InHand) (w
         next = λ a. nexts h a i;
         handles = λ d. (handles_case (d == c) t (slice_get w.tables d) (its_table d) ∙ ap handles_in (sym (table_at d))) i;
         places = λ d p. (place_case (d == c) t (slice_get w.tables d) p (its_table d) ∙ ap (λ o. place_in o p) (sym (table_at d))) i;
+        last_handles = λ d. (last_case (d == c) t (slice_get w.tables d) (its_table d) ∙ ap last_in (sym (table_at d))) i;
         in_hand = λ a. hands h a i;
       })
 
@@ -136,7 +142,7 @@ module _ (w : World) (c : ℕ) (op : Op) (t : TableState) (q : Option InHand) (w
     number = sym (ap next_in table);
     none_in_hand = ap (shown_hand (h.kept c) (h.steps c)) free;
     may = may;
-    answer = ap (λ (o : Option Handle). begin_end (is_live_client c w.cluster) o op) (sym (handle_same w h c t (handle_place op) table none));
+    answer = ap (λ (o : Option HandleView). begin_end (is_live_client c w.cluster) o op) (sym (handle_same w h c t (handle_place op) table none));
   }
 
   begin_does : Does w w' label
@@ -146,21 +152,20 @@ module _ (w : World) (c : ℕ) (op : Op) (t : TableState) (q : Option InHand) (w
   }
 
 -- a call of client c begins, with the parts as the code names them
-pub begin_done : (w : World) (c : ℕ) (op own said : Op) (number : ℕ) (handle : Option Handle) (ckpt : Option ℕ) (node : ℕ) (live : Bool) (end : Option Outcome) (tables : List TableState) (driver : Driver) (hands : List (Option InHand)) →
-    c < 100 → c < length w.tables → c < length w.hands → hand_at w.hands c ≡ None → IsBuilt op → MayBegin w.cluster c op → ((t : TableState) → slice_get w.tables c ≡ Some t → find_key handle_number 0 t.handles ≡ None) →
+pub begin_done : (w : World) (c : ℕ) (op own said : Op) (number : ℕ) (handle : Option HandleView) (live : Bool) (end : Option Outcome) (tables : List TableState) (driver : Driver) (hands : List (Option InHand)) →
+    c < 100 → c < length w.tables → c < length w.hands → hand_at w.hands c ≡ None → IsBuilt op → MayBegin w.cluster c op → ((t : TableState) → slice_get w.tables c ≡ Some t → handle_numbered 0 t.client.handles ≡ None) →
     own ≡ op → said ≡ op → ((t : TableState) → slice_get w.tables c ≡ Some t → number ≡ t.next) → ((t : TableState) → slice_get w.tables c ≡ Some t → handle ≡ named_in (handle_place op) t) →
-    ckpt ≡ ckpt_of_handle handle → node ≡ node_of_client (find_key client_key c w.cluster.clients) → live ≡ is_live_client c w.cluster → end ≡ begin_end live handle op →
-    ((t : TableState) → slice_get w.tables c ≡ Some t → tables ≡ slice_set w.tables c (advanced t)) → driver ≡ driver_start (record { actor = Client c; number = number }) op (record { ckpt = ckpt; node = node }) →
+    live ≡ is_live_client c w.cluster → end ≡ begin_end live handle op →
+    ((t : TableState) → slice_get w.tables c ≡ Some t → tables ≡ slice_set w.tables c (advanced t)) → driver ≡ driver_start (record { actor = Client c; number = number }) op (kept_at w.cluster c handle) →
     hands ≡ slice_set w.hands c (left end (record { call = record { actor = Client c; number = number }; op = own; driver = driver })) → Does w (record w { tables = tables; hands = hands }) (Began (record { actor = Client c; number = number }) said end)
-begin_done w c op own said number handle ckpt node live end tables driver hands within table there free built may none own_is said_is number_is handle_is ckpt_is node_is live_is end_is tables_are driver_is hands_are =
+begin_done w c op own said number handle live end tables driver hands within table there free built may none own_is said_is number_is handle_is live_is end_is tables_are driver_is hands_are =
     let t = there_is w.tables c table in
     let q = there_is w.hands c there in
     let x : TableState = t.0 in
     let n : x.next ≡ number = sym (number_is x t.1) in
     let f : named_in (handle_place op) x ≡ handle = sym (handle_is x t.1) in
-    let k : kept_at w.cluster c (named_in (handle_place op) x) ≡ record { ckpt = ckpt; node = node } = ap (kept_at w.cluster c) f ∙ (λ i. record { ckpt = sym ckpt_is i; node = sym node_is i }) in
     let e : begin_end (is_live_client c w.cluster) (named_in (handle_place op) x) op ≡ end = (λ i. begin_end (sym live_is i) (f i) op) ∙ sym end_is in
-    let d : driver_start (record { actor = Client c; number = x.next }) op (kept_at w.cluster c (named_in (handle_place op) x)) ≡ driver = (λ i. driver_start (record { actor = Client c; number = n i }) op (k i)) ∙ sym driver_is in
+    let d : driver_start (record { actor = Client c; number = x.next }) op (kept_at w.cluster c (named_in (handle_place op) x)) ≡ driver = (λ i. driver_start (record { actor = Client c; number = n i }) op (kept_at w.cluster c (f i))) ∙ sym driver_is in
     let g : slice_set w.hands c (left (begin_end (is_live_client c w.cluster) (named_in (handle_place op) x) op) (record { call = record { actor = Client c; number = x.next }; op = op; driver = driver_start (record { actor = Client c; number = x.next }) op (kept_at w.cluster c (named_in (handle_place op) x)) })) ≡ hands
     = (λ i. slice_set w.hands c (left (e i) (record { call = record { actor = Client c; number = n i }; op = sym own_is i; driver = d i }))) ∙ sym hands_are in
     subst (λ (y : List TableState × List (Option InHand) × ℕ × Op × Option Outcome). Does w (record w { tables = y.0; hands = y.1 }) (Began (record { actor = Client c; number = y.2 }) y.3 y.4))

@@ -26,9 +26,10 @@ use Rattle.world_core.specs.declared.update_call.UpdateCall.{UpdateCall}
 use Rattle.world_core.specs.declared.update_call.UpdatePhase.{UpdatePhase}
 use Rattle.world_core.specs.declared.update_call.UpdatePhase.TheVariants.{Staging, Committing}
 use Rattle.world_core.specs.RecordState.{RecordState, entry_of, named}
-use Rattle.world_core.specs.Driving.{StepDone, Kept, first_lacking, last_having, accepts, on_named, reserve_or_finish, on_making, by_making, commit_at, stage_at, by_phase, update_on, update_taken_by, on_active, active_on, on_kept, driver_start, driver_state, driver_taken, driver_next}
+use Rattle.world_core.specs.Driving.{StepDone, Kept, first_lacking, last_having, accepts, create_next, entry_next, on_named, reserve_or_finish, on_making, by_making, commit_at, stage_at, by_phase, update_on, update_taken_by, on_active, active_on, on_kept, driver_start, driver_state, driver_taken, driver_next}
 use Rattle.world_core.specs.Machine.{CallState}
 use Rattle.world_core.specs.Steps.{driver_of}
+use Rattle.world_core.proofs.Deadlines.{in_time-either}
 
 -- a request that a call makes in its own name
 abbrev pub IsOwn : CallId → Request → Type 0
@@ -52,10 +53,10 @@ asks_end c false x step = tt
 
 -- ---- an open
 
-asks_named : (c : CallId) (R : RecordState) (room : Bool) (a : Option CreationAttributes) (e : Option Entry) → Asks c (on_named R room a e)
-asks_named c R room None None = tt
-asks_named c R room (Some a) None = asks_ends c (not room) (nat_le 16 (length R.entries)) _ _ _
-asks_named c R room a (Some e) = asks_ends c (not (accepts a e)) (not room) _ _ _
+asks_named : (c : CallId) (R : RecordState) (room : Bool) (deadline : Option ℤ) (a : Option CreationAttributes) (e : Option Entry) → Asks c (on_named R room deadline a e)
+asks_named c R room deadline None None = tt
+asks_named c R room deadline (Some a) None = in_time-either (Asks c) deadline R.moment (create_next R room) (λ o. tt) (asks_ends c (not room) (nat_le 16 (length R.entries)) _ _ _)
+asks_named c R room deadline a (Some e) = in_time-either (Asks c) deadline R.moment (entry_next room a e) (λ o. tt) (asks_ends c (not (accepts a e)) (not room) _ _ _)
 
 asks_reserve : (c : CallId) (k : ℕ) (r : Option ℕ) → Asks c (reserve_or_finish k r)
 asks_reserve c k None = tt
@@ -68,7 +69,7 @@ asks_making c R m = by_test m.refused where
   by_test false = asks_reserve c m.ckpt (first_lacking 0 R.up m.reserved)
 
 asks_open : (c : CallId) (R : RecordState) (room : Bool) (o : OpenCall) (m : Option Making) → Asks c (by_making R room o m)
-asks_open c R room o None = asks_named c R room o.ask.attrs (named o.ask.name R.entries)
+asks_open c R room o None = asks_named c R room o.deadline o.ask.attrs (named o.ask.name R.entries)
 asks_open c R room o (Some m) = asks_making c R m
 
 -- ---- an update

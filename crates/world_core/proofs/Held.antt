@@ -1,19 +1,20 @@
 -- The call in hand of a client, as the machine that is shown has it.
 use Rattle.std.proofs.Common.{◌≡◌, ℕ, List, ◌∷◌, refl, sym, ap, subst, ◌∙◌}
 use Rattle.std.specs.Prelude.{Option, Some, None, slice_get}
+use Rattle.std.proofs.lemmas.Option.{same_Some}
 use Rattle.ckpt_types.specs.declared.identities.ActorName.TheVariants.{Client}
 use Rattle.ckpt_types.specs.declared.answers.Outcome.{Outcome}
 use Rattle.ckpt_types.specs.declared.identities.CallId.{CallId}
 use Rattle.ckpt_types.specs.declared.operation.Op.{Op}
 use Rattle.node_msgs.specs.declared.next.Next.{Next}
+use Rattle.client_handles.specs.declared.handle_view.HandleView.{HandleView}
 use Rattle.world_core.specs.declared.hands.InHand.{InHand}
-use Rattle.world_core.specs.declared.tables.Handle.{Handle}
 use Rattle.world_core.specs.declared.world.World.{World}
 use Rattle.world_core.specs.Calls.{number_of, left}
 use Rattle.world_core.specs.TableState.{TableState}
 use Rattle.world_core.specs.Driving.{StepDone, driver_next, driver_taken}
 use Rattle.world_core.specs.HandSteps.{hand_taken}
-use Rattle.world_core.specs.Happenings.{room_in}
+use Rattle.world_core.specs.Happenings.{room_in, IsNext}
 use Rattle.world_core.specs.Machine.{Machine, CallState}
 use Rattle.world_core.specs.Steps.{due, driver_of, room_of}
 use Rattle.world_core.specs.Shows.{IsShown, History, Fits, FitsHand, Facts, machine_of, handles_in, hand_at, shown_hand}
@@ -41,6 +42,10 @@ module _ (w : World) (h : History) (c : ℕ) (hand : InHand) (held : hand_at w.h
   pub due_is : Facts (machine_of w h) → Fits w h → (n : Next) → driver_next w.cluster (room_in w c) hand.driver ≡ n → due (machine_of w h) (state_in h c hand) ≡ n
   due_is facts fits n next = (λ i. driver_next w.cluster (room_of (machine_of w h) (number_of (actor_is facts i))) (sym (driver_is fits) i)) ∙ next
 
+-- what is next for the call, is next for the one that is found in hand
+pub next_for : (w : World) (c : ℕ) (n : Next) (hand : InHand) → hand_at w.hands c ≡ Some hand → IsNext w c n → driver_next w.cluster (room_in w c) hand.driver ≡ n
+next_for w c n hand held next = ap (λ (h : InHand). driver_next w.cluster (room_in w c) h.driver) (same_Some hand next.hand (sym held ∙ next.held)) ∙ next.next_is
+
 -- the call in hand of a client is the client's
 pub caller_is : (w : World) (c : ℕ) (hand : InHand) → hand_at w.hands c ≡ Some hand → IsShown w → hand.call.actor ≡ Client c
 caller_is w c hand held shown = actor_is w shown.shows.history c hand held (subst Facts shown.shows.same shown.facts)
@@ -52,7 +57,7 @@ call_fact w c hand P held shown fact =
     fact (state_in h c hand) (ap (λ (m : Machine). m.in_hand (Client c)) shown.shows.same ∙ in_hand_is w h c hand held)
 
 -- and what they say of a client's handles holds of its table
-pub handles_fact : (w : World) (c : ℕ) (t : TableState) (P : List Handle → Type 0) → slice_get w.tables c ≡ Some t → (shown : IsShown w) → P (shown.state.handles c) → P t.handles
+pub handles_fact : (w : World) (c : ℕ) (t : TableState) (P : List HandleView → Type 0) → slice_get w.tables c ≡ Some t → (shown : IsShown w) → P (shown.state.handles c) → P t.client.handles
 handles_fact w c t P table shown fact = subst P (ap (λ (m : Machine). m.handles c) shown.shows.same ∙ ap handles_in table) fact
 
 -- a call that is told of a step goes on with it, or has ended

@@ -1,5 +1,5 @@
 -- The law: of one node and one call at a time, what is due is allowed, and leaves the invariant.
-use Rattle.std.proofs.Common.{◌≡◌, ℕ, ◌+◌, ◌<◌, inl, inr, List, Option, Some, None, Bool, true, false, refl, sym, ap, subst, ◌∙◌, arith}
+use Rattle.std.proofs.Common.{◌≡◌, ℕ, ◌+◌, ◌<◌, inl, inr, List, Option, Some, None, Bool, true, false, ℤ, refl, sym, ap, subst, ◌∙◌, arith}
 use Rattle.std.specs.Prelude.{slice_index}
 use Rattle.std.proofs.lemmas.Option.{same_Some}
 use Rattle.ckpt_types.specs.declared.calls.OpenAsk.{OpenAsk}
@@ -53,6 +53,7 @@ invariant_empty = record {
 pub counts_empty : Counts empty_cluster 0
 counts_empty = record {
   next = λ a. omega arith;
+  last_handles = λ c. omega arith;
   effects = λ k r x is. absurd (cc is);
   identity = omega arith;
   references = λ k e c is. absurd (cc is);
@@ -61,15 +62,15 @@ counts_empty = record {
 -- ---- steps
 
 -- an open's next step, by what it is making
-open_goes : (m : Machine) (s : CallState) (call : CallId) (ask : OpenAsk) (making : Option Making) → InvariantWith (Some (record { state = s; driver = drivers.Open (record { call = call; ask = ask; making = making }) })) m → (room : Bool) (t : Told) → room_of m (client_of s.call) ≡ room
-    → IsDone m s (driver_next m.cluster room (drivers.Open (record { call = call; ask = ask; making = making }))) t → Goes m s (drivers.Open (record { call = call; ask = ask; making = making })) t
-open_goes m s call ask None inv room t has done = asking_goes m s call ask inv room t has done
-open_goes m s call ask (Some making) inv room t has done = making_goes m s call ask making inv room t done
+open_goes : (m : Machine) (s : CallState) (call : CallId) (ask : OpenAsk) (deadline : Option ℤ) (making : Option Making) → InvariantWith (Some (record { state = s; driver = drivers.Open (record { call = call; ask = ask; deadline = deadline; making = making }) })) m → (room : Bool) (t : Told) → room_of m (client_of s.call) ≡ room
+    → IsDone m s (driver_next m.cluster room (drivers.Open (record { call = call; ask = ask; deadline = deadline; making = making }))) t → Goes m s (drivers.Open (record { call = call; ask = ask; deadline = deadline; making = making })) t
+open_goes m s call ask deadline None inv room t has done = asking_goes m s call ask deadline inv room t has done
+open_goes m s call ask deadline (Some making) inv room t has done = making_goes m s call ask deadline making inv room t done
 
 -- the next step of a call
 driver_goes : (m : Machine) (s : CallState) (d : Driver) → InvariantWith (Some (record { state = s; driver = d })) m → (room : Bool) (t : Told) → room_of m (client_of s.call) ≡ room → IsDone m s (driver_next m.cluster room d) t → Goes m s d t
 driver_goes m s (drivers.Enter r) inv room t has done = enter_goes m s r inv room t done
-driver_goes m s (drivers.Open o) inv room t has done = open_goes m s o.call o.ask o.making inv room t has done
+driver_goes m s (drivers.Open o) inv room t has done = open_goes m s o.call o.ask o.deadline o.making inv room t has done
 driver_goes m s (drivers.Update u) inv room t has done = update_goes m s u inv room t done
 driver_goes m s (drivers.Active a) inv room t has done = read_goes m s a inv room t done
 
@@ -138,7 +139,7 @@ Invariant-nodes m n inv one none = record {
 
 -- and nothing counts more
 Counts-nodes : (m : Machine) (n nodes : ℕ) → Counts m n → Counts (record m { cluster = brought_up nodes m.cluster }) (n + 1)
-Counts-nodes m n nodes counts = let more = Counts-hands m m.in_hand n counts in record { next = more.next; effects = more.effects; identity = more.identity; references = more.references }
+Counts-nodes m n nodes counts = let more = Counts-hands m m.in_hand n counts in record { next = more.next; last_handles = more.last_handles; effects = more.effects; identity = more.identity; references = more.references }
 
 -- ---- the law
 

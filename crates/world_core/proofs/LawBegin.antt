@@ -16,14 +16,14 @@ use Rattle.ckpt_types.specs.declared.update.ReadElement.{ReadElement}
 use Rattle.ckpt_types.specs.declared.update.Update.{Update}
 use Rattle.ckpt_types.specs.Attributes.{has_bad_open_flags}
 use Rattle.run_labels.specs.declared.labels.Label.TheVariants as labels
+use Rattle.client_handles.specs.ClientState.{handle_numbered}
+use Rattle.client_handles.specs.declared.handle_view.HandleView.{HandleView}
 use Rattle.world_core.specs.declared.drivers.Driver.{Driver}
 use Rattle.world_core.specs.declared.drivers.Driver.TheVariants as drivers
 use Rattle.world_core.specs.declared.open_call.Making.{Making}
-use Rattle.world_core.specs.declared.tables.Handle.{Handle}
 use Rattle.world_core.specs.Calls.{same_actor, number_of, IsClient, put_actor}
 use Rattle.world_core.specs.Places.{find_key}
 use Rattle.world_core.specs.RecordState.{client_key, is_live_client, first_nodes}
-use Rattle.world_core.specs.TableState.{handle_number}
 use Rattle.world_core.specs.Driving.{driver_start}
 use Rattle.world_core.specs.Beginning.{begin_end, if_live, on_handle, open_begin, attributes_are_bad, name_is_bad, IsBuilt}
 use Rattle.world_core.specs.Machine.{Machine, CallState}
@@ -46,7 +46,7 @@ if_live-None true o e = (refl, e)
 if_live-None false o e = absurd (cc e)
 
 -- what is said on a handle goes on only where there is one
-on_handle-None : (h : Option Handle) (bad : Bool) (may : OpenFlags → Bool) → on_handle h bad may ≡ None → (x : Handle) × (h ≡ Some x)
+on_handle-None : (h : Option HandleView) (bad : Bool) (may : OpenFlags → Bool) → on_handle h bad may ≡ None → (x : HandleView) × (h ≡ Some x)
 on_handle-None None bad may e = absurd (cc e)
 on_handle-None (Some x) bad may e = (x, refl)
 
@@ -65,21 +65,21 @@ open_begin-None name flags timeout a e =
 -- ---- the handle of a place
 
 -- the handle found under a number is among them
-find_key-Contains : (n : ℕ) (handles : List Handle) (h : Handle) → find_key handle_number n handles ≡ Some h → Contains handles h
-find_key-Contains n [] h e = absurd (cc e)
-find_key-Contains n (x ∷ xs) h e =
-    elim (x.number == n) as (λ b. cond b (Some x) (find_key handle_number n xs) ≡ Some h → Contains (x ∷ xs) h) [
+handle_numbered-Contains : (n : ℕ) (handles : List HandleView) (h : HandleView) → handle_numbered n handles ≡ Some h → Contains handles h
+handle_numbered-Contains n [] h e = absurd (cc e)
+handle_numbered-Contains n (x ∷ xs) h e =
+    elim (x.handle == n) as (λ b. cond b (Some x) (handle_numbered n xs) ≡ Some h → Contains (x ∷ xs) h) [
       | true ↦ λ here. (0, omega arith, same_Some x h here)
-      | false ↦ λ there. Contains-append_right (x ∷ []) xs h (find_key-Contains n xs h there)
+      | false ↦ λ there. Contains-append_right (x ∷ []) xs h (handle_numbered-Contains n xs h there)
     ] e
 
 -- and under a number that may be none
-handle_of_number-Contains : (handles : List Handle) (n : Option ℕ) (h : Handle) → handle_of_number handles n ≡ Some h → Contains handles h
+handle_of_number-Contains : (handles : List HandleView) (n : Option ℕ) (h : HandleView) → handle_of_number handles n ≡ Some h → Contains handles h
 handle_of_number-Contains handles None h e = absurd (cc e)
-handle_of_number-Contains handles (Some n) h e = find_key-Contains n handles h e
+handle_of_number-Contains handles (Some n) h e = handle_numbered-Contains n handles h e
 
 -- the checkpoint of a place's handle is there and made
-handle_in-made : (hand : Option Working) (m : Machine) (c : ℕ) (place : Option ℕ) (h : Handle) → InvariantWith hand m → handle_in m c place ≡ Some h → IsMade m h.ckpt
+handle_in-made : (hand : Option Working) (m : Machine) (c : ℕ) (place : Option ℕ) (h : HandleView) → InvariantWith hand m → handle_in m c place ≡ Some h → IsMade m h.id
 handle_in-made hand m c None h inv e = absurd (cc e)
 handle_in-made hand m c (Some place) h inv e = (inv.handles c h (handle_of_number-Contains (m.handles c) (m.places c place) h e)).1
 
@@ -98,28 +98,28 @@ IsClient-number (Client c) is = is
 IsClient-number (Node r) is = absurd is
 
 module _ (hand : Option Working) (m : Machine) (call : CallId) (inv : InvariantWith hand m) (client : IsClient call.actor) (number : 1 ≤ call.number) where
-  abbrev state_with : Op → Option Handle → CallState
+  abbrev state_with : Op → Option HandleView → CallState
   state_with op h = record { call = call; op = op; kept = kept_at m.cluster (number_of call.actor) h; steps = []; snapshot = None }
 
-  abbrev start_with : Op → Option Handle → Driver
+  abbrev start_with : Op → Option HandleView → Driver
   start_with op h = driver_start call op (kept_at m.cluster (number_of call.actor) h)
 
   -- a call that begins is where its operation begins, makes nothing, and owns no slot
-  record Starts (op : Op) (h : Option Handle) : Type 0 where
+  record Starts (op : Op) (h : Option HandleView) : Type 0 where
     at : IsAt m (state_with op h) (start_with op h)
     makes : (k : ℕ) → maker_by call k (start_with op h) ≡ None
     owns : (k : ℕ) → slot_by (state_with op h) k (start_with op h) ≡ None
 
   -- a write on a handle starts with nothing staged
-  starts_write : (place : ℕ) (update : Update) (h : Option Handle) → ((x : Handle) → h ≡ Some x → IsMade m x.ckpt) → (x : Handle) × (h ≡ Some x) → Starts (ops.Write place update) h
+  starts_write : (place : ℕ) (update : Update) (h : Option HandleView) → ((x : HandleView) → h ≡ Some x → IsMade m x.id) → (x : HandleView) × (h ≡ Some x) → Starts (ops.Write place update) h
   starts_write place update h made (x, is) = subst (Starts (ops.Write place update)) (sym is) (record {
     at = record { call = refl; write = tt; phase = refl; made = made x is; owned = inl refl };
     makes = λ k. refl;
-    owns = λ k. no_slot (k == x.ckpt);
+    owns = λ k. no_slot (k == x.id);
   })
 
   -- a read on a handle
-  starts_read : (place : ℕ) (elements : List ReadElement) (h : Option Handle) → ((x : Handle) → h ≡ Some x → IsMade m x.ckpt) → (x : Handle) × (h ≡ Some x) → Starts (ops.Read place elements) h
+  starts_read : (place : ℕ) (elements : List ReadElement) (h : Option HandleView) → ((x : HandleView) → h ≡ Some x → IsMade m x.id) → (x : HandleView) × (h ≡ Some x) → Starts (ops.Read place elements) h
   starts_read place elements h made (x, is) = subst (Starts (ops.Read place elements)) (sym is) (record {
     at = record { read = tt; made = made x is };
     makes = λ k. refl;
@@ -127,8 +127,8 @@ module _ (hand : Option Working) (m : Machine) (call : CallId) (inv : InvariantW
   })
 
   -- each operation that goes on
-  starts : (op : Op) (h : Option Handle) → IsBuilt op → MayBegin m.cluster (number_of call.actor) op → begin_end (is_live_client (number_of call.actor) m.cluster) h op ≡ None → ((x : Handle) → h ≡ Some x → IsMade m x.ckpt) → Starts op h
-  starts (ops.Client r version callbacks) h built may goes made = record { at = record { op = refl; up = may.1 }; makes = λ k. refl; owns = λ k. refl }
+  starts : (op : Op) (h : Option HandleView) → IsBuilt op → MayBegin m.cluster (number_of call.actor) op → begin_end (is_live_client (number_of call.actor) m.cluster) h op ≡ None → ((x : HandleView) → h ≡ Some x → IsMade m x.id) → Starts op h
+  starts (ops.Client r version callbacks) h built may goes made = record { at = record { op = refl; up = may.1; not_live = may.0 }; makes = λ k. refl; owns = λ k. refl }
   starts (ops.Open place name flags timeout a) h built may goes made =
       let (live, rest) = if_live-None (is_live_client (number_of call.actor) m.cluster) _ goes in
       record {
@@ -139,9 +139,11 @@ module _ (hand : Option Working) (m : Machine) (call : CallId) (inv : InvariantW
           built = built;
           asks = (refl, refl);
           asked = open_begin-None name flags timeout a rest;
+          deadline = refl;
           up = live_up hand m (number_of call.actor) inv live;
           making = tt;
           room = λ some. absurd (cc some);
+          in_time = λ some. absurd (cc some);
         };
         makes = λ k. refl;
         owns = λ k. refl;
@@ -159,8 +161,8 @@ IsMakingOrNone-apart m next f (Some making) at = record { there = at.there; rese
 
 -- a call is where it is with other numbers and hands
 pub IsAt-apart : (m : Machine) (next : ActorName → ℕ) (f : ActorName → Option CallState) (s : CallState) (d : Driver) → IsAt m s d → IsAt (record m { next = next; in_hand = f }) s d
-IsAt-apart m next f s (drivers.Enter r) at = record { op = at.op; up = at.up }
-IsAt-apart m next f s (drivers.Open o) at = record { number = at.number; client = at.client; within = at.within; built = at.built; asks = at.asks; asked = at.asked; up = at.up; making = IsMakingOrNone-apart m next f o.making at.making; room = at.room }
+IsAt-apart m next f s (drivers.Enter r) at = record { op = at.op; up = at.up; not_live = at.not_live }
+IsAt-apart m next f s (drivers.Open o) at = record { number = at.number; client = at.client; within = at.within; built = at.built; asks = at.asks; asked = at.asked; deadline = at.deadline; up = at.up; making = IsMakingOrNone-apart m next f o.making at.making; room = at.room; in_time = at.in_time }
 IsAt-apart m next f s (drivers.Update u) at = record { call = at.call; write = at.write; phase = at.phase; made = at.made; owned = at.owned }
 IsAt-apart m next f s (drivers.Active a) at = record { read = at.read; made = at.made }
 
@@ -224,6 +226,7 @@ Invariant-begun m call op end inv alone is = begun_with m call op end (subst (λ
 pub Counts-begun : (m : Machine) (call : CallId) (op : Op) (end : Option Outcome) (n : ℕ) → Counts m n → Counts (begun m call op end) (n + 1)
 Counts-begun m call op end n counts = record {
   next = λ a. elim (same_actor a call.actor) as (λ b. cond b (m.next call.actor + 1) (m.next a) ≤ n + 1 + 1) [ true ↦ omega (arith, counts.next call.actor) | false ↦ omega (arith, counts.next a) ];
+  last_handles = λ c. omega (arith, counts.last_handles c);
   effects = λ k r x is. omega (arith, counts.effects k r x is);
   identity = omega arith;
   references = λ k e c is. omega (arith, counts.references k e c is);

@@ -17,7 +17,7 @@ use Rattle.world_core.specs.RecordState.{entered}
 use Rattle.world_core.specs.Driving.{driver_next, event_after, event_ckpt, event_node}
 use Rattle.world_core.specs.Machine.{Machine, CallState}
 use Rattle.world_core.specs.Steps.{Told, IsDone, IsEvent, with_record, stepped}
-use Rattle.world_core.specs.Guards.{LookRefused}
+use Rattle.world_core.specs.Guards.{LookRefused, MayEnter, EnterRow}
 use Rattle.world_core.specs.Invariant.{IsClientOf, InvariantWith}
 use Rattle.world_core.proofs.LawMoves.{Leads, Goes, Told-is, in_hand_of-ended, replicas_under-kept, IsGoodEntry-replica, Counts-record}
 use Rattle.world_core.proofs.LawEnds.{OfClient-is, up_first, swept-in_use, Leads-ended, look_goes}
@@ -47,25 +47,30 @@ module _ (m : Machine) (s : CallState) (r : ℕ) (inv : InvariantWith (Some (rec
     };
     counts = λ n counts. let more = Counts-record m (entered (client_of s.call) r s.call.number m.cluster) n counts (omega (arith, counts.identity)) (λ k e c found. omega (arith, counts.references k e c found)) in record {
       next = more.next;
+      last_handles = more.last_handles;
       effects = more.effects;
       identity = more.identity;
       references = more.references;
     };
   }
 
+  -- it may become live
+  may_enter : length m.cluster.clients < 64 → MayEnter m (client_of s.call) r
+  may_enter room = record { up = inv.working.1.up; not_live = inv.working.1.not_live; few = room }
+
   -- it becomes live, or is refused memory
   event_goes : (t : Told) → length m.cluster.clients < 64 → IsEvent m s events.Enter t → Goes m s (drivers.Enter r) t
   event_goes t room done = elim done.answer [
     | inl ok ↦ subst (Goes m s (drivers.Enter r)) (sym (Told-is t (record { verb = verbs.Enter; ckpt = None; node = Some r; reply = words.Ok; end = Some (Done answers.Version); pieces = None })
         done.verb (done.ckpt ∙ ap (λ d. event_ckpt m.cluster d events.Enter) inv.working.0) (done.node ∙ ap (λ d. event_node d events.Enter) inv.working.0) ok.0 ok.1 done.pieces)) (record {
-          row = (OfClient-is s.op r _ inv.working.1.op (inv.working.1.up, room, refl), refl);
+          row = (OfClient-is s.op r (EnterRow m (client_of s.call) r words.Ok (Some (Done answers.Version))) inv.working.1.op (may_enter room, refl), refl);
           leads = subst (λ R. Leads m (stepped (with_record m R) s verbs.Enter None (Some r) words.Ok (Some (Done answers.Version))))
               (sym (ap (λ d. event_after s.call d events.Enter m.cluster) inv.working.0 ∙ swept-in_use (entered (client_of s.call) r s.call.number m.cluster) inv.in_use)) leads;
           nearer = λ none. absurd (cc none);
         })
     | inr memory ↦ subst (Goes m s (drivers.Enter r)) (sym (Told-is t (record { verb = verbs.Enter; ckpt = None; node = Some r; reply = words.Memory; end = Some NoMemory; pieces = None })
         done.verb (done.ckpt ∙ ap (λ d. event_ckpt m.cluster d events.Enter) inv.working.0) (done.node ∙ ap (λ d. event_node d events.Enter) inv.working.0) memory.1 memory.2 done.pieces)) (record {
-          row = (OfClient-is s.op r _ inv.working.1.op refl, refl);
+          row = (OfClient-is s.op r (EnterRow m (client_of s.call) r words.Memory (Some NoMemory)) inv.working.1.op (may_enter room, refl), refl);
           leads = Leads-ended m s (drivers.Enter r) inv (λ k. refl) (λ k. refl);
           nearer = λ none. absurd (cc none);
         })

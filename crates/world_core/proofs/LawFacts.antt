@@ -1,6 +1,6 @@
 -- What the code relies on holds wherever the invariant does.
-use Rattle.std.proofs.Common.{◌≡◌, ℕ, zero, suc, ◌<◌, inl, inr, length, Option, Some, None, Bool, true, false, cond, not, ◌==◌, nat_le, nat_lt, refl, sym, ap, subst, ◌∙◌, arith}
-use Rattle.std.specs.Prelude.{IsSome, ◌≤◌, slice_index}
+use Rattle.std.proofs.Common.{◌≡◌, ℕ, zero, suc, ◌<◌, inl, inr, length, Option, Some, None, Bool, true, false, cond, not, ◌==◌, nat_le, nat_lt, ℤ, refl, sym, ap, subst, ◌∙◌, arith}
+use Rattle.std.specs.Prelude.{IsSome, slice_index}
 use Rattle.std.proofs.lemmas.Bool.{leb-false, ltb-true, and_parts}
 use Rattle.ckpt_types.specs.declared.ais_error.AisError.TheVariants.{Exist, NoResources}
 use Rattle.ckpt_types.specs.declared.answers.Cause.TheVariants.{Plain, Count}
@@ -24,12 +24,13 @@ use Rattle.world_core.specs.declared.update_call.UpdateCall.{UpdateCall}
 use Rattle.world_core.specs.Calls.{client_of}
 use Rattle.world_core.specs.RecordState.{RecordState, entry_of, named, is_up, first_nodes, no_nodes}
 use Rattle.world_core.specs.Serving.{IsReadyFor, IsStaged}
-use Rattle.world_core.specs.Driving.{driver_next, on_named, on_free_name, accepts, reserve_or_finish, first_lacking}
+use Rattle.world_core.specs.Driving.{driver_next, create_next, entry_next, on_named, on_free_name, accepts, reserve_or_finish, first_lacking}
 use Rattle.world_core.specs.Beginning.{IsBuilt}
 use Rattle.world_core.specs.Machine.{Machine, CallState}
 use Rattle.world_core.specs.Steps.{due, driver_of, room_of, seen_at, seen, seen_slot, staged_moment}
 use Rattle.world_core.specs.Shows.{IsServable, IsReservable, AllReserved, IsEventReady, Facts}
 use Rattle.world_core.specs.Invariant.{Working, IsMakingEntry, IsAt, InvariantWith, Invariant}
+use Rattle.world_core.proofs.Deadlines.{in_time-either}
 use Rattle.world_core.proofs.LawMoves.{in_hand_of-Some, IsSomeAnd-from, IsSomeAnd-more}
 use Rattle.world_core.proofs.LawEnds.{slice_index-replicate, slice_index-first}
 use Rattle.world_core.proofs.LawMade.{made_seen}
@@ -64,19 +65,23 @@ enter_ready m s r inv room =
 
 -- ---- an open
 
-module _ (m : Machine) (s : CallState) (call : CallId) (ask : OpenAsk) where
+module _ (m : Machine) (s : CallState) (call : CallId) (ask : OpenAsk) (deadline : Option ℤ) where
   abbrev asking : OpenCall
-  asking = record { call = call; ask = ask; making = None }
+  asking = record { call = call; ask = ask; deadline = deadline; making = None }
 
-  -- of a name that is free
-  free_ready : (room : Bool) (a : Option CreationAttributes) → ask.attrs ≡ a → IsDueReady m s (drivers.Open asking) (on_free_name m.cluster room a)
-  free_ready room None given = tt
-  free_ready false (Some a) given = tt
-  free_ready true (Some a) given =
+  -- a checkpoint that is asked for is made where there is room
+  create_ready : (room : Bool) (a : CreationAttributes) → ask.attrs ≡ Some a → IsDueReady m s (drivers.Open asking) (create_next m.cluster room)
+  create_ready false a given = tt
+  create_ready true a given =
       elim (nat_le 16 (length m.cluster.entries)) as (λ b. nat_le 16 (length m.cluster.entries) ≡ b → IsDueReady m s (drivers.Open asking) (cond b (End (Refused NoResources (Count 16))) (Event events.Create))) [
         | true ↦ λ full. tt
         | false ↦ λ few. (leb-false 16 (length m.cluster.entries) few, IsSomeAnd-from ask.attrs (λ a. Unit {0}) a given tt)
       ] refl
+
+  -- of a name that is free
+  free_ready : (room : Bool) (a : Option CreationAttributes) → ask.attrs ≡ a → IsDueReady m s (drivers.Open asking) (on_free_name m.cluster room deadline a)
+  free_ready room None given = tt
+  free_ready room (Some a) given = in_time-either (IsDueReady m s (drivers.Open asking)) deadline m.cluster.moment (create_next m.cluster room) (λ o. tt) (create_ready room a given)
 
   -- of a name that a checkpoint has
   entry_ready : (room accepted : Bool) (e : Entry) → named ask.name m.cluster.entries ≡ Some e → IsDueReady m s (drivers.Open asking) (cond (not accepted) (End (Refused Exist Plain)) (cond (not room) (End (Refused NoResources (Count 32))) (Event events.Open)))
@@ -85,9 +90,9 @@ module _ (m : Machine) (s : CallState) (call : CallId) (ask : OpenAsk) where
   entry_ready true true e found = IsSomeAnd-from (named ask.name m.cluster.entries) (λ e. Unit {0}) e found tt
 
   -- of any name
-  named_ready : (room : Bool) (o : Option Entry) → named ask.name m.cluster.entries ≡ o → IsDueReady m s (drivers.Open asking) (on_named m.cluster room ask.attrs o)
+  named_ready : (room : Bool) (o : Option Entry) → named ask.name m.cluster.entries ≡ o → IsDueReady m s (drivers.Open asking) (on_named m.cluster room deadline ask.attrs o)
   named_ready room None found = free_ready room ask.attrs refl
-  named_ready room (Some e) found = entry_ready room (accepts ask.attrs e) e found
+  named_ready room (Some e) found = in_time-either (IsDueReady m s (drivers.Open asking)) deadline m.cluster.moment (entry_next room ask.attrs e) (λ o. tt) (entry_ready room (accepts ask.attrs e) e found)
 
 -- ---- a making
 
@@ -106,22 +111,22 @@ all_reserved m k first reserved (suc r) up =
     let down : slice_index m.cluster.up (suc r) ≡ 0 = slice_index-first m.cluster.up r first in
     absurd (let e : true ≡ false = sym (ap (λ n. n == 0) down) ∙ up in cc)
 
-module _ (m : Machine) (s : CallState) (call : CallId) (ask : OpenAsk) where
+module _ (m : Machine) (s : CallState) (call : CallId) (ask : OpenAsk) (deadline : Option ℤ) where
   abbrev making_at : Making → Driver
-  making_at making = drivers.Open (record { call = call; ask = ask; making = Some making })
+  making_at making = drivers.Open (record { call = call; ask = ask; deadline = deadline; making = Some making })
 
   abbrev IsHere : Making → Type 0
   IsHere making = InvariantWith (Some (record { state = s; driver = making_at making })) m
 
   -- it reserves
   unreserved_ready : (k : ℕ) → IsHere (record { ckpt = k; reserved = no_nodes; refused = false }) → (room : Bool) → IsDueReady m s (making_at (record { ckpt = k; reserved = no_nodes; refused = false })) (driver_next m.cluster room (making_at (record { ckpt = k; reserved = no_nodes; refused = false })))
-  unreserved_ready k inv room = subst (IsDueReady m s (making_at (record { ckpt = k; reserved = no_nodes; refused = false }))) (sym (open_next-unreserved m s call ask k inv room))
-      (omega arith, IsSomeAnd-more (entry_of k m.cluster.entries) IsMakingEntry (λ e. IsReservable e 0) reservable (making_entry m s call ask (record { ckpt = k; reserved = no_nodes; refused = false }) inv), tt)
+  unreserved_ready k inv room = subst (IsDueReady m s (making_at (record { ckpt = k; reserved = no_nodes; refused = false }))) (sym (open_next-unreserved m s call ask deadline k inv room))
+      (omega arith, IsSomeAnd-more (entry_of k m.cluster.entries) IsMakingEntry (λ e. IsReservable e 0) reservable (making_entry m s call ask deadline (record { ckpt = k; reserved = no_nodes; refused = false }) inv), tt)
 
   -- it is finished
   reserved_ready : (k : ℕ) → IsHere (record { ckpt = k; reserved = first_nodes 1; refused = false }) → m.reserved k 0 ≡ Some 1 → (room : Bool) → IsDueReady m s (making_at (record { ckpt = k; reserved = first_nodes 1; refused = false })) (driver_next m.cluster room (making_at (record { ckpt = k; reserved = first_nodes 1; refused = false })))
-  reserved_ready k inv reserved room = subst (IsDueReady m s (making_at (record { ckpt = k; reserved = first_nodes 1; refused = false }))) (sym (open_next-reserved m s call ask k room inv.working.1.up))
-      (all_reserved m k inv.working.1.up reserved, IsSomeAnd-more (entry_of k m.cluster.entries) IsMakingEntry _ finishable (making_entry m s call ask (record { ckpt = k; reserved = first_nodes 1; refused = false }) inv))
+  reserved_ready k inv reserved room = subst (IsDueReady m s (making_at (record { ckpt = k; reserved = first_nodes 1; refused = false }))) (sym (open_next-reserved m s call ask deadline k room inv.working.1.up))
+      (all_reserved m k inv.working.1.up reserved, IsSomeAnd-more (entry_of k m.cluster.entries) IsMakingEntry _ finishable (making_entry m s call ask deadline (record { ckpt = k; reserved = first_nodes 1; refused = false }) inv))
 
   -- or undone
   making_ready : (making : Making) → IsHere making → (room : Bool) → IsDueReady m s (making_at making) (driver_next m.cluster room (making_at making))
@@ -180,15 +185,15 @@ read_ready m s a inv room =
 -- ---- any call
 
 -- an open, making something or not
-open_ready : (m : Machine) (s : CallState) (call : CallId) (ask : OpenAsk) (making : Option Making) → InvariantWith (Some (record { state = s; driver = drivers.Open (record { call = call; ask = ask; making = making }) })) m → (room : Bool)
-    → IsDueReady m s (drivers.Open (record { call = call; ask = ask; making = making })) (driver_next m.cluster room (drivers.Open (record { call = call; ask = ask; making = making })))
-open_ready m s call ask None inv room = named_ready m s call ask room (named ask.name m.cluster.entries) refl
-open_ready m s call ask (Some making) inv room = making_ready m s call ask making inv room
+open_ready : (m : Machine) (s : CallState) (call : CallId) (ask : OpenAsk) (deadline : Option ℤ) (making : Option Making) → InvariantWith (Some (record { state = s; driver = drivers.Open (record { call = call; ask = ask; deadline = deadline; making = making }) })) m → (room : Bool)
+    → IsDueReady m s (drivers.Open (record { call = call; ask = ask; deadline = deadline; making = making })) (driver_next m.cluster room (drivers.Open (record { call = call; ask = ask; deadline = deadline; making = making })))
+open_ready m s call ask deadline None inv room = named_ready m s call ask deadline room (named ask.name m.cluster.entries) refl
+open_ready m s call ask deadline (Some making) inv room = making_ready m s call ask deadline making inv room
 
 -- what is due of any call
 driver_ready : (m : Machine) (s : CallState) (d : Driver) → InvariantWith (Some (record { state = s; driver = d })) m → (room : Bool) → IsDueReady m s d (driver_next m.cluster room d)
 driver_ready m s (drivers.Enter r) inv room = enter_ready m s r inv room
-driver_ready m s (drivers.Open o) inv room = open_ready m s o.call o.ask o.making inv room
+driver_ready m s (drivers.Open o) inv room = open_ready m s o.call o.ask o.deadline o.making inv room
 driver_ready m s (drivers.Update u) inv room = update_ready m s u inv room
 driver_ready m s (drivers.Active a) inv room = read_ready m s a inv room
 
@@ -211,11 +216,11 @@ hand_at_its_place (Some w) m a s inv here = subst (λ t. IsAt m t (driver_of t))
 pub is_at : (m : Machine) (a : ActorName) (s : CallState) → Invariant m → m.in_hand a ≡ Some s → IsAt m s (driver_of s)
 is_at m a s inv here = hand_at_its_place inv.hand m a s inv.holds here
 
--- an open has a place for its handle and a number from 1, and with a checkpoint in the making room for the handle
-open_fits : (m : Machine) (a : ActorName) (s : CallState) (o : OpenCall) → Invariant m → m.in_hand a ≡ Some s → driver_of s ≡ drivers.Open o → (1 ≤ s.call.number) × IsBuilt s.op × (IsSome o.making → room_of m (client_of s.call) ≡ true)
+-- an open has a place for its handle, and with a checkpoint in the making room for the handle
+open_fits : (m : Machine) (a : ActorName) (s : CallState) (o : OpenCall) → Invariant m → m.in_hand a ≡ Some s → driver_of s ≡ drivers.Open o → IsBuilt s.op × (IsSome o.making → room_of m (client_of s.call) ≡ true)
 open_fits m a s o inv here is =
     let at = subst (IsAt m s) is (is_at m a s inv here) in
-    (at.number, at.built, λ some. ap (room_of m) (sym at.client) ∙ at.room some)
+    (at.built, λ some. ap (room_of m) (sym at.client) ∙ at.room some)
 
 -- what the code relies on
 pub facts : (m : Machine) → Invariant m → Facts m

@@ -112,6 +112,7 @@ module _ (m : Machine) (k : ℕ) (staged : Option Staged) (at : MadeAt m k stage
 pub Counts-replica : (m : Machine) (k r : ℕ) (x : ReplicaState) (n : ℕ) → Counts m n → length x.effects ≤ n + 1 → Counts (record m { replicas = put2 m.replicas k r (Some x) }) (n + 1)
 Counts-replica m k r x n counts few = record {
   next = λ a. omega (arith, counts.next a);
+  last_handles = λ c. omega (arith, counts.last_handles c);
   effects = λ j q y is. elim ((j == k) && (q == r)) as (λ b. cond b (Some x) (m.replicas j q) ≡ Some y → length y.effects ≤ n + 1) [
     | true ↦ λ here. subst (λ (z : ReplicaState). length z.effects ≤ n + 1) (same_Some x y here) few
     | false ↦ λ there. omega (arith, counts.effects j q y there)

@@ -14,25 +14,25 @@ use Rattle.node_msgs.specs.declared.next.RecordStep.TheVariants as events
 use Rattle.node_msgs.specs.declared.next.Next.TheVariants.{Serve, Event}
 use Rattle.run_labels.specs.declared.words.Verb.TheVariants as verbs
 use Rattle.run_labels.specs.declared.labels.StepReply.TheVariants as words
+use Rattle.client_handles.specs.declared.handle_view.HandleView.{HandleView}
 use Rattle.world_core.specs.declared.drivers.Driver.{Driver}
 use Rattle.world_core.specs.declared.drivers.Driver.TheVariants as drivers
 use Rattle.world_core.specs.declared.open_call.Making.{Making}
 use Rattle.world_core.specs.declared.open_call.OpenCall.{OpenCall}
 use Rattle.world_core.specs.declared.record.Entry.{Entry}
 use Rattle.world_core.specs.declared.replica.Replica.{Replica}
-use Rattle.world_core.specs.declared.tables.Handle.{Handle}
 use Rattle.world_core.specs.Calls.{client_of}
 use Rattle.world_core.specs.Places.{put2}
 use Rattle.world_core.specs.RecordState.{RecordState, identity_of, entry_of, complete_of, is_up, first_nodes, no_nodes, first_complete, made_with, finished, undone}
 use Rattle.world_core.specs.Serving.{pieces_at}
-use Rattle.world_core.specs.Driving.{StepDone, driver_next, driver_taken, done_of, event_after, first_lacking, reserve_or_finish}
+use Rattle.world_core.specs.Driving.{StepDone, IsBefore, driver_next, driver_taken, done_of, event_after, first_lacking, reserve_or_finish}
 use Rattle.world_core.specs.Machine.{Machine, CallState}
 use Rattle.world_core.specs.Steps.{Told, IsDone, IsServed, IsEvent, seen_at, opened_state, replica_under, replicas_under, with_record, with_opened, with_handle_at, new_handle, stepped}
-use Rattle.world_core.specs.Guards.{IsMadeBy}
+use Rattle.world_core.specs.Guards.{IsMadeBy, IsInTime}
 use Rattle.world_core.specs.Runs.{lacking}
 use Rattle.world_core.specs.Invariant.{maker_by, IsMakingEntry, IsGoodEntry, IsMade, is_in_use, AllInUse, InvariantWith}
 use Rattle.world_core.proofs.LawLists.{find_key-without, find_key-change_key, AllUpTo-change_key, IdentitiesRise-change_key, AllInUse-change_key, AllUpTo-filter, IdentitiesRise-filter, AllInUse-filter, list_any-first}
-use Rattle.world_core.proofs.LawMoves.{Leads, Goes, in_hand_of-going, in_hand_of-ended, Changed, Changed-found, Changed-kept, replicas_under-kept, IsGoodEntry-replica, IsSomeAnd-from, slice_index-one_more, Counts-hands, Counts-record, references-changed}
+use Rattle.world_core.proofs.LawMoves.{Leads, Goes, in_hand_of-going, in_hand_of-ended, Changed, Changed-found, Changed-kept, replicas_under-kept, IsGoodEntry-replica, IsSomeAnd-from, slice_index-one_more, Counts-hands, Counts-record, references-changed, last_handles-put}
 use Rattle.world_core.proofs.LawEnds.{slice_index-first, swept-in_use, IsGoodEntry-as}
 use Rattle.world_core.proofs.LawMade.{IsServed-told, IsEvent-told}
 use Rattle.world_core.proofs.LawOpening.{handles-push, opened_place-is}
@@ -55,9 +55,9 @@ first_up (suc r) R first up =
     absurd (let e : (nat_lt (suc r) 8 && not (0 == 0)) ≡ true = subst (λ n. (nat_lt (suc r) 8 && not (n == 0)) ≡ true) down up in
     let f : (nat_lt (suc r) 8 && not (0 == 0)) ≡ false = and_right (nat_lt (suc r) 8) false refl in cc)
 
-module _ (m : Machine) (s : CallState) (call : CallId) (ask : OpenAsk) (making : Making) (inv : InvariantWith (Some (record { state = s; driver = drivers.Open (record { call = call; ask = ask; making = Some making }) })) m) where
+module _ (m : Machine) (s : CallState) (call : CallId) (ask : OpenAsk) (deadline : Option ℤ) (making : Making) (inv : InvariantWith (Some (record { state = s; driver = drivers.Open (record { call = call; ask = ask; deadline = deadline; making = Some making }) })) m) where
   abbrev at_making : OpenCall
-  at_making = record { call = call; ask = ask; making = Some making }
+  at_making = record { call = call; ask = ask; deadline = deadline; making = Some making }
 
   abbrev k : ℕ
   k = making.ckpt
@@ -84,6 +84,10 @@ module _ (m : Machine) (s : CallState) (call : CallId) (ask : OpenAsk) (making :
   -- the checkpoint is in the making by the call
   pub making_by : IsMadeBy m s.call k
   making_by = IsSomeAnd-from (entry_of k m.cluster.entries) (λ e. e.making ≡ Some s.call) entry found good.making
+
+  -- its deadline is not reached
+  pub in_time : IsInTime m s
+  in_time = subst (IsBefore m.cluster.moment) inv.working.1.deadline (inv.working.1.in_time refl)
 
   -- it is not made yet
   not_made : IsMade m k → ⊥
@@ -121,21 +125,21 @@ module _ (m : Machine) (s : CallState) (call : CallId) (ask : OpenAsk) (making :
         up_to = AllUpTo-filter _ m.cluster.last_identity m.cluster.entries inv.up_to;
         in_use = AllInUse-filter _ m.cluster.entries inv.in_use;
         entries = good_undone;
-        handles = λ c h among. let (from_one, made) = inv.handles c h among in (from_one, Changed-kept k None m.cluster.entries undone_then.entries (λ e. e.making ≡ None) change_undone (λ is. absurd (not_made is)) h.ckpt made);
+        handles = λ c h among. let (from_one, made) = inv.handles c h among in (from_one, Changed-kept k None m.cluster.entries undone_then.entries (λ e. e.making ≡ None) change_undone (λ is. absurd (not_made is)) h.id made);
         next = inv.next;
         in_hand = in_hand_of-ended m.in_hand s (drivers.Open at_making) inv.in_hand;
         working = tt;
       };
     };
     counts = λ n counts. let more = Counts-record m undone_then n counts (omega (arith, counts.identity)) (references-changed m k None undone_then.entries n counts change_undone (λ e c is. absurd (cc is))) in
-        record { next = more.next; effects = more.effects; identity = more.identity; references = more.references };
+        record { next = more.next; last_handles = more.last_handles; effects = more.effects; identity = more.identity; references = more.references };
   }
 
   -- the undoing
   undo_goes : (t : Told) → IsEvent m s events.Undo t → Goes m s (drivers.Open at_making) t
   undo_goes t event = elim (IsEvent-told m s events.Undo t (drivers.Open at_making) event inv.working.0) [
     | inl ok ↦ subst (Goes m s (drivers.Open at_making)) (sym ok) (record {
-      row = ((making_by, refl), refl);
+      row = ((making_by, in_time, refl), refl);
       leads = subst (λ R. Leads m (stepped (with_record m R) s verbs.Undo (Some k) None words.Ok (Some NoMemory)))
           (sym (ap (λ d. event_after s.call d events.Undo m.cluster) inv.working.0 ∙ swept-in_use undone_then (AllInUse-filter _ m.cluster.entries inv.in_use))) leads_undone;
       nearer = λ none. absurd (cc none);
@@ -197,8 +201,8 @@ module _ (m : Machine) (s : CallState) (call : CallId) (ask : OpenAsk) (making :
   made_now : IsSomeAnd (entry_of k finished_then.entries) (λ e. e.making ≡ None)
   made_now = IsSomeAnd-from (entry_of k finished_then.entries) (λ e. e.making ≡ None) made (change_finished k ∙ ap (λ b. cond b (Some made) (entry_of k m.cluster.entries)) (eq-eqb k k refl)) refl
 
-  abbrev handle : Handle
-  handle = new_handle finished_then s.call s.op k
+  abbrev handle : HandleView
+  handle = new_handle finished_then (m.last_handles (client_of s.call)) s.op k
 
   -- the call ends, and its client has the handle
   leads_finished : (place : ℕ) → Leads m (stepped (with_handle_at (with_record m finished_then) (client_of s.call) handle (Some place)) s verbs.Finish (Some k) None words.Ok (Some (Done (answers.Opened k))))
@@ -211,8 +215,8 @@ module _ (m : Machine) (s : CallState) (call : CallId) (ask : OpenAsk) (making :
         up_to = AllUpTo-change_key (made_with m.cluster.up ask.client) (λ e. refl) m.cluster.last_identity k m.cluster.entries inv.up_to;
         in_use = in_use_finished;
         entries = good_finished;
-        handles = handles-push m.handles (λ h. (1 ≤ h.number) × IsSomeAnd (entry_of h.ckpt finished_then.entries) (λ e. e.making ≡ None)) (client_of s.call) handle
-            (λ c h among. let (from_one, is) = inv.handles c h among in (from_one, made_still h.ckpt is)) (inv.working.1.number, made_now);
+        handles = handles-push m.handles (λ h. (1 ≤ h.handle) × IsSomeAnd (entry_of h.id finished_then.entries) (λ e. e.making ≡ None)) (client_of s.call) handle
+            (λ c h among. let (from_one, is) = inv.handles c h among in (from_one, made_still h.id is)) (omega arith, made_now);
         next = inv.next;
         in_hand = in_hand_of-ended m.in_hand s (drivers.Open at_making) inv.in_hand;
         working = tt;
@@ -221,7 +225,7 @@ module _ (m : Machine) (s : CallState) (call : CallId) (ask : OpenAsk) (making :
     counts = λ n counts. let more = Counts-record m finished_then n counts (omega (arith, counts.identity))
         (references-changed m k (Some made) finished_then.entries n counts change_finished
         (λ e c is. subst (λ (f : Entry). slice_index f.references c ≤ n + 1) (same_Some made e is) (slice_index-one_more entry.references ask.client c n (λ d. counts.references k entry d found)))) in
-        record { next = more.next; effects = more.effects; identity = more.identity; references = more.references };
+        record { next = more.next; last_handles = last_handles-put m (client_of s.call) n counts; effects = more.effects; identity = more.identity; references = more.references };
   }
 
   -- the finish
@@ -233,6 +237,7 @@ module _ (m : Machine) (s : CallState) (call : CallId) (ask : OpenAsk) (making :
           row = (
             (
               making_by,
+              in_time,
               (λ r up. let first : r ≡ 0 = first_up r m.cluster inv.working.1.up up in
                   subst (λ q. m.reserved k q ≡ Some (slice_index m.cluster.up q)) (sym first) (reserved ∙ ap (λ nodes. Some (slice_index nodes 0)) (sym inv.working.1.up))),
               refl,
@@ -249,9 +254,9 @@ module _ (m : Machine) (s : CallState) (call : CallId) (ask : OpenAsk) (making :
 
 -- ---- reserved
 
-module _ (m : Machine) (s : CallState) (call : CallId) (ask : OpenAsk) (k : ℕ) (inv : InvariantWith (Some (record { state = s; driver = drivers.Open (record { call = call; ask = ask; making = Some (record { ckpt = k; reserved = no_nodes; refused = false }) }) })) m) where
+module _ (m : Machine) (s : CallState) (call : CallId) (ask : OpenAsk) (deadline : Option ℤ) (k : ℕ) (inv : InvariantWith (Some (record { state = s; driver = drivers.Open (record { call = call; ask = ask; deadline = deadline; making = Some (record { ckpt = k; reserved = no_nodes; refused = false }) }) })) m) where
   abbrev making_of : Making → OpenCall
-  making_of making = record { call = call; ask = ask; making = Some making }
+  making_of making = record { call = call; ask = ask; deadline = deadline; making = Some making }
 
   abbrev unreserved : Making
   unreserved = record { ckpt = k; reserved = no_nodes; refused = false }
@@ -302,17 +307,19 @@ module _ (m : Machine) (s : CallState) (call : CallId) (ask : OpenAsk) (k : ℕ)
             built = inv.working.1.built;
             asks = inv.working.1.asks;
             asked = inv.working.1.asked;
+            deadline = inv.working.1.deadline;
             up = inv.working.1.up;
             making = record {
               there = inv.working.1.making.there;
               reserved = inr (ap (λ up. slice_set no_nodes 0 (slice_index up 0)) inv.working.1.up, reserved_now);
             };
             room = inv.working.1.room;
+            in_time = inv.working.1.in_time;
           },
         );
       };
     };
-    counts = λ n counts. let more = Counts-hands m m.in_hand n counts in record { next = more.next; effects = more.effects; identity = more.identity; references = more.references };
+    counts = λ n counts. let more = Counts-hands m m.in_hand n counts in record { next = more.next; last_handles = more.last_handles; effects = more.effects; identity = more.identity; references = more.references };
   }
 
   -- or with its refusal
@@ -338,14 +345,16 @@ module _ (m : Machine) (s : CallState) (call : CallId) (ask : OpenAsk) (k : ℕ)
             built = inv.working.1.built;
             asks = inv.working.1.asks;
             asked = inv.working.1.asked;
+            deadline = inv.working.1.deadline;
             up = inv.working.1.up;
             making = record { there = inv.working.1.making.there; reserved = inl refl };
             room = inv.working.1.room;
+            in_time = inv.working.1.in_time;
           },
         );
       };
     };
-    counts = λ n counts. let more = Counts-hands m m.in_hand n counts in record { next = more.next; effects = more.effects; identity = more.identity; references = more.references };
+    counts = λ n counts. let more = Counts-hands m m.in_hand n counts in record { next = more.next; last_handles = more.last_handles; effects = more.effects; identity = more.identity; references = more.references };
   }
 
   -- n0 is up
@@ -354,18 +363,22 @@ module _ (m : Machine) (s : CallState) (call : CallId) (ask : OpenAsk) (k : ℕ)
 
   -- the checkpoint is in the making by the call
   by : IsMadeBy m s.call k
-  by = making_by m s call ask unreserved inv
+  by = making_by m s call ask deadline unreserved inv
+
+  -- the deadline is not reached
+  before : IsInTime m s
+  before = in_time m s call ask deadline unreserved inv
 
   -- the reservation
   reserve_goes : (t : Told) → IsServed m s 0 (requests.Reserve k) t → Goes m s (drivers.Open (making_of unreserved)) t
   reserve_goes t served = elim served.may [
     | inl ok ↦ subst (Goes m s (drivers.Open (making_of unreserved))) (sym (IsServed-told m s 0 (requests.Reserve k) t (drivers.Open (making_of unreserved)) (replies.Done answers.Nothing) served inv.working.0 ok)) (record {
-      row = ((up_there, by, refl), reserve_pieces k s.op m.cluster.moment (seen_at m k 0));
+      row = ((up_there, by, before, refl), reserve_pieces k s.op m.cluster.moment (seen_at m k 0));
       leads = leads_reserved;
       nearer = λ none. subst (λ up. lacking up (slice_set no_nodes 0 (slice_index up 0)) + 1 < lacking up no_nodes + 1) (sym inv.working.1.up) (omega arith);
     })
     | inr memory ↦ subst (Goes m s (drivers.Open (making_of unreserved))) (sym (IsServed-told m s 0 (requests.Reserve k) t (drivers.Open (making_of unreserved)) replies.NoMemory served inv.working.0 memory)) (record {
-      row = ((up_there, by, refl), reserve_pieces k s.op m.cluster.moment (seen_at m k 0));
+      row = ((up_there, by, before, refl), reserve_pieces k s.op m.cluster.moment (seen_at m k 0));
       leads = leads_refused;
       nearer = λ none. subst (λ up. 1 < lacking up no_nodes + 1) (sym inv.working.1.up) (omega arith);
     })
@@ -377,9 +390,9 @@ module _ (m : Machine) (s : CallState) (call : CallId) (ask : OpenAsk) (k : ℕ)
 pub making_is : (making : Making) (own : List ℕ) (memory : Bool) → making.reserved ≡ own → making.refused ≡ memory → making ≡ record { ckpt = making.ckpt; reserved = own; refused = memory }
 making_is making own memory has was = λ i. record { ckpt = making.ckpt; reserved = has i; refused = was i }
 
-module _ (m : Machine) (s : CallState) (call : CallId) (ask : OpenAsk) where
+module _ (m : Machine) (s : CallState) (call : CallId) (ask : OpenAsk) (deadline : Option ℤ) where
   abbrev driver_at : Making → Driver
-  driver_at making = drivers.Open (record { call = call; ask = ask; making = Some making })
+  driver_at making = drivers.Open (record { call = call; ask = ask; deadline = deadline; making = Some making })
 
   abbrev IsHere : Making → Type 0
   IsHere making = InvariantWith (Some (record { state = s; driver = driver_at making })) m
@@ -392,14 +405,14 @@ module _ (m : Machine) (s : CallState) (call : CallId) (ask : OpenAsk) where
   pub making_goes : (making : Making) → IsHere making → (room : Bool) (t : Told) → IsDone m s (driver_next m.cluster room (driver_at making)) t → Goes m s (driver_at making) t
   making_goes making inv room t done =
       elim making.refused as (λ b. making.refused ≡ b → Goes m s (driver_at making) t) [
-        | true ↦ λ is. undo_goes m s call ask making inv t (subst (λ b. IsDone m s (cond b (Event events.Undo) (reserve_or_finish making.ckpt (first_lacking 0 m.cluster.up making.reserved))) t) is done)
+        | true ↦ λ is. undo_goes m s call ask deadline making inv t (subst (λ b. IsDone m s (cond b (Event events.Undo) (reserve_or_finish making.ckpt (first_lacking 0 m.cluster.up making.reserved))) t) is done)
         | false ↦ λ is. elim inv.working.1.making.reserved [
           | inl none ↦
               let P : Making → Type 0 = λ at. IsHere at → IsDone m s (driver_next m.cluster room (driver_at at)) t → Goes m s (driver_at at) t in
-              subst P (sym (making_is making no_nodes false none is)) (λ inv done. reserve_goes m s call ask making.ckpt inv t (subst (λ next. IsDone m s next t) (open_next-unreserved m s call ask making.ckpt inv room) done)) inv done
+              subst P (sym (making_is making no_nodes false none is)) (λ inv done. reserve_goes m s call ask deadline making.ckpt inv t (subst (λ next. IsDone m s next t) (open_next-unreserved m s call ask deadline making.ckpt inv room) done)) inv done
           | inr first ↦
               let P : Making → Type 0 = λ at. IsHere at → IsDone m s (driver_next m.cluster room (driver_at at)) t → m.reserved at.ckpt 0 ≡ Some 1 → Goes m s (driver_at at) t in
               subst P (sym (making_is making (first_nodes 1) false first.0 is))
-              (λ inv done reserved. finish_goes m s call ask (record { ckpt = making.ckpt; reserved = first_nodes 1; refused = false }) inv t reserved (subst (λ next. IsDone m s next t) (open_next-reserved making.ckpt room inv.working.1.up) done)) inv done first.1
+              (λ inv done reserved. finish_goes m s call ask deadline (record { ckpt = making.ckpt; reserved = first_nodes 1; refused = false }) inv t reserved (subst (λ next. IsDone m s next t) (open_next-reserved making.ckpt room inv.working.1.up) done)) inv done first.1
         ]
       ] refl

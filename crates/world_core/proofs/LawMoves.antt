@@ -9,6 +9,7 @@ use Rattle.ckpt_types.specs.declared.identities.CallId.{CallId}
 use Rattle.world_core.specs.declared.drivers.Driver.{Driver}
 use Rattle.world_core.specs.declared.record.Entry.{Entry}
 use Rattle.world_core.specs.Calls.{same_actor, put_actor}
+use Rattle.world_core.specs.Places.{put}
 use Rattle.world_core.specs.RecordState.{RecordState, entry_of, complete_of, first_nodes}
 use Rattle.world_core.specs.Driving.{StepDone, driver_taken, done_of}
 use Rattle.world_core.specs.Machine.{Machine, Staged, ReplicaState, CallState}
@@ -166,6 +167,7 @@ slice_index-one_more (x ∷ xs) (suc c) (suc d) n few = slice_index-one_more xs 
 pub Counts-hands : (m : Machine) (f : ActorName → Option CallState) (n : ℕ) → Counts m n → Counts (record m { in_hand = f }) (n + 1)
 Counts-hands m f n counts = record {
   next = λ a. omega (arith, counts.next a);
+  last_handles = λ c. omega (arith, counts.last_handles c);
   effects = λ k r x is. omega (arith, counts.effects k r x is);
   identity = omega arith;
   references = λ k e c is. omega (arith, counts.references k e c is);
@@ -175,6 +177,7 @@ Counts-hands m f n counts = record {
 pub Counts-record : (m : Machine) (R : RecordState) (n : ℕ) → Counts m n → R.last_identity ≤ n + 1 → ((k : ℕ) (e : Entry) (c : ℕ) → entry_of k R.entries ≡ Some e → slice_index e.references c ≤ n + 1) → Counts (with_record m R) (n + 1)
 Counts-record m R n counts identity references = record {
   next = λ a. omega (arith, counts.next a);
+  last_handles = λ c. omega (arith, counts.last_handles c);
   effects = λ k r x is. elim (replica_under-Some (entry_of k R.entries) (slice_index (complete_of (entry_of k m.cluster.entries)) r) r (m.replicas k r) x is) [
     | inl was ↦ omega (arith, counts.effects k r x was)
     | inr none ↦ omega (arith, ap length none)
@@ -182,6 +185,10 @@ Counts-record m R n counts identity references = record {
   identity = identity;
   references = references;
 }
+
+-- the numbers of the handles last taken, after one more is
+pub last_handles-put : (m : Machine) (c n : ℕ) → Counts m n → (d : ℕ) → put m.last_handles c (m.last_handles c + 1) d ≤ n + 1
+last_handles-put m c n counts d = elim (d == c) as (λ b. cond b (m.last_handles c + 1) (m.last_handles d) ≤ n + 1) [ true ↦ omega (arith, counts.last_handles c) | false ↦ omega (arith, counts.last_handles d) ]
 
 -- references after one entry is changed
 pub references-changed : (m : Machine) (j : ℕ) (now : Option Entry) (new : List Entry) (n : ℕ) → Counts m n → Changed j now m.cluster.entries new → ((e : Entry) (c : ℕ) → now ≡ Some e → slice_index e.references c ≤ n + 1) → (k : ℕ) (e : Entry) (c : ℕ) → entry_of k new ≡ Some e → slice_index e.references c ≤ n + 1

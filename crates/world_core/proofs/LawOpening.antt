@@ -1,15 +1,16 @@
 -- An open is refused, creates a checkpoint, or opens one that is there.
-use Rattle.std.proofs.Common.{◌≡◌, ℕ, ◌+◌, ◌<◌, ◌≤◌, inl, inr, List, [], ◌∷◌, ◌++◌, length, Option, Some, None, is_some, Bool, true, false, cond, not, ◌==◌, nat_le, refl, sym, ap, subst, ◌∙◌, arith}
+use Rattle.std.proofs.Common.{◌≡◌, ℕ, ◌+◌, ◌<◌, ◌≤◌, inl, inr, List, [], ◌∷◌, ◌++◌, length, Option, Some, None, is_some, Bool, true, false, cond, not, ◌==◌, nat_le, ℤ, refl, sym, ap, subst, ◌∙◌, arith}
 use Rattle.std.specs.Prelude.{IsSomeAnd, Contains, slice_index}
 use Rattle.std.proofs.lemmas.Bool.{eq-eqb, leb-true, leb-false}
 use Rattle.std.proofs.lemmas.Option.{same_Some}
 use Rattle.std.proofs.lemmas.List.{length-replicate}
 use Rattle.std.proofs.lemmas.List.Elements.{Contains-push_cases}
+use Rattle.moment_rules.specs.Times.{is_reached}
 use Rattle.ckpt_types.specs.declared.ais_error.AisError.{AisError}
-use Rattle.ckpt_types.specs.declared.ais_error.AisError.TheVariants.{NotExist, Exist, NoResources}
+use Rattle.ckpt_types.specs.declared.ais_error.AisError.TheVariants.{NotExist, Exist, Timeout, NoResources}
 use Rattle.ckpt_types.specs.declared.answers.Answer.TheVariants as answers
 use Rattle.ckpt_types.specs.declared.answers.Cause.{Cause}
-use Rattle.ckpt_types.specs.declared.answers.Cause.TheVariants.{Plain, Count}
+use Rattle.ckpt_types.specs.declared.answers.Cause.TheVariants.{Plain, Deadline, Count}
 use Rattle.ckpt_types.specs.declared.answers.Outcome.TheVariants.{Done, Refused, NoMemory}
 use Rattle.ckpt_types.specs.declared.attributes.CreationAttributes.{CreationAttributes}
 use Rattle.ckpt_types.specs.declared.calls.OpenAsk.{OpenAsk}
@@ -20,29 +21,30 @@ use Rattle.node_msgs.specs.declared.next.RecordStep.TheVariants as events
 use Rattle.node_msgs.specs.declared.next.Next.TheVariants.{Event, End}
 use Rattle.run_labels.specs.declared.words.Verb.TheVariants as verbs
 use Rattle.run_labels.specs.declared.labels.StepReply.TheVariants as words
+use Rattle.client_handles.specs.declared.handle_view.HandleView.{HandleView}
 use Rattle.world_core.specs.declared.drivers.Driver.TheVariants as drivers
 use Rattle.world_core.specs.declared.open_call.OpenCall.{OpenCall}
 use Rattle.world_core.specs.declared.record.Entry.{Entry}
-use Rattle.world_core.specs.declared.tables.Handle.{Handle}
 use Rattle.world_core.specs.Beginning.{opened_place}
 use Rattle.world_core.specs.Calls.{client_of}
 use Rattle.world_core.specs.Places.{put}
 use Rattle.world_core.specs.RecordState.{RecordState, identity_of, entry_of, named, no_nodes, new_entry, created_as, referred, opened, swept}
-use Rattle.world_core.specs.Driving.{StepDone, driver_next, driver_taken, done_of, event_after, at_ckpt, identity_in, opened_end, accepts, on_named, on_free_name}
+use Rattle.world_core.specs.Driving.{StepDone, driver_next, driver_taken, done_of, event_after, at_ckpt, identity_in, opened_end, IsBefore, accepts, create_next, entry_next, on_named, on_free_name}
 use Rattle.world_core.specs.Machine.{Machine, CallState}
 use Rattle.world_core.specs.Steps.{Told, IsDone, IsEvent, driver_of, room_of, with_record, with_opened, with_handle_at, new_handle, replicas_under, stepped}
-use Rattle.world_core.specs.Guards.{LookRefused, OpenLook, CreateRow, OpenRow, CanOpen}
+use Rattle.world_core.specs.Guards.{IsInTime, MayCreate, CreateRow, CanOpen, MayOpen, OpenRow, MayExist, IsAccepted, OpenLook, LookRefused}
 use Rattle.world_core.specs.Runs.{steps_left, lacking}
 use Rattle.world_core.specs.Invariant.{maker_by, IsGoodEntry, IsMade, OpensAs, AreGoodAttributes, AllInUse, InvariantWith}
+use Rattle.world_core.proofs.Deadlines.{in_time-cases}
 use Rattle.world_core.proofs.LawLists.{find_key-push, find_key-change_key, entry_of-beyond, entry_of-find, AllUpTo-change_key, IdentitiesRise-change_key, AllUpTo-push, IdentitiesRise-push, AllInUse-push, AllInUse-change_key, is_in_use-referred}
-use Rattle.world_core.proofs.LawMoves.{Leads, Goes, in_hand_of-going, in_hand_of-ended, Changed, Changed-found, Changed-kept, replicas_under-kept, IsGoodEntry-replica, IsSomeAnd-from, slice_index-one_more, Counts-record, references-changed}
+use Rattle.world_core.proofs.LawMoves.{Leads, Goes, in_hand_of-going, in_hand_of-ended, Changed, Changed-found, Changed-kept, replicas_under-kept, IsGoodEntry-replica, IsSomeAnd-from, slice_index-one_more, Counts-record, references-changed, last_handles-put}
 use Rattle.world_core.proofs.LawEnds.{OfOpen-is, slice_index-replicate, swept-in_use, IsGoodEntry-as, Leads-ended, look_goes}
 use Rattle.world_core.proofs.LawMade.{IsEvent-told}
 
 -- ---- handles
 
 -- what holds of all handles holds of them with one more of which it holds
-pub handles-push : (handles : ℕ → List Handle) (P : Handle → Type 0) (c : ℕ) (new : Handle) → ((d : ℕ) (h : Handle) → Contains (handles d) h → P h) → P new → (d : ℕ) (h : Handle) → Contains (put handles c (handles c ++ new ∷ []) d) h → P h
+pub handles-push : (handles : ℕ → List HandleView) (P : HandleView → Type 0) (c : ℕ) (new : HandleView) → ((d : ℕ) (h : HandleView) → Contains (handles d) h → P h) → P new → (d : ℕ) (h : HandleView) → Contains (put handles c (handles c ++ new ∷ []) d) h → P h
 handles-push handles P c new all here d h =
     elim (d == c) as (λ b. Contains (cond b (handles c ++ new ∷ []) (handles d)) h → P h) [
       | true ↦ λ among. elim (Contains-push_cases (handles c) new h among) [ inl old ↦ all c h old | inr same ↦ subst P same here ]
@@ -61,17 +63,25 @@ LookRefused-open : (m : Machine) (s : CallState) (op : Op) (ask : OpenAsk) (erro
 LookRefused-open m s (ops.Open place name flags timeout a) ask error cause is look = subst (λ b. OpenLook m s name b error cause) is.1 (subst (λ n. OpenLook m s n ask.attrs error cause) is.0 look)
 LookRefused-open m s op ask error cause is look = absurd is
 
-module _ (m : Machine) (s : CallState) (call : CallId) (ask : OpenAsk) (inv : InvariantWith (Some (record { state = s; driver = drivers.Open (record { call = call; ask = ask; making = None }) })) m) where
+module _ (m : Machine) (s : CallState) (call : CallId) (ask : OpenAsk) (deadline : Option ℤ) (inv : InvariantWith (Some (record { state = s; driver = drivers.Open (record { call = call; ask = ask; deadline = deadline; making = None }) })) m) where
   abbrev asking : OpenCall
-  asking = record { call = call; ask = ask; making = None }
+  asking = record { call = call; ask = ask; deadline = deadline; making = None }
 
   -- it is refused
   refused : (t : Told) (error : AisError) (cause : Cause) → OpenLook m s ask.name ask.attrs error cause → IsDone m s (End (Refused error cause)) t → Goes m s (drivers.Open asking) t
   refused t error cause look done = look_goes m s (drivers.Open asking) (Refused error cause) t inv (λ k. refl) (λ k. refl) refl (LookRefused-open m s s.op ask error cause inv.working.1.asks look) done
 
+  -- at its deadline
+  refused_late : (t : Told) (d : ℤ) → MayExist (named ask.name m.cluster.entries) ask.attrs → deadline ≡ Some d → is_reached d m.cluster.moment ≡ true → IsDone m s (End (Refused Timeout (Deadline d m.cluster.moment))) t → Goes m s (drivers.Open asking) t
+  refused_late t d may is late done = refused t Timeout (Deadline d m.cluster.moment) (may, sym inv.working.1.deadline ∙ is, refl, late) done
+
+  -- before it
+  in_time_is : IsBefore m.cluster.moment deadline → IsInTime m s
+  in_time_is before = subst (IsBefore m.cluster.moment) inv.working.1.deadline before
+
   -- ---- a checkpoint is created
 
-  module _ (a : CreationAttributes) (given : ask.attrs ≡ Some a) (free : named ask.name m.cluster.entries ≡ None) where
+  module _ (a : CreationAttributes) (given : ask.attrs ≡ Some a) (free : named ask.name m.cluster.entries ≡ None) (before : IsBefore m.cluster.moment deadline) where
     abbrev next : ℕ
     next = m.cluster.last_identity + 1
 
@@ -85,7 +95,7 @@ module _ (m : Machine) (s : CallState) (call : CallId) (ask : OpenAsk) (inv : In
     create_done = done_of after_it verbs.Create (Some next) None words.Ok
 
     abbrev making : OpenCall
-    making = record { call = call; ask = ask; making = Some (record { ckpt = next; reserved = no_nodes; refused = false }) }
+    making = record { call = call; ask = ask; deadline = deadline; making = Some (record { ckpt = next; reserved = no_nodes; refused = false }) }
 
     -- no checkpoint has it
     none_before : entry_of next m.cluster.entries ≡ None
@@ -128,7 +138,7 @@ module _ (m : Machine) (s : CallState) (call : CallId) (ask : OpenAsk) (inv : In
           handles = λ c h among. let (from_one, made) = inv.handles c h among in (
             from_one,
             Changed-kept next (Some new) m.cluster.entries after_it.entries (λ e. e.making ≡ None) change
-                (λ there. absurd (subst (λ o. IsSomeAnd o (λ e. e.making ≡ None)) none_before there)) h.ckpt made,
+                (λ there. absurd (subst (λ o. IsSomeAnd o (λ e. e.making ≡ None)) none_before there)) h.id made,
           );
           next = inv.next;
           in_hand = in_hand_of-going m.in_hand s (drivers.Open asking) (drivers.Open making) (create_done ∷ s.steps) inv.in_hand;
@@ -141,24 +151,30 @@ module _ (m : Machine) (s : CallState) (call : CallId) (ask : OpenAsk) (inv : In
               built = inv.working.1.built;
               asks = inv.working.1.asks;
               asked = inv.working.1.asked;
+              deadline = inv.working.1.deadline;
               up = inv.working.1.up;
               making = record {
                 there = ap is_some (change next ∙ ap (λ b. cond b (Some new) (entry_of next m.cluster.entries)) (eq-eqb next next refl));
                 reserved = inl refl;
               };
               room = λ some. ap (room_of m) inv.working.1.client ∙ room;
+              in_time = λ some. before;
             },
           );
         };
       };
       counts = λ n counts. let more = Counts-record m after_it n counts (omega (arith, counts.identity))
           (references-changed m next (Some new) after_it.entries n counts change (λ e c is. subst (λ (f : Entry). slice_index f.references c ≤ n + 1) (same_Some new e is) (omega (arith, slice_index-replicate 100 c)))) in
-          record { next = more.next; effects = more.effects; identity = more.identity; references = more.references };
+          record { next = more.next; last_handles = more.last_handles; effects = more.effects; identity = more.identity; references = more.references };
     }
 
     -- its reservations and its finish are left
     create_nearer : steps_left after_it (drivers.Open making) < steps_left m.cluster (drivers.Open asking)
     create_nearer = subst (λ up. lacking up no_nodes + 1 < 10) (sym inv.working.1.up) (omega arith)
+
+    -- it may be created
+    may_create : room_of m (client_of s.call) ≡ true → length m.cluster.entries < 16 → MayCreate m s ask.name ask.attrs next
+    may_create room few = record { free = free; asked = ap is_some given; in_time = in_time_is before; room = room; few = few; next = refl }
 
     -- the creation
     create_goes : (t : Told) → room_of m (client_of s.call) ≡ true → length m.cluster.entries < 16 → IsEvent m s events.Create t → Goes m s (drivers.Open asking) t
@@ -166,12 +182,12 @@ module _ (m : Machine) (s : CallState) (call : CallId) (ask : OpenAsk) (inv : In
       | inl ok ↦ subst (Goes m s (drivers.Open asking)) (sym ok) (
           let same : event_after s.call (driver_of s) events.Create m.cluster ≡ after_it = ap (λ d. event_after s.call d events.Create m.cluster) inv.working.0 ∙ ap (λ o. swept (created_as s.call ask.name o m.cluster)) given ∙ swept-in_use after_it (AllInUse-push m.cluster.entries new inv.in_use refl) in
           record {
-            row = (OfOpen-is s.op ask (λ name b. CreateRow m s name b next words.Ok None) inv.working.1.asks (free, ap is_some given, room, few, refl, refl), refl);
+            row = (OfOpen-is s.op ask (λ name b. CreateRow m s name b next words.Ok None) inv.working.1.asks (may_create room few, refl), refl);
             leads = subst (λ R. Leads m (stepped (with_record m R) s verbs.Create (Some next) None words.Ok None)) (sym same) (leads_created room);
             nearer = λ none. subst (λ R. steps_left R (driver_taken (done_of R verbs.Create (Some next) None words.Ok) (drivers.Open asking)) < steps_left m.cluster (drivers.Open asking)) (sym same) create_nearer;
           })
       | inr memory ↦ subst (Goes m s (drivers.Open asking)) (sym memory.1) (record {
-        row = (OfOpen-is s.op ask (λ name b. CreateRow m s name b next words.Memory (Some NoMemory)) inv.working.1.asks refl, refl);
+        row = (OfOpen-is s.op ask (λ name b. CreateRow m s name b next words.Memory (Some NoMemory)) inv.working.1.asks (may_create room few, refl), refl);
         leads = Leads-ended m s (drivers.Open asking) inv (λ k. refl) (λ k. refl);
         nearer = λ none. absurd (cc none);
       })
@@ -179,7 +195,7 @@ module _ (m : Machine) (s : CallState) (call : CallId) (ask : OpenAsk) (inv : In
 
   -- ---- a checkpoint that is there is opened
 
-  module _ (e : Entry) (found : named ask.name m.cluster.entries ≡ Some e) where
+  module _ (e : Entry) (found : named ask.name m.cluster.entries ≡ Some e) (before : IsBefore m.cluster.moment deadline) where
     abbrev with_reference : Entry
     with_reference = referred ask.client e
 
@@ -217,8 +233,8 @@ module _ (m : Machine) (s : CallState) (call : CallId) (ask : OpenAsk) (inv : In
     made_still : (k : ℕ) → IsMade m k → IsSomeAnd (entry_of k opened_then.entries) (λ f. f.making ≡ None)
     made_still = Changed-kept e.identity (Some with_reference) m.cluster.entries opened_then.entries (λ f. f.making ≡ None) change_opened (λ is. good.making)
 
-    abbrev handle : Handle
-    handle = new_handle opened_then s.call s.op e.identity
+    abbrev handle : HandleView
+    handle = new_handle opened_then (m.last_handles (client_of s.call)) s.op e.identity
 
     -- the call ends, and its client has the handle
     leads_opened : (place : ℕ) → Leads m (stepped (with_handle_at (with_record m opened_then) (client_of s.call) handle (Some place)) s verbs.Open (Some e.identity) None words.Ok (Some (Done (answers.Opened e.identity))))
@@ -231,9 +247,9 @@ module _ (m : Machine) (s : CallState) (call : CallId) (ask : OpenAsk) (inv : In
           up_to = AllUpTo-change_key (referred ask.client) (λ f. refl) m.cluster.last_identity e.identity m.cluster.entries inv.up_to;
           in_use = in_use_opened;
           entries = good_opened;
-          handles = handles-push m.handles (λ h. (1 ≤ h.number) × IsSomeAnd (entry_of h.ckpt opened_then.entries) (λ f. f.making ≡ None)) (client_of s.call) handle
-              (λ c h among. let (from_one, made) = inv.handles c h among in (from_one, made_still h.ckpt made))
-              (inv.working.1.number, made_still e.identity (IsSomeAnd-from (entry_of e.identity m.cluster.entries) (λ f. f.making ≡ None) e there good.making));
+          handles = handles-push m.handles (λ h. (1 ≤ h.handle) × IsSomeAnd (entry_of h.id opened_then.entries) (λ f. f.making ≡ None)) (client_of s.call) handle
+              (λ c h among. let (from_one, made) = inv.handles c h among in (from_one, made_still h.id made))
+              (omega arith, made_still e.identity (IsSomeAnd-from (entry_of e.identity m.cluster.entries) (λ f. f.making ≡ None) e there good.making));
           next = inv.next;
           in_hand = in_hand_of-ended m.in_hand s (drivers.Open asking) inv.in_hand;
           working = tt;
@@ -242,7 +258,15 @@ module _ (m : Machine) (s : CallState) (call : CallId) (ask : OpenAsk) (inv : In
       counts = λ n counts. let more = Counts-record m opened_then n counts (omega (arith, counts.identity))
           (references-changed m e.identity (Some with_reference) opened_then.entries n counts change_opened
           (λ f c is. subst (λ (g : Entry). slice_index g.references c ≤ n + 1) (same_Some with_reference f is) (slice_index-one_more e.references ask.client c n (λ d. counts.references e.identity e d there)))) in
-          record { next = more.next; effects = more.effects; identity = more.identity; references = more.references };
+          record { next = more.next; last_handles = last_handles-put m (client_of s.call) n counts; effects = more.effects; identity = more.identity; references = more.references };
+    }
+
+    -- it may be opened
+    may_open : accepts ask.attrs e ≡ true → room_of m (client_of s.call) ≡ true → MayOpen m s ask.name ask.attrs e.identity
+    may_open accepted room = record {
+      there = IsSomeAnd-from (named ask.name m.cluster.entries) (CanOpen ask.attrs e.identity) e found (record { identity = refl; made = good.making; accepted = accepted });
+      in_time = in_time_is before;
+      room = room;
     }
 
     -- the opening
@@ -255,8 +279,7 @@ module _ (m : Machine) (s : CallState) (call : CallId) (ask : OpenAsk) (inv : In
               ap (λ d. event_after s.call d events.Open m.cluster) inv.working.0 ∙ ap (λ o. swept (at_ckpt (identity_in o) m.cluster (λ k. opened k ask.client m.cluster))) found ∙ swept-in_use opened_then in_use_opened in
               subst (Goes m s (drivers.Open asking)) (sym (ok ∙ (λ i. record { verb = verbs.Open; ckpt = identity_in (found i); node = None; reply = words.Ok; end = opened_end (identity_in (found i)); pieces = None }))) (record {
                 row = (
-                  OfOpen-is s.op ask (λ name b. OpenRow m s name b e.identity words.Ok (Some (Done (answers.Opened e.identity)))) inv.working.1.asks
-                      (IsSomeAnd-from (named ask.name m.cluster.entries) (CanOpen ask.attrs e.identity) e found (record { identity = refl; made = good.making; accepted = accepted }), room, refl),
+                  OfOpen-is s.op ask (λ name b. OpenRow m s name b e.identity words.Ok (Some (Done (answers.Opened e.identity)))) inv.working.1.asks (may_open accepted room, refl),
                   refl,
                 );
                 leads = subst (λ R. Leads m (stepped (with_opened s (Some e.identity) (with_record m R)) s verbs.Open (Some e.identity) None words.Ok (Some (Done (answers.Opened e.identity))))) (sym same)
@@ -265,7 +288,7 @@ module _ (m : Machine) (s : CallState) (call : CallId) (ask : OpenAsk) (inv : In
               })
           | inr memory ↦
               subst (Goes m s (drivers.Open asking)) (sym (memory.1 ∙ (λ i. record { verb = verbs.Open; ckpt = identity_in (found i); node = None; reply = words.Memory; end = Some NoMemory; pieces = None }))) (record {
-                row = (OfOpen-is s.op ask (λ name b. OpenRow m s name b e.identity words.Memory (Some NoMemory)) inv.working.1.asks refl, refl);
+                row = (OfOpen-is s.op ask (λ name b. OpenRow m s name b e.identity words.Memory (Some NoMemory)) inv.working.1.asks (may_open accepted room, refl), refl);
                 leads = Leads-ended m s (drivers.Open asking) inv (λ k. refl) (λ k. refl);
                 nearer = λ none. absurd (cc none);
               })
@@ -273,26 +296,37 @@ module _ (m : Machine) (s : CallState) (call : CallId) (ask : OpenAsk) (inv : In
 
   -- ---- by the name
 
-  -- of a name that is free
-  on_free_name-goes : (room : Bool) (a : Option CreationAttributes) (t : Told) → room_of m (client_of s.call) ≡ room → ask.attrs ≡ a → named ask.name m.cluster.entries ≡ None → IsDone m s (on_free_name m.cluster room a) t → Goes m s (drivers.Open asking) t
-  on_free_name-goes room None t has given free done = refused t NotExist Plain (free, given) done
-  on_free_name-goes false (Some a) t has given free done = refused t NoResources (Count 32) (inl (rw free (ap is_some given, has, refl))) done
-  on_free_name-goes true (Some a) t has given free done =
+  -- of a name that is free, where a checkpoint is asked for in time
+  create_next-goes : (room : Bool) (a : CreationAttributes) (t : Told) → room_of m (client_of s.call) ≡ room → ask.attrs ≡ Some a → named ask.name m.cluster.entries ≡ None → IsBefore m.cluster.moment deadline → IsDone m s (create_next m.cluster room) t → Goes m s (drivers.Open asking) t
+  create_next-goes false a t has given free before done =
+      refused t NoResources (Count 32) (in_time_is before, inl (record { accepted = subst (λ o. IsAccepted o ask.attrs) (sym free) (ap is_some given); full = has; limit = refl })) done
+  create_next-goes true a t has given free before done =
       elim (nat_le 16 (length m.cluster.entries)) as (λ b. nat_le 16 (length m.cluster.entries) ≡ b → IsDone m s (cond b (End (Refused NoResources (Count 16))) (Event events.Create)) t → Goes m s (drivers.Open asking) t) [
-        | true ↦ λ full done. refused t NoResources (Count 16) (inr (free, has, leb-true 16 (length m.cluster.entries) full, refl)) done
-        | false ↦ λ few done. create_goes a given free t has (leb-false 16 (length m.cluster.entries) few) done
+        | true ↦ λ full done. refused t NoResources (Count 16) (in_time_is before, inr (record { free = free; asked = ap is_some given; room = has; full = leb-true 16 (length m.cluster.entries) full; limit = refl })) done
+        | false ↦ λ few done. create_goes a given free before t has (leb-false 16 (length m.cluster.entries) few) done
       ] refl done
 
-  -- of a name that a checkpoint has
-  on_entry_named-goes : (room : Bool) (e : Entry) (t : Told) → room_of m (client_of s.call) ≡ room → named ask.name m.cluster.entries ≡ Some e → (accepted : Bool) → accepts ask.attrs e ≡ accepted → IsDone m s (cond (not accepted) (End (Refused Exist Plain)) (cond (not room) (End (Refused NoResources (Count 32))) (Event events.Open))) t → Goes m s (drivers.Open asking) t
-  on_entry_named-goes room e t has found false accepted done = refused t Exist Plain (IsSomeAnd-from (named ask.name m.cluster.entries) (λ f. accepts ask.attrs f ≡ false) e found accepted) done
-  on_entry_named-goes false e t has found true accepted done = refused t NoResources (Count 32) (inl (rw found (accepted, has, refl))) done
-  on_entry_named-goes true e t has found true accepted done = open_goes e found t accepted has done
+  -- of a name that is free
+  on_free_name-goes : (room : Bool) (a : Option CreationAttributes) (t : Told) → room_of m (client_of s.call) ≡ room → ask.attrs ≡ a → named ask.name m.cluster.entries ≡ None → IsDone m s (on_free_name m.cluster room deadline a) t → Goes m s (drivers.Open asking) t
+  on_free_name-goes room None t has given free done = refused t NotExist Plain (free, given) done
+  on_free_name-goes room (Some a) t has given free done =
+      in_time-cases (λ next. IsDone m s next t → Goes m s (drivers.Open asking) t) deadline m.cluster.moment (create_next m.cluster room)
+      (λ d is late. refused_late t d (subst (λ o. MayExist o ask.attrs) (sym free) (ap is_some given)) is late) (λ before. create_next-goes room a t has given free before) done
+
+  -- of a name that a checkpoint has, in time
+  entry_next-goes : (room : Bool) (e : Entry) (t : Told) → room_of m (client_of s.call) ≡ room → named ask.name m.cluster.entries ≡ Some e → IsBefore m.cluster.moment deadline → (accepted : Bool) → accepts ask.attrs e ≡ accepted
+      → IsDone m s (cond (not accepted) (End (Refused Exist Plain)) (cond (not room) (End (Refused NoResources (Count 32))) (Event events.Open))) t → Goes m s (drivers.Open asking) t
+  entry_next-goes room e t has found before false accepted done = refused t Exist Plain (in_time_is before, IsSomeAnd-from (named ask.name m.cluster.entries) (λ f. accepts ask.attrs f ≡ false) e found accepted) done
+  entry_next-goes false e t has found before true accepted done =
+      refused t NoResources (Count 32) (in_time_is before, inl (record { accepted = subst (λ o. IsAccepted o ask.attrs) (sym found) accepted; full = has; limit = refl })) done
+  entry_next-goes true e t has found before true accepted done = open_goes e found before t accepted has done
 
   -- of any name
-  on_named-goes : (room : Bool) (o : Option Entry) (t : Told) → room_of m (client_of s.call) ≡ room → named ask.name m.cluster.entries ≡ o → IsDone m s (on_named m.cluster room ask.attrs o) t → Goes m s (drivers.Open asking) t
+  on_named-goes : (room : Bool) (o : Option Entry) (t : Told) → room_of m (client_of s.call) ≡ room → named ask.name m.cluster.entries ≡ o → IsDone m s (on_named m.cluster room deadline ask.attrs o) t → Goes m s (drivers.Open asking) t
   on_named-goes room None t has free done = on_free_name-goes room ask.attrs t has refl free done
-  on_named-goes room (Some e) t has found done = on_entry_named-goes room e t has found (accepts ask.attrs e) refl done
+  on_named-goes room (Some e) t has found done =
+      in_time-cases (λ next. IsDone m s next t → Goes m s (drivers.Open asking) t) deadline m.cluster.moment (entry_next room ask.attrs e)
+      (λ d is late. refused_late t d (subst (λ o. MayExist o ask.attrs) (sym found) tt) is late) (λ before. entry_next-goes room e t has found before (accepts ask.attrs e) refl) done
 
   -- the next step of an open that makes nothing yet
   pub asking_goes : (room : Bool) (t : Told) → room_of m (client_of s.call) ≡ room → IsDone m s (driver_next m.cluster room (drivers.Open asking)) t → Goes m s (drivers.Open asking) t

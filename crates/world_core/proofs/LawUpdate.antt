@@ -140,7 +140,7 @@ module _ (m : Machine) (s : CallState) (k : ℕ) (t : ℤ) (inv : InvariantWith 
         );
       };
     };
-    counts = λ n counts. let more = Counts-replica m k 0 with_stage n counts (omega (arith, counts.effects k 0 unstaged_at.replica unstaged_at.there)) in record { next = more.next; effects = more.effects; identity = more.identity; references = more.references };
+    counts = λ n counts. let more = Counts-replica m k 0 with_stage n counts (omega (arith, counts.effects k 0 unstaged_at.replica unstaged_at.there)) in record { next = more.next; last_handles = more.last_handles; effects = more.effects; identity = more.identity; references = more.references };
   }
 
   -- the guard of the stage
@@ -229,7 +229,7 @@ module _ (m : Machine) (s : CallState) (k : ℕ) (t : ℤ) (inv : InvariantWith 
         working = tt;
       };
     };
-    counts = λ n counts. let more = Counts-replica m k 0 with_commit n counts (omega (arith, length_push staged_at.replica.effects (effect_of (own_slot s t)), counts.effects k 0 staged_at.replica staged_at.there)) in record { next = more.next; effects = more.effects; identity = more.identity; references = more.references };
+    counts = λ n counts. let more = Counts-replica m k 0 with_commit n counts (omega (arith, length_push staged_at.replica.effects (effect_of (own_slot s t)), counts.effects k 0 staged_at.replica staged_at.there)) in record { next = more.next; last_handles = more.last_handles; effects = more.effects; identity = more.identity; references = more.references };
   }
 
   -- the guard of the commit

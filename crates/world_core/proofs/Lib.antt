@@ -2,6 +2,7 @@ pub mod AtKeys
 pub mod Begin
 pub mod Beginnings
 pub mod Calls
+pub mod Deadlines
 pub mod Entries
 pub mod Events
 pub mod Going
@@ -37,5 +38,6 @@ pub mod Rows
 pub mod Running
 pub mod Serve
 pub mod Stepping
+pub mod Taken
 pub mod Told
 pub mod Words

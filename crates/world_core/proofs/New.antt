@@ -1,17 +1,20 @@
 -- A new world shows the empty cluster.
 use Rattle.std.proofs.Common.{◌≡◌, ℕ, zero, suc, [], refl, sym, ap, subst, ◌∙◌}
-use Rattle.std.specs.Prelude.{Option, Some, None, ◌==◌, replicate, slice_get, slice_index, if◌then◌else◌}
+use Rattle.std.specs.Prelude.{Option, Some, None, replicate, slice_get, slice_index, pos}
 use Rattle.ckpt_types.specs.declared.identities.ActorName.{ActorName}
 use Rattle.ckpt_types.specs.declared.identities.ActorName.TheVariants.{Client, Node}
+use Rattle.client_handles.specs.ClientState.{ClientState, new_client}
 use Rattle.world_core.specs.declared.world.World.{World}
 use Rattle.world_core.specs.RecordState.{RecordState, entry_of}
 use Rattle.world_core.specs.TableState.{TableState}
+use Rattle.world_core.specs.NewTable.{no_callbacks}
 use Rattle.world_core.specs.Serving.{replica_in}
 use Rattle.world_core.specs.Machine.{empty_cluster}
-use Rattle.world_core.specs.Shows.{History, Shows, Fits, FitsReplica, FitsReserved, FitsHand, machine_of, complete_replica, handles_in, hand_of, next_of, place_in, reserved_in, shown_hand, shown_replica, where_complete}
+use Rattle.world_core.specs.Shows.{History, Shows, Fits, FitsReplica, FitsReserved, FitsHand, machine_of, complete_replica, handles_in, hand_of, last_in, next_of, numbered, place_in, reserved_in, shown_hand, shown_replica, where_complete}
 use Rattle.world_core.specs.Invariant.{Invariant}
 use Rattle.world_core.specs.Runs.{IsNew, IsRunTo}
 use Rattle.world_core.proofs.Law.{counts_empty}
+use Rattle.world_core.proofs.Openings.{slice_index-replicate}
 use Rattle.world_core.proofs.Recording.{zero_there}
 
 -- nodes without replicas have none
@@ -30,17 +33,21 @@ abbrev nothing : History
 nothing = record {
   effects = λ k r. [];
   origins = λ k r. record { actor = Client 0; number = 0 };
-  kept = λ c. record { ckpt = None; node = 0 };
+  kept = λ c. record { ckpt = None; node = 0; moment = pos 0 };
   steps = λ c. [];
 }
 
-no_handles : (o : Option TableState) → ((t : TableState) → o ≡ Some t → (t.handles ≡ []) × ((p : ℕ) → slice_index t.places p ≡ 0)) → [] ≡ handles_in o
+no_handles : (o : Option TableState) → ((t : TableState) → o ≡ Some t → t.client ≡ new_client no_callbacks) → [] ≡ handles_in o
 no_handles None new = refl
-no_handles (Some t) new = sym (new t refl).0
+no_handles (Some t) new = sym (ap (λ (s : ClientState). s.handles) (new t refl))
 
-no_place : (o : Option TableState) (p : ℕ) → ((t : TableState) → o ≡ Some t → (t.handles ≡ []) × ((p : ℕ) → slice_index t.places p ≡ 0)) → None ≡ place_in o p
+no_place : (o : Option TableState) (p : ℕ) → ((t : TableState) → o ≡ Some t → t.client ≡ new_client no_callbacks) → None ≡ place_in o p
 no_place None p new = refl
-no_place (Some t) p new = sym (ap (λ (n : ℕ). if n == 0 then None else Some n) ((new t refl).1 p))
+no_place (Some t) p new = sym (ap numbered (ap (λ (s : ClientState). slice_index s.places p) (new t refl) ∙ slice_index-replicate 100 p))
+
+none_taken : (o : Option TableState) → ((t : TableState) → o ≡ Some t → t.client ≡ new_client no_callbacks) → 0 ≡ last_in o
+none_taken None new = refl
+none_taken (Some t) new = sym (ap (λ (s : ClientState). s.last_number) (new t refl))
 
 module _ (w : World) (new : IsNew w) where
   no_replica : (k r : ℕ) → complete_replica w.cluster w.nodes k r ≡ None
@@ -51,7 +58,7 @@ module _ (w : World) (new : IsNew w) where
   nexts (Node r) = refl
 
   hands : (a : ActorName) → None ≡ hand_of nothing w.hands a
-  hands (Client c) = sym (ap (shown_hand (record { ckpt = None; node = 0 }) []) (new.hands c))
+  hands (Client c) = sym (ap (shown_hand (record { ckpt = None; node = 0; moment = pos 0 }) []) (new.hands c))
   hands (Node r) = refl
 
   shows_nothing : empty_cluster ≡ machine_of w nothing
@@ -65,6 +72,7 @@ module _ (w : World) (new : IsNew w) where
         snapshots = λ k. None;
         handles = λ c. no_handles (slice_get w.tables c) (new.tables c) i;
         places = λ c p. no_place (slice_get w.tables c) p (new.tables c) i;
+        last_handles = λ c. none_taken (slice_get w.tables c) (new.tables c) i;
         iterations = λ c p. None;
         pending = λ c. [];
         next = λ a. nexts a i;
@@ -77,7 +85,7 @@ module _ (w : World) (new : IsNew w) where
     replicas = λ k r. subst (FitsReplica k (entry_of k w.cluster.entries) []) (sym (no_replica k r)) tt;
     reserved = λ k r. subst (λ (R : RecordState). FitsReserved k (entry_of k R.entries) r (replica_in w.nodes k r)) (sym new.cluster) tt;
     fresh = λ k r above. ap (λ nodes. replica_in nodes k r) new.nodes ∙ none_there k r;
-    hands = λ c. subst (FitsHand (record { ckpt = None; node = 0 }) []) (sym (new.hands c)) tt;
+    hands = λ c. subst (FitsHand (record { ckpt = None; node = 0; moment = pos 0 }) []) (sym (new.hands c)) tt;
   }
 
   -- a new world shows the empty cluster

@@ -28,9 +28,10 @@ use Rattle.world_core.specs.declared.update_call.UpdatePhase.TheVariants.{Stagin
 use Rattle.world_core.specs.declared.world.World.{World}
 use Rattle.world_core.specs.Calls.{number_of, client_of}
 use Rattle.world_core.specs.RecordState.{RecordState, entry_of, named}
-use Rattle.world_core.specs.Driving.{StepDone, Kept, first_lacking, last_having, accepts, on_named, reserve_or_finish, by_making, create_taken, reserve_taken, with_making, open_taken_by, commit_at, by_phase, update_on, on_active, active_on, on_kept, driver_start, driver_state, driver_taken, driver_next, event_ckpt, identity_in, making_ckpt}
+use Rattle.world_core.specs.Driving.{StepDone, Kept, first_lacking, last_having, accepts, create_next, entry_next, on_named, reserve_or_finish, by_making, create_taken, reserve_taken, with_making, open_taken_by, commit_at, by_phase, update_on, on_active, active_on, on_kept, driver_start, driver_state, driver_taken, driver_next, event_ckpt, identity_in, making_ckpt}
 use Rattle.world_core.specs.Beginning.{opened_place, IsBuilt}
 use Rattle.world_core.specs.Shows.{IsShown, Facts, hand_at}
+use Rattle.world_core.proofs.Deadlines.{in_time-either}
 use Rattle.world_core.proofs.Held.{driver_is, actor_is}
 use Rattle.world_core.proofs.RecordEvent.{EventNeeds, GivesHandle}
 
@@ -146,13 +147,13 @@ room_open true room x y = tt
 room_open false true x y = refl
 room_open false false x y = tt
 
-room_named : (R : RecordState) (room : Bool) (a : Option CreationAttributes) (e : Option Entry) → HasRoomFor room (on_named R room a e)
-room_named R room None None = tt
-room_named R room (Some a) None = room_create room (nat_le 16 (length R.entries)) _ _
-room_named R room a (Some e) = room_open (not (accepts a e)) room _ _
+room_named : (R : RecordState) (room : Bool) (deadline : Option ℤ) (a : Option CreationAttributes) (e : Option Entry) → HasRoomFor room (on_named R room deadline a e)
+room_named R room deadline None None = tt
+room_named R room deadline (Some a) None = in_time-either (HasRoomFor room) deadline R.moment (create_next R room) (λ o. tt) (room_create room (nat_le 16 (length R.entries)) _ _)
+room_named R room deadline a (Some e) = in_time-either (HasRoomFor room) deadline R.moment (entry_next room a e) (λ o. tt) (room_open (not (accepts a e)) room _ _)
 
 room_making : (R : RecordState) (room : Bool) (o : OpenCall) (m : Option Making) → HasRoomFor room (by_making R room o m)
-room_making R room o None = room_named R room o.ask.attrs (named o.ask.name R.entries)
+room_making R room o None = room_named R room o.deadline o.ask.attrs (named o.ask.name R.entries)
 room_making R room o (Some m) = by_test m.refused (first_lacking 0 R.up m.reserved) where
   by_test : (b : Bool) (r : Option ℕ) → HasRoomFor room (cond b (Event events.Undo) (reserve_or_finish m.ckpt r))
   by_test true r = tt

@@ -1,12 +1,13 @@
 -- The parts of a new world make it new.
 use Rattle.std.proofs.Common.{◌≡◌, ℕ, zero, suc, List, [], refl, sym, ap, subst, ◌∙◌}
 use Rattle.std.specs.Prelude.{Option, Some, None, replicate, slice_get, slice_index}
+use Rattle.client_handles.specs.ClientState.{new_client}
 use Rattle.world_core.specs.declared.hands.InHand.{InHand}
 use Rattle.world_core.specs.declared.world.World.{World}
 use Rattle.world_core.specs.Places.{or_none}
 use Rattle.world_core.specs.RecordState.{empty_record}
 use Rattle.world_core.specs.TableState.{TableState}
-use Rattle.world_core.specs.NewTable.{new_table}
+use Rattle.world_core.specs.NewTable.{no_callbacks, new_table}
 use Rattle.world_core.specs.Shows.{next_in}
 use Rattle.world_core.specs.Runs.{IsNew}
 
@@ -22,17 +23,14 @@ slice_index-replicate zero i = refl
 slice_index-replicate (suc n) zero = refl
 slice_index-replicate (suc n) (suc i) = slice_index-replicate n i
 
-abbrev IsNewTable : TableState → Type 0
-IsNewTable t = (t.handles ≡ []) × ((p : ℕ) → slice_index t.places p ≡ 0)
-
 abbrev AreNew : Option TableState → Type 0
-AreNew o = (t : TableState) → o ≡ Some t → IsNewTable t
+AreNew o = (t : TableState) → o ≡ Some t → t.client ≡ new_client no_callbacks
 
 none_new : AreNew None
 none_new t e = absurd cc
 
 one_new : AreNew (Some new_table)
-one_new t e = let same : new_table ≡ t = cc in subst IsNewTable same (refl, slice_index-replicate 100)
+one_new t e = let same : new_table ≡ t = cc in ap (λ (t : TableState). t.client) (sym same)
 
 -- a world whose parts are new is new
 pub is_new : (w : World) → w.cluster ≡ empty_record → w.nodes ≡ replicate 8 [] → w.tables ≡ replicate 100 new_table → w.hands ≡ replicate 100 None → IsNew w

@@ -1,9 +1,10 @@
 -- A step of the record, whatever the step: done, or refused the memory that it takes.
-use Rattle.std.proofs.Common.{◌≡◌, ◌⊎◌, inl, inr, ℕ, ◌<◌, false, List, length, refl, sym, ap, subst, ◌∙◌}
-use Rattle.std.specs.Prelude.{Option, Some, None, IsSomeAnd, IsTrue, ◌==◌, slice_get, slice_set, slice_index}
+use Rattle.std.proofs.Common.{◌≡◌, ◌⊎◌, inl, inr, ℕ, ◌<◌, List, length, refl, sym, ap, subst, ◌∙◌}
+use Rattle.std.specs.Prelude.{Option, Some, None, IsSomeAnd, IsTrue, slice_get, slice_set, slice_index}
 use Rattle.ckpt_types.specs.declared.answers.Outcome.{Outcome}
 use Rattle.ckpt_types.specs.declared.answers.Outcome.TheVariants.{NoMemory}
 use Rattle.ckpt_types.specs.declared.identities.ActorName.TheVariants.{Client}
+use Rattle.ckpt_types.specs.declared.open_flags.OpenFlags.{OpenFlags}
 use Rattle.node_msgs.specs.declared.next.RecordStep.{RecordStep}
 use Rattle.node_msgs.specs.declared.next.RecordStep.TheVariants as events
 use Rattle.node_msgs.specs.declared.next.Next.{Next}
@@ -19,18 +20,17 @@ use Rattle.world_core.specs.declared.drivers.Driver.TheVariants as drivers
 use Rattle.world_core.specs.declared.hands.InHand.{InHand}
 use Rattle.world_core.specs.declared.open_call.Making.{Making}
 use Rattle.world_core.specs.declared.record.Entry.{Entry}
-use Rattle.world_core.specs.declared.tables.Handle.{Handle}
 use Rattle.world_core.specs.declared.world.World.{World}
 use Rattle.world_core.specs.Calls.{number_of, left}
 use Rattle.world_core.specs.RecordState.{RecordState, entry_of, named}
 use Rattle.world_core.specs.TableState.{TableState, with_handle}
 use Rattle.world_core.specs.Driving.{StepDone, driver_next, done_of, event_verb, event_ckpt, event_node, event_end, event_after, takes_memory}
-use Rattle.world_core.specs.Beginning.{opened_place}
+use Rattle.world_core.specs.Beginning.{opened_place, opened_for}
 use Rattle.world_core.specs.Machine.{Machine, CallState}
-use Rattle.world_core.specs.Steps.{IsDue, IsDone, after, changed, driver_of, event_done, new_handle, step_of, stepped, with_handle_at, with_opened, with_record}
+use Rattle.world_core.specs.Steps.{IsDue, IsDone, after, changed, creation_flags_of, driver_of, event_done, new_handle, step_of, stepped, with_handle_at, with_opened, with_record}
 use Rattle.world_core.specs.HandSteps.{hand_taken}
 use Rattle.world_core.specs.Happenings.{room_in}
-use Rattle.world_core.specs.Shows.{Does, IsShown, Fits, Facts, IsEventReady, IsFinishable, History, machine_of, hand_at}
+use Rattle.world_core.specs.Shows.{Does, IsShown, Fits, Facts, IsEventReady, IsFinishable, History, machine_of, last_in, hand_at}
 use Rattle.world_core.proofs.Going.{event_goes, event_keeps}
 use Rattle.world_core.proofs.Handles.{handle_is}
 use Rattle.world_core.proofs.Held.{state_in, in_hand_is, in_hand_at, driver_is, actor_is, due_is}
@@ -131,12 +131,13 @@ its_step w hand step = event_step (record_after w hand step) step (ckpt_in w han
 abbrev quiet_world : World → ℕ → InHand → RecordStep → World
 quiet_world w c hand step = told_world (record w { cluster = record_after w hand step }) c hand (its_step w hand step) (event_end step (ckpt_in w hand step))
 
-abbrev handle_with : World → InHand → RecordStep → ℕ → Handle
-handle_with w hand step j = new_handle (record_after w hand step) hand.call hand.op j
+-- a client's table with the handle that the call's open gives
+abbrev table_with : RecordState → InHand → ℕ → ℕ → TableState → TableState
+table_with R hand j place t = with_handle j (opened_for hand.op) (creation_flags_of (entry_of j R.entries)) place t
 
 abbrev opened_world : World → ℕ → InHand → RecordStep → ℕ → ℕ → TableState → World
 opened_world w c hand step j place t =
-    told_world (record w { cluster = record_after w hand step; tables = slice_set w.tables c (with_handle (handle_with w hand step j) place t) }) c hand (its_step w hand step) (event_end step (ckpt_in w hand step))
+    told_world (record w { cluster = record_after w hand step; tables = slice_set w.tables c (table_with (record_after w hand step) hand j place t) }) c hand (its_step w hand step) (event_end step (ckpt_in w hand step))
 
 module _ (w : World) (h : History) (c : ℕ) (step : RecordStep) (hand : InHand) (facts : Facts (machine_of w h)) (fits : Fits w h) (held : hand_at w.hands c ≡ Some hand) (next : driver_next w.cluster (room_in w c) hand.driver ≡ Event step) where
   abbrev m : Machine
@@ -226,12 +227,9 @@ module _ (w : World) (h : History) (c : ℕ) (step : RecordStep) (hand : InHand)
   quiet_fits : Fits (quiet_world w c hand step) (with_step h1 c done)
   quiet_fits = told_fits w1 h1 c hand done its_end actor fits1 held
 
-  module _ (j place : ℕ) (t : TableState) (gives : GivesHandle step) (ckpt : k ≡ Some j) (at : opened_place hand.op ≡ Some place) (table : slice_get w.tables c ≡ Some t) (number : (hand.call.number == 0) ≡ false) (within : place < length t.places) where
-    abbrev hd : Handle
-    hd = handle_with w hand step j
-
+  module _ (j place : ℕ) (t : TableState) (gives : GivesHandle step) (ckpt : k ≡ Some j) (at : opened_place hand.op ≡ Some place) (table : slice_get w.tables c ≡ Some t) (within : place < length t.client.places) where
     abbrev w2 : World
-    w2 = record w1 { tables = slice_set w.tables c (with_handle hd place t) }
+    w2 = record w1 { tables = slice_set w.tables c (table_with R hand j place t) }
 
     fits2 : Fits w2 h1
     fits2 = let f = fits1 in record { replicas = f.replicas; reserved = f.reserved; fresh = f.fresh; hands = f.hands }
@@ -239,7 +237,9 @@ module _ (w : World) (h : History) (c : ℕ) (step : RecordStep) (hand : InHand)
     table_is : with_opened s k (machine_of w1 h1) ≡ machine_of w2 h1
     table_is =
         ap (λ k. with_opened s k (machine_of w1 h1)) ckpt
-        ∙ ((λ i. with_handle_at (machine_of w1 h1) (number_of (actor i)) hd (at i)) ∙ handle_is t hd place w1 h1 c table number within)
+        ∙ ((λ i. with_handle_at (machine_of w1 h1) (number_of (actor i)) (new_handle R (last_in (slice_get w.tables (number_of (actor i)))) hand.op j) (at i))
+        ∙ ap (λ o. with_handle_at (machine_of w1 h1) c (new_handle R (last_in o) hand.op j) (Some place)) table
+        ∙ handle_is t j (opened_for hand.op) (creation_flags_of (entry_of j R.entries)) place w1 h1 c table within)
 
     opened_is : after m (event_label w hand step) ≡ machine_of (opened_world w c hand step j place t) (with_step h1 c done)
     opened_is =
@@ -267,14 +267,14 @@ module _ (w : World) (c : ℕ) (step : RecordStep) (hand : InHand) (held : hand_
     };
   }
 
-  opened_does : (j place : ℕ) (t : TableState) → GivesHandle step → ckpt_in w hand step ≡ Some j → opened_place hand.op ≡ Some place → slice_get w.tables c ≡ Some t → (hand.call.number == 0) ≡ false → place < length t.places →
+  opened_does : (j place : ℕ) (t : TableState) → GivesHandle step → ckpt_in w hand step ≡ Some j → opened_place hand.op ≡ Some place → slice_get w.tables c ≡ Some t → place < length t.client.places →
       Does w (opened_world w c hand step j place t) (event_label w hand step)
-  opened_does j place t gives ckpt at table number within = record {
+  opened_does j place t gives ckpt at table within = record {
     due_is = λ m s f. subst (λ m. IsDue m (event_label w hand step)) (sym s.same) (due_done w s.history c step hand (subst Facts s.same f) s.fits held next);
     shows = λ m s f. let facts = subst Facts s.same f in record {
       history = with_step (with_effects w s.history) c (its_step w hand step);
-      same = ap (λ m. after m (event_label w hand step)) s.same ∙ opened_is w s.history c step hand facts s.fits held next j place t gives ckpt at table number within;
-      fits = opened_fits w s.history c step hand facts s.fits held next j place t gives ckpt at table number within;
+      same = ap (λ m. after m (event_label w hand step)) s.same ∙ opened_is w s.history c step hand facts s.fits held next j place t gives ckpt at table within;
+      fits = opened_fits w s.history c step hand facts s.fits held next j place t gives ckpt at table within;
     };
   }
 
@@ -300,21 +300,21 @@ module _ (w : World) (c : ℕ) (step : RecordStep) (hand : InHand) (held : hand_
       (λ i. (sym R_is i, g i, sym word_is i, sym verb_is i, sym k_is i, sym r_is i, e i)) (quiet_does quiet)
 
   -- a step that gives a handle is done
-  pub opened_done : (j place : ℕ) (R : RecordState) (handle : Handle) (tables : List TableState) (hands : List (Option InHand)) (word : OpWord) (verb : Verb) (r : Option ℕ) (end : Option Outcome) → GivesHandle step → Some j ≡ event_ckpt w.cluster hand.driver step → opened_place hand.op ≡ Some place →
-      c < length w.tables → (hand.call.number == 0) ≡ false → ((t : TableState) → slice_get w.tables c ≡ Some t → place < length t.places) → R ≡ event_after hand.call hand.driver step w.cluster → handle ≡ new_handle R hand.call hand.op j →
-      ((t : TableState) → slice_get w.tables c ≡ Some t → tables ≡ slice_set w.tables c (with_handle handle place t)) → r ≡ event_node hand.driver step →
+  pub opened_done : (j place : ℕ) (R : RecordState) (flags : OpenFlags) (tables : List TableState) (hands : List (Option InHand)) (word : OpWord) (verb : Verb) (r : Option ℕ) (end : Option Outcome) → GivesHandle step → Some j ≡ event_ckpt w.cluster hand.driver step → opened_place hand.op ≡ Some place →
+      c < length w.tables → ((t : TableState) → slice_get w.tables c ≡ Some t → place < length t.client.places) → R ≡ event_after hand.call hand.driver step w.cluster → flags ≡ opened_for hand.op →
+      ((t : TableState) → slice_get w.tables c ≡ Some t → tables ≡ slice_set w.tables c (with_handle j flags (creation_flags_of (entry_of j R.entries)) place t)) → r ≡ event_node hand.driver step →
       end ≡ event_end step (Some j) → hands ≡ slice_set w.hands c (left end (hand_taken (event_step R step (Some j) r) hand)) → word ≡ word_of_op hand.op → verb ≡ event_verb step →
       Does w (record w { cluster = R; tables = tables; hands = hands }) (Stepped hand.call word verb (Some j) r words.Ok end None)
-  opened_done j place R handle tables hands word verb r end gives k_is at table number within R_is handle_is tables_are r_is end_is hands_is word_is verb_is =
+  opened_done j place R flags tables hands word verb r end gives k_is at table within R_is flags_are tables_are r_is end_is hands_is word_is verb_is =
       let there = there_is w.tables c table in
       let t : TableState = there.0 in
       let e : event_end step (ckpt_in w hand step) ≡ end = ap (event_end step) (sym k_is) ∙ sym end_is in
       let g : slice_set w.hands c (left (event_end step (ckpt_in w hand step)) (hand_taken (its_step w hand step) hand)) ≡ hands
       = (λ i. slice_set w.hands c (left (e i) (hand_taken (event_step (sym R_is i) step (sym k_is i) (sym r_is i)) hand))) ∙ sym hands_is in
-      let d : handle_with w hand step j ≡ handle = ap (λ R. new_handle R hand.call hand.op j) (sym R_is) ∙ sym handle_is in
-      let f : slice_set w.tables c (with_handle (handle_with w hand step j) place t) ≡ tables = ap (λ h. slice_set w.tables c (with_handle h place t)) d ∙ sym (tables_are t there.1) in
+      let f : slice_set w.tables c (table_with (record_after w hand step) hand j place t) ≡ tables
+      = (λ i. slice_set w.tables c (with_handle j (sym flags_are i) (creation_flags_of (entry_of j (sym R_is i).entries)) place t)) ∙ sym (tables_are t there.1) in
       subst (λ (y : RecordState × List TableState × List (Option InHand) × OpWord × Verb × Option ℕ × Option ℕ × Option Outcome). Does w (record w { cluster = y.0; tables = y.1; hands = y.2 }) (Stepped hand.call y.3 y.4 y.5 y.6 words.Ok y.7 None))
-      (λ i. (sym R_is i, f i, g i, sym word_is i, sym verb_is i, sym k_is i, sym r_is i, e i)) (opened_does j place t gives (sym k_is) at there.1 number (within t there.1))
+      (λ i. (sym R_is i, f i, g i, sym word_is i, sym verb_is i, sym k_is i, sym r_is i, e i)) (opened_does j place t gives (sym k_is) at there.1 (within t there.1))
 
   -- a step is refused the memory that it takes, and the call ends
   pub event_refused : (hands : List (Option InHand)) (word : OpWord) (verb : Verb) (k r : Option ℕ) → IsTrue (takes_memory step) → k ≡ event_ckpt w.cluster hand.driver step → r ≡ event_node hand.driver step → hands ≡ slice_set w.hands c None → word ≡ word_of_op hand.op → verb ≡ event_verb step →

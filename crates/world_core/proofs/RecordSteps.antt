@@ -1,13 +1,12 @@
 -- What a step of the record that is next for a call in hand asks of the world.
-use Rattle.std.proofs.Common.{arith, ◌≡◌, ℕ, ◌<◌, ◌≤◌, ◌-◌, ◌^◌, true, false, List, [], ◌∷◌, length, zero, suc, refl, sym, ap, subst, ◌∙◌}
-use Rattle.std.specs.Prelude.{Option, Some, None, Result, Ok, Err, is_err, OnOk, OnErr, IsSome, IsSomeAnd, IsTrue, ◌==◌, slice_get, slice_set}
+use Rattle.std.proofs.Common.{arith, ◌≡◌, ℕ, ◌<◌, true, false, List, [], ◌∷◌, length, zero, suc, refl, sym, ap, subst, ◌∙◌}
+use Rattle.std.specs.Prelude.{Option, Some, None, Result, Ok, Err, is_err, OnOk, OnErr, IsSome, IsSomeAnd, IsTrue, slice_get, slice_set}
 use Rattle.ckpt_types.specs.declared.answers.Outcome.{Outcome}
 use Rattle.ckpt_types.specs.declared.answers.Outcome.TheVariants.{NoMemory}
 use Rattle.ckpt_types.specs.declared.open_flags.OpenFlags.{OpenFlags}
 use Rattle.ckpt_types.specs.declared.identities.ActorName.TheVariants.{Client}
 use Rattle.node_msgs.specs.declared.next.RecordStep.{RecordStep}
 use Rattle.node_msgs.specs.declared.next.RecordStep.TheVariants as events
-use Rattle.node_msgs.specs.declared.next.Next.{Next}
 use Rattle.node_msgs.specs.declared.next.Next.TheVariants.{Event}
 use Rattle.run_labels.specs.declared.words.OpWord.{OpWord}
 use Rattle.run_labels.specs.declared.words.Verb.{Verb}
@@ -21,20 +20,19 @@ use Rattle.world_core.specs.declared.open_call.Making.{Making}
 use Rattle.world_core.specs.declared.open_call.OpenCall.{OpenCall}
 use Rattle.world_core.specs.declared.world.World.{World}
 use Rattle.world_core.specs.Calls.{number_of, left}
-use Rattle.world_core.specs.RecordState.{RecordState, entry_of, named}
+use Rattle.world_core.specs.RecordState.{RecordState, entry_of}
 use Rattle.world_core.specs.RecordReady.{IsRecordReady}
-use Rattle.world_core.specs.Driving.{driver_next, done_of, event_ckpt, event_verb, event_node, event_end, event_after, takes_memory, identity_in, making_ckpt}
+use Rattle.world_core.specs.Driving.{driver_next, done_of, event_ckpt, event_verb, event_node, event_end, event_after, takes_memory}
 use Rattle.world_core.specs.Beginning.{opened_place, opened_for, IsBuilt}
 use Rattle.world_core.specs.Giving.{gives_handle}
-use Rattle.world_core.specs.Happenings.{IsNext, IsStep, room_in}
+use Rattle.world_core.specs.Happenings.{IsStep, room_in}
 use Rattle.world_core.specs.HandSteps.{hand_taken}
 use Rattle.world_core.specs.TableState.{TableState, with_handle}
 use Rattle.world_core.specs.Steps.{room_of, creation_flags_of}
 use Rattle.world_core.specs.Shows.{Does, IsShown, IsRoomy, Facts, machine_of, hand_at}
 use Rattle.world_core.proofs.Held.{state_in, in_hand_is, driver_is, actor_is}
 use Rattle.world_core.proofs.Openers.{place_there, place_within, ckpt_there, open_room}
-use Rattle.world_core.proofs.Places.{tests_differ}
-use Rattle.world_core.proofs.Readiness.{FewReferences, can_refer_at}
+use Rattle.world_core.proofs.Readiness.{record_ready}
 use Rattle.world_core.proofs.RecordEvent.{EventNeeds, GivesHandle, LeavesTables, event_ready, quiet_done, opened_done, event_refused}
 
 -- ---- the two kinds of steps
@@ -57,18 +55,10 @@ leaves_them R x step is needs = absurd needs
 
 -- ---- what is there
 
--- the present hand is the one for which the step is next
-pub next_here : (w : World) (c : ℕ) (n : Next) (hand : InHand) → IsNext w c n → hand_at w.hands c ≡ Some hand → driver_next w.cluster (room_in w c) hand.driver ≡ n
-next_here w c n hand next held = let same : next.hand ≡ hand = cc (next.held, held) in subst (λ (h : InHand). driver_next w.cluster (room_in w c) h.driver ≡ n) same next.next_is
-
 -- what holds of any number that is there, holds of the one that is
 some_within : (P : ℕ → Type 0) (x : Option ℕ) → ((n : ℕ) → x ≡ Some n → P n) → IsSomeAnd x (λ n. Unit {0}) → IsSomeAnd x P
 some_within P None within there = absurd there
 some_within P (Some n) within there = within n refl
-
--- a number from 1 is not 0
-not_zero : (n : ℕ) → 1 ≤ n → (n == 0) ≡ false
-not_zero n h = tests_differ n 0 (λ e. omega (arith, h, e))
 
 -- where an element is there, its place is within the list
 some_there : {X : Type 0} (xs : List X) (i : ℕ) (P : X → Type 0) → IsSomeAnd (slice_get xs i) P → i < length xs
@@ -85,28 +75,16 @@ pub when_err : {T E : Type 0} (P : Type 0) (r : Result T E) → is_err r ≡ tru
 when_err P (Ok x) is h = absurd cc
 when_err P (Err e) is h = h
 
--- a step is ready where its world has room for it
-record_ready : (R : RecordState) (x : Driver) (step : RecordStep) → R.last_identity < 2 ^ 32 - 1 → FewReferences R → EventNeeds R x step → IsRecordReady R x step
-record_ready R (drivers.Enter r) events.Enter identity few needs = record { node = needs.0; room = needs.1 }
-record_ready R (drivers.Open o) events.Create identity few needs = record { room = needs.0; identity = identity }
-record_ready R (drivers.Open o) events.Open identity few needs = can_refer_at R few o.ask.client (identity_in (named o.ask.name R.entries))
-record_ready R (drivers.Open o) events.Finish identity few needs = can_refer_at R few o.ask.client (making_ckpt o.making)
-record_ready R (drivers.Open o) events.Undo identity few needs = tt
-record_ready R (drivers.Enter r) step identity few needs = absurd needs
-record_ready R (drivers.Open o) step identity few needs = absurd needs
-record_ready R x step identity few needs = absurd needs
-
 -- ---- a step that gives a handle
 
--- the client has a place and room for a handle, and the call a number for it
+-- the client has a place and room for a handle
 pub record CanGive (w : World) (c : ℕ) (hand : InHand) : Type 0 where
-  pub number : (hand.call.number == 0) ≡ false
   pub built : IsBuilt hand.op
   pub room : room_in w c ≡ true
 
 module _ (w : World) (c : ℕ) (step : RecordStep) (hand : InHand) (held : hand_at w.hands c ≡ Some hand) (next : driver_next w.cluster (room_in w c) hand.driver ≡ Event step) (shown : IsShown w) where
   abbrev OpensSo : OpenCall → Type 0
-  OpensSo o = (1 ≤ hand.call.number) × IsBuilt hand.op × (IsSome o.making → room_in w c ≡ true)
+  OpensSo o = IsBuilt hand.op × (IsSome o.making → room_in w c ≡ true)
 
   -- what the facts say of an open in hand
   opens_fact : (o : OpenCall) → hand.driver ≡ drivers.Open o → OpensSo o
@@ -114,11 +92,11 @@ module _ (w : World) (c : ℕ) (step : RecordStep) (hand : InHand) (held : hand_
       let h = shown.shows.history in
       let facts : Facts (machine_of w h) = subst Facts shown.shows.same shown.facts in
       let f = facts.opens (Client c) (state_in h c hand) o (in_hand_is w h c hand held) (sym (driver_is w h c hand held shown.shows.fits) ∙ is) in
-      (f.0, f.1, λ some. ap (λ a. room_of (machine_of w h) (number_of a)) (sym (actor_is w h c hand held facts)) ∙ f.2 some)
+      (f.0, λ some. ap (λ a. room_of (machine_of w h) (number_of a)) (sym (actor_is w h c hand held facts)) ∙ f.1 some)
 
   can_give_by : (step : RecordStep) (x : Driver) → hand.driver ≡ x → driver_next w.cluster (room_in w c) x ≡ Event step → EventNeeds w.cluster x step → GivesHandle step → CanGive w c hand
-  can_give_by events.Open (drivers.Open o) is next needs gives = let f = opens_fact o is in record { number = not_zero hand.call.number f.0; built = f.1; room = open_room w.cluster (room_in w c) (drivers.Open o) next }
-  can_give_by events.Finish (drivers.Open o) is next needs gives = let f = opens_fact o is in record { number = not_zero hand.call.number f.0; built = f.1; room = f.2 (making_there o.making needs) } where
+  can_give_by events.Open (drivers.Open o) is next needs gives = let f = opens_fact o is in record { built = f.0; room = open_room w.cluster (room_in w c) (drivers.Open o) next }
+  can_give_by events.Finish (drivers.Open o) is next needs gives = let f = opens_fact o is in record { built = f.0; room = f.1 (making_there o.making needs) } where
     making_there : (m : Option Making) → IsSomeAnd m (λ making. IsSomeAnd (entry_of making.ckpt w.cluster.entries) (λ e. Unit {0})) → IsSome m
     making_there None h = absurd h
     making_there (Some m) h = refl
@@ -129,7 +107,7 @@ module _ (w : World) (c : ℕ) (step : RecordStep) (hand : InHand) (held : hand_
   needs : EventNeeds w.cluster hand.driver step
   needs = event_ready w c step hand held next shown
 
-  -- a step that gives a handle has a place, room and a number for it
+  -- a step that gives a handle has a place and room for it
   pub can_give : GivesHandle step → CanGive w c hand
   can_give gives = can_give_by step hand.driver refl next needs gives
 
@@ -179,14 +157,14 @@ module _ (w : World) (c : ℕ) (step : RecordStep) (hand : InHand) (held : hand_
 
   -- the step gives a handle of the checkpoint
   opened_at : (j p : ℕ) (R : RecordState) (tables : List TableState) (hands : List (Option InHand)) (flags : OpenFlags) (word : OpWord) (verb : Verb) (r : Option ℕ) (end : Option Outcome) → GivesHandle step → WasTold (record w { cluster = R; tables = tables }) hands (Some j) r end →
-      IsSomeAnd (slice_get w.tables c) (λ t. length t.places ≡ 100) →
-      ((t : TableState) → slice_get w.tables c ≡ Some t → tables ≡ slice_set w.tables c (with_handle (record { number = hand.call.number; ckpt = j; flags = flags; creation_flags = creation_flags_of (entry_of j R.entries) }) p t)) →
+      IsSomeAnd (slice_get w.tables c) (λ t. length t.client.places ≡ 100) →
+      ((t : TableState) → slice_get w.tables c ≡ Some t → tables ≡ slice_set w.tables c (with_handle j flags (creation_flags_of (entry_of j R.entries)) p t)) →
       R ≡ event_after hand.call hand.driver step w.cluster → Some j ≡ event_ckpt w.cluster hand.driver step → r ≡ event_node hand.driver step → end ≡ event_end step (Some j) → word ≡ word_of_op hand.op → verb ≡ event_verb step → Some p ≡ opened_place hand.op → flags ≡ opened_for hand.op →
       IsStep c w (record w { cluster = R; tables = tables; hands = hands }) (Stepped hand.call word verb (Some j) r words.Ok end None)
   opened_at j p R tables hands flags word verb r end gives told places tables_are R_is k_is r_is end_is word_is verb_is place_is flags_is =
       let can = can_give gives in
-      let within : (t : TableState) → slice_get w.tables c ≡ Some t → p < length t.places
-      = λ t is. subst (λ n. p < n) (sym (subst (λ (o : Option TableState). IsSomeAnd o (λ t. length t.places ≡ 100)) is places)) (place_within hand.op p can.built (sym place_is)) in
+      let within : (t : TableState) → slice_get w.tables c ≡ Some t → p < length t.client.places
+      = λ t is. subst (λ n. p < n) (sym (subst (λ (o : Option TableState). IsSomeAnd o (λ t. length t.client.places ≡ 100)) is places)) (place_within hand.op p can.built (sym place_is)) in
       record {
         hand = hand;
         held = held;
@@ -202,13 +180,13 @@ module _ (w : World) (c : ℕ) (step : RecordStep) (hand : InHand) (held : hand_
         same_call = refl;
         same_op = refl;
         hands = told hand held;
-        does = opened_done w c step hand held next j p R (record { number = hand.call.number; ckpt = j; flags = flags; creation_flags = creation_flags_of (entry_of j R.entries) }) tables hands word verb r end gives k_is (sym place_is)
-            (some_there w.tables c (λ t. length t.places ≡ 100) places) can.number within R_is (λ i. record { number = hand.call.number; ckpt = j; flags = flags_is i; creation_flags = creation_flags_of (entry_of j R.entries) }) tables_are r_is end_is (told hand held) word_is verb_is;
+        does = opened_done w c step hand held next j p R flags tables hands word verb r end gives k_is (sym place_is)
+            (some_there w.tables c (λ t. length t.client.places ≡ 100) places) within R_is flags_is tables_are r_is end_is (told hand held) word_is verb_is;
       }
 
   pub opened_step : (s : World) (R : RecordState) (tables : List TableState) (hands : List (Option InHand)) (flags : OpenFlags) (word : OpWord) (verb : Verb) (k r place : Option ℕ) (end : Option Outcome) → gives_handle step ≡ true → s ≡ record w { cluster = R; tables = tables } → WasTold s hands k r end →
-      IsSomeAnd (slice_get w.tables c) (λ t. length t.places ≡ 100) →
-      ((j p : ℕ) (t : TableState) → k ≡ Some j → place ≡ Some p → slice_get w.tables c ≡ Some t → tables ≡ slice_set w.tables c (with_handle (record { number = hand.call.number; ckpt = j; flags = flags; creation_flags = creation_flags_of (entry_of j R.entries) }) p t)) →
+      IsSomeAnd (slice_get w.tables c) (λ t. length t.client.places ≡ 100) →
+      ((j p : ℕ) (t : TableState) → k ≡ Some j → place ≡ Some p → slice_get w.tables c ≡ Some t → tables ≡ slice_set w.tables c (with_handle j flags (creation_flags_of (entry_of j R.entries)) p t)) →
       R ≡ event_after hand.call hand.driver step w.cluster → k ≡ event_ckpt w.cluster hand.driver step → r ≡ event_node hand.driver step → end ≡ event_end step k → word ≡ word_of_op hand.op → verb ≡ event_verb step → place ≡ opened_place hand.op → flags ≡ opened_for hand.op →
       IsStep c w (record s { hands = hands }) (Stepped hand.call word verb k r words.Ok end None)
   opened_step s R tables hands flags word verb None r place end gives s_is told places tables_are R_is k_is r_is end_is word_is verb_is place_is flags_is =

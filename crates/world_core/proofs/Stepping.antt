@@ -1,6 +1,5 @@
 -- The steps of a call in hand, with the call that the code finds there.
-use Rattle.std.proofs.Common.{◌≡◌, ◌≢◌, ℕ, ◌<◌, ℤ, List, length, refl, sym, ap, subst, ◌∙◌}
-use Rattle.std.proofs.lemmas.Option.{same_Some}
+use Rattle.std.proofs.Common.{◌≡◌, ◌≢◌, ℕ, ◌<◌, ℤ, List, length, refl, sym, subst, ◌∙◌}
 use Rattle.std.specs.Prelude.{Option, Some, None, IsSomeAnd, slice_set}
 use Rattle.ckpt_types.specs.declared.answers.Answer.TheVariants as answers
 use Rattle.ckpt_types.specs.declared.answers.Outcome.{Outcome}
@@ -8,7 +7,6 @@ use Rattle.node_msgs.specs.declared.requests.Request.{Request}
 use Rattle.node_msgs.specs.declared.requests.Request.TheVariants.{Reserve}
 use Rattle.node_msgs.specs.declared.replies.Reply.{Reply}
 use Rattle.node_msgs.specs.declared.replies.Reply.TheVariants as replies
-use Rattle.node_msgs.specs.declared.next.Next.{Next}
 use Rattle.node_msgs.specs.declared.next.Next.TheVariants.{Serve, End}
 use Rattle.run_labels.specs.declared.words.OpWord.{OpWord}
 use Rattle.run_labels.specs.declared.words.Verb.{Verb}
@@ -25,18 +23,15 @@ use Rattle.world_core.specs.Calls.{left}
 use Rattle.world_core.specs.RecordState.{entry_of}
 use Rattle.world_core.specs.Serving.{ckpt_of, replica_in, reply_at, pieces_at, served, IsReadyAt, opened_replica, reserved_at}
 use Rattle.world_core.specs.Reserving.{IsReserved}
-use Rattle.world_core.specs.Driving.{driver_next, verb_of, word_of}
+use Rattle.world_core.specs.Driving.{verb_of, word_of}
 use Rattle.world_core.specs.HandSteps.{hand_taken, hand_end}
 use Rattle.world_core.specs.Steps.{look_word}
 use Rattle.world_core.specs.Shows.{IsShown, IsRoomy, IsReservable, hand_at}
-use Rattle.world_core.specs.Happenings.{room_in, IsNext, IsStep}
+use Rattle.world_core.specs.Happenings.{IsNext, IsStep}
+use Rattle.world_core.proofs.Held.{next_for}
 use Rattle.world_core.proofs.Look.{look_done}
 use Rattle.world_core.proofs.Reserve.{reserve_ready, reserve_done, reserve_refused}
 use Rattle.world_core.proofs.Serve.{served_step, serve_node, serve_ready, serve_done}
-
--- what is next for the call, is next for the one that is found in hand
-pub next_for : (w : World) (c : ℕ) (n : Next) (hand : InHand) → hand_at w.hands c ≡ Some hand → IsNext w c n → driver_next w.cluster (room_in w c) hand.driver ≡ n
-next_for w c n hand held next = ap (λ (h : InHand). driver_next w.cluster (room_in w c) h.driver) (same_Some hand next.hand (sym held ∙ next.held)) ∙ next.next_is
 
 -- what is there is not none
 pub some_held : (o : Option InHand) (hand : InHand) → o ≡ Some hand → o ≢ None

@@ -1,5 +1,5 @@
 -- What a call answers when it begins, by its arguments, the tables and the record: the first refusal that applies.
-use Rattle.std.specs.Prelude.{◌≡◌, ℕ, ◌<◌, List, length, Option, Some, None, Bool, true, false, not, ◌||◌, ◌==◌, nat_lt, if◌then◌else◌, ℤ, pos, int_lt, Result, Ok, Err}
+use Rattle.std.specs.Prelude.{◌≡◌, ◌≢◌, ℕ, ◌<◌, List, length, Option, Some, None, Bool, true, false, not, ◌||◌, ◌==◌, nat_lt, if◌then◌else◌, ℤ, pos, int_lt, Result, Ok, Err}
 use Rattle.ckpt_types.specs.declared.ais_error.AisError.{AisError}
 use Rattle.ckpt_types.specs.declared.ais_error.AisError.TheVariants as errors
 use Rattle.ckpt_types.specs.declared.answers.Cause.TheVariants.{Plain}
@@ -7,7 +7,8 @@ use Rattle.ckpt_types.specs.declared.answers.Outcome.{Outcome}
 use Rattle.ckpt_types.specs.declared.answers.Outcome.TheVariants.{Refused}
 use Rattle.ckpt_types.specs.declared.attributes.CreationAttributes.{CreationAttributes}
 use Rattle.ckpt_types.specs.declared.bytes.TheConstants.{NAME_MAX}
-use Rattle.ckpt_types.specs.declared.identities.TheConstants.{NEVER}
+use Rattle.ckpt_types.specs.declared.calls.CallbackSet.{CallbackSet}
+use Rattle.ckpt_types.specs.declared.calls.Version.{Version}
 use Rattle.ckpt_types.specs.declared.open_flags.OpenFlags.{OpenFlags}
 use Rattle.ckpt_types.specs.declared.open_flags.TheConstants.{CHECKPOINT_CREATE}
 use Rattle.ckpt_types.specs.declared.operation.Op.{Op}
@@ -15,11 +16,16 @@ use Rattle.ckpt_types.specs.declared.operation.Op.TheVariants as ops
 use Rattle.ckpt_types.specs.declared.update.Update.{Update}
 use Rattle.ckpt_types.specs.declared.update.Update.TheVariants as updates
 use Rattle.ckpt_types.specs.Attributes.{has_flag, has_bad_open_flags, open_flags_of, is_malformed}
-use Rattle.world_core.specs.declared.tables.Handle.{Handle}
+use Rattle.client_handles.specs.declared.handle_view.HandleView.{HandleView}
+use Rattle.world_core.specs.declared.beginning.TheConstants.{RELEASE}
 use Rattle.world_core.specs.declared.world.TheConstants.{VECTOR_MAX}
 
 abbrev pub refused : AisError → Option Outcome
 refused error = Some (Refused error Plain)
+
+-- the service speaks the release `B` in the major versions 1 and 2, each with any minor version
+abbrev pub version_is_bad : Version → Bool
+version_is_bad version = not (version.release == RELEASE) || not ((version.major == 1) || (version.major == 2))
 
 abbrev pub name_is_bad : List ℕ → Bool
 name_is_bad name = (length name == 0) || nat_lt NAME_MAX (length name)
@@ -45,7 +51,7 @@ update_is_bad (updates.Write elements) = vector_is_bad (length elements)
 update_is_bad update = false
 
 -- on a handle: its place stands for one, the arguments are good, and it was opened for this
-abbrev pub on_handle : Option Handle → Bool → (OpenFlags → Bool) → Option Outcome
+abbrev pub on_handle : Option HandleView → Bool → (OpenFlags → Bool) → Option Outcome
 on_handle None bad may = refused errors.BadHandle
 on_handle (Some h) bad may = if bad then refused errors.InvalidParam else if not (may h.flags) then refused errors.Access else None
 
@@ -60,8 +66,8 @@ if_live true answer = answer
 if_live false answer = refused errors.BadHandle
 
 -- what an operation answers at once, for a client that is live or not, and the handle of its place; none where it goes on
-abbrev pub begin_end : Bool → Option Handle → Op → Option Outcome
-begin_end live h (ops.Client r version callbacks) = None
+abbrev pub begin_end : Bool → Option HandleView → Op → Option Outcome
+begin_end live h (ops.Client r version callbacks) = if version_is_bad version then refused errors.Version else None
 begin_end live h (ops.Open place name flags timeout a) = if_live live (open_begin name flags timeout a)
 begin_end live h (ops.Write place update) = if_live live (on_handle h (update_is_bad update) may_write)
 begin_end live h (ops.Read place elements) = if_live live (on_handle h (vector_is_bad (length elements)) may_read)
@@ -91,19 +97,30 @@ opened_for op = no_flags
 
 -- ---- the operations that are built
 
--- all replicas, one section
+-- callbacks are not kept yet: none is registered
+pub record RegistersNone (callbacks : CallbackSet) : Type 0 where
+  pub opens : callbacks.opens ≡ false
+  pub syncs : callbacks.syncs ≡ false
+
+-- of the attributes that pass their check, these are not built yet: updates on the active replica alone (creation flags 2,
+-- collocated 10), weak ones (4, collocated 12), and more than one section
+pub record IsBuiltAttributes (a : CreationAttributes) : Type 0 where
+  pub not_active : (a.creation_flags ≢ 2) × (a.creation_flags ≢ 10)
+  pub not_weak : (a.creation_flags ≢ 4) × (a.creation_flags ≢ 12)
+  pub one_section : a.max_sections < 2
+
 abbrev pub AreBuilt : Option CreationAttributes → Type 0
 AreBuilt None = Unit {0}
-AreBuilt (Some a) = (a.creation_flags ≡ 1) × (a.max_sections ≡ 1)
+AreBuilt (Some a) = IsBuiltAttributes a
 
 abbrev pub IsWrite : Update → Type 0
 IsWrite (updates.Write elements) = Unit {0}
 IsWrite update = ⊥
 
--- an Initialize, an open with no deadline, a write, a read; the others are not built yet
+-- an Initialize on one of eight nodes, an open, a write and a read, with places from 0 to 99; the others are not built yet
 abbrev pub IsBuilt : Op → Type 0
-IsBuilt (ops.Client r version callbacks) = r < 8
-IsBuilt (ops.Open place name flags timeout a) = (place < 100) × (timeout ≡ NEVER) × AreBuilt a
+IsBuilt (ops.Client r version callbacks) = (r < 8) × RegistersNone callbacks
+IsBuilt (ops.Open place name flags timeout a) = (place < 100) × AreBuilt a
 IsBuilt (ops.Write place update) = (place < 100) × IsWrite update
 IsBuilt (ops.Read place elements) = place < 100
 IsBuilt op = ⊥

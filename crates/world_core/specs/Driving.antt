@@ -1,9 +1,10 @@
 -- What a call does next, by its own steps and the record: the steps of each call, decision by decision.
-use Rattle.std.specs.Prelude.{ℕ, ◌+◌, List, [], ◌∷◌, length, Option, Some, None, Bool, true, false, not, ◌&&◌, ◌==◌, nat_le, if◌then◌else◌, ℤ, pos, slice_set, slice_index}
-use Rattle.ckpt_types.specs.declared.ais_error.AisError.TheVariants.{NotExist, Exist, TryAgain, NoResources}
+use Rattle.std.specs.Prelude.{◌≡◌, ℕ, ◌+◌, List, [], ◌∷◌, length, Option, Some, None, Bool, true, false, not, ◌&&◌, ◌==◌, nat_le, if◌then◌else◌, ℤ, pos, slice_set, slice_index}
+use Rattle.moment_rules.specs.Times.{sum_until_end, is_reached}
+use Rattle.ckpt_types.specs.declared.ais_error.AisError.TheVariants.{NotExist, Exist, Timeout, TryAgain, NoResources}
 use Rattle.ckpt_types.specs.declared.answers.Answer.{Answer}
 use Rattle.ckpt_types.specs.declared.answers.Answer.TheVariants as answers
-use Rattle.ckpt_types.specs.declared.answers.Cause.TheVariants.{Plain, Index, Holder, Count}
+use Rattle.ckpt_types.specs.declared.answers.Cause.TheVariants.{Plain, Index, Holder, Deadline, Count}
 use Rattle.ckpt_types.specs.declared.answers.Outcome.{Outcome}
 use Rattle.ckpt_types.specs.declared.answers.Outcome.TheVariants.{Done, Refused, NoMemory}
 use Rattle.ckpt_types.specs.declared.attributes.CreationAttributes.{CreationAttributes}
@@ -132,35 +133,51 @@ abbrev pub accepts : Option CreationAttributes → Entry → Bool
 accepts None e = true
 accepts (Some a) e = same_but_retention e.attributes a
 
--- of a name that no checkpoint has: it is made, where that was asked for and there is room
-abbrev pub on_free_name : RecordState → Bool → Option CreationAttributes → Next
-on_free_name R room None = End (Refused NotExist Plain)
-on_free_name R room (Some a) =
+-- what is next before the deadline; where it is reached, the call ends with TIMEOUT
+abbrev pub in_time : Option ℤ → ℤ → Next → Next
+in_time None moment next = next
+in_time (Some deadline) moment next = if is_reached deadline moment then End (Refused Timeout (Deadline deadline moment)) else next
+
+-- a deadline that is there is not reached at the moment
+abbrev pub IsBefore : ℤ → Option ℤ → Type 0
+IsBefore moment None = Unit {0}
+IsBefore moment (Some deadline) = is_reached deadline moment ≡ false
+
+-- a checkpoint is made, where there is room for its handle and for it
+abbrev pub create_next : RecordState → Bool → Next
+create_next R room =
     if not room then End (Refused NoResources (Count 32))
     else if nat_le 16 (length R.entries) then End (Refused NoResources (Count 16))
     else Event events.Create
 
--- of a name that a checkpoint has: it is opened
-abbrev pub on_entry_named : Bool → Option CreationAttributes → Entry → Next
-on_entry_named room a e =
+-- a checkpoint is opened that has the attributes asked for, where there is room for its handle
+abbrev pub entry_next : Bool → Option CreationAttributes → Entry → Next
+entry_next room a e =
     if not (accepts a e) then End (Refused Exist Plain)
     else if not room then End (Refused NoResources (Count 32))
     else Event events.Open
 
-abbrev pub on_named : RecordState → Bool → Option CreationAttributes → Option Entry → Next
-on_named R room a None = on_free_name R room a
-on_named R room a (Some e) = on_entry_named room a e
+-- of a name that no checkpoint has: one is made where attributes are given
+abbrev pub on_free_name : RecordState → Bool → Option ℤ → Option CreationAttributes → Next
+on_free_name R room deadline None = End (Refused NotExist Plain)
+on_free_name R room deadline (Some a) = in_time deadline R.moment (create_next R room)
+
+-- of any name
+abbrev pub on_named : RecordState → Bool → Option ℤ → Option CreationAttributes → Option Entry → Next
+on_named R room deadline a None = on_free_name R room deadline a
+on_named R room deadline a (Some e) = in_time deadline R.moment (entry_next room a e)
 
 abbrev pub reserve_or_finish : ℕ → Option ℕ → Next
 reserve_or_finish k (Some r) = Serve r (requests.Reserve k)
 reserve_or_finish k None = Event events.Finish
 
--- a making: each node that is up reserves, then it is finished; it is undone where memory was refused
+-- a making: each node that is up reserves, then it is finished; it is undone where memory was refused. A making that meets
+-- its deadline is not built: the moment stands still while a call is in hand
 abbrev pub on_making : RecordState → Making → Next
 on_making R m = if m.refused then Event events.Undo else reserve_or_finish m.ckpt (first_lacking 0 R.up m.reserved)
 
 abbrev pub by_making : RecordState → Bool → OpenCall → Option Making → Next
-by_making R room o None = on_named R room o.ask.attrs (named o.ask.name R.entries)
+by_making R room o None = on_named R room o.deadline o.ask.attrs (named o.ask.name R.entries)
 by_making R room o (Some m) = on_making R m
 
 abbrev pub open_next : RecordState → Bool → OpenCall → Next
@@ -372,10 +389,16 @@ event_after call driver step R = swept (event_change call driver step R)
 
 -- ---- a beginning
 
--- what a call keeps of the tables and of the record at its beginning: the checkpoint of its handle, and the client's node
+-- what a call keeps of the tables and of the record at its beginning: the checkpoint of its handle, the client's node, and the moment
 pub record Kept : Type 0 where
   pub ckpt : Option ℕ
   pub node : ℕ
+  pub moment : ℤ
+
+-- the deadline of an operation that began at a moment, where it has a timeout
+abbrev pub deadline_from : ℤ → Op → Option ℤ
+deadline_from moment (ops.Open place name flags timeout attributes) = Some (sum_until_end moment timeout)
+deadline_from moment op = None
 
 abbrev pub on_kept : Option ℕ → (ℕ → Driver) → Driver
 on_kept None start = drivers.Enter 0
@@ -387,6 +410,7 @@ driver_start call (ops.Client r version callbacks) kept = drivers.Enter r
 driver_start call (ops.Open place name flags timeout attributes) kept = drivers.Open (record {
   call = call;
   ask = record { name = name; attrs = attributes; client = client_of call; node = kept.node };
+  deadline = Some (sum_until_end kept.moment timeout);
   making = None;
 })
 driver_start call (ops.Write place update) kept = on_kept kept.ckpt (λ k. drivers.Update (record { call = call; ckpt = k; owned = no_nodes; moment = pos 0; phase = Staging }))

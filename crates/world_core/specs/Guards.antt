@@ -1,10 +1,11 @@
 -- Which labels the machine allows: the guards, over all complete replicas at once, and the answers with their causes.
-use Rattle.std.specs.Prelude.{◌≡◌, ◌⊎◌, ℕ, ◌+◌, ◌<◌, ◌≤◌, List, [], ◌∷◌, ◌++◌, length, Option, Some, None, IsSome, IsSomeAnd, Ok, Err, IsOk, Bool, true, false, not, ◌==◌, ◌&&◌, ◌||◌, if◌then◌else◌, slice_index}
+use Rattle.std.specs.Prelude.{◌≡◌, ◌⊎◌, ℕ, ◌+◌, ◌<◌, ◌≤◌, List, [], ◌∷◌, ◌++◌, length, Option, Some, None, IsSome, IsSomeAnd, Ok, Err, IsOk, Bool, true, false, not, ◌==◌, ◌&&◌, ◌||◌, if◌then◌else◌, ℤ, slice_index}
+use Rattle.moment_rules.specs.Times.{is_reached}
 use Rattle.ckpt_types.specs.declared.ais_error.AisError.{AisError}
 use Rattle.ckpt_types.specs.declared.ais_error.AisError.TheVariants as errors
 use Rattle.ckpt_types.specs.declared.answers.Answer.TheVariants as answers
 use Rattle.ckpt_types.specs.declared.answers.Cause.{Cause}
-use Rattle.ckpt_types.specs.declared.answers.Cause.TheVariants.{Plain, Index, Holder, Count}
+use Rattle.ckpt_types.specs.declared.answers.Cause.TheVariants.{Plain, Index, Holder, Deadline, Count}
 use Rattle.ckpt_types.specs.declared.answers.Outcome.{Outcome}
 use Rattle.ckpt_types.specs.declared.answers.Outcome.TheVariants.{Done, Refused, NoMemory}
 use Rattle.ckpt_types.specs.declared.attributes.CreationAttributes.{CreationAttributes}
@@ -25,8 +26,8 @@ use Rattle.run_labels.specs.declared.labels.Label.TheVariants as labels
 use Rattle.run_labels.specs.OpWord.{word_of_op}
 use Rattle.world_core.specs.declared.record.Entry.{Entry}
 use Rattle.world_core.specs.Calls.{same_call, client_of}
-use Rattle.world_core.specs.RecordState.{entry_of, complete_of, named, is_live, is_up}
-use Rattle.world_core.specs.Driving.{accepts}
+use Rattle.world_core.specs.RecordState.{entry_of, complete_of, named, is_live, is_live_client, is_up}
+use Rattle.world_core.specs.Driving.{IsBefore, accepts, deadline_from}
 use Rattle.world_core.specs.Serving.{update_of}
 use Rattle.world_core.specs.Machine.{Machine, Staged, ReplicaState, CallState}
 use Rattle.world_core.specs.Steps.{Told, IsBegun, IsWord, room_of, staged_moment, effect_of}
@@ -127,32 +128,54 @@ ReadRow m elements k r t = OnReplica m k r (λ e x. (e.active ≡ Some r) × Rea
 
 -- ---- clients, makings and opens
 
-abbrev pub EnterRow : Machine → ℕ → StepReply → Option Outcome → Type 0
-EnterRow m r words.Ok end = (is_up r m.cluster ≡ true) × (length m.cluster.clients < 64) × (end ≡ Some (Done answers.Version))
-EnterRow m r words.Memory end = end ≡ Some NoMemory
-EnterRow m r reply end = ⊥
+-- the client can become live on the node
+pub record MayEnter (m : Machine) (c r : ℕ) : Type 0 where
+  pub up : is_up r m.cluster ≡ true
+  pub not_live : is_live_client c m.cluster ≡ false
+  pub few : length m.cluster.clients < 64
+
+abbrev pub EnterRow : Machine → ℕ → ℕ → StepReply → Option Outcome → Type 0
+EnterRow m c r words.Ok end = MayEnter m c r × (end ≡ Some (Done answers.Version))
+EnterRow m c r words.Memory end = MayEnter m c r × (end ≡ Some NoMemory)
+EnterRow m c r reply end = ⊥
 
 -- the checkpoint is in the making by the call
 abbrev pub IsMadeBy : Machine → CallId → ℕ → Type 0
 IsMadeBy m call k = IsSomeAnd (entry_of k m.cluster.entries) (λ e. e.making ≡ Some call)
 
+-- the deadline that a call has, if it has one
+abbrev pub deadline_of : CallState → Option ℤ
+deadline_of s = deadline_from s.kept.moment s.op
+
+abbrev pub IsInTime : Machine → CallState → Type 0
+IsInTime m s = IsBefore m.cluster.moment (deadline_of s)
+
+-- a checkpoint of the name can be made, with this identity
+pub record MayCreate (m : Machine) (s : CallState) (name : List ℕ) (a : Option CreationAttributes) (k : ℕ) : Type 0 where
+  pub free : named name m.cluster.entries ≡ None
+  pub asked : IsSome a
+  pub in_time : IsInTime m s
+  pub room : room_of m (client_of s.call) ≡ true
+  pub few : length m.cluster.entries < 16
+  pub next : k ≡ m.cluster.last_identity + 1
+
 abbrev pub CreateRow : Machine → CallState → List ℕ → Option CreationAttributes → ℕ → StepReply → Option Outcome → Type 0
-CreateRow m s name a k words.Ok end = (named name m.cluster.entries ≡ None) × IsSome a × (room_of m (client_of s.call) ≡ true) × (length m.cluster.entries < 16) × (k ≡ m.cluster.last_identity + 1) × (end ≡ None)
-CreateRow m s name a k words.Memory end = end ≡ Some NoMemory
+CreateRow m s name a k words.Ok end = MayCreate m s name a k × (end ≡ None)
+CreateRow m s name a k words.Memory end = MayCreate m s name a k × (end ≡ Some NoMemory)
 CreateRow m s name a k reply end = ⊥
 
 abbrev pub ReserveRow : Machine → CallState → ℕ → ℕ → StepReply → Option Outcome → Type 0
-ReserveRow m s k r words.Ok end = (is_up r m.cluster ≡ true) × IsMadeBy m s.call k × (end ≡ None)
-ReserveRow m s k r words.Memory end = (is_up r m.cluster ≡ true) × IsMadeBy m s.call k × (end ≡ None)
+ReserveRow m s k r words.Ok end = (is_up r m.cluster ≡ true) × IsMadeBy m s.call k × IsInTime m s × (end ≡ None)
+ReserveRow m s k r words.Memory end = (is_up r m.cluster ≡ true) × IsMadeBy m s.call k × IsInTime m s × (end ≡ None)
 ReserveRow m s k r reply end = ⊥
 
 -- every node that is up has reserved under its present incarnation
 abbrev pub FinishRow : Machine → CallState → ℕ → StepReply → Option Outcome → Type 0
-FinishRow m s k words.Ok end = IsMadeBy m s.call k × ((r : ℕ) → is_up r m.cluster ≡ true → m.reserved k r ≡ Some (slice_index m.cluster.up r)) × (end ≡ Some (Done (answers.Opened k)))
+FinishRow m s k words.Ok end = IsMadeBy m s.call k × IsInTime m s × ((r : ℕ) → is_up r m.cluster ≡ true → m.reserved k r ≡ Some (slice_index m.cluster.up r)) × (end ≡ Some (Done (answers.Opened k)))
 FinishRow m s k reply end = ⊥
 
 abbrev pub UndoRow : Machine → CallState → ℕ → StepReply → Option Outcome → Type 0
-UndoRow m s k words.Ok end = IsMadeBy m s.call k × (end ≡ Some NoMemory)
+UndoRow m s k words.Ok end = IsMadeBy m s.call k × IsInTime m s × (end ≡ Some NoMemory)
 UndoRow m s k reply end = ⊥
 
 pub record CanOpen (a : Option CreationAttributes) (k : ℕ) (e : Entry) : Type 0 where
@@ -160,22 +183,49 @@ pub record CanOpen (a : Option CreationAttributes) (k : ℕ) (e : Entry) : Type 
   pub made : e.making ≡ None
   pub accepted : accepts a e ≡ true
 
+-- the checkpoint of the name can be opened
+pub record MayOpen (m : Machine) (s : CallState) (name : List ℕ) (a : Option CreationAttributes) (k : ℕ) : Type 0 where
+  pub there : IsSomeAnd (named name m.cluster.entries) (CanOpen a k)
+  pub in_time : IsInTime m s
+  pub room : room_of m (client_of s.call) ≡ true
+
 abbrev pub OpenRow : Machine → CallState → List ℕ → Option CreationAttributes → ℕ → StepReply → Option Outcome → Type 0
-OpenRow m s name a k words.Ok end = IsSomeAnd (named name m.cluster.entries) (CanOpen a k) × (room_of m (client_of s.call) ≡ true) × (end ≡ Some (Done (answers.Opened k)))
-OpenRow m s name a k words.Memory end = end ≡ Some NoMemory
+OpenRow m s name a k words.Ok end = MayOpen m s name a k × (end ≡ Some (Done (answers.Opened k)))
+OpenRow m s name a k words.Memory end = MayOpen m s name a k × (end ≡ Some NoMemory)
 OpenRow m s name a k reply end = ⊥
 
 -- ---- what the record and the client's tables decide
 
+-- a checkpoint has the name, or one is asked for
+abbrev pub MayExist : Option Entry → Option CreationAttributes → Type 0
+MayExist None a = IsSome a
+MayExist (Some e) a = Unit {0}
+
+-- the checkpoint of the name has the attributes asked for; where none has the name, one is asked for
+abbrev pub IsAccepted : Option Entry → Option CreationAttributes → Type 0
+IsAccepted None a = IsSome a
+IsAccepted (Some e) a = accepts a e ≡ true
+
+-- the client has as many handles as it may have
+pub record HasNoPlace (m : Machine) (s : CallState) (name : List ℕ) (a : Option CreationAttributes) (n : ℕ) : Type 0 where
+  pub accepted : IsAccepted (named name m.cluster.entries) a
+  pub full : room_of m (client_of s.call) ≡ false
+  pub limit : n ≡ 32
+
+-- a checkpoint is asked for where as many are there as may be
+pub record IsFull (m : Machine) (s : CallState) (name : List ℕ) (a : Option CreationAttributes) (n : ℕ) : Type 0 where
+  pub free : named name m.cluster.entries ≡ None
+  pub asked : IsSome a
+  pub room : room_of m (client_of s.call) ≡ true
+  pub full : 16 ≤ length m.cluster.entries
+  pub limit : n ≡ 16
+
+-- the refusals of an open that the record and the tables decide, each where none before it applies: NOT_EXIST, TIMEOUT, EXIST, NO_RESOURCES
 abbrev pub OpenLook : Machine → CallState → List ℕ → Option CreationAttributes → AisError → Cause → Type 0
 OpenLook m s name a errors.NotExist Plain = (named name m.cluster.entries ≡ None) × (a ≡ None)
-OpenLook m s name a errors.Exist Plain = IsSomeAnd (named name m.cluster.entries) (λ e. accepts a e ≡ false)
-OpenLook m s name a errors.NoResources (Count n) =
-    (IsAccepted (named name m.cluster.entries) × (room_of m (client_of s.call) ≡ false) × (n ≡ 32))
-    ⊎ ((named name m.cluster.entries ≡ None) × (room_of m (client_of s.call) ≡ true) × (16 ≤ length m.cluster.entries) × (n ≡ 16)) where
-      IsAccepted : Option Entry → Type 0
-      IsAccepted None = IsSome a
-      IsAccepted (Some e) = accepts a e ≡ true
+OpenLook m s name a errors.Timeout (Deadline deadline moment) = MayExist (named name m.cluster.entries) a × (deadline_of s ≡ Some deadline) × (moment ≡ m.cluster.moment) × (is_reached deadline moment ≡ true)
+OpenLook m s name a errors.Exist Plain = IsInTime m s × IsSomeAnd (named name m.cluster.entries) (λ e. accepts a e ≡ false)
+OpenLook m s name a errors.NoResources (Count n) = IsInTime m s × (HasNoPlace m s name a n ⊎ IsFull m s name a n)
 OpenLook m s name a error cause = ⊥
 
 abbrev pub EnterLook : Machine → AisError → Cause → Type 0
@@ -237,7 +287,7 @@ OfClient (ops.Client r version callbacks) q P = (q ≡ r) × P
 OfClient op q P = ⊥
 
 abbrev pub Row : Machine → CallState → Verb → Told → Type 0
-Row m s verbs.Enter t = AtNodeAlone t.ckpt t.node (λ r. OfClient s.op r (EnterRow m r t.reply t.end)) × (t.pieces ≡ None)
+Row m s verbs.Enter t = AtNodeAlone t.ckpt t.node (λ r. OfClient s.op r (EnterRow m (client_of s.call) r t.reply t.end)) × (t.pieces ≡ None)
 Row m s verbs.Open t = AtCkpt t.ckpt t.node (λ k. OfOpen s.op (λ name a. OpenRow m s name a k t.reply t.end)) × (t.pieces ≡ None)
 Row m s verbs.Create t = AtCkpt t.ckpt t.node (λ k. OfOpen s.op (λ name a. CreateRow m s name a k t.reply t.end)) × (t.pieces ≡ None)
 Row m s verbs.Reserve t = AtNode t.ckpt t.node (λ k r. ReserveRow m s k r t.reply t.end) × (t.pieces ≡ None)

@@ -11,8 +11,9 @@ use Rattle.run_labels.specs.declared.labels.Label.TheVariants as labels
 use Rattle.run_labels.specs.declared.labels.StepReply.{StepReply}
 use Rattle.run_labels.specs.declared.words.OpWord.{OpWord}
 use Rattle.run_labels.specs.declared.words.Verb.{Verb}
+use Rattle.client_handles.specs.declared.client.TheConstants.{HANDLES_MAX}
+use Rattle.client_handles.specs.declared.handle_view.HandleView.{HandleView}
 use Rattle.world_core.specs.declared.hands.InHand.{InHand}
-use Rattle.world_core.specs.declared.tables.TheConstants.{HANDLES_MAX}
 use Rattle.world_core.specs.declared.world.Event.{Event}
 use Rattle.world_core.specs.declared.world.Event.TheVariants as happenings
 use Rattle.world_core.specs.declared.world.World.{World}
@@ -20,9 +21,7 @@ use Rattle.world_core.specs.Calls.{left}
 use Rattle.world_core.specs.RecordState.{empty_record}
 use Rattle.world_core.specs.Driving.{driver_next}
 use Rattle.world_core.specs.Beginning.{IsBuilt}
-use Rattle.world_core.specs.declared.tables.Handle.{Handle}
-use Rattle.world_core.specs.Steps.{handle_of_number}
-use Rattle.world_core.specs.Shows.{Does, handles_in, place_in, hand_at}
+use Rattle.world_core.specs.Shows.{Does, handles_in, handle_in_place, hand_at}
 use Rattle.world_core.specs.Runs.{AnswersBegin, IsIdleWord}
 
 -- the client has a free place for a handle
@@ -30,9 +29,9 @@ abbrev pub room_in : World → ℕ → Bool
 room_in w c = nat_lt (length (handles_in (slice_get w.tables c))) HANDLES_MAX
 
 -- the handle for which a place of the client stands
-abbrev pub handle_named : World → ℕ → Option ℕ → Option Handle
+abbrev pub handle_named : World → ℕ → Option ℕ → Option HandleView
 handle_named w c None = None
-handle_named w c (Some place) = handle_of_number (handles_in (slice_get w.tables c)) (place_in (slice_get w.tables c) place)
+handle_named w c (Some place) = handle_in_place (slice_get w.tables c) place
 
 -- this is next for the call that the client has in hand
 pub record IsNext (w : World) (c : ℕ) (next : Next) : Type 0 where

@@ -10,18 +10,19 @@ use Rattle.ckpt_types.specs.Attributes.{is_malformed}
 use Rattle.ckpt_types.specs.Updates.{outcome}
 use Rattle.run_labels.specs.declared.labels.Label.{Label}
 use Rattle.run_labels.specs.declared.labels.Label.TheVariants as labels
+use Rattle.client_handles.specs.declared.handle_view.HandleView.{HandleView}
 use Rattle.world_core.specs.declared.drivers.Driver.{Driver}
 use Rattle.world_core.specs.declared.drivers.Driver.TheVariants as drivers
 use Rattle.world_core.specs.declared.open_call.Making.{Making}
 use Rattle.world_core.specs.declared.open_call.OpenCall.{OpenCall}
 use Rattle.world_core.specs.declared.reading.ActiveCall.{ActiveCall}
 use Rattle.world_core.specs.declared.record.Entry.{Entry}
-use Rattle.world_core.specs.declared.tables.Handle.{Handle}
 use Rattle.world_core.specs.declared.update_call.UpdateCall.{UpdateCall}
 use Rattle.world_core.specs.declared.update_call.UpdatePhase.TheVariants.{Staging}
 use Rattle.world_core.specs.Calls.{same_actor, client_of}
-use Rattle.world_core.specs.RecordState.{entry_of, first_nodes, no_nodes, has_references, is_up}
+use Rattle.world_core.specs.RecordState.{entry_of, first_nodes, no_nodes, has_references, is_live_client, is_up}
 use Rattle.world_core.specs.Serving.{update_of}
+use Rattle.world_core.specs.Driving.{IsBefore, deadline_from}
 use Rattle.world_core.specs.Beginning.{IsBuilt}
 use Rattle.world_core.specs.Machine.{Machine, Staged, ReplicaState, CallState}
 use Rattle.world_core.specs.Steps.{driver_of, room_of}
@@ -149,6 +150,7 @@ IsMakingOrNone m (Some making) = IsMakingAt m making
 pub record IsEnterAt (m : Machine) (s : CallState) (r : ℕ) : Type 0 where
   pub op : IsClientOf s.op r
   pub up : is_up r m.cluster ≡ true
+  pub not_live : is_live_client (client_of s.call) m.cluster ≡ false
 
 pub record IsOpenAt (m : Machine) (s : CallState) (o : OpenCall) : Type 0 where
   pub number : 1 ≤ s.call.number
@@ -157,10 +159,12 @@ pub record IsOpenAt (m : Machine) (s : CallState) (o : OpenCall) : Type 0 where
   pub built : IsBuilt s.op
   pub asks : OpensAs s.op o.ask
   pub asked : AreGoodAttributes o.ask.attrs
+  pub deadline : o.deadline ≡ deadline_from s.kept.moment s.op
   pub up : m.cluster.up ≡ first_nodes 1
   pub making : IsMakingOrNone m o.making
-  -- with a checkpoint in the making its client has a free place for the handle
+  -- with a checkpoint in the making its client has a free place for the handle, and the call's deadline is not reached
   pub room : IsSome o.making → room_of m o.ask.client ≡ true
+  pub in_time : IsSome o.making → IsBefore m.cluster.moment o.deadline
 
 -- an update has staged nowhere, or on n0
 pub record IsUpdateAt (m : Machine) (s : CallState) (u : UpdateCall) : Type 0 where
@@ -196,7 +200,7 @@ pub record InvariantWith (hand : Option Working) (m : Machine) : Type 0 where
   pub in_use : AllInUse m.cluster.entries
   pub entries : (k : ℕ) (e : Entry) → entry_of k m.cluster.entries ≡ Some e → IsGoodEntry (maker_of hand k) (slot_of hand k) e (m.replicas k 0)
   -- a handle has a number from 1, and its checkpoint is there and made
-  pub handles : (c : ℕ) (h : Handle) → Contains (m.handles c) h → (1 ≤ h.number) × IsMade m h.ckpt
+  pub handles : (c : ℕ) (h : HandleView) → Contains (m.handles c) h → (1 ≤ h.handle) × IsMade m h.id
   pub next : (a : ActorName) → 1 ≤ m.next a
   pub in_hand : (a : ActorName) → m.in_hand a ≡ in_hand_of hand a
   pub working : IsWorking m hand

@@ -7,7 +7,7 @@ use Rattle.ckpt_types.specs.declared.identities.CallId.{CallId}
 use Rattle.ckpt_types.specs.declared.operation.Op.{Op}
 use Rattle.ckpt_types.specs.declared.update.Update.{Update}
 use Rattle.ckpt_types.specs.Sections.{Section}
-use Rattle.world_core.specs.declared.tables.Handle.{Handle}
+use Rattle.client_handles.specs.declared.handle_view.HandleView.{HandleView}
 use Rattle.world_core.specs.RecordState.{RecordState, empty_record}
 use Rattle.world_core.specs.Driving.{StepDone, Kept}
 
@@ -72,9 +72,10 @@ pub record Machine : Type 0 where
   pub reserved : ℕ → ℕ → Option ℕ
   -- the background snapshot of each checkpoint
   pub snapshots : ℕ → Option Snapshot
-  -- by client: its handles in the order of their opening, by place the number of a handle, its iterations, its asynchronous calls
-  pub handles : ℕ → List Handle
+  -- by client: its handles in the order of their opening, by place the number of a handle, the number of the handle last taken or 0, its iterations, its asynchronous calls
+  pub handles : ℕ → List HandleView
   pub places : ℕ → ℕ → Option ℕ
+  pub last_handles : ℕ → ℕ
   pub iterations : ℕ → ℕ → Option IterationState
   pub pending : ℕ → List PendingCall
   -- the number that each client's and node's next call gets
@@ -92,6 +93,7 @@ empty_cluster = record {
   snapshots = λ k. None;
   handles = λ c. [];
   places = λ c p. None;
+  last_handles = λ c. 0;
   iterations = λ c p. None;
   pending = λ c. [];
   next = λ a. 1;

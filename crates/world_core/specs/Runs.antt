@@ -15,6 +15,7 @@ use Rattle.run_labels.specs.declared.words.LineWord.TheVariants as linewords
 use Rattle.run_labels.specs.declared.words.Said.{Said}
 use Rattle.run_labels.specs.declared.words.Said.TheVariants.{Down}
 use Rattle.run_labels.specs.OpWord.{word_of_op}
+use Rattle.client_handles.specs.ClientState.{new_client}
 use Rattle.world_core.specs.declared.drivers.Driver.{Driver}
 use Rattle.world_core.specs.declared.drivers.Driver.TheVariants as drivers
 use Rattle.world_core.specs.declared.hands.InHand.{InHand}
@@ -25,6 +26,7 @@ use Rattle.world_core.specs.declared.world.Event.TheVariants as happenings
 use Rattle.world_core.specs.declared.world.World.{World}
 use Rattle.world_core.specs.RecordState.{RecordState, entry_of, complete_of, empty_record, is_up}
 use Rattle.world_core.specs.TableState.{TableState}
+use Rattle.world_core.specs.NewTable.{no_callbacks}
 use Rattle.world_core.specs.Driving.{lacks, has}
 use Rattle.world_core.specs.Beginning.{IsBuilt}
 use Rattle.world_core.specs.Machine.{Machine, ReplicaState, empty_cluster}
@@ -57,6 +59,7 @@ IsRun log = IsRunFrom empty_cluster log
 -- what counts up is no more than so many
 pub record Counts (m : Machine) (n : ℕ) : Type 0 where
   pub next : (a : ActorName) → m.next a ≤ n + 1
+  pub last_handles : (c : ℕ) → m.last_handles c ≤ n
   pub effects : (k r : ℕ) (x : ReplicaState) → m.replicas k r ≡ Some x → length x.effects ≤ n
   pub identity : m.cluster.last_identity ≤ n
   pub references : (k : ℕ) (e : Entry) (c : ℕ) → entry_of k m.cluster.entries ≡ Some e → slice_index e.references c ≤ n
@@ -75,7 +78,7 @@ pub record IsNew (w : World) : Type 0 where
   pub cluster : w.cluster ≡ empty_record
   pub nodes : w.nodes ≡ replicate 8 []
   pub next : (c : ℕ) → next_in (slice_get w.tables c) ≡ 1
-  pub tables : (c : ℕ) (t : TableState) → slice_get w.tables c ≡ Some t → (t.handles ≡ []) × ((p : ℕ) → slice_index t.places p ≡ 0)
+  pub tables : (c : ℕ) (t : TableState) → slice_get w.tables c ≡ Some t → t.client ≡ new_client no_callbacks
   pub hands : (c : ℕ) → hand_at w.hands c ≡ None
 
 -- ---- events

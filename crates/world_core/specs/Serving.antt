@@ -14,6 +14,7 @@ use Rattle.ckpt_types.specs.Updates.{Refusal, outcome}
 use Rattle.ckpt_types.specs.Reads.{read}
 use Rattle.node_msgs.specs.declared.requests.Request.{Request}
 use Rattle.node_msgs.specs.declared.requests.Request.TheVariants as requests
+pub use Rattle.node_msgs.specs.Requests.{ckpt_of}
 use Rattle.node_msgs.specs.declared.replies.Reply.{Reply}
 use Rattle.node_msgs.specs.declared.replies.Reply.TheVariants as replies
 use Rattle.world_core.specs.declared.replica.Replica.{Replica}
@@ -101,23 +102,6 @@ IsReadyAt request None = Unit {0}
 IsReadyAt request (Some x) = IsReady request x
 
 -- ---- the nodes
-
-abbrev pub ckpt_of : Request → ℕ
-ckpt_of (requests.Reserve k) = k
-ckpt_of (requests.Stage call k t) = k
-ckpt_of (requests.Claim call k owner) = k
-ckpt_of (requests.Commit call k) = k
-ckpt_of (requests.Withdraw call k) = k
-ckpt_of (requests.Apply call k) = k
-ckpt_of (requests.Mark call k) = k
-ckpt_of (requests.Element call k) = k
-ckpt_of (requests.Unmark call k) = k
-ckpt_of (requests.Read k) = k
-ckpt_of (requests.Status k) = k
-ckpt_of (requests.Iterate call k choice) = k
-ckpt_of (requests.Next call k) = k
-ckpt_of (requests.Pull call k) = k
-ckpt_of (requests.Install call k) = k
 
 abbrev pub replica_key : Replica → ℕ
 replica_key x = x.ckpt

@@ -10,6 +10,8 @@ use Rattle.node_msgs.specs.declared.next.RecordStep.{RecordStep}
 use Rattle.node_msgs.specs.declared.next.RecordStep.TheVariants as events
 use Rattle.node_msgs.specs.declared.next.Next.TheVariants.{Serve, Event}
 use Rattle.run_labels.specs.declared.labels.Label.{Label}
+use Rattle.client_handles.specs.ClientState.{handle_at}
+use Rattle.client_handles.specs.declared.handle_view.HandleView.{HandleView}
 use Rattle.world_core.specs.declared.drivers.Driver.{Driver}
 use Rattle.world_core.specs.declared.drivers.Driver.TheVariants as drivers
 use Rattle.world_core.specs.declared.hands.InHand.{InHand}
@@ -18,7 +20,6 @@ use Rattle.world_core.specs.declared.open_call.OpenCall.{OpenCall}
 use Rattle.world_core.specs.declared.record.Entry.{Entry}
 use Rattle.world_core.specs.declared.replica.Replica.{Replica}
 use Rattle.world_core.specs.declared.replica.Slot.{Slot}
-use Rattle.world_core.specs.declared.tables.Handle.{Handle}
 use Rattle.world_core.specs.declared.world.World.{World}
 use Rattle.world_core.specs.Calls.{client_of}
 use Rattle.world_core.specs.Places.{or_none}
@@ -76,9 +77,9 @@ abbrev pub next_in : Option TableState → ℕ
 next_in None = 1
 next_in (Some t) = t.next
 
-abbrev pub handles_in : Option TableState → List Handle
+abbrev pub handles_in : Option TableState → List HandleView
 handles_in None = []
-handles_in (Some t) = t.handles
+handles_in (Some t) = t.client.handles
 
 -- 0 stands for no handle
 abbrev pub numbered : ℕ → Option ℕ
@@ -86,7 +87,17 @@ numbered n = if n == 0 then None else Some n
 
 abbrev pub place_in : Option TableState → ℕ → Option ℕ
 place_in None p = None
-place_in (Some t) p = numbered (slice_index t.places p)
+place_in (Some t) p = numbered (slice_index t.client.places p)
+
+-- the number of the handle last taken, or 0
+abbrev pub last_in : Option TableState → ℕ
+last_in None = 0
+last_in (Some t) = t.client.last_number
+
+-- the handle for which a place stands
+abbrev pub handle_in_place : Option TableState → ℕ → Option HandleView
+handle_in_place None p = None
+handle_in_place (Some t) p = handle_at p t.client
 
 abbrev pub next_of : List TableState → ActorName → ℕ
 next_of tables (Client c) = next_in (slice_get tables c)
@@ -115,6 +126,7 @@ machine_of w h = record {
   snapshots = λ k. None;
   handles = λ c. handles_in (slice_get w.tables c);
   places = λ c p. place_in (slice_get w.tables c) p;
+  last_handles = λ c. last_in (slice_get w.tables c);
   iterations = λ c p. None;
   pending = λ c. [];
   next = next_of w.tables;
@@ -212,10 +224,10 @@ pub record Facts (m : Machine) : Type 0 where
   -- a due stage has the moment of the slots that stand
   pub moments : (a : ActorName) (s : CallState) (r : ℕ) (call : CallId) (k : ℕ) (t : ℤ) → m.in_hand a ≡ Some s → due m s ≡ Serve r (requests.Stage call k t) → IsSomeAnd (m.replicas k r) IsFree → staged_moment m k ≡ t
   pub events : (a : ActorName) (s : CallState) (step : RecordStep) → m.in_hand a ≡ Some s → due m s ≡ Event step → IsEventReady m s (driver_of s) step
-  -- an open has a place for its handle and a number from 1, and with a checkpoint in the making room for the handle
-  pub opens : (a : ActorName) (s : CallState) (o : OpenCall) → m.in_hand a ≡ Some s → driver_of s ≡ drivers.Open o → (1 ≤ s.call.number) × IsBuilt s.op × (IsSome o.making → room_of m (client_of s.call) ≡ true)
+  -- an open has a place for its handle, and with a checkpoint in the making room for the handle
+  pub opens : (a : ActorName) (s : CallState) (o : OpenCall) → m.in_hand a ≡ Some s → driver_of s ≡ drivers.Open o → IsBuilt s.op × (IsSome o.making → room_of m (client_of s.call) ≡ true)
   -- the numbers of handles are from 1
-  pub numbered : (c : ℕ) (h : Handle) → Contains (m.handles c) h → 1 ≤ h.number
+  pub numbered : (c : ℕ) (h : HandleView) → Contains (m.handles c) h → 1 ≤ h.handle
 
 -- the world shows a state that has the facts
 pub record IsShown (w : World) : Type 0 where
@@ -231,6 +243,7 @@ pub record Does (old new : World) (label : Label) : Type 0 where
 -- no count is at its end
 pub record IsRoomy (w : World) : Type 0 where
   pub next : (c : ℕ) → next_in (slice_get w.tables c) < 2 ^ 32 - 1
+  pub handles : (c : ℕ) → last_in (slice_get w.tables c) < 2 ^ 32 - 1
   pub updates : (k r : ℕ) (x : Replica) → complete_replica w.cluster w.nodes k r ≡ Some x → x.count < 2 ^ 64 - 1
   pub identity : w.cluster.last_identity < 2 ^ 32 - 1
   pub references : (k : ℕ) (e : Entry) (c : ℕ) → entry_of k w.cluster.entries ≡ Some e → slice_index e.references c < 2 ^ 32 - 1

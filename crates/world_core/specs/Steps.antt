@@ -34,17 +34,17 @@ use Rattle.run_labels.specs.declared.labels.StepReply.TheVariants as words
 use Rattle.run_labels.specs.declared.labels.Label.{Label}
 use Rattle.run_labels.specs.declared.labels.Label.TheVariants as labels
 use Rattle.run_labels.specs.OpWord.{word_of_op}
+use Rattle.client_handles.specs.ClientState.{handle_numbered}
+use Rattle.client_handles.specs.declared.client.TheConstants.{HANDLES_MAX}
+use Rattle.client_handles.specs.declared.handle_view.HandleView.{HandleView}
 use Rattle.world_core.specs.declared.drivers.Driver.{Driver}
 use Rattle.world_core.specs.declared.record.Entry.{Entry}
 use Rattle.world_core.specs.declared.record.LiveClient.{LiveClient}
 use Rattle.world_core.specs.declared.replica.Replica.{Replica}
 use Rattle.world_core.specs.declared.replica.Slot.{Slot}
-use Rattle.world_core.specs.declared.tables.Handle.{Handle}
-use Rattle.world_core.specs.declared.tables.TheConstants.{HANDLES_MAX}
 use Rattle.world_core.specs.Calls.{number_of, client_of, IsClient, put_actor, left}
 use Rattle.world_core.specs.Places.{find_key, put, put2}
 use Rattle.world_core.specs.RecordState.{RecordState, entry_of, complete_of, client_key, is_live_client, is_up, no_nodes, brought_up}
-use Rattle.world_core.specs.TableState.{handle_number}
 use Rattle.world_core.specs.Serving.{update_of, ckpt_of, reply_at, pieces_at, or_same}
 use Rattle.world_core.specs.Driving.{Kept, driver_state, driver_next, driver_taken, driver_end, done_of, word_of, verb_of, event_verb, event_ckpt, event_node, event_end, event_after, takes_memory}
 use Rattle.world_core.specs.Beginning.{begin_end, handle_place, opened_place, opened_for, IsBuilt}
@@ -131,28 +131,28 @@ pub record IsDueStep (m : Machine) (call : CallId) (op : OpWord) (t : Told) : Ty
 -- ---- a beginning
 
 -- the handle for which a place of a client stands
-abbrev pub handle_of_number : List Handle → Option ℕ → Option Handle
+abbrev pub handle_of_number : List HandleView → Option ℕ → Option HandleView
 handle_of_number handles None = None
-handle_of_number handles (Some n) = find_key handle_number n handles
+handle_of_number handles (Some n) = handle_numbered n handles
 
-abbrev pub handle_in : Machine → ℕ → Option ℕ → Option Handle
+abbrev pub handle_in : Machine → ℕ → Option ℕ → Option HandleView
 handle_in m c None = None
 handle_in m c (Some place) = handle_of_number (m.handles c) (m.places c place)
 
-abbrev pub named_handle : Machine → ActorName → Op → Option Handle
+abbrev pub named_handle : Machine → ActorName → Op → Option HandleView
 named_handle m a op = handle_in m (number_of a) (handle_place op)
 
-abbrev pub ckpt_of_handle : Option Handle → Option ℕ
+abbrev pub ckpt_of_handle : Option HandleView → Option ℕ
 ckpt_of_handle None = None
-ckpt_of_handle (Some h) = Some h.ckpt
+ckpt_of_handle (Some h) = Some h.id
 
 abbrev pub node_of_client : Option LiveClient → ℕ
 node_of_client None = 0
 node_of_client (Some live) = live.node
 
 -- what a call keeps at its beginning
-abbrev pub kept_at : RecordState → ℕ → Option Handle → Kept
-kept_at R c h = record { ckpt = ckpt_of_handle h; node = node_of_client (find_key client_key c R.clients) }
+abbrev pub kept_at : RecordState → ℕ → Option HandleView → Kept
+kept_at R c h = record { ckpt = ckpt_of_handle h; node = node_of_client (find_key client_key c R.clients); moment = R.moment }
 
 -- an Initialize begins for a client that is not live, on a node that is up
 abbrev pub MayBegin : RecordState → ℕ → Op → Type 0
@@ -263,22 +263,22 @@ abbrev pub at_some : Option ℕ → Machine → (ℕ → Machine) → Machine
 at_some None m change = m
 at_some (Some n) m change = change n
 
--- the handle that an open gives, and the place that stands for it
+-- the handle that an open gives, of the number after the client's last one, and the place that stands for it
 abbrev pub creation_flags_of : Option Entry → ℕ
 creation_flags_of None = 0
 creation_flags_of (Some e) = e.attributes.creation_flags
 
-abbrev pub new_handle : RecordState → CallId → Op → ℕ → Handle
-new_handle R call op k = record { number = call.number; ckpt = k; flags = opened_for op; creation_flags = creation_flags_of (entry_of k R.entries) }
+abbrev pub new_handle : RecordState → ℕ → Op → ℕ → HandleView
+new_handle R last op k = record { id = k; flags = opened_for op; creation_flags = creation_flags_of (entry_of k R.entries); handle = last + 1 }
 
-abbrev pub with_handle_at : Machine → ℕ → Handle → Option ℕ → Machine
+abbrev pub with_handle_at : Machine → ℕ → HandleView → Option ℕ → Machine
 with_handle_at m c h None = m
-with_handle_at m c h (Some place) = record m { handles = put m.handles c (m.handles c ++ h ∷ []); places = put2 m.places c place (Some h.number) }
+with_handle_at m c h (Some place) = record m { handles = put m.handles c (m.handles c ++ h ∷ []); places = put2 m.places c place (Some h.handle); last_handles = put m.last_handles c h.handle }
 
 -- the opener's handle; m has the record after the step
 abbrev pub with_opened : CallState → Option ℕ → Machine → Machine
 with_opened s None m = m
-with_opened s (Some k) m = with_handle_at m (client_of s.call) (new_handle m.cluster s.call s.op k) (opened_place s.op)
+with_opened s (Some k) m = with_handle_at m (client_of s.call) (new_handle m.cluster (m.last_handles (client_of s.call)) s.op k) (opened_place s.op)
 
 abbrev pub event_done : Machine → CallState → RecordStep → Machine
 event_done m s step = with_record m (event_after s.call (driver_of s) step m.cluster)

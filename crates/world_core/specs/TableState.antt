@@ -1,30 +1,16 @@
 -- What a client keeps: the number of its next call, its handles, and the places that stand for them.
-use Rattle.std.specs.Prelude.{ℕ, ◌+◌, List, [], ◌∷◌, ◌++◌, length, Option, Bool, nat_lt, slice_set, slice_index}
-use Rattle.world_core.specs.declared.tables.Handle.{Handle}
-use Rattle.world_core.specs.declared.tables.TheConstants.{HANDLES_MAX}
-use Rattle.world_core.specs.Places.{find_key}
+use Rattle.std.specs.Prelude.{ℕ, ◌+◌}
+use Rattle.ckpt_types.specs.declared.open_flags.OpenFlags.{OpenFlags}
+use Rattle.client_handles.specs.ClientState.{ClientState, taken, bound}
 
 pub record TableState : Type 0 where
   pub next : ℕ
-  -- in the order of their opening
-  pub handles : List Handle
-  -- by place, the number of the handle for which it stands, or 0
-  pub places : List ℕ
+  -- its handles, and the places that stand for them
+  pub client : ClientState
 
-abbrev pub handle_number : Handle → ℕ
-handle_number h = h.number
-
--- the handle for which a place stands
-abbrev pub handle_at : ℕ → TableState → Option Handle
-handle_at place t = find_key handle_number (slice_index t.places place) t.handles
-
--- the client has a free place for a handle
-abbrev pub has_room : TableState → Bool
-has_room t = nat_lt (length t.handles) HANDLES_MAX
-
--- a handle more, and the place stands for it
-abbrev pub with_handle : Handle → ℕ → TableState → TableState
-with_handle h place t = record t { handles = t.handles ++ h ∷ []; places = slice_set t.places place h.number }
+-- a handle more is taken, and the place stands for it
+abbrev pub with_handle : ℕ → OpenFlags → ℕ → ℕ → TableState → TableState
+with_handle id flags creation_flags place t = record t { client = bound place (t.client.last_number + 1) (taken id flags creation_flags t.client) }
 
 -- one call more was begun
 abbrev pub advanced : TableState → TableState

@@ -1,12 +1,11 @@
--- How a table is kept: room for its handles is taken at the start.
-use Rattle.std.specs.Prelude.{◌≡◌, ◌≤◌, length, vec_capacity}
+-- How a table is kept.
+use Rattle.client_handles.specs.ClientState.{IsValid}
 use Rattle.world_core.specs.TableState.{TableState}
 use Rattle.world_core.specs.declared.tables.Table.TheInside.{Inside}
-use Rattle.world_core.specs.declared.tables.TheConstants.{HANDLES_MAX}
 
 abbrev pub table_of : Inside → TableState
-table_of t = record { next = t.next; handles = t.handles.items; places = t.places }
+table_of t = record { next = t.next; client = t.client }
 
-pub record HasHandleRoom (t : Inside) : Type 0 where
-  pub handles : HANDLES_MAX ≤ vec_capacity t.handles
-  pub places : length t.places ≡ 100
+-- what always holds of a client holds of its handles and places
+abbrev pub HasClient : Inside → Type 0
+HasClient t = IsValid t.client

@@ -1,22 +1,26 @@
 ghost use Rattle.std.specs.Prelude.{◌≡◌, None, not, if◌then◌else◌};
 ghost use Rattle.ckpt_types.specs.declared.ais_error.AisError.TheVariants as errors;
 ghost use Rattle.ckpt_types.specs.Attributes.{has_flag, has_bad_open_flags, is_malformed};
-ghost use Rattle.world_core.specs.Beginning.{refused, name_is_bad, attributes_are_bad, open_begin, vector_is_bad, update_is_bad, on_handle, may_write, may_read, begin_end, handle_place, opened_place, no_flags, opened_for};
+ghost use Rattle.world_core.specs.Beginning.{refused, version_is_bad, name_is_bad, attributes_are_bad, open_begin, vector_is_bad, update_is_bad, on_handle, may_write, may_read, begin_end, handle_place, opened_place, no_flags, opened_for};
 ghost use Rattle.world_core.specs.Steps.{ckpt_of_handle};
 
-use crate::tables::Handle;
 use crate::world::VECTOR_MAX;
 use ckpt_types::{
     AisError, Bytes, CHECKPOINT_CREATE, Cause, CkptId, CreationAttributes, Moment, NAME_MAX,
-    OPEN_FLAGS_ALL, Op, OpenFlags, Outcome, Update,
+    OPEN_FLAGS_ALL, Op, OpenFlags, Outcome, Update, Version,
 };
+use client_handles::HandleView;
+
+/// The release of the service, the letter of its versions.
+pub const RELEASE: u8 = b'B';
 
 /// What a call answers at once, where its client is live or not, and its place stands for this handle; nothing
 /// where the call goes on.
-pub fn begin_end(live: bool, handle: &Option<Handle>, op: &Op) -> Option<Outcome>
+pub fn begin_end(live: bool, handle: &Option<HandleView>, op: &Op) -> Option<Outcome>
     ensures { result ≡ begin_end live handle.now op.now }
 {
     match op {
+        Op::Client(_, version, _) => client_begin(version),
         Op::Open(_, name, flags, timeout, attributes) => {
             if live {
                 open_begin(name, *flags, *timeout, attributes)
@@ -77,12 +81,12 @@ pub fn opened_for(op: &Op) -> OpenFlags
 }
 
 /// The checkpoint of a handle.
-pub fn ckpt_of_handle(handle: &Option<Handle>) -> Option<CkptId>
+pub fn ckpt_of_handle(handle: &Option<HandleView>) -> Option<CkptId>
     ensures { result ≡ ckpt_of_handle handle.now }
 {
     match handle {
         None => None,
-        Some(handle) => Some(handle.ckpt),
+        Some(handle) => Some(handle.id),
     }
 }
 
@@ -100,6 +104,22 @@ fn no_flags() -> OpenFlags
         write: false,
         create: false,
     }
+}
+
+fn client_begin(version: &Version) -> Option<Outcome>
+    ensures { result ≡ (if version_is_bad version.now then refused errors.Version else None) }
+{
+    if version_is_bad(version) {
+        refused(AisError::Version)
+    } else {
+        None
+    }
+}
+
+fn version_is_bad(version: &Version) -> bool
+    ensures { result ≡ version_is_bad version.now }
+{
+    version.release != RELEASE || !(version.major == 1 || version.major == 2)
 }
 
 fn open_begin(
@@ -169,7 +189,7 @@ fn update_is_bad(update: &Update) -> bool
     }
 }
 
-fn write_begin(handle: &Option<Handle>, bad: bool) -> Option<Outcome>
+fn write_begin(handle: &Option<HandleView>, bad: bool) -> Option<Outcome>
     ensures { result ≡ on_handle handle.now bad may_write }
 {
     match handle {
@@ -178,7 +198,7 @@ fn write_begin(handle: &Option<Handle>, bad: bool) -> Option<Outcome>
     }
 }
 
-fn read_begin(handle: &Option<Handle>, bad: bool) -> Option<Outcome>
+fn read_begin(handle: &Option<HandleView>, bad: bool) -> Option<Outcome>
     ensures { result ≡ on_handle handle.now bad may_read }
 {
     match handle {

@@ -9,12 +9,12 @@ ghost use Rattle.world_core.specs.Steps.{MayBegin};
 ghost use Rattle.world_core.specs.Shows.{IsShown, IsRoomy, hand_at};
 ghost use Rattle.world_core.specs.Happenings.{BringsUp, Begins, handle_named};
 
-use crate::beginning::{begin_end, ckpt_of_handle, handle_place};
+use crate::beginning::{begin_end, handle_place};
 use crate::drivers::Driver;
 use crate::hands::InHand;
-use crate::tables::Handle;
 use crate::world::World;
 use ckpt_types::{ActorName, CallId, Op, Who};
+use client_handles::HandleView;
 use run_labels::{Label, LineWord, OpWord, Said};
 use std::alloc::AllocError;
 
@@ -68,7 +68,7 @@ impl World {
         };
         let handle = self.named_handle(c, op);
         let end = begin_end(self.cluster.is_live_client(c), &handle, op);
-        let driver = Driver::start(call, op, ckpt_of_handle(&handle), self.cluster.node_of(c))?;
+        let driver = Driver::start(call, op, &handle, &self.cluster)?;
         let hand = InHand {
             call,
             op: copy(op)?,
@@ -85,7 +85,7 @@ impl World {
     }
 
     // The handle for which the place stands that the operation names.
-    fn named_handle(&self, c: u8, op: &Op) -> Option<Handle>
+    fn named_handle(&self, c: u8, op: &Op) -> Option<HandleView>
         requires client { c < 100 }
         requires built { IsBuilt op.now }
         ensures { result ≡ handle_named self.now c (handle_place op.now) }

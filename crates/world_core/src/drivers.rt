@@ -2,15 +2,19 @@ ghost use Rattle.std.specs.Prelude.{◌≡◌, ◌-◌, ◌^◌, ◌<◌, Some, 
 ghost use Rattle.world_core.specs.Serving.{ckpt_of};
 ghost use Rattle.world_core.specs.Driving.{driver_next, driver_taken, driver_end, driver_start, done_end, done_of, verb_of, word_of, event_verb, event_ckpt, event_node, event_end, opened_end, making_ckpt, takes_memory, on_kept};
 ghost use Rattle.world_core.specs.RecordState.{no_nodes};
+ghost use Rattle.world_core.specs.Calls.{client_of};
+ghost use Rattle.world_core.specs.Steps.{kept_at};
 ghost use Rattle.world_core.specs.declared.drivers.Driver.TheVariants.{Update, Active};
 ghost use Rattle.run_labels.specs.declared.labels.StepReply.TheVariants as words;
 
+use crate::beginning::ckpt_of_handle;
 use crate::messages::word_of;
 use crate::open_call::{Making, OpenCall};
 use crate::reading::{ActiveCall, ActiveKind};
 use crate::record::{CLIENTS_MAX, Record, number_of};
 use crate::update_call::{UpdateCall, UpdatePhase};
 use ckpt_types::{AisError, Answer, CallId, Cause, CkptId, NodeId, Op, OpenAsk, Outcome};
+use client_handles::HandleView;
 use node_msgs::{Next, RecordStep, Reply, Request};
 use run_labels::StepReply;
 use std::alloc::AllocError;
@@ -29,33 +33,34 @@ pub enum Driver {
 }
 
 impl Driver {
-    /// The driver of a call that begins, where the handle that it names is of the checkpoint, and its
-    /// client on the node. An open copies its name.
+    /// The driver of a call that begins now, on this handle if it names one that is there. An open copies its name.
     pub fn start(
         call: CallId,
         op: &Op,
-        ckpt: Option<CkptId>,
-        node: NodeId,
+        handle: &Option<HandleView>,
+        cluster: &Record,
     ) -> Result<Driver, AllocError>
-        ensures { IfOk result (λ driver. driver ≡ driver_start call op.now (record { ckpt = ckpt; node = node })) }
+        ensures { IfOk result (λ driver. driver ≡ driver_start call op.now (kept_at cluster.now (client_of call) handle.now)) }
     {
         match op {
             Op::Client(r, _, _) => Ok(Driver::Enter(*r)),
-            Op::Open(_, name, _, _, attributes) => {
+            Op::Open(_, name, _, timeout, attributes) => {
                 let name = name.clone()?;
+                let client = number_of(&call.actor);
                 Ok(Driver::Open(OpenCall {
                     call,
                     ask: OpenAsk {
                         name,
                         attrs: *attributes,
-                        client: number_of(&call.actor),
-                        node,
+                        client,
+                        node: cluster.node_of(client),
                     },
+                    deadline: Some(cluster.moment_after(*timeout)),
                     making: None,
                 }))
             }
-            Op::Write(_, _) => Ok(update_start(call, ckpt)),
-            Op::Read(_, _) => Ok(read_start(call, ckpt)),
+            Op::Write(_, _) => Ok(update_start(call, ckpt_of_handle(handle))),
+            Op::Read(_, _) => Ok(read_start(call, ckpt_of_handle(handle))),
             _ => Ok(Driver::Enter(0)),
         }
     }

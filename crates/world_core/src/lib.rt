@@ -24,6 +24,6 @@ pub use open_call::{Making, OpenCall};
 pub use reading::{ActiveCall, ActiveKind};
 pub use record::{CHECKPOINTS_MAX, CLIENTS_MAX, Entry, LiveClient, Record};
 pub use replica::{Replica, Slot};
-pub use tables::{HANDLES_MAX, Handle, Table, Tables};
+pub use tables::{Table, Tables};
 pub use update_call::{UpdateCall, UpdatePhase};
 pub use world::{Event, VECTOR_MAX, World};

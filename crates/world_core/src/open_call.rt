@@ -1,12 +1,15 @@
-ghost use Rattle.std.specs.Prelude.{◌≡◌, ◌<◌, Some};
+ghost use Rattle.std.specs.Prelude.{◌≡◌, ◌<◌, Some, None};
 ghost use Rattle.world_core.specs.RecordState.{named};
 ghost use Rattle.world_core.specs.Serving.{ckpt_of};
-ghost use Rattle.world_core.specs.Driving.{accepts, on_free_name, on_entry_named, on_named, on_making, made_of, create_taken, open_next, open_taken, done_of, verb_of, event_verb};
+ghost use Rattle.world_core.specs.Driving.{accepts, in_time, create_next, entry_next, on_free_name, on_named, on_making, made_of, create_taken, open_next, open_taken, done_of, verb_of, event_verb};
 
 use crate::by_node::first_lacking;
 use crate::record::{CHECKPOINTS_MAX, Entry, Record};
-use crate::tables::HANDLES_MAX;
-use ckpt_types::{AisError, CallId, Cause, CkptId, CreationAttributes, NodeId, OpenAsk, Outcome};
+use ckpt_types::{
+    AisError, CallId, Cause, CkptId, CreationAttributes, Moment, NodeId, OpenAsk, Outcome,
+};
+use client_handles::HANDLES_MAX;
+use moment_rules::reached;
 use node_msgs::{Next, RecordStep, Request};
 use run_labels::StepReply;
 
@@ -28,6 +31,8 @@ pub struct OpenCall {
     pub call: CallId,
     /// What it asks of the record.
     pub ask: OpenAsk,
+    /// The moment from which on it is too late, if it has a timeout.
+    pub deadline: Option<Moment>,
     /// What it is making, if it is.
     pub making: Option<Making>,
 }
@@ -58,11 +63,14 @@ impl OpenCall {
     }
 
     fn named_next(&self, cluster: &Record, room: bool) -> Next
-        ensures { result ≡ on_named cluster.now room self.now.ask.attrs (named self.now.ask.name cluster.now.entries) }
+        ensures { result ≡ on_named cluster.now room self.now.deadline self.now.ask.attrs (named self.now.ask.name cluster.now.entries) }
     {
         match cluster.named(&self.ask.name) {
-            None => free_next(cluster, room, &self.ask.attrs),
-            Some(entry) => entry_next(room, &self.ask.attrs, entry),
+            None => free_next(cluster, room, self.deadline, &self.ask.attrs),
+            Some(entry) => {
+                let next = entry_next(room, &self.ask.attrs, entry);
+                in_time(self.deadline, cluster.moment(), next)
+            }
         }
     }
 
@@ -126,28 +134,50 @@ fn accepts(attributes: &Option<CreationAttributes>, entry: &Entry) -> bool
     }
 }
 
-fn free_next(cluster: &Record, room: bool, attributes: &Option<CreationAttributes>) -> Next
-    ensures { result ≡ on_free_name cluster.now room attributes.now }
+// What is next before the deadline; where it is reached, the call ends with TIMEOUT.
+fn in_time(deadline: Option<Moment>, moment: Moment, next: Next) -> Next
+    ensures { result ≡ in_time deadline moment next }
 {
-    match attributes {
-        None => Next::End(Outcome::Refused(AisError::NotExist, Cause::Plain)),
-        Some(_) => {
-            if !room {
-                Next::End(Outcome::Refused(AisError::NoResources, Cause::Count(HANDLES_MAX as u32)))
-            } else if cluster.entries_len() >= CHECKPOINTS_MAX {
-                Next::End(Outcome::Refused(
-                    AisError::NoResources,
-                    Cause::Count(CHECKPOINTS_MAX as u32),
-                ))
+    match deadline {
+        None => next,
+        Some(deadline) => {
+            if reached(deadline, moment) {
+                Next::End(Outcome::Refused(AisError::Timeout, Cause::Deadline(deadline, moment)))
             } else {
-                Next::Event(RecordStep::Create)
+                next
             }
         }
     }
 }
 
+fn free_next(
+    cluster: &Record,
+    room: bool,
+    deadline: Option<Moment>,
+    attributes: &Option<CreationAttributes>,
+) -> Next
+    ensures { result ≡ on_free_name cluster.now room deadline attributes.now }
+{
+    match attributes {
+        None => Next::End(Outcome::Refused(AisError::NotExist, Cause::Plain)),
+        Some(_) => in_time(deadline, cluster.moment(), create_next(cluster, room)),
+    }
+}
+
+fn create_next(cluster: &Record, room: bool) -> Next
+    ensures { result ≡ create_next cluster.now room }
+{
+    if !room {
+        Next::End(Outcome::Refused(AisError::NoResources, Cause::Count(HANDLES_MAX as u32)))
+    } else if cluster.entries_len() >= CHECKPOINTS_MAX {
+        Next::End(Outcome::Refused(AisError::NoResources, Cause::Count(CHECKPOINTS_MAX as u32)))
+    } else {
+        Next::Event(RecordStep::Create)
+    }
+}
+
 fn entry_next(room: bool, attributes: &Option<CreationAttributes>, entry: &Entry) -> Next
-    ensures { result ≡ on_entry_named room attributes.now entry.now }
+    ensures { result ≡ entry_next room attributes.now entry.now }
 {
     if !accepts(attributes, entry) {
         Next::End(Outcome::Refused(AisError::Exist, Cause::Plain))

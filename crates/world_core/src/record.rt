@@ -1,4 +1,4 @@
-ghost use Rattle.std.specs.Prelude.{◌≡◌, ◌+◌, ◌-◌, ◌^◌, ◌<◌, ◌≤◌, Some, None, is_some, IfOk, IfSome, OnOk, OnErr, IsTrue, MatchOption, length, filter, not, ◌==◌, nat_lt, if◌then◌else◌, slice_index, slice_set, replicate, vec_capacity};
+ghost use Rattle.std.specs.Prelude.{◌≡◌, ◌+◌, ◌-◌, ◌^◌, ◌<◌, ◌≤◌, Some, None, is_some, IfOk, IfSome, OnOk, OnErr, IsTrue, MatchOption, length, filter, not, ◌==◌, nat_lt, pos, ◌≤ℤ◌, if◌then◌else◌, slice_index, slice_set, replicate, vec_capacity};
 ghost use Rattle.std.specs.List.{list_any};
 ghost use Rattle.moment_rules.specs.Times.{sum_until_end, is_reached};
 ghost use Rattle.world_core.specs.Places.{find_key, change_key, place_key};
@@ -83,11 +83,11 @@ impl Model for Record {
 
     ghost Value = { RecordState };
 
-    ghost use Rattle.world_core.specs.RecordView.{record_of, HasRoom};
+    ghost use Rattle.world_core.specs.RecordView.{record_of, IsKept};
 
     ghost view = { record_of };
 
-    ghost invariant = { HasRoom };
+    ghost invariant = { IsKept };
 }
 
 impl Entry {
@@ -151,6 +151,13 @@ impl Record {
         ensures { result ≡ self.now.moment }
     {
         self.moment
+    }
+
+    /// The moment that is so much later than the present one, or the end of time if that comes first.
+    pub fn moment_after(&self, duration: Moment) -> Moment
+        ensures { result ≡ sum_until_end self.now.moment duration }
+    {
+        sum_until_end(self.moment, duration)
     }
 
     /// By node, the incarnation with which it is up, or 0.
@@ -455,6 +462,15 @@ fn has_some(references: &[u32; 100]) -> bool
     ensures { result ≡ list_any (λ n. not (n == 0)) references.now }
 {
     references.iter().any(|n| *n != 0)
+}
+
+// The sum of a moment and a duration, or the end of time. One with a negative duration is counted too, since no moment is
+// below 0.
+fn sum_until_end(moment: Moment, duration: Moment) -> Moment
+    requires { pos 0 ≤ℤ moment }
+    ensures { result ≡ sum_until_end moment duration }
+{
+    moment.saturating_add(duration)
 }
 
 // Whether so long a duration is over since a moment. A sum below what is counted has come like the least that is.

@@ -1,4 +1,4 @@
-ghost use Rattle.std.specs.Prelude.{◌≡◌, ◌≢◌, ◌⊎◌, ℕ, ◌<◌, Some, None, IsSomeAnd, IfOk, OnErr, true, length, nat_lt, slice_get, slice_set};
+ghost use Rattle.std.specs.Prelude.{◌≡◌, ◌≢◌, ◌⊎◌, ℕ, ◌-◌, ◌^◌, ◌<◌, Some, None, IsSomeAnd, IfOk, OnErr, true, length, nat_lt, slice_get, slice_set};
 ghost use Rattle.ckpt_types.specs.declared.identities.ActorName.TheVariants.{Client};
 ghost use Rattle.ckpt_types.specs.declared.identities.Who.TheVariants as whos;
 ghost use Rattle.node_msgs.specs.declared.next.Next.TheVariants as nexts;
@@ -8,12 +8,12 @@ ghost use Rattle.run_labels.specs.declared.labels.Label.TheVariants as labels;
 ghost use Rattle.run_labels.specs.declared.words.Said.TheVariants.{Idle};
 ghost use Rattle.world_core.specs.Giving.{gives_handle};
 ghost use Rattle.world_core.specs.RecordState.{entry_of};
-ghost use Rattle.world_core.specs.declared.tables.TheConstants.{HANDLES_MAX};
+ghost use Rattle.client_handles.specs.declared.client.TheConstants.{HANDLES_MAX};
 ghost use Rattle.world_core.specs.Steps.{creation_flags_of};
 ghost use Rattle.world_core.specs.TableState.{TableState, with_handle};
 ghost use Rattle.world_core.specs.Reserving.{IsReserved};
 ghost use Rattle.world_core.specs.Runs.{step_word};
-ghost use Rattle.world_core.specs.Shows.{IsShown, IsRoomy, IsReservable, handles_in};
+ghost use Rattle.world_core.specs.Shows.{IsShown, IsRoomy, IsReservable, handles_in, last_in};
 ghost use Rattle.world_core.specs.Happenings.{IsNext, IsStep, IsIdle};
 
 use crate::beginning::{opened_for, opened_place};
@@ -21,7 +21,7 @@ use crate::drivers::{event_ckpt, event_end, event_node};
 use crate::messages::{ckpt_of, event_verb, look_word, verb_of, word_of};
 use crate::nodes::told_pieces;
 use crate::record::Record;
-use crate::tables::{Handle, Tables};
+use crate::tables::Tables;
 use crate::world::World;
 use ckpt_types::{ActorName, Answer, CkptId, NodeId, OpenFlags, Outcome, Who};
 use node_msgs::{Next, RecordStep, Reply, Request};
@@ -153,15 +153,7 @@ impl World {
             };
         }
         if gives_handle(&step) {
-            give(
-                &mut self.tables,
-                &self.cluster,
-                c,
-                call.number,
-                flags,
-                ckpt,
-                place,
-            );
+            give(&mut self.tables, &self.cluster, c, flags, ckpt, place);
         }
         let end = event_end(&step, ckpt);
         self.hands
@@ -250,27 +242,20 @@ fn give(
     tables: &mut Tables,
     cluster: &Record,
     c: u8,
-    number: u32,
     flags: OpenFlags,
     ckpt: Option<CkptId>,
     place: Option<u8>,
 )
     requires client { c < 100 }
     requires room { nat_lt (length (handles_in (slice_get tables.old c))) HANDLES_MAX ≡ true }
+    requires number { last_in (slice_get tables.old c) < 2 ^ 32 - 1 }
     requires ckpt { ckpt ≢ None }
     requires place { IsSomeAnd place (λ p. p < 100) }
-    ensures new { (j p : ℕ) (t : TableState) → ckpt ≡ Some j → place ≡ Some p → slice_get tables.old c ≡ Some t → tables.new ≡ slice_set tables.old c (with_handle (record { number = number; ckpt = j; flags = flags; creation_flags = creation_flags_of (entry_of j cluster.now.entries) }) p t) }
-    ensures places { IsSomeAnd (slice_get tables.old c) (λ t. length t.places ≡ 100) }
+    ensures new { (j p : ℕ) (t : TableState) → ckpt ≡ Some j → place ≡ Some p → slice_get tables.old c ≡ Some t → tables.new ≡ slice_set tables.old c (with_handle j flags (creation_flags_of (entry_of j cluster.now.entries)) p t) }
+    ensures places { IsSomeAnd (slice_get tables.old c) (λ t. length t.client.places ≡ 100) }
 {
     let (Some(ckpt), Some(place)) = (ckpt, place) else {
         unreachable!()
     };
-    let creation_flags = cluster.creation_flags(ckpt);
-    let handle = Handle {
-        number,
-        ckpt,
-        flags,
-        creation_flags,
-    };
-    tables.add(c, handle, place);
+    tables.add(c, ckpt, flags, cluster.creation_flags(ckpt), place);
 }

@@ -1,39 +1,22 @@
-ghost use Rattle.std.specs.Prelude.{◌≡◌, ◌-◌, ◌^◌, ◌<◌, true, IfOk, IsSomeAnd, length, nat_lt, slice_get, slice_index, slice_set, replicate};
-ghost use Rattle.world_core.specs.Places.{find_key};
-ghost use Rattle.world_core.specs.TableState.{handle_number, has_room, with_handle, advanced};
+ghost use Rattle.std.specs.Prelude.{◌≡◌, ◌-◌, ◌^◌, ◌<◌, true, IfOk, IsSomeAnd, length, nat_lt, slice_get, slice_set, replicate};
+ghost use Rattle.client_handles.specs.ClientState.{handle_at, has_handle_room};
+ghost use Rattle.client_handles.specs.declared.client.TheConstants.{HANDLES_MAX};
+ghost use Rattle.world_core.specs.TableState.{with_handle, advanced};
 ghost use Rattle.world_core.specs.NewTable.{new_table};
-ghost use Rattle.world_core.specs.Shows.{next_in, handles_in, place_in, numbered};
-ghost use Rattle.world_core.specs.Steps.{handle_of_number};
+ghost use Rattle.world_core.specs.Shows.{next_in, handles_in, last_in, handle_in_place};
 
-use ckpt_types::{CkptId, OpenFlags};
+use ckpt_types::{CallbackSet, CkptId, OpenFlags};
+use client_handles::{Client, HandleView};
 use std::alloc::{AllocError, Global};
 use std::marker::Model;
-
-/// How many handles a client has at most.
-pub const HANDLES_MAX: usize = 32;
-
-/// A checkpoint that a client has open.
-#[derive(Clone, Copy, Debug)]
-pub struct Handle {
-    /// The number of the call that opened it.
-    pub number: u32,
-    /// The checkpoint.
-    pub ckpt: CkptId,
-    /// What it was opened for.
-    pub flags: OpenFlags,
-    /// The checkpoint's creation flags.
-    pub creation_flags: u32,
-}
 
 /// What a client keeps.
 #[derive(Drop)]
 pub struct Table {
     /// The number of its next call.
     next: u32,
-    /// Its open handles, in the order of their opening.
-    handles: Vec<Handle>,
-    /// By place, the number of the handle for which it stands, or 0.
-    places: [u32; 100],
+    /// Its handles, and the places that stand for them.
+    client: Client,
 }
 
 impl Model for Table {
@@ -41,11 +24,11 @@ impl Model for Table {
 
     ghost Value = { TableState };
 
-    ghost use Rattle.world_core.specs.TableView.{table_of, HasHandleRoom};
+    ghost use Rattle.world_core.specs.TableView.{table_of, HasClient};
 
     ghost view = { table_of };
 
-    ghost invariant = { HasHandleRoom };
+    ghost invariant = { HasClient };
 }
 
 /// The tables of the clients c0 to c99.
@@ -70,10 +53,13 @@ impl Table {
     fn new(alloc: Global) -> Result<Table, AllocError>
         ensures { IfOk result (λ table. table ≡ new_table) }
     {
+        let none = CallbackSet {
+            opens: false,
+            syncs: false,
+        };
         Ok(Table {
             next: 1,
-            handles: Vec::with_capacity(alloc, HANDLES_MAX)?,
-            places: [0; 100],
+            client: Client::new(alloc, none)?,
         })
     }
 
@@ -84,21 +70,17 @@ impl Table {
     }
 
     fn has_room(&self) -> bool
-        ensures { result ≡ has_room self.now }
+        ensures { result ≡ has_handle_room self.now.client }
     {
-        self.handles.len() < HANDLES_MAX
+        self.client.handle_room()
     }
 
     // The handle for which a place stands.
-    fn handle(&self, place: u8) -> Option<Handle>
+    fn handle(&self, place: u8) -> Option<HandleView>
         requires { place < 100 }
-        ensures { result ≡ handle_of_number self.now.handles (numbered (slice_index self.now.places place)) }
+        ensures { result ≡ handle_at place self.now.client }
     {
-        let number = self.places[place as usize];
-        if number == 0 {
-            return None;
-        }
-        find_handle(self.handles.as_slice(), number)
+        self.client.handle(place).ok()
     }
 
     fn advance(&mut self)
@@ -108,14 +90,17 @@ impl Table {
         self.next += 1;
     }
 
-    fn add(&mut self, handle: Handle, place: u8)
-        requires room { has_room self.old ≡ true }
+    fn add(&mut self, id: CkptId, flags: OpenFlags, creation_flags: u32, place: u8)
+        requires room { has_handle_room self.old.client ≡ true }
+        requires number { self.old.client.last_number < 2 ^ 32 - 1 }
         requires place { place < 100 }
-        ensures new { self.new ≡ with_handle handle place self.old }
-        ensures places { length self.old.places ≡ 100 }
+        ensures new { self.new ≡ with_handle id flags creation_flags place self.old }
+        ensures places { length self.old.client.places ≡ 100 }
     {
-        self.places[place as usize] = handle.number;
-        self.handles.push_reserved(handle);
+        let Ok(number) = self.client.take_handle(id, flags, creation_flags) else {
+            unreachable!()
+        };
+        self.client.bind(place, number);
     }
 }
 
@@ -139,10 +124,10 @@ impl Tables {
     }
 
     /// The handle for which a place of a client stands.
-    pub fn handle(&self, c: u8, place: u8) -> Option<Handle>
+    pub fn handle(&self, c: u8, place: u8) -> Option<HandleView>
         requires client { c < 100 }
         requires place { place < 100 }
-        ensures { result ≡ handle_of_number (handles_in (slice_get self.now c)) (place_in (slice_get self.now c) place) }
+        ensures { result ≡ handle_in_place (slice_get self.now c) place }
     {
         self.list[c as usize].handle(place)
     }
@@ -164,15 +149,24 @@ impl Tables {
         advance_at(self.list.as_mut_slice(), c as usize);
     }
 
-    /// A client gets a handle, for which the place stands. It takes no memory.
-    pub fn add(&mut self, c: u8, handle: Handle, place: u8)
+    /// A client gets a handle of a checkpoint, of the number after its last one, and the place stands for
+    /// it. It takes no memory.
+    pub fn add(&mut self, c: u8, id: CkptId, flags: OpenFlags, creation_flags: u32, place: u8)
         requires client { c < 100 }
         requires room { nat_lt (length (handles_in (slice_get self.old c))) HANDLES_MAX ≡ true }
+        requires number { last_in (slice_get self.old c) < 2 ^ 32 - 1 }
         requires place { place < 100 }
-        ensures new { IsSomeAnd (slice_get self.old c) (λ table. self.new ≡ slice_set self.old c (with_handle handle place table)) }
-        ensures places { IsSomeAnd (slice_get self.old c) (λ table. length table.places ≡ 100) }
+        ensures new { IsSomeAnd (slice_get self.old c) (λ table. self.new ≡ slice_set self.old c (with_handle id flags creation_flags place table)) }
+        ensures places { IsSomeAnd (slice_get self.old c) (λ table. length table.client.places ≡ 100) }
     {
-        add_at(self.list.as_mut_slice(), c as usize, handle, place);
+        add_at(
+            self.list.as_mut_slice(),
+            c as usize,
+            id,
+            flags,
+            creation_flags,
+            place,
+        );
     }
 }
 
@@ -186,17 +180,6 @@ fn new_tables(alloc: Global) -> Result<Vec<Table>, AllocError>
     Ok(tables)
 }
 
-fn find_handle(handles: &[Handle], number: u32) -> Option<Handle>
-    ensures { result ≡ find_key handle_number number handles.now }
-{
-    for handle in handles {
-        if handle.number == number {
-            return Some(*handle);
-        }
-    }
-    None
-}
-
 fn advance_at(tables: &mut [Table], c: usize)
     requires client { c < length tables.old }
     requires number { next_in (slice_get tables.old c) < 2 ^ 32 - 1 }
@@ -206,13 +189,21 @@ fn advance_at(tables: &mut [Table], c: usize)
     table.advance();
 }
 
-fn add_at(tables: &mut [Table], c: usize, handle: Handle, place: u8)
+fn add_at(
+    tables: &mut [Table],
+    c: usize,
+    id: CkptId,
+    flags: OpenFlags,
+    creation_flags: u32,
+    place: u8,
+)
     requires client { c < length tables.old }
     requires room { nat_lt (length (handles_in (slice_get tables.old c))) HANDLES_MAX ≡ true }
+    requires number { last_in (slice_get tables.old c) < 2 ^ 32 - 1 }
     requires place { place < 100 }
-    ensures new { IsSomeAnd (slice_get tables.old c) (λ table. tables.new ≡ slice_set tables.old c (with_handle handle place table)) }
-    ensures places { IsSomeAnd (slice_get tables.old c) (λ table. length table.places ≡ 100) }
+    ensures new { IsSomeAnd (slice_get tables.old c) (λ table. tables.new ≡ slice_set tables.old c (with_handle id flags creation_flags place table)) }
+    ensures places { IsSomeAnd (slice_get tables.old c) (λ table. length table.client.places ≡ 100) }
 {
     let table = &mut tables[c];
-    table.add(handle, place);
+    table.add(id, flags, creation_flags, place);
 }

@@ -16,14 +16,13 @@ returns-clause-ok c =
     let hand : InHand = record { call = record { actor = Client c.args.c; number = c.number.result }; op = c.in_ok-copy.field-0; driver = c.in_ok-driver.driver } in
     record {
       begins = record { actor = refl; op_is = c.in_ok-begun.ensures; hand = hand; same_call = refl; same_op = c.in_ok-copy.ensures; within = c.begin.ensures.within; hands = c.begin.ensures.new };
-      does = begin_done w c.args.c c.args.op.now c.in_ok-copy.field-0 c.in_ok-begun.begun c.number.result c.named_handle-handle.result c.ckpt_of_handle.result c.node_of.result
-          c.is_live_client.result c.begin_end-end.result c.advance.new.self c.in_ok-driver.driver c.begin.new.self
+      does = begin_done w c.args.c c.args.op.now c.in_ok-copy.field-0 c.in_ok-begun.begun c.number.result c.named_handle-handle.result c.is_live_client.result c.begin_end-end.result c.advance.new.self c.in_ok-driver.driver c.begin.new.self
           c.requires.client c.number.ensures.within c.begin.ensures.within c.requires.none c.requires.built c.requires.may
           (λ t table. table_has_no_zero w c.args.c t c.requires.shown table)
           c.in_ok-copy.ensures c.in_ok-begun.ensures
           (λ t table. c.number.ensures.value ∙ ap next_in table)
-          (λ t table. c.named_handle-handle.ensures ∙ handle_named_is w c.args.c (handle_place c.args.op.now) t c.requires.shown table)
-          c.ckpt_of_handle.ensures c.node_of.ensures c.is_live_client.ensures c.begin_end-end.ensures
+          (λ t table. c.named_handle-handle.ensures ∙ handle_named_is w c.args.c (handle_place c.args.op.now) t table)
+          c.is_live_client.ensures c.begin_end-end.ensures
           (λ t table. at_table (λ t. c.advance.new.self ≡ slice_set w.tables c.args.c (advanced t)) (slice_get w.tables c.args.c) t table c.advance.ensures)
           c.in_ok-driver.ensures c.begin.ensures.new;
     }
