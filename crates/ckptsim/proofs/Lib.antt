@@ -1,2 +1,1 @@
-pub mod FewLines
 pub mod Written

@@ -21,6 +21,10 @@ pub written_more : (a b c : Option (List ℕ)) (bytes : List ℕ) (at count : �
 written_more a b c bytes at count one two =
     subst (Appends a c) (sym (take-add at count bytes)) (Appends-trans a b c (take at bytes) (take count (drop at bytes)) one two)
 
+-- all of the bytes are a front of them
+pub part_of_all : (a b : Option (List ℕ)) (bytes : List ℕ) → Appends a b bytes → WritesPart a b bytes
+part_of_all a b bytes all = (bytes, [], append-nil bytes, all)
+
 pub wrote_none : (a : Option (List ℕ)) → Wrote a a [] []
 wrote_none a = ([], Appends-nil a, refl)
 

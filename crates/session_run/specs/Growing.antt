@@ -1,7 +1,8 @@
 -- How a log grows while a line is played.
-use Rattle.std.specs.Prelude.{◌≡◌, ◌≢◌, ℕ, ◌<◌, List, [], ◌++◌, Option, Some, None}
+use Rattle.std.specs.Prelude.{◌≡◌, ◌≢◌, ℕ, zero, suc, ◌<◌, List, [], ◌++◌, Option, Some, None}
 use Rattle.script_lang.specs.declared.lines.Line.{Line}
 use Rattle.script_lang.specs.declared.lines.Line.TheVariants as lines
+use Rattle.script_lang.specs.BuiltScripts.{IsOneNodeFirst, AreBuiltCalls}
 use Rattle.world_core.specs.Beginning.{IsBuilt}
 use Rattle.run_labels.specs.declared.labels.Label.{Label}
 use Rattle.world_core.specs.declared.hands.InHand.{InHand}
@@ -25,6 +26,11 @@ NoneBut c w = (d : ℕ) → d ≢ c → hand_at w.hands d ≡ None
 -- no client has a call in hand
 abbrev pub NoneInHand : World → Type 0
 NoneInHand w = (c : ℕ) → hand_at w.hands c ≡ None
+
+-- the lines that are left behind so many: all of a script, or calls alone
+abbrev pub AreLeft : ℕ → List Line → Type 0
+AreLeft zero lines = IsOneNodeFirst lines
+AreLeft (suc i) lines = AreBuiltCalls lines
 
 -- a line that is built, after a log
 abbrev pub CanPlay : List Label → Line → Type 0

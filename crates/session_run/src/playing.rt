@@ -1,6 +1,6 @@
 ghost use Rattle.std.specs.Prelude.{◌≡◌, ◌≢◌, ◌+◌, ◌-◌, ◌*◌, ◌<◌, ◌≤◌, ◌^◌, List, [], length, None, OnOk, OnErr, IfOk};
 ghost use Rattle.ckpt_types.specs.declared.identities.ActorName.TheVariants.{Client};
-ghost use Rattle.script_lang.specs.FirstForm.{IsFirstForm};
+ghost use Rattle.script_lang.specs.BuiltScripts.{IsOneNodeFirst};
 ghost use Rattle.world_core.specs.Beginning.{IsBuilt};
 ghost use Rattle.std.specs.Prelude.{false};
 ghost use Rattle.ckpt_types.specs.declared.identities.Who.TheVariants.{Actor};
@@ -31,7 +31,7 @@ pub fn session<R: Threads + Wait + Sync, G: Gate>(
 ) -> Result<(), AllocError>
     requires log { log.old.labels ≡ [] }
     requires world { IsNew world.old }
-    requires form { IsFirstForm script.now }
+    requires form { IsOneNodeFirst script.now }
     requires lines { length script.now ≤ 2000000 }
     ensures run { IsRunTo world.new log.new.labels }
     ensures follows { OnOk result (Follows script.now log.new.labels) }
@@ -47,7 +47,7 @@ fn play(
 ) -> Result<(), AllocError>
     requires log { log.old.labels ≡ [] }
     requires world { IsNew world.old }
-    requires form { IsFirstForm lines.now }
+    requires form { IsOneNodeFirst lines.now }
     requires lines { length lines.now ≤ 2000000 }
     ensures run { IsRunTo world.new log.new.labels }
     ensures follows { OnOk result (Follows lines.now log.new.labels) }

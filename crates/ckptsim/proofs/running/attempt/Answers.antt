@@ -1,12 +1,16 @@
-use Rattle.std.proofs.Common.{◌≡◌, ◌≤◌, length, ap}
-use native.Mathlib.Omega.{arith}
-use Rattle.ckptsim.proofs.FewLines.{few_lines, few_bytes}
+use Rattle.std.proofs.Common.{List, arith, subst}
+use Rattle.std.specs.Io.KnownBytes.{Appends}
+use Rattle.run_labels.specs.declared.labels.Label.{Label}
+use Rattle.ckptsim.specs.Headline.{printed}
+use Rattle.ckptsim.proofs.Written.{part_of_all}
 use Rattle.ckptsim.proofs.running.attempt.Goals as goal
 
--- src/running.rt:105:8
+-- a script that was read has few lines
 pub session-requires-clause-lines : goal.session-requires-clause-lines
-session-requires-clause-lines g c κs within =
-    let lines : length c.in-Ok-parse.script ≤ length c.as_slice.result.now = few_lines c.as_slice.result.now c.in-Ok-parse.script c.in-Ok-parse.ensures.exact in
-    let same : length c.as_slice.result.now ≡ length c.in-Ok.read.0.items = ap length c.as_slice.ensures.value in
-    let few : length c.in-Ok.read.0.items ≤ 262145 = few_bytes (g.S.Source.left c.args.source.now) (g.S.Source.left c.read_all.new.source) c.in-Ok.read.0.items c.in-Ok.read.1 c.in-Ok.ensures.read in
-    omega (arith, lines, same, few)
+session-requires-clause-lines g c κs within = omega (arith, c.in-Ok-parse.ensures.built.1)
+
+-- all lines were written, which are a front of them
+pub returns-in-Ok-write_lines-clause-part : goal.returns-in-Ok-write_lines-clause-part
+returns-in-Ok-write_lines-clause-part g c =
+    part_of_all (g.K.Sink.held c.args.sink.now) (g.K.Sink.held c.write_lines.new.sink) (printed c.session.new.log.labels)
+    (subst (λ (labels : List Label). Appends (g.K.Sink.held c.args.sink.now) (g.K.Sink.held c.write_lines.new.sink) (printed labels)) c.as_slice-2.ensures c.in-Ok-write_lines.ensures.written)

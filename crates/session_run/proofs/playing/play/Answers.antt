@@ -1,13 +1,12 @@
 use Rattle.std.proofs.Common.{◌+◌, List, ◌++◌, length, drop, sym, ap, subst, arith}
 use Rattle.std.proofs.lemmas.List.{drop_all}
 use Rattle.run_labels.specs.declared.labels.Label.{Label}
-use Rattle.script_lang.specs.declared.lines.Line.{Line}
-use Rattle.script_lang.specs.FirstForm.{AreLinesFrom}
 use Rattle.world_core.specs.Runs.{IsRunTo, last}
 use Rattle.session_run.specs.Follows.{FollowsFrom, Follows}
 use Rattle.session_run.proofs.Following.{follows_line, follows_end, drop_item}
 use Rattle.world_core.proofs.Running.{new_run}
-use Rattle.session_run.proofs.Playable.{CanPlay-line}
+use Rattle.session_run.specs.Growing.{AreLeft}
+use Rattle.session_run.proofs.Playable.{CanPlay-next, AreLeft-next}
 use Rattle.session_run.proofs.playing.play.Goals as goal
 
 pub loop-line-init : goal.loop-line-init
@@ -24,8 +23,8 @@ pub play_line-requires-clause-comes : goal.play_line-requires-clause-comes
 play_line-requires-clause-comes c =
     let i = c.loop-line.line-index in
     let next = drop_item c.args.lines.now i c.line-item.result c.loop-line-test.true c.line-item.is in
-    let at = subst (λ (ls : List Line). AreLinesFrom (i + 1) ls) next c.loop-line.invariant.form in
-    CanPlay-line (i + 1) c.line-item.result c.loop-line.log.labels at.0 (λ e. c.loop-line.invariant.first (omega (arith, e)))
+    let left = subst (AreLeft i) next c.loop-line.invariant.form in
+    CanPlay-next i c.line-item.result (drop (i + 1) c.args.lines.now) c.loop-line.log.labels left c.loop-line.invariant.first
 
 pub play_line-requires-clause-room : goal.play_line-requires-clause-room
 play_line-requires-clause-room c = omega (arith, c.loop-line.invariant.few, c.loop-line-test.true, c.requires.lines)
@@ -34,13 +33,13 @@ pub loop-line-preserved : goal.loop-line-preserved
 loop-line-preserved c =
     let i = c.loop-line.line-index in
     let next = drop_item c.args.lines.now i c.line-item.result c.loop-line-test.true c.line-item.is in
-    let at = subst (λ (ls : List Line). AreLinesFrom (i + 1) ls) next c.loop-line.invariant.form in
+    let left = subst (AreLeft i) next c.loop-line.invariant.form in
     let done = c.in_ok-play_line.ensures in
     record {
       run = c.play_line.ensures.run;
       few = omega (arith, c.play_line.ensures.few, c.loop-line.invariant.few);
       idle = done.idle;
-      form = at.1;
+      form = AreLeft-next i c.line-item.result (drop (i + 1) c.args.lines.now) left;
       first = λ e. absurd (omega (arith, e));
       follows = follows_line c.args.lines.now (drop i c.args.lines.now) c.line-item.result (drop (i + 1) c.args.lines.now) c.loop-line.log.labels c.play_line.new.log.labels next done.answers c.loop-line.invariant.follows;
     }
