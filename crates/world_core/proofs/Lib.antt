@@ -41,3 +41,4 @@ pub mod Stepping
 pub mod Taken
 pub mod Told
 pub mod Words
+pub mod Refusing

@@ -19,4 +19,5 @@ pub mod Giving
 pub mod Guards
 pub mod Invariant
 pub mod Runs
+pub mod Refusals
 pub mod Happenings

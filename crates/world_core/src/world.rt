@@ -2,6 +2,7 @@ ghost use Rattle.std.specs.Prelude.{◌≡◌, IfOk, OnOk, OnErr, is_some};
 ghost use Rattle.world_core.specs.Shows.{hand_at, IsShown, IsRoomy};
 ghost use Rattle.world_core.specs.Happenings.{ComesNow, IsAnswered};
 ghost use Rattle.world_core.specs.Runs.{IsNew, IsRunTo, MayHappen, Happens};
+ghost use Rattle.world_core.specs.Refusals.{RefusalLeaves};
 
 use crate::hands::Hands;
 use crate::nodes::Nodes;
@@ -69,6 +70,9 @@ impl World {
         requires { MayHappen self.old log.old.labels event.now }
         ensures run { IsRunTo self.new log.new.labels }
         ensures happens { OnOk result (Happens event.now self.old self.new log.old.labels log.new.labels) }
+
+        // A call that is refused leaves sections, names and handles as they were.
+        ensures refused { OnOk result (RefusalLeaves log.old.labels log.new.labels) }
         ensures err { OnErr result ((self.new ≡ self.old) × (log.new.labels ≡ log.old.labels)) }
     {
         log.reserve(1)?;

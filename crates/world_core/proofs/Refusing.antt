@@ -1,0 +1,124 @@
+-- A refusal leaves the record, the replicas, and the handles as they were.
+use Rattle.std.proofs.Common.{◌≡◌, ℕ, List, [], ◌∷◌, ◌++◌, Option, Some, None, Bool, true, false, cond, refl, sym, ap, subst, ◌∙◌, IsSomeAnd}
+use Rattle.ckpt_types.specs.declared.answers.Answer.{Answer}
+use Rattle.ckpt_types.specs.declared.answers.Answer.TheVariants as answers
+use Rattle.ckpt_types.specs.declared.answers.Outcome.{Outcome}
+use Rattle.ckpt_types.specs.declared.answers.Outcome.TheVariants.{Done, NoMemory}
+use Rattle.ckpt_types.specs.declared.attributes.CreationAttributes.{CreationAttributes}
+use Rattle.ckpt_types.specs.declared.calls.Version.{Version}
+use Rattle.ckpt_types.specs.declared.operation.Op.{Op}
+use Rattle.ckpt_types.specs.declared.operation.Op.TheVariants as ops
+use Rattle.run_labels.specs.declared.words.Verb.{Verb}
+use Rattle.run_labels.specs.declared.words.Verb.TheVariants as verbs
+use Rattle.run_labels.specs.declared.labels.StepReply.{StepReply}
+use Rattle.run_labels.specs.declared.labels.StepReply.TheVariants as words
+use Rattle.run_labels.specs.declared.labels.Label.{Label}
+use Rattle.run_labels.specs.declared.labels.Label.TheVariants as labels
+use Rattle.world_core.specs.declared.record.Entry.{Entry}
+use Rattle.world_core.specs.RecordState.{entry_of}
+use Rattle.world_core.specs.Machine.{Machine, ReplicaState, CallState}
+use Rattle.world_core.specs.Steps.{Told, changed, stepped, step_of, after}
+use Rattle.world_core.specs.Guards.{AtCkpt, AtNode, AtNodeAlone, OfOpen, OfWrite, OfClient, OnReplica, CommitOk, Row, IsAllowedStep, Allowed, owned_elsewhere, complete_replicas}
+use Rattle.world_core.specs.Runs.{last_from, last, IsRunFrom, IsRun, IsRunTo}
+use Rattle.world_core.specs.Refusals.{IsRefused, IsRefusal, LeavesAll, RefusalLeaves}
+use Rattle.world_core.proofs.LawRuns.{last-push}
+
+-- ---- what is not so
+
+at_ckpt : (k r : Option ℕ) (P : ℕ → Type 0) → AtCkpt k r P → ((k : ℕ) → P k → ⊥) → ⊥
+at_ckpt (Some k) None P p not_so = not_so k p
+at_ckpt (Some k) (Some r) P p not_so = p
+at_ckpt None r P p not_so = p
+
+at_node : (k r : Option ℕ) (P : ℕ → ℕ → Type 0) → AtNode k r P → ((k r : ℕ) → P k r → ⊥) → ⊥
+at_node (Some k) (Some r) P p not_so = not_so k r p
+at_node (Some k) None P p not_so = p
+at_node None r P p not_so = p
+
+at_node_alone : (k r : Option ℕ) (P : ℕ → Type 0) → AtNodeAlone k r P → ((r : ℕ) → P r → ⊥) → ⊥
+at_node_alone None (Some r) P p not_so = not_so r p
+at_node_alone None None P p not_so = p
+at_node_alone (Some k) r P p not_so = p
+
+of_open : (op : Op) (P : List ℕ → Option CreationAttributes → Type 0) → OfOpen op P → ((name : List ℕ) (a : Option CreationAttributes) → P name a → ⊥) → ⊥
+of_open (ops.Open place name flags timeout a) P p not_so = not_so name a p
+of_open op P p not_so = absurd p
+
+of_write : (op : Op) (P : Type 0) → OfWrite op P → (P → ⊥) → ⊥
+of_write (ops.Write place update) P p not_so = not_so p
+of_write op P p not_so = absurd p
+
+of_client : (op : Op) (q : ℕ) (P : Type 0) → OfClient op q P → (P → ⊥) → ⊥
+of_client (ops.Client r version callbacks) q P p not_so = not_so p.1
+of_client op q P p not_so = absurd p
+
+some_and : {X : Type 0} (o : Option X) (P : X → Type 0) → IsSomeAnd o P → ((x : X) → P x → ⊥) → ⊥
+some_and (Some x) P p not_so = not_so x p
+some_and None P p not_so = absurd p
+
+on_replica : (m : Machine) (k r : ℕ) (P : Entry → ReplicaState → Type 0) → OnReplica m k r P → ((e : Entry) (x : ReplicaState) → P e x → ⊥) → ⊥
+on_replica m k r P p not_so = some_and (entry_of k m.cluster.entries) (λ e. IsSomeAnd (m.replicas k r) (P e)) p (λ e p. some_and (m.replicas k r) (P e) p (λ x p. not_so e x p))
+
+-- ---- an end that is no refusal
+
+done : (end : Option Outcome) (answer : Answer) → end ≡ Some (Done answer) → IsRefused end → ⊥
+done end answer is refused = subst IsRefused is refused
+
+goes_on : (end : Option Outcome) → end ≡ None → IsRefused end → ⊥
+goes_on end is refused = subst IsRefused is refused
+
+committed : (b : Bool) (end : Option Outcome) → end ≡ cond b None (Some (Done answers.Nothing)) → IsRefused end → ⊥
+committed true end is refused = goes_on end is refused
+committed false end is refused = done end answers.Nothing is refused
+
+-- a step that ends its call with a refusal changes nothing
+changed_same : (m : Machine) (s : CallState) (verb : Verb) (k r : Option ℕ) (reply : StepReply) (end : Option Outcome) (pieces : Option (List (List ℕ)))
+    → Row m s verb (record { verb = verb; ckpt = k; node = r; reply = reply; end = end; pieces = pieces }) → IsRefused end → changed m s verb k r reply ≡ m
+changed_same m s verbs.Enter k r words.Ok end pieces row refused = absurd (at_node_alone k r _ row.0 (λ q p. of_client s.op q _ p (λ p. done end answers.Version p.1 refused)))
+changed_same m s verbs.Enter k r reply end pieces row refused = refl
+changed_same m s verbs.Open k r words.Ok end pieces row refused = absurd (at_ckpt k r _ row.0 (λ k p. of_open s.op _ p (λ name a p. done end (answers.Opened k) p.1 refused)))
+changed_same m s verbs.Open k r reply end pieces row refused = refl
+changed_same m s verbs.Create k r words.Ok end pieces row refused = absurd (at_ckpt k r _ row.0 (λ k p. of_open s.op _ p (λ name a p. goes_on end p.1 refused)))
+changed_same m s verbs.Create k r reply end pieces row refused = refl
+changed_same m s verbs.Reserve k r words.Ok end pieces row refused = absurd (at_node k r _ row.0 (λ k r p. goes_on end p.3 refused))
+changed_same m s verbs.Reserve k r reply end pieces row refused = refl
+changed_same m s verbs.Finish k r words.Ok end pieces row refused = absurd (at_ckpt k r _ row.0 (λ k p. done end (answers.Opened k) p.3 refused))
+changed_same m s verbs.Finish k r reply end pieces row refused = refl
+changed_same m s verbs.Undo k r words.Ok end pieces row refused = absurd (at_ckpt k r _ row.0 (λ k p. subst IsRefused p.2 refused))
+changed_same m s verbs.Undo k r reply end pieces row refused = refl
+changed_same m s verbs.Stage k r words.Ok end pieces row refused = absurd (at_node k r _ row.0 (λ k r p. of_write s.op _ p (λ p. goes_on end p.1 refused)))
+changed_same m s verbs.Stage k r reply end pieces row refused = refl
+changed_same m s verbs.Commit k r words.Ok end pieces row refused = absurd (at_node k r _ row.0 (λ k r p. of_write s.op _ p (λ p. on_replica m k r (λ e x. CommitOk m s.call k r end x) p (λ e x (ok : CommitOk m s.call k r end x). committed (owned_elsewhere s.call r (complete_replicas m k)) end ok.answer refused))))
+changed_same m s verbs.Commit k r reply end pieces row refused = refl
+changed_same m s verbs.Read k r reply end pieces row refused = refl
+changed_same m s verbs.Look k r reply end pieces row refused = refl
+changed_same m s verb k r reply end pieces row refused = absurd row
+
+-- ---- what is left
+
+leaves_step : (m : Machine) (s : CallState) (verb : Verb) (k r : Option ℕ) (reply : StepReply) (end : Option Outcome) → changed m s verb k r reply ≡ m → LeavesAll m (stepped (changed m s verb k r reply) s verb k r reply end)
+leaves_step m s verb k r reply end same = record {
+  cluster = ap (λ (x : Machine). x.cluster) same;
+  replicas = λ k r. ap (λ (x : Machine). x.replicas k r) same;
+  handles = λ c. ap (λ (x : Machine). x.handles c) same;
+  places = λ c p. ap (λ (x : Machine). x.places c p) same;
+}
+
+-- THE LAW: a label that the machine allows and that ends a call with a refusal leaves sections, names and handles as they were
+pub refusal_leaves : (m : Machine) (l : Label) → Allowed m l → IsRefusal l → LeavesAll m (after m l)
+refusal_leaves m (labels.Began call op end) allowed refused = record { cluster = refl; replicas = λ k r. refl; handles = λ c. refl; places = λ c p. refl }
+refusal_leaves m (labels.Stepped call op verb k r reply end pieces) allowed refused =
+    subst (λ (o : Option CallState). LeavesAll m (step_of m o verb k r reply end)) (sym allowed.in_hand)
+    (leaves_step m allowed.state verb k r reply end (changed_same m allowed.state verb k r reply end pieces allowed.row refused))
+refusal_leaves m l allowed refused = absurd refused
+
+-- the last label of a run is allowed where it comes
+allowed_last : (m : Machine) (log : List Label) (l : Label) → IsRunFrom m (log ++ l ∷ []) → Allowed (last_from m log) l
+allowed_last m [] l run = run.0
+allowed_last m (x ∷ log) l run = allowed_last (after m x) log l run.2
+
+-- so it is in a run
+pub run_leaves : (log longer : List Label) → IsRun longer → RefusalLeaves log longer
+run_leaves log longer run l grows refused =
+    subst (λ (n : Machine). LeavesAll (last log) n) (sym (ap last grows ∙ last-push log l))
+    (refusal_leaves (last log) l (allowed_last _ log l (subst IsRun grows run)) refused)
