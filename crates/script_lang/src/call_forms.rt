@@ -12,7 +12,7 @@ use std::alloc::Global;
 // The most that flags, and other numbers of 32 bits, say.
 const FLAGS_MAX: u64 = 4_294_967_295;
 
-/// `client`
+/// The line that the words behind `client` say.
 #[tactic(auto, unfolding(crate::specs::Table::said_by))]
 pub fn client_line(words: &[&[u8]]) -> Result<Line, LineError>
     ensures { Reads result (said_by word.Client (texts words.now)) }
@@ -27,7 +27,7 @@ pub fn client_line(words: &[&[u8]]) -> Result<Line, LineError>
     Ok(Line::Call(client, Op::Client(node, version, callbacks)))
 }
 
-/// `finalize`
+/// The line that the words behind `finalize` say.
 #[tactic(auto, unfolding(crate::specs::Table::said_by))]
 pub fn finalize_line(words: &[&[u8]]) -> Result<Line, LineError>
     ensures { Reads result (said_by word.Finalize (texts words.now)) }
@@ -39,7 +39,7 @@ pub fn finalize_line(words: &[&[u8]]) -> Result<Line, LineError>
     Ok(Line::Call(client, Op::Finalize))
 }
 
-/// `close`
+/// The line that the words behind `close` say.
 #[tactic(auto, unfolding(crate::specs::Table::said_by))]
 pub fn close_line(words: &[&[u8]]) -> Result<Line, LineError>
     ensures { Reads result (said_by word.Close (texts words.now)) }
@@ -52,7 +52,7 @@ pub fn close_line(words: &[&[u8]]) -> Result<Line, LineError>
     Ok(Line::Call(client, Op::Close(place)))
 }
 
-/// `unlink`
+/// The line that the words behind `unlink` say.
 #[tactic(auto, unfolding(crate::specs::Table::said_by))]
 pub fn unlink_line(alloc: Global, words: &[&[u8]]) -> Result<Line, LineError>
     ensures { Reads result (said_by word.Unlink (texts words.now)) }
@@ -65,7 +65,7 @@ pub fn unlink_line(alloc: Global, words: &[&[u8]]) -> Result<Line, LineError>
     Ok(Line::Call(client, Op::Unlink(name)))
 }
 
-/// `retain`
+/// The line that the words behind `retain` say.
 #[tactic(auto, unfolding(crate::specs::Table::said_by))]
 pub fn retain_line(words: &[&[u8]]) -> Result<Line, LineError>
     ensures { Reads result (said_by word.Retain (texts words.now)) }
@@ -79,7 +79,7 @@ pub fn retain_line(words: &[&[u8]]) -> Result<Line, LineError>
     Ok(Line::Call(client, Op::Retain(place, duration)))
 }
 
-/// `active`
+/// The line that the words behind `active` say.
 #[tactic(auto, unfolding(crate::specs::Table::said_by))]
 pub fn active_line(words: &[&[u8]]) -> Result<Line, LineError>
     ensures { Reads result (said_by word.Active (texts words.now)) }
@@ -92,7 +92,7 @@ pub fn active_line(words: &[&[u8]]) -> Result<Line, LineError>
     Ok(Line::Call(client, Op::Active(place)))
 }
 
-/// `status`
+/// The line that the words behind `status` say.
 #[tactic(auto, unfolding(crate::specs::Table::said_by))]
 pub fn status_line(words: &[&[u8]]) -> Result<Line, LineError>
     ensures { Reads result (said_by word.Status (texts words.now)) }
@@ -105,7 +105,7 @@ pub fn status_line(words: &[&[u8]]) -> Result<Line, LineError>
     Ok(Line::Call(client, Op::Status(place)))
 }
 
-/// `create`
+/// The line that the words behind `create` say.
 #[tactic(auto, unfolding(crate::specs::Table::said_by))]
 pub fn create_line(alloc: Global, words: &[&[u8]]) -> Result<Line, LineError>
     ensures { Reads result (said_by word.Create (texts words.now)) }
@@ -122,7 +122,7 @@ pub fn create_line(alloc: Global, words: &[&[u8]]) -> Result<Line, LineError>
     Ok(Line::Call(client, Op::Create(place, update)))
 }
 
-/// `delete`
+/// The line that the words behind `delete` say.
 #[tactic(auto, unfolding(crate::specs::Table::said_by))]
 pub fn delete_line(alloc: Global, words: &[&[u8]]) -> Result<Line, LineError>
     ensures { Reads result (said_by word.Delete (texts words.now)) }
@@ -137,7 +137,7 @@ pub fn delete_line(alloc: Global, words: &[&[u8]]) -> Result<Line, LineError>
     Ok(Line::Call(client, Op::Delete(place, update)))
 }
 
-/// `expire`
+/// The line that the words behind `expire` say.
 #[tactic(auto, unfolding(crate::specs::Table::said_by))]
 pub fn expire_line(alloc: Global, words: &[&[u8]]) -> Result<Line, LineError>
     ensures { Reads result (said_by word.Expire (texts words.now)) }
@@ -153,7 +153,7 @@ pub fn expire_line(alloc: Global, words: &[&[u8]]) -> Result<Line, LineError>
     Ok(Line::Call(client, Op::Expire(place, update)))
 }
 
-/// `iter`
+/// The line that the words behind `iter` say.
 #[tactic(auto, unfolding(crate::specs::Table::said_by))]
 pub fn iter_line(words: &[&[u8]]) -> Result<Line, LineError>
     ensures { Reads result (said_by word.Iter (texts words.now)) }
@@ -169,7 +169,7 @@ pub fn iter_line(words: &[&[u8]]) -> Result<Line, LineError>
     Ok(Line::Call(client, Op::Iter(iteration, place, choice, time)))
 }
 
-/// `next`
+/// The line that the words behind `next` say.
 #[tactic(auto, unfolding(crate::specs::Table::said_by))]
 pub fn next_line(words: &[&[u8]]) -> Result<Line, LineError>
     ensures { Reads result (said_by word.Next (texts words.now)) }
@@ -182,7 +182,7 @@ pub fn next_line(words: &[&[u8]]) -> Result<Line, LineError>
     Ok(Line::Call(client, Op::Next(iteration)))
 }
 
-/// `enditer`
+/// The line that the words behind `enditer` say.
 #[tactic(auto, unfolding(crate::specs::Table::said_by))]
 pub fn end_iter_line(words: &[&[u8]]) -> Result<Line, LineError>
     ensures { Reads result (said_by word.EndIter (texts words.now)) }
@@ -195,7 +195,7 @@ pub fn end_iter_line(words: &[&[u8]]) -> Result<Line, LineError>
     Ok(Line::Call(client, Op::EndIter(iteration)))
 }
 
-/// `over`
+/// The line that the words behind `over` say.
 #[tactic(auto, unfolding(crate::specs::Table::said_by))]
 pub fn over_line(alloc: Global, words: &[&[u8]]) -> Result<Line, LineError>
     ensures { Reads result (said_by word.Over (texts words.now)) }
@@ -211,7 +211,7 @@ pub fn over_line(alloc: Global, words: &[&[u8]]) -> Result<Line, LineError>
     Ok(Line::Call(client, Op::Over(place, update)))
 }
 
-/// `sync`
+/// The line that the words behind `sync` say.
 #[tactic(auto, unfolding(crate::specs::Table::said_by))]
 pub fn sync_line(words: &[&[u8]]) -> Result<Line, LineError>
     ensures { Reads result (said_by word.Sync (texts words.now)) }
@@ -225,7 +225,7 @@ pub fn sync_line(words: &[&[u8]]) -> Result<Line, LineError>
     Ok(Line::Call(client, Op::Sync(place, timeout)))
 }
 
-/// `syncasync`
+/// The line that the words behind `syncasync` say.
 #[tactic(auto, unfolding(crate::specs::Table::said_by))]
 pub fn sync_async_line(words: &[&[u8]]) -> Result<Line, LineError>
     ensures { Reads result (said_by word.SyncAsync (texts words.now)) }
@@ -239,7 +239,7 @@ pub fn sync_async_line(words: &[&[u8]]) -> Result<Line, LineError>
     Ok(Line::Call(client, Op::SyncAsync(place, invocation)))
 }
 
-/// `dispatch`
+/// The line that the words behind `dispatch` say.
 #[tactic(auto, unfolding(crate::specs::Table::said_by))]
 pub fn dispatch_line(words: &[&[u8]]) -> Result<Line, LineError>
     ensures { Reads result (said_by word.Dispatch (texts words.now)) }
@@ -252,7 +252,7 @@ pub fn dispatch_line(words: &[&[u8]]) -> Result<Line, LineError>
     Ok(Line::Call(client, Op::Dispatch(flags as u32)))
 }
 
-/// `open`
+/// The line that the words behind `open` say.
 #[tactic(auto, unfolding(crate::specs::Table::said_by))]
 pub fn open_line(alloc: Global, words: &[&[u8]]) -> Result<Line, LineError>
     ensures { Reads result (said_by word.Open (texts words.now)) }
@@ -277,7 +277,7 @@ pub fn open_line(alloc: Global, words: &[&[u8]]) -> Result<Line, LineError>
     Ok(Line::Call(client, op))
 }
 
-/// `openasync`
+/// The line that the words behind `openasync` say.
 #[tactic(auto, unfolding(crate::specs::Table::said_by))]
 pub fn open_async_line(alloc: Global, words: &[&[u8]]) -> Result<Line, LineError>
     ensures { Reads result (said_by word.OpenAsync (texts words.now)) }
@@ -326,7 +326,7 @@ fn attributes_in(words: &[&[u8]]) -> Result<CreationAttributes, LineError>
     })
 }
 
-/// `write`
+/// The line that the words behind `write` say.
 #[tactic(auto, unfolding(crate::specs::Table::said_by))]
 pub fn write_line(alloc: Global, words: &[&[u8]]) -> Result<Line, LineError>
     ensures { Reads result (said_by word.Write (texts words.now)) }
@@ -372,7 +372,7 @@ fn io_element_at(alloc: Global, words: &[&[u8]]) -> Result<IoElement, LineError>
     Ok(IoElement { id, offset, bytes })
 }
 
-/// `read`
+/// The line that the words behind `read` say.
 #[tactic(auto, unfolding(crate::specs::Table::said_by))]
 pub fn read_line(alloc: Global, words: &[&[u8]]) -> Result<Line, LineError>
     ensures { Reads result (said_by word.Read (texts words.now)) }

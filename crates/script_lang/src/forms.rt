@@ -8,6 +8,9 @@ use ckpt_types::{ActorName, Op};
 use script_words::{LineError, Reason};
 use std::alloc::Global;
 
+/// Whether `begin` is not built yet.
+pub(crate) const BEGIN_IS_LATER: bool = true;
+
 /// The first word of a line.
 #[derive(Clone, Copy, Debug)]
 pub(crate) enum LineWord {

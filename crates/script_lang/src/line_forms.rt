@@ -9,7 +9,7 @@ use script_words::{LineError, Reason};
 // The most steps that a line asks for.
 const STEPS_MAX: u64 = 1_000_000;
 
-/// `nodes`
+/// The line that the words behind `nodes` say.
 #[tactic(auto, unfolding(crate::specs::Table::said_by))]
 pub fn nodes_line(words: &[&[u8]]) -> Result<Line, LineError>
     ensures { Reads result (said_by word.Nodes (texts words.now)) }
@@ -21,7 +21,7 @@ pub fn nodes_line(words: &[&[u8]]) -> Result<Line, LineError>
     Ok(Line::Nodes(count as u8))
 }
 
-/// `step`
+/// The line that the words behind `step` say.
 #[tactic(auto, unfolding(crate::specs::Table::said_by))]
 pub fn step_line(words: &[&[u8]]) -> Result<Line, LineError>
     ensures { Reads result (said_by word.Step (texts words.now)) }
@@ -34,7 +34,7 @@ pub fn step_line(words: &[&[u8]]) -> Result<Line, LineError>
     Ok(Line::Step(who, steps as u32))
 }
 
-/// `finish`
+/// The line that the words behind `finish` say.
 #[tactic(auto, unfolding(crate::specs::Table::said_by))]
 pub fn finish_line(words: &[&[u8]]) -> Result<Line, LineError>
     ensures { Reads result (said_by word.Finish (texts words.now)) }
@@ -46,7 +46,7 @@ pub fn finish_line(words: &[&[u8]]) -> Result<Line, LineError>
     Ok(Line::Finish(who))
 }
 
-/// `copy`
+/// The line that the words behind `copy` say.
 #[tactic(auto, unfolding(crate::specs::Table::said_by))]
 pub fn copy_line(words: &[&[u8]]) -> Result<Line, LineError>
     ensures { Reads result (said_by word.Copy (texts words.now)) }
@@ -58,7 +58,7 @@ pub fn copy_line(words: &[&[u8]]) -> Result<Line, LineError>
     Ok(Line::Copy(node))
 }
 
-/// `fail`
+/// The line that the words behind `fail` say.
 #[tactic(auto, unfolding(crate::specs::Table::said_by))]
 pub fn fail_line(words: &[&[u8]]) -> Result<Line, LineError>
     ensures { Reads result (said_by word.Fail (texts words.now)) }
@@ -70,7 +70,7 @@ pub fn fail_line(words: &[&[u8]]) -> Result<Line, LineError>
     Ok(Line::Fail(node))
 }
 
-/// `join`
+/// The line that the words behind `join` say.
 #[tactic(auto, unfolding(crate::specs::Table::said_by))]
 pub fn join_line(words: &[&[u8]]) -> Result<Line, LineError>
     ensures { Reads result (said_by word.Join (texts words.now)) }
@@ -82,7 +82,7 @@ pub fn join_line(words: &[&[u8]]) -> Result<Line, LineError>
     Ok(Line::Join(node))
 }
 
-/// `at`
+/// The line that the words behind `at` say.
 #[tactic(auto, unfolding(crate::specs::Table::said_by))]
 pub fn at_line(words: &[&[u8]]) -> Result<Line, LineError>
     ensures { Reads result (said_by word.At (texts words.now)) }
@@ -94,7 +94,7 @@ pub fn at_line(words: &[&[u8]]) -> Result<Line, LineError>
     Ok(Line::At(moment))
 }
 
-/// `pull`
+/// The line that the words behind `pull` say.
 #[tactic(auto, unfolding(crate::specs::Table::said_by))]
 pub fn pull_line(words: &[&[u8]]) -> Result<Line, LineError>
     ensures { Reads result (said_by word.Pull (texts words.now)) }
@@ -106,7 +106,7 @@ pub fn pull_line(words: &[&[u8]]) -> Result<Line, LineError>
     Ok(Line::Pull(ckpt))
 }
 
-/// `put`
+/// The line that the words behind `put` say.
 #[tactic(auto, unfolding(crate::specs::Table::said_by))]
 pub fn put_line(words: &[&[u8]]) -> Result<Line, LineError>
     ensures { Reads result (said_by word.Put (texts words.now)) }
@@ -119,7 +119,7 @@ pub fn put_line(words: &[&[u8]]) -> Result<Line, LineError>
     Ok(Line::Put(ckpt, node))
 }
 
-/// `propagate`
+/// The line that the words behind `propagate` say.
 #[tactic(auto, unfolding(crate::specs::Table::said_by))]
 pub fn propagate_line(words: &[&[u8]]) -> Result<Line, LineError>
     ensures { Reads result (said_by word.Propagate (texts words.now)) }
@@ -131,7 +131,7 @@ pub fn propagate_line(words: &[&[u8]]) -> Result<Line, LineError>
     Ok(Line::Propagate(ckpt))
 }
 
-/// `show`
+/// The line that the words behind `show` say.
 #[tactic(auto, unfolding(crate::specs::Table::said_by))]
 pub fn show_line(words: &[&[u8]]) -> Result<Line, LineError>
     ensures { Reads result (said_by word.Show (texts words.now)) }
@@ -143,7 +143,7 @@ pub fn show_line(words: &[&[u8]]) -> Result<Line, LineError>
     Ok(Line::Show(ckpt))
 }
 
-/// `race`
+/// The line that the words behind `race` say.
 #[tactic(auto, unfolding(crate::specs::Table::said_by))]
 pub fn race_line(words: &[&[u8]]) -> Result<Line, LineError>
     ensures { Reads result (said_by word.Race (texts words.now)) }
@@ -154,7 +154,7 @@ pub fn race_line(words: &[&[u8]]) -> Result<Line, LineError>
     Ok(Line::Race)
 }
 
-/// `end`
+/// The line that the words behind `end` say.
 #[tactic(auto, unfolding(crate::specs::Table::said_by))]
 pub fn end_line(words: &[&[u8]]) -> Result<Line, LineError>
     ensures { Reads result (said_by word.End (texts words.now)) }

@@ -3,9 +3,9 @@ ghost use Rattle.std.specs.Bool.{OnTrue, OnFalse};
 ghost use Rattle.std.specs.List.{list_any, position_or_len};
 ghost use Rattle.script_words.specs.Reasons.{Reads};
 ghost use Rattle.script_lang.specs.Table.{texts};
-ghost use Rattle.script_lang.specs.Grammar.{text_lines, words_of, reading, some_line, is_empty, is_later_word as spec_is_later_word, line_of as spec_line_of};
+ghost use Rattle.script_lang.specs.Grammar.{text_lines, words_of, reading, some_line, is_empty, is_later_word as spec_is_later_word, begins_later as spec_begins_later, line_of as spec_line_of};
 
-use crate::forms::{LineWord, begin_line, is_later, plain_line, word_named};
+use crate::forms::{BEGIN_IS_LATER, LineWord, begin_line, is_later, plain_line, word_named};
 use crate::lines::Line;
 use memchr::memchr;
 use script_words::{LineError, Reason, place_of};
@@ -27,8 +27,8 @@ pub fn says_nothing(line: &[u8]) -> bool
 pub fn read_line(alloc: Global, text: &[u8]) -> Result<Line, LineError>
     ensures { Reads result (spec_line_of (words_of text.now)) }
 {
-    if let Some((first, a, b, c, d, e)) = six_words(text) {
-        return line_from(alloc, first, &[a, b, c, d, e]);
+    if let Some((first, second, third, fourth, fifth, last)) = six_words(text) {
+        return line_from(alloc, first, &[second, third, fourth, fifth, last]);
     }
     let words = words_in(alloc, text)?;
     line_of(alloc, &words)
@@ -50,7 +50,13 @@ fn line_from(alloc: Global, first: &[u8], rest: &[&[u8]]) -> Result<Line, LineEr
     ensures { Reads result (spec_line_of (first.now ∷ texts rest.now)) }
 {
     if first == b"begin".as_slice() {
-        return Err(LineError::Fault(Reason::NotBuilt));
+        if begins_later(rest) {
+            return Err(LineError::Fault(Reason::NotBuilt));
+        }
+        if has_empty(first, rest) {
+            return Err(LineError::Fault(Reason::Word));
+        }
+        return begin_line(alloc, rest);
     }
     let word = word_named(first);
     if is_later_word(word) {
@@ -69,6 +75,16 @@ fn is_later_word(word: Option<LineWord>) -> bool
     match word {
         Some(word) => is_later(word),
         None => false,
+    }
+}
+
+// Whether `begin`, or a line of the first of these words behind it, is not built yet.
+fn begins_later(words: &[&[u8]]) -> bool
+    ensures { result ≡ spec_begins_later (texts words.now) }
+{
+    match words {
+        [] => BEGIN_IS_LATER,
+        [first, ..] => BEGIN_IS_LATER || is_later_word(word_named(first)),
     }
 }
 
