@@ -67,7 +67,7 @@ fn long_script(alloc: Global, count: u32) -> Result<(Vec<u8>, Vec<u8>), AllocErr
     lines.extend_from_slice(b"c0.1 client OK B.2.2\nc0.2 open OK K1\n")?;
     for number in 0..count {
         script.extend_from_slice(b"write c0 h0 x 0 'a\n")?;
-        let line = format!(in alloc; "c0.{} write OK\n", number + 3)?;
+        let line = format!(in alloc; "c0.{} write OK\n", u64::from(number) + 3)?;
         lines.extend_from_slice(line.as_bytes())?;
     }
     Ok((script, lines))
