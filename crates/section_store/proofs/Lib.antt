@@ -3,3 +3,4 @@ pub mod StoredLemmas
 pub mod Placed
 pub mod Reserved
 pub mod Reading
+pub mod Expiring

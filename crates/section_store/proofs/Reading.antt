@@ -1,5 +1,6 @@
 -- What a read gives, element by element, and what is present of the sections that are kept.
 use Rattle.std.proofs.Common.{◌≡◌, ℕ, zero, suc, ◌+◌, ◌-◌, ◌<◌, ◌≤◌, List, [], ◌∷◌, ◌++◌, length, take, drop, get_or, Some, Result, Ok, Err, true, false, if◌then◌else◌, nat_lt, ℤ, sum_by, sym, ap, ◌∙◌, refl, arith, length-append, append_assoc, append-nil, drop-cons}
+use Rattle.std.specs.Global.{Box}
 use Rattle.std.specs.Prelude.{IsOk, IfOk}
 use Rattle.std.specs.Result.{result_unwrap_or}
 use Rattle.std.proofs.lemmas.Bool.{ltb-false}
@@ -146,37 +147,37 @@ piece-fits all i piece spare next room =
 -- ---- those present
 
 -- the sections of the first records, and one more
-pub sections_of-take : (kept : List Stored) (i : ℕ) (s : Stored) → i < length kept → s ≡ get_or kept i s → sections_of (take (suc i) kept) ≡ sections_of (take i kept) ++ section_of s ∷ []
+pub sections_of-take : (kept : List (Box Stored)) (i : ℕ) (s : Box Stored) → i < length kept → s ≡ get_or kept i s → sections_of (take (suc i) kept) ≡ sections_of (take i kept) ++ section_of s.value ∷ []
 sections_of-take [] i s there is = absurd (omega arith)
-sections_of-take (k ∷ kept) zero s there is = ap (λ x. section_of x ∷ []) (sym is)
-sections_of-take (k ∷ kept) (suc i) s there is = ap (λ xs. section_of k ∷ xs) (sections_of-take kept i s (omega arith) is)
+sections_of-take (k ∷ kept) zero s there is = ap (λ x. section_of x.value ∷ []) (sym is)
+sections_of-take (k ∷ kept) (suc i) s there is = ap (λ xs. section_of k.value ∷ xs) (sections_of-take kept i s (omega arith) is)
 
 -- those present among the first, and one more
-pub present-take : (t : ℤ) (kept : List Stored) (i : ℕ) (s : Stored) → i < length kept → s ≡ get_or kept i s → present t (sections_of (take (suc i) kept)) ≡ present t (sections_of (take i kept)) ++ (if is_present t (section_of s) then section_of s ∷ [] else [])
-present-take t kept i s there is = ap (present t) (sections_of-take kept i s there is) ∙ filter-append (is_present t) (sections_of (take i kept)) (section_of s ∷ [])
+pub present-take : (t : ℤ) (kept : List (Box Stored)) (i : ℕ) (s : Box Stored) → i < length kept → s ≡ get_or kept i s → present t (sections_of (take (suc i) kept)) ≡ present t (sections_of (take i kept)) ++ (if is_present t (section_of s.value) then section_of s.value ∷ [] else [])
+present-take t kept i s there is = ap (present t) (sections_of-take kept i s there is) ∙ filter-append (is_present t) (sections_of (take i kept)) (section_of s.value ∷ [])
 
 -- the first sections have at most the bytes of all
-pub memory_used-take-le : (kept : List Stored) (i : ℕ) → memory_used (sections_of (take i kept)) ≤ memory_used (sections_of kept)
+pub memory_used-take-le : (kept : List (Box Stored)) (i : ℕ) → memory_used (sections_of (take i kept)) ≤ memory_used (sections_of kept)
 memory_used-take-le kept i =
-    let whole : sections_of kept ≡ sections_of (take i kept) ++ sections_of (drop i kept) = ap sections_of (sym (take-append-drop i kept)) ∙ map-append section_of (take i kept) (drop i kept) in
+    let whole : sections_of kept ≡ sections_of (take i kept) ++ sections_of (drop i kept) = ap sections_of (sym (take-append-drop i kept)) ∙ map-append (λ b. section_of b.value) (take i kept) (drop i kept) in
     omega (arith, ap memory_used whole, sum_by-append size_of (sections_of (take i kept)) (sections_of (drop i kept)))
 
 -- what is counted of the first records and one more that is present
-pub totals-present : (t : ℤ) (kept : List Stored) (i : ℕ) (s : Stored) → i < length kept → s ≡ get_or kept i s → is_present t (section_of s) ≡ true
-    → (length (present t (sections_of (take (i + 1) kept))) ≡ length (present t (sections_of (take i kept))) + 1) × (memory_used (present t (sections_of (take (i + 1) kept))) ≡ memory_used (present t (sections_of (take i kept))) + length s.bytes.items)
+pub totals-present : (t : ℤ) (kept : List (Box Stored)) (i : ℕ) (s : Box Stored) → i < length kept → s ≡ get_or kept i s → is_present t (section_of s.value) ≡ true
+    → (length (present t (sections_of (take (i + 1) kept))) ≡ length (present t (sections_of (take i kept))) + 1) × (memory_used (present t (sections_of (take (i + 1) kept))) ≡ memory_used (present t (sections_of (take i kept))) + length s.value.bytes.items)
 totals-present t kept i s there is here =
     let before = present t (sections_of (take i kept)) in
     let next : i + 1 ≡ suc i = omega arith in
-    let more : present t (sections_of (take (i + 1) kept)) ≡ before ++ section_of s ∷ [] =
-    ap (λ m. present t (sections_of (take m kept))) next ∙ present-take t kept i s there is ∙ ap (λ b. before ++ (if b then section_of s ∷ [] else [])) here in
-    (ap length more ∙ length-append before (section_of s ∷ []), omega (arith, ap memory_used more, sum_by-append size_of before (section_of s ∷ [])))
+    let more : present t (sections_of (take (i + 1) kept)) ≡ before ++ section_of s.value ∷ [] =
+    ap (λ m. present t (sections_of (take m kept))) next ∙ present-take t kept i s there is ∙ ap (λ b. before ++ (if b then section_of s.value ∷ [] else [])) here in
+    (ap length more ∙ length-append before (section_of s.value ∷ []), omega (arith, ap memory_used more, sum_by-append size_of before (section_of s.value ∷ [])))
 
 -- what is counted stays where one more is not present
-pub totals-absent : (t : ℤ) (kept : List Stored) (i : ℕ) (s : Stored) → i < length kept → s ≡ get_or kept i s → is_present t (section_of s) ≡ false → present t (sections_of (take (i + 1) kept)) ≡ present t (sections_of (take i kept))
+pub totals-absent : (t : ℤ) (kept : List (Box Stored)) (i : ℕ) (s : Box Stored) → i < length kept → s ≡ get_or kept i s → is_present t (section_of s.value) ≡ false → present t (sections_of (take (i + 1) kept)) ≡ present t (sections_of (take i kept))
 totals-absent t kept i s there is gone =
     let before = present t (sections_of (take i kept)) in
     let next : i + 1 ≡ suc i = omega arith in
-    ap (λ m. present t (sections_of (take m kept))) next ∙ present-take t kept i s there is ∙ ap (λ b. before ++ (if b then section_of s ∷ [] else [])) gone ∙ append-nil before
+    ap (λ m. present t (sections_of (take m kept))) next ∙ present-take t kept i s there is ∙ ap (λ b. before ++ (if b then section_of s.value ∷ [] else [])) gone ∙ append-nil before
 
 -- where a read is not refused, it reads of those present what it reads of all
 pub read-all : (t : ℤ) (elements : List ReadElement) (sections : List Section) → Rises sections → IsOk (read elements t sections) → read elements t sections ≡ pieces_read 0 elements sections

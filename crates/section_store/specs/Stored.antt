@@ -1,5 +1,6 @@
--- A section as it is kept, in a buffer of its own.
-use Rattle.std.specs.Prelude.{ℕ, ◌≤◌, List, All, map, vec_capacity}
+-- A section as it is kept, in a buffer of its own, and the places in memory where they are kept.
+use Rattle.std.specs.Prelude.{ℕ, ◌≤◌, ℤ, ◌≤ℤ◌, List, All, map, vec_capacity}
+use Rattle.std.specs.Global.{Box}
 use Rattle.ckpt_types.specs.Sections.{Section}
 use Rattle.section_store.specs.declared.stored.Stored.{Stored}
 
@@ -8,9 +9,13 @@ abbrev pub section_of : Stored → Section
 section_of s = record { id = s.id; bytes = s.bytes.items; expiration = s.expiration; state = s.state; last_update = s.last_update }
 
 -- the sections that are kept, in their order
-abbrev pub sections_of : List Stored → List Section
-sections_of kept = map section_of kept
+abbrev pub sections_of : List (Box Stored) → List Section
+sections_of kept = map (λ b. section_of b.value) kept
+
+-- none of the sections expires before that moment
+abbrev pub ExpireFrom : ℤ → List Section → Type 0
+ExpireFrom moment sections = All (λ s. moment ≤ℤ s.expiration) sections
 
 -- each buffer has room for so many bytes
-abbrev pub HaveRoom : ℕ → List Stored → Type 0
-HaveRoom size kept = All (λ s. size ≤ vec_capacity s.bytes) kept
+abbrev pub HaveRoom : ℕ → List (Box Stored) → Type 0
+HaveRoom size kept = All (λ b. size ≤ vec_capacity b.value.bytes) kept

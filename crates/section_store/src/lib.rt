@@ -1,6 +1,7 @@
 //! The sections of one replica, in storage that is taken when it opens: no update takes memory.
 #![tactic(auto)]
 
+mod expiry;
 mod identifiers;
 mod order;
 mod reads;

@@ -1,5 +1,5 @@
-ghost use Rattle.std.specs.Prelude.{◌≡◌, ◌+◌, ◌≤◌, ◌<◌, ℕ, List, [], length, vec_capacity, insert, remove, All, IfOk, IfSome};
-ghost use Rattle.ckpt_types.specs.Sections.{Rises, place_of, present, size_of, section_of as lent_section};
+ghost use Rattle.std.specs.Prelude.{◌≡◌, ◌+◌, ◌≤◌, ◌<◌, ℕ, List, [], length, take, vec_capacity, insert, remove, All, IfOk, IfSome};
+ghost use Rattle.ckpt_types.specs.Sections.{Rises, place_of, size_of, section_of as lent_section};
 ghost use Rattle.ckpt_types.specs.Updates.{written};
 ghost use Rattle.ckpt_types.specs.declared.sections.SectionState.TheVariants.{Valid, Corrupted};
 ghost use Rattle.section_store.specs.Places.{count_below, changed_at};
@@ -11,7 +11,7 @@ use std::alloc::{AllocError, Global};
 use std::cmp::Ordering;
 
 /// Where the section of that identifier stands, or would stand.
-pub(crate) fn place_for(kept: &[Stored], id: &SectionId) -> usize
+pub(crate) fn place_for(kept: &[Box<Stored>], id: &SectionId) -> usize
     requires { Rises (sections_of kept.now) }
     ensures place { result ≡ count_below id.now (sections_of kept.now) }
     ensures within { result ≤ length kept.now }
@@ -29,7 +29,7 @@ pub(crate) fn place_for(kept: &[Stored], id: &SectionId) -> usize
 }
 
 /// The place of the section of that identifier.
-pub(crate) fn find(kept: &[Stored], id: &SectionId) -> Option<usize>
+pub(crate) fn find(kept: &[Box<Stored>], id: &SectionId) -> Option<usize>
     requires { Rises (sections_of kept.now) }
     ensures place { result ≡ place_of id.now (sections_of kept.now) }
     ensures within { IfSome result (λ place. place < length kept.now) }
@@ -42,9 +42,22 @@ pub(crate) fn find(kept: &[Stored], id: &SectionId) -> Option<usize>
     }
 }
 
+/// The place of the section of that identifier, which is looked for at `near` first.
+pub(crate) fn find_near(kept: &[Box<Stored>], id: &SectionId, near: usize) -> Option<usize>
+    requires { Rises (sections_of kept.now) }
+    ensures place { result ≡ place_of id.now (sections_of kept.now) }
+    ensures within { IfSome result (λ place. place < length kept.now) }
+{
+    if near < kept.len() && kept[near].id == *id {
+        Some(near)
+    } else {
+        find(kept, id)
+    }
+}
+
 /// Writes into the section at a place.
 pub(crate) fn write_into(
-    kept: &mut Vec<Stored>,
+    kept: &mut Vec<Box<Stored>>,
     place: usize,
     offset: usize,
     bytes: &[u8],
@@ -57,13 +70,13 @@ pub(crate) fn write_into(
     ensures len { length kept.new.items ≡ length kept.old.items }
     ensures capacity { vec_capacity kept.new ≡ vec_capacity kept.old }
 {
-    let stored = &mut kept[place];
+    let stored = &mut *kept[place];
     write_at(&mut stored.bytes, offset, bytes);
     stored.last_update = now;
 }
 
 /// Puts these bytes in the place of those of the section at a place.
-pub(crate) fn overwrite_at(kept: &mut Vec<Stored>, place: usize, bytes: &[u8], now: Moment)
+pub(crate) fn overwrite_at(kept: &mut Vec<Box<Stored>>, place: usize, bytes: &[u8], now: Moment)
     requires there { place < length kept.old.items }
     requires room { HaveRoom (length bytes.now) kept.old.items }
     ensures sections { sections_of kept.new.items ≡ changed_at (λ s. record s { bytes = bytes.now; state = Valid; last_update = now }) place (sections_of kept.old.items) }
@@ -71,58 +84,38 @@ pub(crate) fn overwrite_at(kept: &mut Vec<Stored>, place: usize, bytes: &[u8], n
     ensures len { length kept.new.items ≡ length kept.old.items }
     ensures capacity { vec_capacity kept.new ≡ vec_capacity kept.old }
 {
-    let stored = &mut kept[place];
+    let stored = &mut *kept[place];
     put_all(&mut stored.bytes, bytes);
     stored.state = SectionState::Valid;
     stored.last_update = now;
 }
 
-/// Takes the sections away that are absent, with their buffers.
-pub(crate) fn drop_absent(kept: &mut Vec<Stored>, spare: &mut Vec<Stored>, now: Moment)
-    requires places { length kept.old.items + length spare.old.items ≤ vec_capacity spare.old }
-    ensures sections { sections_of kept.new.items ≡ present now (sections_of kept.old.items) }
-    ensures all { length kept.new.items + length spare.new.items ≡ length kept.old.items + length spare.old.items }
-    ensures kept_room { (size : ℕ) → HaveRoom size kept.old.items → HaveRoom size kept.new.items }
-    ensures spare_room { (size : ℕ) → HaveRoom size kept.old.items → HaveRoom size spare.old.items → HaveRoom size spare.new.items }
-    ensures kept_capacity { vec_capacity kept.new ≡ vec_capacity kept.old }
-    ensures spare_capacity { vec_capacity spare.new ≡ vec_capacity spare.old }
-{
-    let mut place = kept.len();
-    while place > 0 {
-        place -= 1;
-        if !kept[place].is_present(now) {
-            let gone = kept.remove(place);
-            spare.push_reserved(gone);
-        }
-    }
-}
-
 /// Gives the section at a place another expiration.
-pub(crate) fn expire_at(kept: &mut Vec<Stored>, place: usize, expiration: Moment)
+pub(crate) fn expire_at(kept: &mut Vec<Box<Stored>>, place: usize, expiration: Moment)
     requires { place < length kept.old.items }
     ensures sections { sections_of kept.new.items ≡ changed_at (λ s. record s { expiration = expiration }) place (sections_of kept.old.items) }
     ensures room { (size : ℕ) → HaveRoom size kept.old.items → HaveRoom size kept.new.items }
     ensures len { length kept.new.items ≡ length kept.old.items }
     ensures capacity { vec_capacity kept.new ≡ vec_capacity kept.old }
 {
-    let stored = &mut kept[place];
+    let stored = &mut *kept[place];
     stored.expiration = expiration;
 }
 
 /// Makes the section at a place a corrupted one.
-pub(crate) fn corrupt_at(kept: &mut Vec<Stored>, place: usize)
+pub(crate) fn corrupt_at(kept: &mut Vec<Box<Stored>>, place: usize)
     requires { place < length kept.old.items }
     ensures sections { sections_of kept.new.items ≡ changed_at (λ s. record s { state = Corrupted }) place (sections_of kept.old.items) }
     ensures room { (size : ℕ) → HaveRoom size kept.old.items → HaveRoom size kept.new.items }
     ensures len { length kept.new.items ≡ length kept.old.items }
     ensures capacity { vec_capacity kept.new ≡ vec_capacity kept.old }
 {
-    let stored = &mut kept[place];
+    let stored = &mut *kept[place];
     stored.state = SectionState::Corrupted;
 }
 
 /// Takes the section at a place away, with its buffer.
-pub(crate) fn take_out(kept: &mut Vec<Stored>, spare: &mut Vec<Stored>, place: usize)
+pub(crate) fn take_out(kept: &mut Vec<Box<Stored>>, spare: &mut Vec<Box<Stored>>, place: usize)
     requires there { place < length kept.old.items }
     requires room { length spare.old.items < vec_capacity spare.old }
     ensures sections { sections_of kept.new.items ≡ remove (sections_of kept.old.items) place }
@@ -138,8 +131,8 @@ pub(crate) fn take_out(kept: &mut Vec<Stored>, spare: &mut Vec<Stored>, place: u
 
 /// Puts a section in at a place, in a spare buffer.
 pub(crate) fn put_in(
-    kept: &mut Vec<Stored>,
-    spare: &mut Vec<Stored>,
+    kept: &mut Vec<Box<Stored>>,
+    spare: &mut Vec<Box<Stored>>,
     place: usize,
     section: &SectionRef<'_>,
 )
@@ -176,22 +169,34 @@ fn fill(stored: &mut Stored, section: &SectionRef<'_>)
     stored.last_update = section.last_update;
 }
 
-/// Takes all sections away, with their buffers.
-pub(crate) fn take_all_out(kept: &mut Vec<Stored>, spare: &mut Vec<Stored>)
-    requires { length kept.old.items + length spare.old.items ≤ vec_capacity spare.old }
-    ensures none { kept.new.items ≡ [] }
-    ensures all { length spare.new.items ≡ length kept.old.items + length spare.old.items }
+/// Takes the sections away that stand behind the first `left`, with their buffers.
+pub(crate) fn take_out_behind(
+    kept: &mut Vec<Box<Stored>>,
+    spare: &mut Vec<Box<Stored>>,
+    left: usize,
+)
+    requires within { left ≤ length kept.old.items }
+    requires places { length kept.old.items + length spare.old.items ≤ vec_capacity spare.old }
+    ensures first { kept.new.items ≡ take left kept.old.items }
+    ensures all { length kept.new.items + length spare.new.items ≡ length kept.old.items + length spare.old.items }
     ensures spare_room { (size : ℕ) → HaveRoom size kept.old.items → HaveRoom size spare.old.items → HaveRoom size spare.new.items }
     ensures kept_capacity { vec_capacity kept.new ≡ vec_capacity kept.old }
     ensures spare_capacity { vec_capacity spare.new ≡ vec_capacity spare.old }
 {
-    while let Some(gone) = kept.pop() {
+    while kept.len() > left {
+        let Some(gone) = kept.pop() else {
+            unreachable!()
+        };
         spare.push_reserved(gone);
     }
 }
 
 /// So many records, each with a buffer for so many bytes.
-pub(crate) fn buffers(alloc: Global, count: usize, size: usize) -> Result<Vec<Stored>, AllocError>
+pub(crate) fn buffers(
+    alloc: Global,
+    count: usize,
+    size: usize,
+) -> Result<Vec<Box<Stored>>, AllocError>
     ensures len { IfOk result (λ spare. length spare.items ≡ count) }
     ensures places { IfOk result (λ spare. count ≤ vec_capacity spare) }
     ensures room { IfOk result (λ spare. HaveRoom size spare.items) }
@@ -205,13 +210,17 @@ pub(crate) fn buffers(alloc: Global, count: usize, size: usize) -> Result<Vec<St
             last_update: 0,
             bytes: Vec::with_capacity(alloc, size)?,
         };
-        spare.push_reserved(stored);
+        spare.push_reserved(Box::new(alloc, stored)?);
     }
     Ok(spare)
 }
 
 /// Puts a copy of each section in, in spare buffers.
-pub(crate) fn copy_in<S: Sections>(kept: &mut Vec<Stored>, spare: &mut Vec<Stored>, other: &S)
+pub(crate) fn copy_in<S: Sections>(
+    kept: &mut Vec<Box<Stored>>,
+    spare: &mut Vec<Box<Stored>>,
+    other: &S,
+)
     requires none { kept.old.items ≡ [] }
     requires buffers { length (S.sections other.now) ≤ length spare.old.items }
     requires room { All (λ s. HaveRoom (size_of s) spare.old.items) (S.sections other.now) }

@@ -9,7 +9,7 @@ use crate::stored::Stored;
 use ckpt_types::{Moment, ReadBuf, ReadElement};
 
 /// Adds the bytes that each element reads.
-pub(crate) fn read_all(kept: &[Stored], elements: &[ReadElement], out: &mut ReadBuf)
+pub(crate) fn read_all(kept: &[Box<Stored>], elements: &[ReadElement], out: &mut ReadBuf)
     requires rises { Rises (sections_of kept.now) }
     requires readable { IsOk (pieces_read 0 elements.now (sections_of kept.now)) }
     requires places { length elements.now ≤ out.old.spare_pieces }
@@ -22,7 +22,7 @@ pub(crate) fn read_all(kept: &[Stored], elements: &[ReadElement], out: &mut Read
 }
 
 /// The bytes that an element reads.
-fn piece<'a>(kept: &'a [Stored], element: &ReadElement) -> &'a [u8]
+fn piece<'a>(kept: &'a [Box<Stored>], element: &ReadElement) -> &'a [u8]
     requires rises { Rises (sections_of kept.now) }
     requires readable { IsOk (piece_read 0 element.now (sections_of kept.now)) }
     ensures { piece_read 0 element.now (sections_of kept.now) ≡ Ok result.now }
@@ -30,7 +30,7 @@ fn piece<'a>(kept: &'a [Stored], element: &ReadElement) -> &'a [u8]
     let Some(place) = find(kept, &element.id) else {
         unreachable!()
     };
-    let stored = &kept[place];
+    let stored = &*kept[place];
     part(stored.bytes.as_slice(), element.offset, element.len)
 }
 
@@ -45,7 +45,7 @@ fn part(bytes: &[u8], offset: u64, len: u64) -> &[u8]
 }
 
 /// How many sections are present, and how many bytes they have together.
-pub(crate) fn totals(kept: &[Stored], now: Moment) -> (usize, usize)
+pub(crate) fn totals(kept: &[Box<Stored>], now: Moment) -> (usize, usize)
     requires { memory_used (sections_of kept.now) < 2 ^ 64 }
     ensures count { result.0 ≡ length (present now (sections_of kept.now)) }
     ensures bytes { result.1 ≡ memory_used (present now (sections_of kept.now)) }

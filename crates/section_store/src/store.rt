@@ -5,10 +5,11 @@ ghost use Rattle.ckpt_types.specs.Sections.{Fits, opening, default_section, pres
 ghost use Rattle.ckpt_types.specs.Updates.{outcome, element_written, elements_written, overwritten, created, deleted, expiration_set, generated_id};
 ghost use Rattle.section_store.specs.StoreState.{corrupted, with_pieces};
 
+use crate::expiry::{drop_absent, earliest};
 use crate::identifiers::{generated, new_id};
 use crate::order::{
-    buffers, copy_in, corrupt_at, drop_absent, expire_at, find, overwrite_at, place_for, put_in,
-    take_all_out, take_out, write_into,
+    buffers, copy_in, corrupt_at, expire_at, find, overwrite_at, place_for, put_in, take_out,
+    take_out_behind, write_into,
 };
 use crate::reads::{read_all, totals};
 use crate::stored::Stored;
@@ -16,6 +17,7 @@ use ckpt_types::{
     CheckpointDescriptor, CreationAttributes, IoElement, Moment, NEVER, NewId, ReadBuf,
     ReadElement, SectionId, SectionRef, SectionState, Sections, Update,
 };
+use moment_rules::expired;
 use std::alloc::{AllocError, Global};
 use std::marker::Model;
 
@@ -23,10 +25,12 @@ use std::marker::Model;
 #[derive(Debug, Drop)]
 pub struct Store {
     attributes: CreationAttributes,
-    /// The sections, in the order of their identifiers.
-    kept: Vec<Stored>,
+    /// No section expires before this moment.
+    earliest: Moment,
+    /// The sections, in the order of their identifiers. Each stays where it is in memory.
+    kept: Vec<Box<Stored>>,
     /// Buffers for as many sections as may still come.
-    spare: Vec<Stored>,
+    spare: Vec<Box<Stored>>,
 }
 
 impl Model for Store {
@@ -85,8 +89,9 @@ impl Store {
         requires { Fits self.old.attributes (S.sections other.now) }
         ensures { self.new ≡ record self.old { sections = S.sections other.now } }
     {
-        take_all_out(&mut self.kept, &mut self.spare);
+        take_out_behind(&mut self.kept, &mut self.spare, 0);
         copy_in(&mut self.kept, &mut self.spare, other);
+        self.earliest = earliest(self.kept.as_slice());
     }
 
     /// Makes the section of that identifier a corrupted one, where one stands.
@@ -137,9 +142,10 @@ impl Store {
         Ok(copy)
     }
 
-    /// The attributes of the checkpoint.
+    /// The attributes of the checkpoint, to which its sections keep.
     pub fn attributes(&self) -> &CreationAttributes
-        ensures { result.now ≡ self.now.attributes }
+        ensures value { result.now ≡ self.now.attributes }
+        ensures kept { Fits self.now.attributes self.now.sections }
     {
         &self.attributes
     }
@@ -153,6 +159,7 @@ impl Store {
         let spare = buffers(alloc, count, attrs.max_section_size as usize)?;
         Ok(Store {
             attributes: *attrs,
+            earliest: NEVER,
             kept,
             spare,
         })
@@ -176,7 +183,10 @@ impl Store {
     fn drop_absent(&mut self, now: Moment)
         ensures { self.new ≡ record self.old { sections = present now self.old.sections } }
     {
-        drop_absent(&mut self.kept, &mut self.spare, now);
+        if expired(self.earliest, now) {
+            drop_absent(&mut self.kept, &mut self.spare, now);
+            self.earliest = earliest(self.kept.as_slice());
+        }
     }
 
     fn write(&mut self, elements: &[IoElement], now: Moment)
@@ -232,6 +242,7 @@ impl Store {
             last_update: now,
         };
         let place = place_for(self.kept.as_slice(), &id);
+        self.earliest = self.earliest.min(section.expiration);
         put_in(&mut self.kept, &mut self.spare, place, &section);
     }
 
@@ -254,6 +265,7 @@ impl Store {
         let Some(place) = find(self.kept.as_slice(), id) else {
             unreachable!()
         };
+        self.earliest = self.earliest.min(expiration);
         expire_at(&mut self.kept, place, expiration);
     }
 }
@@ -266,7 +278,7 @@ impl Sections for Store {
     }
 
     fn at(&self, place: usize) -> SectionRef<'_> {
-        let stored = &self.kept[place];
+        let stored = &*self.kept[place];
         SectionRef {
             id: &stored.id,
             bytes: stored.bytes.as_slice(),

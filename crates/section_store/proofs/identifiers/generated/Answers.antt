@@ -1,4 +1,5 @@
-use Rattle.std.proofs.Common.{◌≡◌, ℕ, ◌+◌, ◌^◌, ◌<◌, ◌≤◌, true, false, ℤ, List, length, w64, to_z, of_z, ap, ◌∙◌, sym, inl, inr, arith, rules}
+use Rattle.std.proofs.Common.{◌≡◌, ℕ, ◌+◌, ◌^◌, ◌<◌, ◌≤◌, true, false, ℤ, List, length, is_some, w64, to_z, of_z, ap, ◌∙◌, sym, inl, inr, arith, rules}
+use Rattle.std.specs.Global.{Box}
 use Rattle.std.proofs.lemmas.Bool.{true≢false, cases_eq}
 use Rattle.std.proofs.lemmas.Int.{to_z-of_z}
 use Rattle.ckpt_types.specs.Sections.{Section, is_taken, present}
@@ -25,22 +26,22 @@ free_here sections n first le free = elim (cases_eq n (free_number sections)) [
 ]
 
 -- few sections are present where few are kept
-few_present : (t : ℤ) (kept : List Stored) → length kept + 1 < 2 ^ 64 → length (present t (sections_of kept)) + 1 < 2 ^ 64
+few_present : (t : ℤ) (kept : List (Box Stored)) → length kept + 1 < 2 ^ 64 → length (present t (sections_of kept)) + 1 < 2 ^ 64
 few_present t kept few = omega (arith, length-present-le t (sections_of kept), length-sections_of kept)
 
-pub loop-number-init : goal.loop-number-init
-loop-number-init c =
+pub loop-place-init : goal.loop-place-init
+loop-place-init c =
     let few : length c.args.kept.now + 1 < 2 ^ 64 = search rules in
     record { first = omega arith; least = one-le-free_number _ (few_present (to_z w64 (of_z w64 c.args.now)) c.args.kept.now few) }
 
 -- the number that was tried is below the free one
-tried_below : (c : goal.In-loop-number) → c.loop-number.number < free_number (present (to_z w64 (of_z w64 c.args.now)) (sections_of c.args.kept.now))
+tried_below : (c : goal.In-Some) → c.loop-place.number < free_number (present (to_z w64 (of_z w64 c.args.now)) (sections_of c.args.kept.now))
 tried_below c =
     let few : length c.args.kept.now + 1 < 2 ^ 64 = search rules in
     let t = to_z w64 (of_z w64 c.args.now) in
     let sections = present t (sections_of c.args.kept.now) in
-    let taken : is_taken (numbered_id c.loop-number.number) sections ≡ true = ap (λ id. is_taken id sections) (sym c.numbered.ensures) ∙ sym c.is_taken.ensures ∙ c.loop-number-test.true in
-    taken_below sections c.loop-number.number (few_present t c.args.kept.now few) c.loop-number.invariant.least taken
+    let taken : is_taken (numbered_id c.loop-place.number) sections ≡ true = ap (λ id. is_taken id sections) (sym c.numbered.ensures) ∙ sym c.place_taken.ensures.taken ∙ ap is_some c.in-Some.is in
+    taken_below sections c.loop-place.number (few_present t c.args.kept.now few) c.loop-place.invariant.least taken
 
 pub overflow_add-number : goal.overflow_add-number
 overflow_add-number c =
@@ -48,19 +49,19 @@ overflow_add-number c =
     let t = to_z w64 (of_z w64 c.args.now) in
     let sections = present t (sections_of c.args.kept.now) in
     let all : length sections + 1 < 2 ^ 64 = few_present t c.args.kept.now few in
-    let below : c.loop-number.number + 1 < 2 ^ 64 = omega (arith, tried_below c, free_number-le sections) in
+    let below : c.loop-place.number + 1 < 2 ^ 64 = omega (arith, tried_below c, free_number-le sections) in
     search (rules, below)
 
-pub loop-number-smaller : goal.loop-number-smaller
-loop-number-smaller c = let below = tried_below c in omega arith
+pub loop-place-smaller : goal.loop-place-smaller
+loop-place-smaller c = let below = tried_below c in omega arith
 
-pub loop-number-preserved : goal.loop-number-preserved
-loop-number-preserved c = let below = tried_below c in record { first = omega arith; least = omega arith }
+pub loop-place-preserved : goal.loop-place-preserved
+loop-place-preserved c = let below = tried_below c in record { first = omega arith; least = omega arith }
 
 pub returns : goal.returns
 returns c =
     let moment : to_z w64 (of_z w64 c.args.now) ≡ c.args.now = to_z-of_z w64 c.args.now c.ranges.now in
     let sections = present (to_z w64 (of_z w64 c.args.now)) (sections_of c.args.kept.now) in
-    let free : is_taken (numbered_id c.loop-number.number) sections ≡ false = ap (λ id. is_taken id sections) (sym c.numbered.ensures) ∙ sym c.is_taken.ensures ∙ c.loop-number-test.false in
-    let here : c.loop-number.number ≡ free_number sections = free_here sections c.loop-number.number c.loop-number.invariant.first c.loop-number.invariant.least free in
+    let free : is_taken (numbered_id c.loop-place.number) sections ≡ false = ap (λ id. is_taken id sections) (sym c.numbered.ensures) ∙ sym c.place_taken.ensures.taken ∙ ap is_some c.in_default.is in
+    let here : c.loop-place.number ≡ free_number sections = free_here sections c.loop-place.number c.loop-place.invariant.first c.loop-place.invariant.least free in
     c.numbered-2.ensures ∙ ap numbered_id here ∙ ap (λ t. generated_id (present t (sections_of c.args.kept.now))) moment

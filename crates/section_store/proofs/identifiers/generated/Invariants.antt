@@ -4,11 +4,11 @@ use Rattle.ckpt_types.specs.Updates.{free_number}
 use Rattle.section_store.specs.Stored.{sections_of}
 use Rattle.section_store.proofs.identifiers.generated.Given as goal
 
-abbrev pub invariant-loop-number : goal.invariant-loop-number
-invariant-loop-number l = record {
+abbrev pub invariant-loop-place : goal.invariant-loop-place
+invariant-loop-place l = record {
   first : 1 ≤ l.number;
   least : l.number ≤ free_number (present l.now (sections_of l.kept));
 }
 
-abbrev pub decreases-loop-number : goal.decreases-loop-number
-decreases-loop-number l = free_number (present l.now (sections_of l.kept)) - l.number
+abbrev pub decreases-loop-place : goal.decreases-loop-place
+decreases-loop-place l = free_number (present l.now (sections_of l.kept)) - l.number

@@ -2,13 +2,14 @@ use Rattle.std.proofs.Common.{◌≡◌, to_z, of_z, w64}
 use Rattle.std.proofs.lemmas.Int.{to_z-of_z}
 use Rattle.ckpt_types.specs.declared.sections.SectionState.TheVariants.{Valid}
 use Rattle.ckpt_types.specs.Sections.{Section}
+use Rattle.section_store.specs.Stored.{section_of}
 use Rattle.section_store.proofs.StoredLemmas.{sections_of-set}
 use Rattle.section_store.proofs.order.overwrite_at.Goals as goal
 
 pub returns-clause-sections : goal.returns-clause-sections
 returns-clause-sections c =
-    let was = c.index_mut-stored.result.now in
+    let was = c.index_mut.result.now in
     let moment : to_z w64 (of_z w64 c.args.now) ≡ c.args.now = to_z-of_z w64 c.args.now c.ranges.now in
     let change : Section → Section = λ s. record s { bytes = c.args.bytes.now; state = Valid; last_update = c.args.now } in
-    sections_of-set change c.args.kept.now.items c.args.place was _ c.requires.there c.index_mut-stored.ensures.value
-    (λ j. record { id = was.id; bytes = c.put_all.ensures.items j; expiration = was.expiration; state = Valid; last_update = moment j })
+    sections_of-set change c.args.kept.now.items c.args.place was _ c.requires.there c.index_mut.ensures.value
+    (λ j. record (section_of (c.deref_mut-stored.ensures.value j)) { bytes = c.put_all.ensures.items j; state = Valid; last_update = moment j })

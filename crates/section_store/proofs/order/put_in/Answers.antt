@@ -7,4 +7,4 @@ use Rattle.section_store.proofs.order.put_in.Goals as goal
 pub returns-clause-sections : goal.returns-clause-sections
 returns-clause-sections c =
     let kept = c.args.kept.now.items in
-    ap sections_of c.in-Ok.ensures.items ∙ sections_of-insert kept c.args.place c.fill.new.stored ∙ ap (insert (sections_of kept) c.args.place) c.fill.ensures.section
+    ap sections_of c.in-Ok.ensures.items ∙ sections_of-insert kept c.args.place _ ∙ ap (insert (sections_of kept) c.args.place) c.fill.ensures.section

@@ -29,7 +29,7 @@ pub part-requires : goal.part-requires
 part-requires c =
     let stored = c.index-kept-place.result in
     let found = section_at-kept c.args.element.now.id c.args.kept.now c.in-Some.place stored (sym c.find.ensures.place ∙ c.in-Some.is) c.in-Some.ensures.within c.index-kept-place.is in
-    subst (λ bytes. c.args.element.now.offset ≤ length bytes) (sym c.as_slice.ensures.value) (within c.args.element.now (sections_of c.args.kept.now) (section_of stored) c.requires.readable found)
+    subst (λ bytes. c.args.element.now.offset ≤ length bytes) (sym (c.as_slice.ensures.value ∙ ap (λ x. x.bytes.items) c.deref-stored.ensures)) (within c.args.element.now (sections_of c.args.kept.now) (section_of stored.value) c.requires.readable found)
 
 pub returns : goal.returns
 returns c =
@@ -37,5 +37,5 @@ returns c =
     let e = c.args.element.now in
     let stored = c.index-kept-place.result in
     let found = section_at-kept e.id c.args.kept.now c.in-Some.place stored (sym c.find.ensures.place ∙ c.in-Some.is) c.in-Some.ensures.within c.index-kept-place.is in
-    let long : e.offset ≤ size_of (section_of stored) = within e sections (section_of stored) c.requires.readable found in
-    piece_read-Some 0 e sections (section_of stored) found long ∙ ap (λ bytes. Ok (take e.len (drop e.offset bytes))) (sym c.as_slice.ensures.value) ∙ ap Ok (sym c.part.ensures)
+    let long : e.offset ≤ size_of (section_of stored.value) = within e sections (section_of stored.value) c.requires.readable found in
+    piece_read-Some 0 e sections (section_of stored.value) found long ∙ ap (λ bytes. Ok (take e.len (drop e.offset bytes))) (sym (c.as_slice.ensures.value ∙ ap (λ x. x.bytes.items) c.deref-stored.ensures)) ∙ ap Ok (sym c.part.ensures)

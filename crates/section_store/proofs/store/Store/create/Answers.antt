@@ -1,13 +1,14 @@
-use Rattle.std.proofs.Common.{◌≡◌, ◌∙◌, ap, sym, subst, refl, length, to_z, of_z, w64, arith}
+use Rattle.std.proofs.Common.{◌≡◌, ◌≤ℤ◌, rules, ◌∙◌, ap, sym, subst, refl, length, to_z, of_z, w64, arith}
 use Rattle.std.specs.Prelude.{insert}
-use Rattle.std.proofs.lemmas.Int.{to_z-of_z}
+use Rattle.std.proofs.lemmas.Int.{ints, to_z-of_z}
 use Rattle.ckpt_types.specs.declared.sections.SectionState.TheVariants.{Valid}
 use Rattle.ckpt_types.specs.Sections.{present}
 use Rattle.ckpt_types.specs.Updates.{created, new_id}
 use Rattle.section_store.specs.Places.{count_below}
-use Rattle.section_store.specs.Stored.{sections_of}
+use Rattle.section_store.specs.Stored.{sections_of, ExpireFrom}
 use Rattle.section_store.proofs.Placed.{Leaves, created-insert, created-room}
 use Rattle.section_store.proofs.StoredLemmas.{length-sections_of, HaveRoom-less}
+use Rattle.section_store.proofs.Expiring.{ExpireFrom-insert, ExpireFrom-earlier}
 use Rattle.section_store.proofs.Reserved.{IsReserved-Replaces}
 use Rattle.section_store.proofs.store.Store.create.Goals as goal
 
@@ -44,11 +45,22 @@ left c =
     subst (Leaves c.self.inside.attributes (created c.self.inside.attributes c.args.new.now c.args.expiration c.args.bytes.now c.args.now kept)) (sym changed)
     (created-insert c.self.inside.attributes c.args.new.now c.args.expiration c.args.bytes.now c.args.now kept c.self.invariant.rises c.self.invariant.fits (rw (← c.self.view_is) at c.requires.accepted))
 
+-- none expires before the new one and before those that were there
+earliest : (c : goal.After-put_in) → ExpireFrom (to_z w64 (of_z w64 c.min-self-inside.result)) (sections_of c.put_in.new.kept.items)
+earliest c =
+    let kept = sections_of c.self.inside.kept.items in
+    let bound = to_z w64 (of_z w64 c.min-self-inside.result) in
+    let before : bound ≤ℤ c.self.inside.earliest = search (rules, arith, ints) in
+    let here : bound ≤ℤ to_z w64 (of_z w64 c.args.expiration) = search (rules, arith, ints) in
+    subst (ExpireFrom bound) (sym c.put_in.ensures.sections)
+    (ExpireFrom-insert bound kept c.place_for-place.result _ (ExpireFrom-earlier c.self.inside.earliest bound kept before c.self.invariant.earliest) here)
+
 pub invariant_of-self : goal.invariant_of-self
 invariant_of-self c =
     IsReserved-Replaces c.self.inside _ refl c.self.invariant (record {
       rises = (left c).rises;
       fits = (left c).fits;
+      earliest = earliest c;
       all = c.put_in.ensures.all;
       kept_room = c.put_in.ensures.kept_room;
       spare_room = λ size kept spare. c.put_in.ensures.spare_room size spare;

@@ -1,8 +1,9 @@
 use Rattle.std.proofs.Common.{sym, subst, refl, arith}
 use Rattle.ckpt_types.specs.Updates.{deleted}
-use Rattle.section_store.specs.Stored.{sections_of}
+use Rattle.section_store.specs.Stored.{sections_of, ExpireFrom}
 use Rattle.section_store.proofs.Placed.{Leaves, deleted-remove, deleted-no_place}
 use Rattle.section_store.proofs.StoredLemmas.{place_found}
+use Rattle.section_store.proofs.Expiring.{ExpireFrom-remove}
 use Rattle.section_store.proofs.Reserved.{IsReserved-Replaces}
 use Rattle.section_store.proofs.store.Store.delete.Goals as goal
 
@@ -24,6 +25,7 @@ invariant_of-self c =
     IsReserved-Replaces c.self.inside _ refl c.self.invariant (record {
       rises = (left c).rises;
       fits = (left c).fits;
+      earliest = subst (ExpireFrom c.self.inside.earliest) (sym c.take_out.ensures.sections) (ExpireFrom-remove c.self.inside.earliest (sections_of c.self.inside.kept.items) c.in-Some.place c.self.invariant.earliest);
       all = c.take_out.ensures.all;
       kept_room = λ size kept spare. c.take_out.ensures.kept_room size kept;
       spare_room = c.take_out.ensures.spare_room;

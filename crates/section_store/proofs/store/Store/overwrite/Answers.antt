@@ -3,9 +3,10 @@ use Rattle.std.proofs.lemmas.Int.{to_z-of_z}
 use Rattle.ckpt_types.specs.declared.sections.SectionState.TheVariants.{Valid}
 use Rattle.ckpt_types.specs.Updates.{overwritten}
 use Rattle.section_store.specs.Places.{changed_at}
-use Rattle.section_store.specs.Stored.{sections_of}
+use Rattle.section_store.specs.Stored.{sections_of, ExpireFrom}
 use Rattle.section_store.proofs.Placed.{Leaves, overwritten-changed_at, overwritten-no_place}
 use Rattle.section_store.proofs.StoredLemmas.{place_found}
+use Rattle.section_store.proofs.Expiring.{ExpireFrom-changed_at}
 use Rattle.section_store.proofs.Reserved.{IsReserved-changed}
 use Rattle.section_store.proofs.store.Store.overwrite.Goals as goal
 
@@ -25,9 +26,13 @@ left c =
     subst (Leaves c.self.inside.attributes (overwritten c.self.inside.attributes c.args.id.now c.args.bytes.now c.args.now kept)) (sym changed)
     (overwritten-changed_at c.self.inside.attributes c.args.id.now c.args.bytes.now c.args.now kept c.in-Some.place c.self.invariant.rises c.self.invariant.fits place (rw (← c.self.view_is) at c.requires))
 
+-- it expires when it did
+earliest : (c : goal.After-overwrite_at) → ExpireFrom c.self.inside.earliest (sections_of c.overwrite_at.new.kept.items)
+earliest c = subst (ExpireFrom c.self.inside.earliest) (sym c.overwrite_at.ensures.sections) (ExpireFrom-changed_at c.self.inside.earliest _ c.in-Some.place (sections_of c.self.inside.kept.items) (λ s from. from) c.self.invariant.earliest)
+
 pub invariant_of-self : goal.invariant_of-self
 invariant_of-self c =
-    IsReserved-changed c.self.inside _ refl refl (left c).rises (left c).fits c.overwrite_at.ensures.room c.overwrite_at.ensures.len c.overwrite_at.ensures.capacity c.self.invariant
+    IsReserved-changed c.self.inside _ refl refl (left c).rises (left c).fits (earliest c) c.overwrite_at.ensures.room c.overwrite_at.ensures.len c.overwrite_at.ensures.capacity c.self.invariant
 
 pub returns-clause-sections : goal.returns-clause-sections
 returns-clause-sections c = rw (← c.self.view_is) (left c).is

@@ -1,10 +1,11 @@
-use Rattle.std.proofs.Common.{◌≡◌, ◌∙◌, sym, subst, refl, to_z, of_z, w64}
-use Rattle.std.proofs.lemmas.Int.{to_z-of_z}
+use Rattle.std.proofs.Common.{◌≡◌, ◌≤ℤ◌, rules, arith, ◌∙◌, sym, subst, refl, to_z, of_z, w64}
+use Rattle.std.proofs.lemmas.Int.{ints, to_z-of_z}
 use Rattle.ckpt_types.specs.Updates.{expiration_set}
 use Rattle.section_store.specs.Places.{changed_at}
-use Rattle.section_store.specs.Stored.{sections_of}
+use Rattle.section_store.specs.Stored.{sections_of, ExpireFrom}
 use Rattle.section_store.proofs.Placed.{Leaves, expiration_set-changed_at, expiration_set-no_place}
 use Rattle.section_store.proofs.StoredLemmas.{place_found}
+use Rattle.section_store.proofs.Expiring.{ExpireFrom-changed_at, ExpireFrom-earlier}
 use Rattle.section_store.proofs.Reserved.{IsReserved-changed}
 use Rattle.section_store.proofs.store.Store.set_expiration.Goals as goal
 
@@ -24,9 +25,19 @@ left c =
     subst (Leaves c.self.inside.attributes (expiration_set c.self.inside.attributes c.args.id.now c.args.expiration c.args.now kept)) (sym changed)
     (expiration_set-changed_at c.self.inside.attributes c.args.id.now c.args.expiration c.args.now kept c.in-Some.place c.self.invariant.rises c.self.invariant.fits place (rw (← c.self.view_is) at c.requires))
 
+-- it expires at the other moment, and the others when they did
+earliest : (c : goal.After-expire_at) → ExpireFrom (to_z w64 (of_z w64 c.min-self-inside.result)) (sections_of c.expire_at.new.kept.items)
+earliest c =
+    let kept = sections_of c.self.inside.kept.items in
+    let bound = to_z w64 (of_z w64 c.min-self-inside.result) in
+    let before : bound ≤ℤ c.self.inside.earliest = search (rules, arith, ints) in
+    let here : bound ≤ℤ to_z w64 (of_z w64 c.args.expiration) = search (rules, arith, ints) in
+    subst (ExpireFrom bound) (sym c.expire_at.ensures.sections)
+    (ExpireFrom-changed_at bound _ c.in-Some.place kept (λ s from. here) (ExpireFrom-earlier c.self.inside.earliest bound kept before c.self.invariant.earliest))
+
 pub invariant_of-self : goal.invariant_of-self
 invariant_of-self c =
-    IsReserved-changed c.self.inside _ refl refl (left c).rises (left c).fits c.expire_at.ensures.room c.expire_at.ensures.len c.expire_at.ensures.capacity c.self.invariant
+    IsReserved-changed c.self.inside _ refl refl (left c).rises (left c).fits (earliest c) c.expire_at.ensures.room c.expire_at.ensures.len c.expire_at.ensures.capacity c.self.invariant
 
 pub returns-clause-sections : goal.returns-clause-sections
 returns-clause-sections c = rw (← c.self.view_is) (left c).is

@@ -2,9 +2,10 @@ use Rattle.std.proofs.Common.{◌≡◌, ◌∙◌, sym, subst, refl, to_z, of_z
 use Rattle.std.proofs.lemmas.Int.{to_z-of_z}
 use Rattle.ckpt_types.specs.Updates.{written, element_written}
 use Rattle.section_store.specs.Places.{changed_at}
-use Rattle.section_store.specs.Stored.{sections_of}
+use Rattle.section_store.specs.Stored.{sections_of, ExpireFrom}
 use Rattle.section_store.proofs.Placed.{Leaves, element_written-changed_at, element_written-no_place}
 use Rattle.section_store.proofs.StoredLemmas.{place_found}
+use Rattle.section_store.proofs.Expiring.{ExpireFrom-changed_at}
 use Rattle.section_store.proofs.Reserved.{IsReserved-changed}
 use Rattle.section_store.proofs.store.Store.write_element.Goals as goal
 
@@ -25,9 +26,13 @@ left c =
     subst (Leaves c.self.inside.attributes (element_written c.self.inside.attributes c.args.now 0 e kept)) (sym written_now)
     (element_written-changed_at c.self.inside.attributes c.args.now e kept c.in-Some.place c.self.invariant.rises c.self.invariant.fits place (rw (← c.self.view_is) at c.requires))
 
+-- it expires when it did
+earliest : (c : goal.After-write_into) → ExpireFrom c.self.inside.earliest (sections_of c.write_into.new.kept.items)
+earliest c = subst (ExpireFrom c.self.inside.earliest) (sym c.write_into.ensures.sections) (ExpireFrom-changed_at c.self.inside.earliest _ c.in-Some.place (sections_of c.self.inside.kept.items) (λ s from. from) c.self.invariant.earliest)
+
 pub invariant_of-self : goal.invariant_of-self
 invariant_of-self c =
-    IsReserved-changed c.self.inside _ refl refl (left c).rises (left c).fits c.write_into.ensures.room c.write_into.ensures.len c.write_into.ensures.capacity c.self.invariant
+    IsReserved-changed c.self.inside _ refl refl (left c).rises (left c).fits (earliest c) c.write_into.ensures.room c.write_into.ensures.len c.write_into.ensures.capacity c.self.invariant
 
 pub returns-clause-sections : goal.returns-clause-sections
 returns-clause-sections c = rw (← c.self.view_is) (left c).is

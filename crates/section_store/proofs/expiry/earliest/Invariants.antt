@@ -1,0 +1,8 @@
+use Rattle.std.proofs.Common.{take}
+use Rattle.section_store.specs.Stored.{sections_of, ExpireFrom}
+use Rattle.section_store.proofs.expiry.earliest.Given as goal
+
+abbrev pub invariant-loop-stored : goal.invariant-loop-stored
+invariant-loop-stored l = record {
+  from : ExpireFrom l.earliest (sections_of (take l.stored-index l.kept));
+}
