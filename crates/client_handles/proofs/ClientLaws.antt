@@ -1,24 +1,21 @@
 -- What always holds of a client, and what a new handle changes and leaves.
-use Rattle.std.proofs.Common.{◌≡◌, ◌≢◌, ℕ, zero, suc, ◌+◌, ◌<◌, ◌≤◌, ◌==◌, Bool, true, false, not, cond, [], ◌∷◌, ◌++◌, length, Option, Some, None, Result, Ok, Err, slice_index, slice_set, replicate, refl, sym, ap, ◌∙◌, inl, inr, arith, length-append, length-set}
-use Rattle.std.specs.Option.{option_or}
-use Rattle.std.proofs.lemmas.Bool.{cases_eq, eq-eqb, ne_eqb, ltb-true, lt-ltb}
-use Rattle.std.proofs.lemmas.List.{append-nil, get_or-set_same, get_or-set_other}
-use Rattle.std.proofs.lemmas.List.Elements.{filter-append}
-use Rattle.std.proofs.lemmas.List.Folds.{find-append}
+use Rattle.std.proofs.Common.{◌≡◌, ◌≢◌, ℕ, ◌+◌, ◌<◌, ◌≤◌, ◌==◌, Bool, true, false, not, cond, List, [], ◌∷◌, ◌++◌, length, Some, None, IsSome, Result, Ok, Err, slice_index, slice_set, refl, sym, ap, ◌∙◌, inl, inr, arith, length-append, length-set}
+use Rattle.std.proofs.lemmas.Bool.{cases_eq, ltb-true, lt-ltb}
+use Rattle.std.proofs.lemmas.List.{get_or-set_same, get_or-set_other}
 use Rattle.ckpt_types.specs.declared.calls.CallbackSet.{CallbackSet}
 use Rattle.ckpt_types.specs.declared.calls.Count.{Count}
 use Rattle.ckpt_types.specs.declared.open_flags.OpenFlags.{OpenFlags}
-use Rattle.client_handles.specs.ClientState.{ClientState, new_client, handle_numbered, handle_at, has_handle_room, next_handle, taken, taken_number, without, released, bound, dropped, IsValid}
+use Rattle.section_iter.specs.KeptIds.{KeptIds}
+use Rattle.client_handles.specs.ClientState.{ClientState, new_client, handle_number, goes_over, handle_numbered, handle_at, has_handle_room, next_handle, taken, taken_number, released, bound, dropped, has_iteration_room, added, added_answer, lent, returned, ended, HasIterations, IsValid}
+use Rattle.client_handles.specs.Numbered.{without}
+use Rattle.client_handles.specs.declared.begun.BegunIteration.{BegunIteration}
 use Rattle.client_handles.specs.declared.handle_view.HandleView.{HandleView}
-use Rattle.client_handles.proofs.HandleLaws.{without-absent, handle_at-bound_same, handle_at-bound_other}
-use Rattle.client_handles.proofs.RisingLaws.{RiseWithin-found, RiseWithin-push, RiseWithin-without, handle_numbered-high, length-without, length-without-le}
+use Rattle.client_handles.proofs.HandleLaws.{handle_at-bound_same, handle_at-bound_other}
+use Rattle.client_handles.proofs.IterationLaws.{HasIterations-new, HasIterations-taken, HasIterations-bound, HasIterations-released, HasIterations-added, HasIterations-keeping, HasIterations-ended, iterations-released_absent}
+use Rattle.client_handles.proofs.NumberedLaws.{slice_index-new, without-absent, numbered-push_same, numbered-push_other, without-push}
+use Rattle.client_handles.proofs.RisingLaws.{RiseWithin-found, RiseWithin-push, RiseWithin-filter, numbered-high, length-without, length-filter_le}
 
 -- ---- it always holds
-
-no_number : (n place : ℕ) → slice_index (replicate n 0) place ≡ 0
-no_number zero place = refl
-no_number (suc n) zero = refl
-no_number (suc n) (suc place) = no_number n place
 
 -- of a new client
 pub IsValid-new : (callbacks : CallbackSet) → IsValid (new_client callbacks)
@@ -26,7 +23,8 @@ IsValid-new callbacks = record {
   few = omega arith;
   numbers = tt;
   places = refl;
-  given = λ place. omega (arith, no_number 100 place);
+  given = λ place. omega (arith, slice_index-new place);
+  iterations = HasIterations-new callbacks;
 }
 
 -- with a handle more, where there was room
@@ -36,20 +34,23 @@ IsValid-taken id flags creation_flags s room is =
     let few : length s.handles < 32 = ltb-true (length s.handles) 32 room in
     record {
       few = omega (arith, length-append s.handles (h ∷ []));
-      numbers = RiseWithin-push 0 s.last_number (s.last_number + 1) s.handles h (omega arith) (omega arith) (omega arith) is.numbers;
+      numbers = RiseWithin-push handle_number 0 s.last_number (s.last_number + 1) s.handles h (omega arith) (omega arith) (omega arith) is.numbers;
       places = is.places;
       given = λ place. omega (arith, is.given place);
+      iterations = HasIterations-taken s h (s.last_number + 1) is.iterations;
     }
 
 -- without the handle of a number
 pub IsValid-released : (number : ℕ) (s : ClientState) → IsValid s → IsValid (released number s)
 IsValid-released number s is =
+    let keeps : HandleView → Bool = λ h. not (handle_number h == number) in
     let few : length s.handles ≤ 32 = is.few in
     record {
-      few = omega (arith, length-without-le number s.handles);
-      numbers = RiseWithin-without number 0 s.last_number s.handles is.numbers;
+      few = omega (arith, length-filter_le handle_number keeps s.handles);
+      numbers = RiseWithin-filter handle_number keeps 0 s.last_number s.handles is.numbers;
       places = is.places;
       given = is.given;
+      iterations = HasIterations-released number s is.iterations;
     }
 
 -- without that of a place
@@ -68,15 +69,35 @@ IsValid-bound place number s within low is =
         | inl same ↦ omega (arith, ap (slice_index (slice_set s.places place number)) same ∙ get_or-set_same s.places place number 0 (omega arith))
         | inr differs ↦ omega (arith, get_or-set_other s.places place other number 0 differs, is.given other)
       ];
+      iterations = HasIterations-bound s (slice_set s.places place number) is.iterations;
     }
 
 -- a number that a handle has was given
 pub number-given : (number : ℕ) (s : ClientState) (h : HandleView) → IsValid s → handle_numbered number s.handles ≡ Some h → (1 ≤ number) × (number ≤ s.last_number)
-number-given number s h is found = RiseWithin-found number 0 s.last_number s.handles h is.numbers found
+number-given number s h is found = RiseWithin-found handle_number number 0 s.last_number s.handles h is.numbers found
 
 -- with a place set to a handle that is open
 pub IsValid-bound_open : (place number : ℕ) (s : ClientState) (h : HandleView) → place < 100 → handle_numbered number s.handles ≡ Some h → IsValid s → IsValid (bound place number s)
 IsValid-bound_open place number s h within found is = IsValid-bound place number s within (number-given number s h is found).1 is
+
+-- with other iterations, of which the same holds
+pub IsValid-iterations : (s : ClientState) (last : ℕ) (iterations : List BegunIteration) (places : List ℕ) → IsValid s → HasIterations (record s { last_iteration = last; iterations = iterations; iteration_places = places }) →
+    IsValid (record s { last_iteration = last; iterations = iterations; iteration_places = places })
+IsValid-iterations s last iterations places is has = record { few = is.few; numbers = is.numbers; places = is.places; given = is.given; iterations = has }
+
+-- with an iteration more
+pub IsValid-added : (place handle : ℕ) (kept : KeptIds) (s : ClientState) → place < 100 → IsSome (handle_numbered handle s.handles) → has_iteration_room s ≡ true → IsValid s → IsValid (added place handle kept s)
+IsValid-added place handle kept s within opened room is = IsValid-iterations s _ _ _ is (HasIterations-added place handle kept s within opened room is.iterations)
+
+-- with one lent, returned or ended
+pub IsValid-lent : (place : ℕ) (s : ClientState) → IsValid s → IsValid (lent place s)
+IsValid-lent place s is = IsValid-iterations s _ _ _ is (HasIterations-keeping None (slice_index s.iteration_places place) s is.iterations)
+
+pub IsValid-returned : (place : ℕ) (kept : KeptIds) (s : ClientState) → IsValid s → IsValid (returned place kept s)
+IsValid-returned place kept s is = IsValid-iterations s _ _ _ is (HasIterations-keeping (Some kept) (slice_index s.iteration_places place) s is.iterations)
+
+pub IsValid-ended : (place : ℕ) (s : ClientState) → IsValid s → IsValid (ended place s)
+IsValid-ended place s is = IsValid-iterations s _ _ _ is (HasIterations-ended place s is.iterations)
 
 -- ---- one handle more
 
@@ -84,23 +105,16 @@ module _ (id : ℕ) (flags : OpenFlags) (creation_flags : ℕ) (s : ClientState)
   abbrev made : HandleView
   made = next_handle id flags creation_flags s
 
+  none_yet : handle_numbered (s.last_number + 1) s.handles ≡ None
+  none_yet = numbered-high handle_number (s.last_number + 1) 0 s.last_number s.handles (omega arith) is.numbers
+
   -- it is found by its number
   pub handle_numbered-taken : handle_numbered (s.last_number + 1) (taken id flags creation_flags s).handles ≡ Some (next_handle id flags creation_flags s)
-  handle_numbered-taken =
-      find-append (λ h. h.handle == s.last_number + 1) s.handles (made ∷ [])
-      ∙ ap (λ o. option_or o (handle_numbered (s.last_number + 1) (made ∷ []))) (handle_numbered-high (s.last_number + 1) 0 s.last_number s.handles (omega arith) is.numbers)
-      ∙ ap (λ b. cond b (Some made) None) (eq-eqb (s.last_number + 1) (s.last_number + 1) refl)
-
-  or_none : (o : Option HandleView) → option_or o None ≡ o
-  or_none None = refl
-  or_none (Some h) = refl
+  handle_numbered-taken = numbered-push_same handle_number (s.last_number + 1) s.handles made refl none_yet
 
   -- and those of other numbers by theirs
   pub handle_numbered-taken_other : (number : ℕ) → number ≢ s.last_number + 1 → handle_numbered number (taken id flags creation_flags s).handles ≡ handle_numbered number s.handles
-  handle_numbered-taken_other number differs =
-      find-append (λ h. h.handle == number) s.handles (made ∷ [])
-      ∙ ap (λ b. option_or (handle_numbered number s.handles) (cond b (Some made) None)) (ne_eqb (s.last_number + 1) number (λ e. differs (sym e)))
-      ∙ or_none (handle_numbered number s.handles)
+  handle_numbered-taken_other number differs = numbered-push_other handle_number number s.handles made differs
 
   -- each place stands for what it did
   pub handle_at-taken : (place : ℕ) → handle_at place (taken id flags creation_flags s) ≡ handle_at place s
@@ -123,17 +137,22 @@ module _ (id : ℕ) (flags : OpenFlags) (creation_flags : ℕ) (s : ClientState)
   -- where the new handle is closed again, all but the last number is as before
   pub released-taken : released (s.last_number + 1) (taken id flags creation_flags s) ≡ record s { last_number = s.last_number + 1 }
   released-taken =
-      ap (λ hs. record s { last_number = s.last_number + 1; handles = hs })
-      (filter-append (λ h. not (h.handle == s.last_number + 1)) s.handles (made ∷ [])
-      ∙ ap (λ b. without (s.last_number + 1) s.handles ++ cond (not b) (made ∷ []) []) (eq-eqb (s.last_number + 1) (s.last_number + 1) refl)
-      ∙ append-nil (without (s.last_number + 1) s.handles)
-      ∙ without-absent (s.last_number + 1) s.handles (handle_numbered-high (s.last_number + 1) 0 s.last_number s.handles (omega arith) is.numbers))
+      let no_iteration : without goes_over (s.last_number + 1) s.iterations ≡ s.iterations = iterations-released_absent (s.last_number + 1) s is.iterations none_yet in
+      let as_before : without handle_number (s.last_number + 1) (s.handles ++ made ∷ []) ≡ s.handles = without-push handle_number (s.last_number + 1) s.handles made refl none_yet in
+      λ i. record s { last_number = s.last_number + 1; handles = as_before i; iterations = no_iteration i }
 
 -- ---- one handle gone
 
+-- where no handle has the number nothing changes
+pub released-none : (number : ℕ) (s : ClientState) → IsValid s → handle_numbered number s.handles ≡ None → s ≡ released number s
+released-none number s is none =
+    let handles : without handle_number number s.handles ≡ s.handles = without-absent handle_number number s.handles none in
+    let its : without goes_over number s.iterations ≡ s.iterations = iterations-released_absent number s is.iterations none in
+    sym (λ i. record s { handles = handles i; iterations = its i })
+
 -- where one had the number, there is one handle less
 pub length-released : (number : ℕ) (s : ClientState) (h : HandleView) → IsValid s → handle_numbered number s.handles ≡ Some h → length (released number s).handles + 1 ≡ length s.handles
-length-released number s h is found = length-without number 0 s.last_number s.handles h is.numbers found
+length-released number s h is found = length-without handle_number number 0 s.last_number s.handles h is.numbers found
 
 -- so there is room for another
 pub has_handle_room-released : (number : ℕ) (s : ClientState) (h : HandleView) → IsValid s → handle_numbered number s.handles ≡ Some h → has_handle_room (released number s) ≡ true
@@ -168,3 +187,19 @@ taken_number-Err count s e = count_case (has_handle_room s) (s.last_number + 1) 
 pub handle_numbered-told : (id : ℕ) (flags : OpenFlags) (creation_flags number : ℕ) (s new : ClientState) → IsValid s → Ok number ≡ taken_number s → new ≡ taken id flags creation_flags s → handle_numbered number new.handles ≡ Some (next_handle id flags creation_flags s)
 handle_numbered-told id flags creation_flags number s new is told made =
     (λ i. handle_numbered ((taken_number-Ok number s told).1 i) (made i).handles) ∙ handle_numbered-taken id flags creation_flags s is
+
+unit_case : (b : Bool) (count : Count) → ◌≡◌ {A = Result (Unit {0}) Count} (Ok tt) (cond b (Ok tt) (Err count)) → b ≡ true
+unit_case true count e = refl
+unit_case false count e = absurd (cc e)
+
+-- an iteration is added where there was room
+pub added_answer-Ok : (s : ClientState) → Ok tt ≡ added_answer s → has_iteration_room s ≡ true
+added_answer-Ok s e = unit_case (has_iteration_room s) (record { count = 8 }) e
+
+full_case : (b : Bool) (told count : Count) → ◌≡◌ {A = Result (Unit {0}) Count} (Err told) (cond b (Ok tt) (Err count)) → (b ≡ false) × (told ≡ count)
+full_case true told count e = absurd (cc e)
+full_case false told count e = (refl, cc e)
+
+-- the count of 8 is told where there was none
+pub added_answer-Err : (count : Count) (s : ClientState) → Err count ≡ added_answer s → (has_iteration_room s ≡ false) × (count ≡ record { count = 8 })
+added_answer-Err count s e = full_case (has_iteration_room s) count (record { count = 8 }) e

@@ -1,29 +1,46 @@
 -- What each call makes of the inside of a client: it stays sound, and shows what the definitions say.
-use Rattle.std.proofs.Common.{◌≡◌, ◌≢◌, ℕ, zero, suc, ◌+◌, ◌<◌, ◌≤◌, List, [], ◌∷◌, ◌++◌, length, map, Option, Some, None, get_or, set, replicate, count_by, is_some, refl, sym, ap, subst, ◌∙◌, ◌⊎◌, inl, inr, arith, length-append}
-use Rattle.std.specs.Option.{IsSomeAnd}
+use Rattle.std.proofs.Common.{◌≡◌, ◌≢◌, ℕ, zero, suc, ◌+◌, ◌<◌, ◌≤◌, List, [], ◌∷◌, ◌++◌, length, map, Option, Some, None, IsSome, Ok, true, slice_get, get_or, set, replicate, vec_capacity, count_by, is_some, refl, sym, ap, subst, ◌∙◌, ◌⊎◌, inl, inr, arith, length-append}
+use Rattle.std.specs.List.{remove}
+use Rattle.std.specs.Option.{IfSome, IsSomeAnd, option_map, option_and_then, ok_or}
 use Rattle.std.proofs.lemmas.Bool.{cases_eq, cases_lt}
 use Rattle.std.proofs.lemmas.List.{get_or-map, get_or-set_same, get_or-set_other, get_or_past, length-map, length-set}
 use Rattle.std.proofs.lemmas.Option.{none-some, same_Some}
+use Rattle.std.specs.declared.alloc.Global.{Global}
+use Rattle.std.specs.declared.vec.Vec.{Vec}
+use Rattle.section_iter.specs.KeptIds.{KeptIds}
+use Rattle.ckpt_types.specs.declared.ais_error.AisError.TheVariants.{BadHandle}
 use Rattle.slab.specs.Slab.{Slab, get, slab_len, Updates}
 use Rattle.ckpt_types.specs.declared.calls.CallbackSet.{CallbackSet}
-use Rattle.section_iter.specs.KeptIds.{KeptIds}
 use Rattle.client_handles.specs.Client.{number_of, client_of, IsSound}
-use Rattle.client_handles.specs.ClientState.{handle_numbered, handle_at, without, released, IsValid}
+use Rattle.client_handles.specs.ClientState.{ClientState, handle_number, iteration_number, goes_over, handle_numbered, handle_at, iteration_at, iterated_handle, kept_iteration, ended_answer, has_iteration_room, IsNotLent, new_client, released, next_iteration, added, with_kept, keeping, ended, IsOver, HasIterations, IsValid}
 use Rattle.client_handles.specs.Kept.{where_numbered, kept_numbered, handles_up_to, IsKey, HaveKeys}
+use Rattle.client_handles.specs.Numbered.{without}
+use Rattle.client_handles.specs.declared.begun.BegunIteration.{BegunIteration}
 use Rattle.client_handles.specs.declared.client.Client.TheInside.{Inside}
 use Rattle.client_handles.specs.declared.handle_view.HandleView.{HandleView}
 use Rattle.client_handles.specs.declared.kept.Bound.{Bound}
-use Rattle.client_handles.proofs.HandleLaws.{without-absent}
+use Rattle.client_handles.proofs.ClientLaws.{released-none}
+use Rattle.client_handles.proofs.IterationLaws.{HasIterations-new, HasIterations-taken, HasIterations-bound, HasIterations-released, HasIterations-added, HasIterations-keeping, HasIterations-ended}
+use Rattle.client_handles.proofs.RisingLaws.{numbered-at, remove-at, changed-at}
+use Rattle.client_handles.proofs.NumberedLaws.{numbered-All}
 use Rattle.client_handles.proofs.KeptLemmas.{kept_numbered-none, kept_numbered-at, kept_numbered-under, AreNumbered-more, kept_numbered-more, kept_numbered-others, HaveKeys-more, AreNumbered-gone, kept_numbered-gone, kept_numbered-left, HaveKeys-gone}
 use Rattle.client_handles.proofs.ListedLemmas.{handles_up_to-more, handles_up_to-gone, length-handles_up_to-gone, handle_numbered-past, handle_numbered-zero, handle_numbered-kept, RiseWithin-handles_up_to}
 
-under_case : (number : ℕ) (o : Option HandleView) → IsSomeAnd o (λ h. h.handle ≡ number) → (h : HandleView) × (o ≡ Some h) × (h.handle ≡ number)
-under_case number None there = absurd there
-under_case number (Some h) there = (h, refl, there)
+some_and : {A : Type 0} (P : A → Type 0) (o : Option A) → IsSomeAnd o P → (x : A) × (o ≡ Some x) × P x
+some_and P None there = absurd there
+some_and P (Some x) there = (x, refl, there)
+
+at_some : {A : Type 0} (P : A → Type 0) (o : Option A) (x : A) → o ≡ Some x → IsSomeAnd o P → P x
+at_some P None x e there = absurd there
+at_some P (Some y) x e there = subst P (same_Some y x e) there
 
 -- the handle of a number under a key
 pub kept_under : (handles : Slab HandleView) (key number : ℕ) → IsSomeAnd (get handles key) (λ h. h.handle ≡ number) → (h : HandleView) × (get handles key ≡ Some h) × (h.handle ≡ number)
-kept_under handles key number there = under_case number (get handles key) there
+kept_under handles key number there = some_and (λ (h : HandleView). h.handle ≡ number) (get handles key) there
+
+not_none : {A : Type 0} (o : Option A) → IsSome o → o ≡ None → ⊥
+not_none None some none = cc
+not_none (Some x) some none = cc
 
 module _ (c : Inside) (sound : IsSound c) where
   -- ---- look-ups
@@ -77,6 +94,7 @@ module _ (c : Inside) (sound : IsSound c) where
         numbers = RiseWithin-handles_up_to c.last_number c.handles.slots;
         places = length-map c.places number_of ∙ sound.places;
         given = λ place. given_at place (cases_lt place (length c.places));
+        iterations = sound.iterations;
       }
 
   -- ---- one handle more
@@ -104,27 +122,32 @@ module _ (c : Inside) (sound : IsSound c) where
           keys = HaveKeys-more c.last_number c.handles new key h sound.numbers vacant updates is_next c.places sound.keys;
           places = sound.places;
           iteration_room = sound.iteration_room;
-          no_iteration = sound.no_iteration;
+          iterations = subst (λ (hs : List HandleView). HasIterations (record (client_of c) { last_number = c.last_number + 1; handles = hs })) (sym handles_up_to-inserted) (HasIterations-taken (client_of c) h (c.last_number + 1) sound.iterations);
         }
 
   -- ---- one handle gone
 
-  module _ (new : Slab HandleView) (key : ℕ) (h : HandleView) (at_key : get c.handles key ≡ Some h) (updates : Updates c.handles new key None) where
+  module _ (new : Slab HandleView) (key : ℕ) (h : HandleView) (at_key : get c.handles key ≡ Some h) (updates : Updates c.handles new key None) (its : Vec BegunIteration Global) (left : its.items ≡ without goes_over h.handle c.iterations.items) where
     abbrev fewer : Inside
-    fewer = record c { handles = new }
+    fewer = record c { handles = new; iterations = its }
 
     was_kept : kept_numbered h.handle c.handles.slots ≡ Some h
     was_kept = kept_numbered-at c.last_number c.handles sound.numbers h.handle key h at_key refl
 
-    pub handles_up_to-removed : handles_up_to c.last_number new.slots ≡ without h.handle (handles_up_to c.last_number c.handles.slots)
+    pub handles_up_to-removed : handles_up_to c.last_number new.slots ≡ without handle_number h.handle (handles_up_to c.last_number c.handles.slots)
     handles_up_to-removed =
         handles_up_to-gone h.handle c.handles.slots new.slots
         (kept_numbered-gone c.last_number c.handles new key h sound.numbers at_key updates)
         (kept_numbered-left c.last_number c.handles new key h sound.numbers at_key updates)
         c.last_number
 
-    pub IsSound-removed : new.capacity ≡ c.handles.capacity → slab_len new + 1 ≡ slab_len c.handles → IsSound fewer
-    IsSound-removed capacity len =
+    -- it is shown no more, nor are the iterations over it
+    pub client_of-removed : client_of fewer ≡ released h.handle (client_of c)
+    client_of-removed = λ i. record (client_of c) { handles = handles_up_to-removed i; iterations = left i }
+
+    pub IsSound-removed : new.capacity ≡ c.handles.capacity → slab_len new + 1 ≡ slab_len c.handles → vec_capacity its ≡ vec_capacity c.iterations → IsSound fewer
+    IsSound-removed capacity len iteration_capacity =
+        let begun : 8 ≤ vec_capacity c.iterations = sound.iteration_room in
         let kept : 32 ≤ c.handles.capacity = sound.room in
         let few : slab_len c.handles ≤ 32 = sound.few in
         let counted : slab_len c.handles ≡ length (handles_up_to c.last_number c.handles.slots) = sound.counted in
@@ -140,14 +163,13 @@ module _ (c : Inside) (sound : IsSound c) where
           numbers = AreNumbered-gone c.last_number c.handles new key h sound.numbers at_key updates;
           keys = HaveKeys-gone c.last_number c.handles new key h sound.numbers at_key updates c.places sound.keys;
           places = sound.places;
-          iteration_room = sound.iteration_room;
-          no_iteration = sound.no_iteration;
+          iteration_room = omega arith;
+          iterations = subst HasIterations (sym client_of-removed) (HasIterations-released h.handle (client_of c) sound.iterations);
         }
 
   -- where no handle has the number, none is taken away
   pub released-absent : (number : ℕ) → ((key : ℕ) (h : HandleView) → get c.handles key ≡ Some h → h.handle ≢ number) → client_of c ≡ released number (client_of c)
-  released-absent number absent =
-      ap (λ hs. record (client_of c) { handles = hs }) (sym (without-absent number (client_of c).handles (handle_numbered-absent number absent)))
+  released-absent number absent = released-none number (client_of c) IsValid-shown (handle_numbered-absent number absent)
 
   -- ---- a place set
 
@@ -183,17 +205,125 @@ module _ (c : Inside) (sound : IsSound c) where
     keys = HaveKeys-set place key h number within at is;
     places = length-set c.places place (Some (record { key = key; number = number })) ∙ sound.places;
     iteration_room = sound.iteration_room;
-    no_iteration = sound.no_iteration;
+    iterations = HasIterations-bound (client_of c) (map number_of (set c.places place (Some (record { key = key; number = number })))) sound.iterations;
   }
+
+  -- ---- the handle of an iteration
+
+  -- a handle of the slab is shown by its number
+  pub handle_numbered-found : (number key : ℕ) (h : HandleView) → get c.handles key ≡ Some h → h.handle ≡ number → handle_numbered number (client_of c).handles ≡ Some h
+  handle_numbered-found number key h at is =
+      let from_one : 1 ≤ h.handle = sound.numbers.from_one key h at in
+      let to_last : h.handle ≤ c.last_number = sound.numbers.to_last key h at in
+      handle_numbered-kept number c.last_number c.handles.slots (omega arith) (omega arith) ∙ kept_numbered-at c.last_number c.handles sound.numbers number key h at is
+
+  module _ (place handle : ℕ) (over : Some handle ≡ option_map goes_over (iteration_at place (client_of c))) where
+    over_case : (o : Option BegunIteration) → Some handle ≡ option_map goes_over o → (it : BegunIteration) × (o ≡ Some it) × (it.handle ≡ handle)
+    over_case None e = absurd (none-some handle (sym e))
+    over_case (Some it) e = (it, refl, sym (same_Some handle it.handle e))
+
+    -- it is open
+    pub iterated-open : ((key : ℕ) (h : HandleView) → get c.handles key ≡ Some h → h.handle ≢ handle) → ⊥
+    iterated-open absent =
+        let (it, stands, is) = over_case (iteration_at place (client_of c)) over in
+        let opened : IsSome (handle_numbered it.handle (client_of c).handles) = numbered-All iteration_number (IsOver (client_of c).handles) (get_or c.iteration_places place 0) c.iterations.items it sound.iterations.over_open stands in
+        not_none (handle_numbered it.handle (client_of c).handles) opened (ap (λ n. handle_numbered n (client_of c).handles) is ∙ handle_numbered-absent handle absent)
+
+    -- and told
+    pub iterated_handle-found : (key : ℕ) (h : HandleView) → get c.handles key ≡ Some h → h.handle ≡ handle → Ok h ≡ iterated_handle place (client_of c)
+    iterated_handle-found key h at is_handle =
+        let (it, stands, is) = over_case (iteration_at place (client_of c)) over in
+        sym (ap (λ (o : Option BegunIteration). ok_or (option_and_then (λ (x : BegunIteration). handle_numbered (goes_over x) (client_of c).handles) o) BadHandle) stands
+        ∙ ap (λ o. ok_or o BadHandle) (handle_numbered-found it.handle key h at (is_handle ∙ sym is)))
+
+  -- ---- other iterations
+
+  pub IsSound-iterations : (last : ℕ) (its : Vec BegunIteration Global) (places : List ℕ) (s : ClientState) → vec_capacity its ≡ vec_capacity c.iterations → client_of (record c { last_iteration = last; iterations = its; iteration_places = places }) ≡ s → HasIterations s →
+      IsSound (record c { last_iteration = last; iterations = its; iteration_places = places })
+  IsSound-iterations last its places s capacity shown has =
+      let kept : 8 ≤ vec_capacity c.iterations = sound.iteration_room in
+      record {
+        room = sound.room;
+        few = sound.few;
+        counted = sound.counted;
+        numbers = sound.numbers;
+        keys = sound.keys;
+        places = sound.places;
+        iteration_room = omega arith;
+        iterations = subst HasIterations (sym shown) has;
+      }
+
+  -- with one more
+  pub IsSound-added : (place handle : ℕ) (kept : KeptIds) (its : Vec BegunIteration Global) → its.items ≡ c.iterations.items ++ next_iteration handle kept (client_of c) ∷ [] → vec_capacity its ≡ vec_capacity c.iterations →
+      place < 100 → IsSome (handle_numbered handle (client_of c).handles) → has_iteration_room (client_of c) ≡ true →
+      IsSound (record c { last_iteration = c.last_iteration + 1; iterations = its; iteration_places = set c.iteration_places place (c.last_iteration + 1) })
+  IsSound-added place handle kept its items capacity within opened room =
+      IsSound-iterations (c.last_iteration + 1) its (set c.iteration_places place (c.last_iteration + 1)) (added place handle kept (client_of c)) capacity
+      (ap (λ xs. record (added place handle kept (client_of c)) { iterations = xs }) items)
+      (HasIterations-added place handle kept (client_of c) within opened room sound.iterations)
+
+  -- ---- an iteration at its place in the list
+
+  module _ (place at : ℕ) (found : IsSomeAnd (slice_get c.iterations.items at) (λ it. it.number ≡ get_or c.iteration_places place 0)) where
+    there : (it : BegunIteration) × (slice_get c.iterations.items at ≡ Some it) × (it.number ≡ get_or c.iteration_places place 0)
+    there = some_and (λ (it : BegunIteration). it.number ≡ get_or c.iteration_places place 0) (slice_get c.iterations.items at) found
+
+    stands : iteration_at place (client_of c) ≡ Some there.0
+    stands = numbered-at iteration_number (get_or c.iteration_places place 0) at 0 c.last_iteration c.iterations.items there.0 sound.iterations.numbers there.1 there.2
+
+    -- so the place stands for one
+    pub ended_answer-found : Ok tt ≡ ended_answer place (client_of c)
+    ended_answer-found = sym (ap (λ o. ok_or (option_map (λ (it : BegunIteration). tt) o) BadHandle) stands)
+
+    module _ (its : Vec BegunIteration Global) (gone : its.items ≡ remove c.iterations.items at) where
+      -- where it is taken out, it has ended
+      pub client_of-ended : client_of (record c { iterations = its }) ≡ ended place (client_of c)
+      client_of-ended =
+          ap (λ xs. record (client_of c) { iterations = xs })
+          (gone ∙ remove-at iteration_number (get_or c.iteration_places place 0) at 0 c.last_iteration c.iterations.items there.0 sound.iterations.numbers there.1 there.2)
+
+      pub IsSound-ended : vec_capacity its ≡ vec_capacity c.iterations → IsSound (record c { iterations = its })
+      IsSound-ended capacity = IsSound-iterations c.last_iteration its c.iteration_places (ended place (client_of c)) capacity client_of-ended (HasIterations-ended place (client_of c) sound.iterations)
+
+    module _ (result : Option KeptIds) (kept : IsSomeAnd (slice_get c.iterations.items at) (λ it. result ≡ it.kept)) where
+      is_kept : result ≡ there.0.kept
+      is_kept = at_some (λ (it : BegunIteration). result ≡ it.kept) (slice_get c.iterations.items at) there.0 there.1 kept
+
+      -- what is kept of it is told
+      pub kept_iteration-found : ok_or result BadHandle ≡ kept_iteration place (client_of c)
+      kept_iteration-found =
+          ap (λ o. ok_or o BadHandle) is_kept
+          ∙ sym (ap (λ (o : Option BegunIteration). ok_or (option_and_then (λ (it : BegunIteration). it.kept) o) BadHandle) stands)
+
+      -- and where it is not lent, there is something
+      pub kept-not_lent : IsNotLent place (client_of c) → result ≡ None → ⊥
+      kept-not_lent not_lent none = not_none there.0.kept (subst (λ (o : Option BegunIteration). IfSome o (λ it. IsSome it.kept)) stands not_lent) (sym is_kept ∙ none)
+
+    module _ (kept : Option KeptIds) (its : Vec BegunIteration Global) (changed : IsSomeAnd (slice_get c.iterations.items at) (λ it. its.items ≡ set c.iterations.items at (with_kept kept it))) where
+      -- this is kept of it
+      pub client_of-kept : client_of (record c { iterations = its }) ≡ record (client_of c) { iterations = keeping kept (get_or c.iteration_places place 0) c.iterations.items }
+      client_of-kept =
+          ap (λ xs. record (client_of c) { iterations = xs })
+          (at_some (λ (it : BegunIteration). its.items ≡ set c.iterations.items at (with_kept kept it)) (slice_get c.iterations.items at) there.0 there.1 changed
+          ∙ changed-at iteration_number (with_kept kept) (get_or c.iteration_places place 0) at 0 c.last_iteration c.iterations.items there.0 sound.iterations.numbers there.1 there.2)
+
+      pub IsSound-kept : vec_capacity its ≡ vec_capacity c.iterations → IsSound (record c { iterations = its })
+      IsSound-kept capacity =
+          IsSound-iterations c.last_iteration its c.iteration_places (record (client_of c) { iterations = keeping kept (get_or c.iteration_places place 0) c.iterations.items }) capacity client_of-kept
+          (HasIterations-keeping kept (get_or c.iteration_places place 0) (client_of c) sound.iterations)
 
   -- ---- a copy
 
-  module _ (handles : Slab HandleView) (iterations : Slab KeptIds) (same : handles.slots ≡ c.handles.slots) where
+  module _ (handles : Slab HandleView) (its : Vec BegunIteration Global) (same : handles.slots ≡ c.handles.slots) (as_begun : its.items ≡ c.iterations.items) where
+    -- the same is shown
+    pub client_of-copied : client_of (record c { handles = handles; iterations = its }) ≡ client_of c
+    client_of-copied = λ i. record (client_of c) { handles = handles_up_to c.last_number (same i); iterations = as_begun i }
+
     same_get : (key : ℕ) → get c.handles key ≡ get handles key
     same_get key = ap (λ slots. get_or slots key None) (sym same)
 
-    pub IsSound-copied : 32 ≤ handles.capacity → iterations.slots ≡ [] → 8 ≤ iterations.capacity → IsSound (record c { handles = handles; iterations = iterations })
-    IsSound-copied room no_iteration iteration_room =
+    pub IsSound-copied : 32 ≤ handles.capacity → 8 ≤ vec_capacity its → IsSound (record c { handles = handles; iterations = its })
+    IsSound-copied room iteration_room =
         let as_many : slab_len handles ≡ slab_len c.handles = ap (count_by is_some) same in
         let few : slab_len c.handles ≤ 32 = sound.few in
         record {
@@ -212,7 +342,7 @@ module _ (c : Inside) (sound : IsSound c) where
           };
           places = sound.places;
           iteration_room = iteration_room;
-          no_iteration = no_iteration;
+          iterations = subst HasIterations (sym client_of-copied) sound.iterations;
         }
 
 -- ---- the beginning
@@ -222,14 +352,18 @@ none_at zero place = refl
 none_at (suc n) zero = refl
 none_at (suc n) (suc place) = none_at n place
 
-module _ (callbacks : CallbackSet) (handles : Slab HandleView) (places : List (Option Bound)) (iterations : Slab KeptIds) (no_handle : handles.slots ≡ []) (no_place : places ≡ replicate 100 None) (no_iteration : iterations.slots ≡ []) where
-  abbrev begun : Inside
-  begun = record { callbacks = callbacks; last_number = 0; handles = handles; places = places; iterations = iterations }
+module _ (callbacks : CallbackSet) (handles : Slab HandleView) (places : List (Option Bound)) (its : Vec BegunIteration Global) (no_handle : handles.slots ≡ []) (no_place : places ≡ replicate 100 None) (no_iteration : its.items ≡ []) where
+  abbrev first : Inside
+  first = record { callbacks = callbacks; last_number = 0; handles = handles; places = places; last_iteration = 0; iterations = its; iteration_places = replicate 100 0 }
+
+  -- a new client is shown
+  pub client_of-new : client_of first ≡ new_client callbacks
+  client_of-new = λ i. record (new_client callbacks) { places = map number_of (no_place i); iterations = no_iteration i }
 
   no_handle_at : (key : ℕ) → get handles key ≡ None
   no_handle_at key = ap (λ slots. get_or slots key None) no_handle
 
-  pub IsSound-new : 32 ≤ handles.capacity → 8 ≤ iterations.capacity → IsSound begun
+  pub IsSound-new : 32 ≤ handles.capacity → 8 ≤ vec_capacity its → IsSound first
   IsSound-new room iteration_room =
       let empty : slab_len handles ≡ 0 = ap (count_by is_some) no_handle in
       record {
@@ -244,5 +378,5 @@ module _ (callbacks : CallbackSet) (handles : Slab HandleView) (places : List (O
         keys = λ place key at. absurd (none-some key (sym (none_at 100 place) ∙ sym (ap (λ ps. get_or ps place None) no_place) ∙ at));
         places = ap length no_place;
         iteration_room = iteration_room;
-        no_iteration = no_iteration;
+        iterations = subst HasIterations (sym client_of-new) (HasIterations-new callbacks);
       }

@@ -1,6 +1,9 @@
 pub mod ClientLaws
 pub mod ClientLemmas
 pub mod HandleLaws
+pub mod IterationLaws
 pub mod KeptLemmas
+pub mod LentLaws
 pub mod ListedLemmas
+pub mod NumberedLaws
 pub mod RisingLaws

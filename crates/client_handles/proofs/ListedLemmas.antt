@@ -5,8 +5,9 @@ use Rattle.std.proofs.lemmas.Bool.{cases_eq, eq-eqb, ne_eqb}
 use Rattle.std.proofs.lemmas.List.{append-nil}
 use Rattle.std.proofs.lemmas.List.Elements.{filter-append}
 use Rattle.std.proofs.lemmas.List.Folds.{find-append}
-use Rattle.client_handles.specs.ClientState.{handle_numbered, without, RiseWithin}
+use Rattle.client_handles.specs.ClientState.{handle_number, handle_numbered}
 use Rattle.client_handles.specs.Kept.{kept_numbered, listed, handles_up_to}
+use Rattle.client_handles.specs.Numbered.{without, RiseWithin}
 use Rattle.client_handles.specs.declared.handle_view.HandleView.{HandleView}
 use Rattle.client_handles.proofs.KeptLemmas.{found_is}
 use Rattle.client_handles.proofs.RisingLaws.{RiseWithin-higher, RiseWithin-push}
@@ -31,35 +32,35 @@ handles_up_to-more last old new h found same =
 
 -- ---- one gone
 
-without_one : (number m : ℕ) (h : HandleView) → h.handle ≡ m → m ≢ number → without number (h ∷ []) ≡ h ∷ []
+without_one : (number m : ℕ) (h : HandleView) → h.handle ≡ m → m ≢ number → without handle_number number (h ∷ []) ≡ h ∷ []
 without_one number m h is differs = ap (λ b. cond (not b) (h ∷ []) []) (ne_eqb h.handle number (λ e. differs (sym is ∙ e)))
 
-without_none : (number : ℕ) (h : HandleView) → h.handle ≡ number → without number (h ∷ []) ≡ []
+without_none : (number : ℕ) (h : HandleView) → h.handle ≡ number → without handle_number number (h ∷ []) ≡ []
 without_none number h is = ap (λ b. cond (not b) (h ∷ []) []) (eq-eqb h.handle number is)
 
-without_listed : (number m : ℕ) (slots : List (Option HandleView)) → m ≢ number → (o : Option HandleView) → kept_numbered m slots ≡ o → listed o ≡ without number (listed o)
+without_listed : (number m : ℕ) (slots : List (Option HandleView)) → m ≢ number → (o : Option HandleView) → kept_numbered m slots ≡ o → listed o ≡ without handle_number number (listed o)
 without_listed number m slots differs None e = refl
 without_listed number m slots differs (Some h) e = sym (without_one number m h (found_is m slots h e).is differs)
 
-gone_listed : (number : ℕ) (slots : List (Option HandleView)) → (o : Option HandleView) → kept_numbered number slots ≡ o → [] ≡ without number (listed o)
+gone_listed : (number : ℕ) (slots : List (Option HandleView)) → (o : Option HandleView) → kept_numbered number slots ≡ o → [] ≡ without handle_number number (listed o)
 gone_listed number slots None e = refl
 gone_listed number slots (Some h) e = sym (without_none number h (found_is number slots h e).is)
 
 module _ (number : ℕ) (old new : List (Option HandleView)) (gone : kept_numbered number new ≡ None) (same : (m : ℕ) → m ≢ number → kept_numbered m new ≡ kept_numbered m old) where
-  gone_step : (m : ℕ) → (m ≡ number) ⊎ (m ≢ number) → listed (kept_numbered m new) ≡ without number (listed (kept_numbered m old))
+  gone_step : (m : ℕ) → (m ≡ number) ⊎ (m ≢ number) → listed (kept_numbered m new) ≡ without handle_number number (listed (kept_numbered m old))
   gone_step m (inl is) =
       ap listed (ap (λ n. kept_numbered n new) is ∙ gone)
       ∙ gone_listed number old (kept_numbered number old) refl
-      ∙ ap (λ n. without number (listed (kept_numbered n old))) (sym is)
+      ∙ ap (λ n. without handle_number number (listed (kept_numbered n old))) (sym is)
   gone_step m (inr differs) = ap listed (same m differs) ∙ without_listed number m old differs (kept_numbered m old) refl
 
   -- the others are listed as before
-  pub handles_up_to-gone : (last : ℕ) → handles_up_to last new ≡ without number (handles_up_to last old)
+  pub handles_up_to-gone : (last : ℕ) → handles_up_to last new ≡ without handle_number number (handles_up_to last old)
   handles_up_to-gone zero = refl
   handles_up_to-gone (suc last) =
-      let rest : handles_up_to last new ≡ without number (handles_up_to last old) = handles_up_to-gone last in
+      let rest : handles_up_to last new ≡ without handle_number number (handles_up_to last old) = handles_up_to-gone last in
       ap (λ hs. hs ++ listed (kept_numbered (suc last) new)) rest
-      ∙ ap (λ hs. without number (handles_up_to last old) ++ hs) (gone_step (suc last) (cases_eq (suc last) number))
+      ∙ ap (λ hs. without handle_number number (handles_up_to last old) ++ hs) (gone_step (suc last) (cases_eq (suc last) number))
       ∙ sym (filter-append (λ h. not (h.handle == number)) (handles_up_to last old) (listed (kept_numbered (suc last) old)))
 
   module _ (h : HandleView) (was : kept_numbered number old ≡ Some h) (from_one : 1 ≤ number) where
@@ -135,13 +136,13 @@ handle_numbered-kept number (suc last) slots from_one within = found_case number
 
 -- ---- their order
 
-rising_step : (last : ℕ) (slots : List (Option HandleView)) (hs : List HandleView) → RiseWithin 0 last hs → (o : Option HandleView) → kept_numbered (suc last) slots ≡ o → RiseWithin 0 (suc last) (hs ++ listed o)
-rising_step last slots hs rise None e = subst (RiseWithin 0 (suc last)) (sym (append-nil hs)) (RiseWithin-higher 0 last (suc last) hs (omega arith) rise)
+rising_step : (last : ℕ) (slots : List (Option HandleView)) (hs : List HandleView) → RiseWithin handle_number 0 last hs → (o : Option HandleView) → kept_numbered (suc last) slots ≡ o → RiseWithin handle_number 0 (suc last) (hs ++ listed o)
+rising_step last slots hs rise None e = subst (RiseWithin handle_number 0 (suc last)) (sym (append-nil hs)) (RiseWithin-higher handle_number 0 last (suc last) hs (omega arith) rise)
 rising_step last slots hs rise (Some h) e =
     let is : h.handle ≡ suc last = (found_is (suc last) slots h e).is in
-    RiseWithin-push 0 last (suc last) hs h (omega arith) (omega arith) (omega arith) rise
+    RiseWithin-push handle_number 0 last (suc last) hs h (omega arith) (omega arith) (omega arith) rise
 
 -- their numbers rise
-pub RiseWithin-handles_up_to : (last : ℕ) (slots : List (Option HandleView)) → RiseWithin 0 last (handles_up_to last slots)
+pub RiseWithin-handles_up_to : (last : ℕ) (slots : List (Option HandleView)) → RiseWithin handle_number 0 last (handles_up_to last slots)
 RiseWithin-handles_up_to zero slots = tt
 RiseWithin-handles_up_to (suc last) slots = rising_step last slots (handles_up_to last slots) (RiseWithin-handles_up_to last slots) (kept_numbered (suc last) slots) refl

@@ -1,7 +1,8 @@
--- How a client keeps its handles: in a slab, where each place has the key and the number of one.
-use Rattle.std.specs.Prelude.{◌≡◌, ℕ, ◌≤◌, [], length, map, Option, Some, None}
-use Rattle.slab.specs.Slab.{slab_len, values}
-use Rattle.client_handles.specs.ClientState.{ClientState}
+-- How a client keeps its handles: in a slab, where each place has the key and the number of one; and its
+-- iterations: in a list, where each place has the number of one.
+use Rattle.std.specs.Prelude.{◌≡◌, ℕ, ◌≤◌, length, map, Option, Some, None, vec_capacity}
+use Rattle.slab.specs.Slab.{slab_len}
+use Rattle.client_handles.specs.ClientState.{ClientState, HasIterations}
 use Rattle.client_handles.specs.Kept.{handles_up_to, AreNumbered, HaveKeys}
 use Rattle.client_handles.specs.declared.kept.Bound.{Bound}
 use Rattle.client_handles.specs.declared.client.Client.TheInside.{Inside}
@@ -17,11 +18,12 @@ client_of c = record {
   last_number = c.last_number;
   handles = handles_up_to c.last_number c.handles.slots;
   places = map number_of c.places;
-  iterations = values c.iterations;
+  last_iteration = c.last_iteration;
+  iterations = c.iterations.items;
+  iteration_places = c.iteration_places;
 }
 
--- there is room for 32 handles and 8 iterations, handles and places have their numbers and keys, and no
--- iteration was begun
+-- there is room for 32 handles and 8 iterations, and handles and places have their numbers and keys
 pub record IsSound (c : Inside) : Type 0 where
   pub room : 32 ≤ c.handles.capacity
   pub few : slab_len c.handles ≤ 32
@@ -29,5 +31,5 @@ pub record IsSound (c : Inside) : Type 0 where
   pub numbers : AreNumbered c.last_number c.handles
   pub keys : HaveKeys c.last_number c.handles c.places
   pub places : length c.places ≡ 100
-  pub iteration_room : 8 ≤ c.iterations.capacity
-  pub no_iteration : c.iterations.slots ≡ []
+  pub iteration_room : 8 ≤ vec_capacity c.iterations
+  pub iterations : HasIterations (client_of c)

@@ -1,12 +1,15 @@
 -- What a client keeps, as its callers see it, and what each call makes of it.
-use Rattle.std.specs.Prelude.{◌≡◌, ℕ, ◌+◌, ◌<◌, ◌≤◌, Bool, not, ◌==◌, nat_lt, if◌then◌else◌, List, [], ◌∷◌, ◌++◌, length, filter, find, replicate, slice_index, slice_set, Option, Result, Ok, Err}
-use Rattle.std.specs.Option.{ok_or}
+use Rattle.std.specs.Prelude.{◌≡◌, ℕ, ◌+◌, ◌≤◌, Bool, ◌==◌, nat_lt, if◌then◌else◌, List, [], ◌∷◌, ◌++◌, length, map, replicate, slice_index, slice_set, Option, Some, None, IsSome, IfSome, IsSomeAnd, Result, Ok, Err}
+use Rattle.std.specs.List.{All}
+use Rattle.std.specs.Option.{option_map, option_and_then, ok_or}
 use Rattle.ckpt_types.specs.declared.ais_error.AisError.{AisError}
 use Rattle.ckpt_types.specs.declared.ais_error.AisError.TheVariants.{BadHandle}
 use Rattle.ckpt_types.specs.declared.calls.CallbackSet.{CallbackSet}
 use Rattle.ckpt_types.specs.declared.calls.Count.{Count}
 use Rattle.ckpt_types.specs.declared.open_flags.OpenFlags.{OpenFlags}
 use Rattle.section_iter.specs.KeptIds.{KeptIds}
+use Rattle.client_handles.specs.Numbered.{numbered, without, stands_for, RiseWithin}
+use Rattle.client_handles.specs.declared.begun.BegunIteration.{BegunIteration}
 use Rattle.client_handles.specs.declared.handle_view.HandleView.{HandleView}
 
 pub record ClientState : Type 0 where
@@ -17,22 +20,45 @@ pub record ClientState : Type 0 where
   pub handles : List HandleView
   -- by place, the number of the handle to which it was set last, or 0
   pub places : List ℕ
-  -- the iterations that were begun
-  pub iterations : List KeptIds
+  -- the number of the iteration last begun, or 0
+  pub last_iteration : ℕ
+  -- the iterations that were begun and have not ended, in the order of their beginning
+  pub iterations : List BegunIteration
+  -- by place, the number of the iteration to which it was set last, or 0
+  pub iteration_places : List ℕ
 
--- no handle was taken, and no place was set
+-- no handle was taken, no iteration begun, and no place set
 abbrev pub new_client : CallbackSet → ClientState
-new_client callbacks = record { callbacks = callbacks; last_number = 0; handles = []; places = replicate 100 0; iterations = [] }
+new_client callbacks = record {
+  callbacks = callbacks;
+  last_number = 0;
+  handles = [];
+  places = replicate 100 0;
+  last_iteration = 0;
+  iterations = [];
+  iteration_places = replicate 100 0;
+}
 
--- ---- what is told
+-- the numbers by which they are told apart
+abbrev pub handle_number : HandleView → ℕ
+handle_number h = h.handle
+
+abbrev pub iteration_number : BegunIteration → ℕ
+iteration_number it = it.number
+
+-- the number of the handle over which an iteration goes
+abbrev pub goes_over : BegunIteration → ℕ
+goes_over it = it.handle
+
+-- ---- what is told of handles
 
 -- the open handle of that number
 abbrev pub handle_numbered : ℕ → List HandleView → Option HandleView
-handle_numbered number handles = find (λ h. h.handle == number) handles
+handle_numbered number handles = numbered handle_number number handles
 
 -- the handle for which a place stands: none where it was never set, or the handle was closed
 abbrev pub handle_at : ℕ → ClientState → Option HandleView
-handle_at place s = handle_numbered (slice_index s.places place) s.handles
+handle_at place s = stands_for handle_number s.places s.handles place
 
 -- that handle, else BAD_HANDLE
 abbrev pub named_handle : ℕ → ClientState → Result HandleView AisError
@@ -42,15 +68,49 @@ named_handle place s = ok_or (handle_at place s) BadHandle
 abbrev pub has_handle_room : ClientState → Bool
 has_handle_room s = nat_lt (length s.handles) 32
 
--- fewer than 8 iterations were begun
-abbrev pub has_iteration_room : ClientState → Bool
-has_iteration_room s = nat_lt (length s.iterations) 8
-
 -- the number after the last one, else the count of those that are open
 abbrev pub taken_number : ClientState → Result ℕ Count
 taken_number s = if has_handle_room s then Ok (s.last_number + 1) else Err (record { count = 32 })
 
--- ---- what changes
+-- ---- what is told of iterations
+
+-- the iteration for which a place stands: none where it was never set, or the iteration has ended
+abbrev pub iteration_at : ℕ → ClientState → Option BegunIteration
+iteration_at place s = stands_for iteration_number s.iteration_places s.iterations place
+
+-- the handle over which that iteration goes, else BAD_HANDLE
+abbrev pub iterated_handle : ℕ → ClientState → Result HandleView AisError
+iterated_handle place s = ok_or (option_and_then (λ (it : BegunIteration). handle_numbered (goes_over it) s.handles) (iteration_at place s)) BadHandle
+
+-- what is kept of that iteration, else BAD_HANDLE
+abbrev pub kept_iteration : ℕ → ClientState → Result KeptIds AisError
+kept_iteration place s = ok_or (option_and_then (λ (it : BegunIteration). it.kept) (iteration_at place s)) BadHandle
+
+-- nothing of it is kept: it is lent
+abbrev pub IsLent : ℕ → ClientState → Type 0
+IsLent place s = IsSomeAnd (iteration_at place s) (λ it. it.kept ≡ None)
+
+-- where the place stands for an iteration, that one is kept
+abbrev pub IsNotLent : ℕ → ClientState → Type 0
+IsNotLent place s = IfSome (iteration_at place s) (λ it. IsSome it.kept)
+
+-- no iteration is lent
+abbrev pub NoneLent : ClientState → Type 0
+NoneLent s = All (λ (it : BegunIteration). IsSome it.kept) s.iterations
+
+-- fewer than 8 iterations were begun
+abbrev pub has_iteration_room : ClientState → Bool
+has_iteration_room s = nat_lt (length s.iterations) 8
+
+-- one more was begun, else the count of those that were
+abbrev pub added_answer : ClientState → Result (Unit {0}) Count
+added_answer s = if has_iteration_room s then Ok tt else Err (record { count = 8 })
+
+-- the place stood for an iteration, else BAD_HANDLE
+abbrev pub ended_answer : ℕ → ClientState → Result (Unit {0}) AisError
+ended_answer place s = ok_or (option_map (λ it. tt) (iteration_at place s)) BadHandle
+
+-- ---- what changes of handles
 
 -- a new handle, of the number after the last one
 abbrev pub next_handle : ℕ → OpenFlags → ℕ → ClientState → HandleView
@@ -60,13 +120,12 @@ next_handle id flags creation_flags s = record { id = id; flags = flags; creatio
 abbrev pub taken : ℕ → OpenFlags → ℕ → ClientState → ClientState
 taken id flags creation_flags s = record s { last_number = s.last_number + 1; handles = s.handles ++ next_handle id flags creation_flags s ∷ [] }
 
--- the handles of other numbers
-abbrev pub without : ℕ → List HandleView → List HandleView
-without number handles = filter (λ h. not (h.handle == number)) handles
-
--- without the handle of that number
+-- without the handle of that number, and without the iterations over it
 abbrev pub released : ℕ → ClientState → ClientState
-released number s = record s { handles = without number s.handles }
+released number s = record s {
+  handles = without handle_number number s.handles;
+  iterations = without goes_over number s.iterations;
+}
 
 -- with the place set to the handle of that number; no handle is closed
 abbrev pub bound : ℕ → ℕ → ClientState → ClientState
@@ -76,17 +135,60 @@ bound place number s = record s { places = slice_set s.places place number }
 abbrev pub dropped : ℕ → ClientState → ClientState
 dropped place s = released (slice_index s.places place) s
 
+-- ---- what changes of iterations
+
+-- a new iteration over the handle of that number, of the number after the last one
+abbrev pub next_iteration : ℕ → KeptIds → ClientState → BegunIteration
+next_iteration handle kept s = record { number = s.last_iteration + 1; handle = handle; kept = Some kept }
+
+-- with this iteration more, and the place set to it; none ends
+abbrev pub added : ℕ → ℕ → KeptIds → ClientState → ClientState
+added place handle kept s = record s {
+  last_iteration = s.last_iteration + 1;
+  iterations = s.iterations ++ next_iteration handle kept s ∷ [];
+  iteration_places = slice_set s.iteration_places place (s.last_iteration + 1);
+}
+
+-- with this kept of an iteration
+abbrev pub with_kept : Option KeptIds → BegunIteration → BegunIteration
+with_kept kept it = record it { kept = kept }
+
+-- with this kept of the iteration of that number
+abbrev pub keeping : Option KeptIds → ℕ → List BegunIteration → List BegunIteration
+keeping kept number iterations = map (λ (it : BegunIteration). if iteration_number it == number then with_kept kept it else it) iterations
+
+-- nothing is kept of the place's iteration, for which the place goes on to stand
+abbrev pub lent : ℕ → ClientState → ClientState
+lent place s = record s { iterations = keeping None (slice_index s.iteration_places place) s.iterations }
+
+-- this is kept of the place's iteration
+abbrev pub returned : ℕ → KeptIds → ClientState → ClientState
+returned place kept s = record s { iterations = keeping (Some kept) (slice_index s.iteration_places place) s.iterations }
+
+-- without the iteration for which the place stands
+abbrev pub ended : ℕ → ClientState → ClientState
+ended place s = record s { iterations = without iteration_number (slice_index s.iteration_places place) s.iterations }
+
 -- ---- what always holds
 
--- the numbers of the handles rise, each above a first number and at most a last one
-abbrev pub RiseWithin : ℕ → ℕ → List HandleView → Type 0
-RiseWithin first last [] = Unit {0}
-RiseWithin first last (h ∷ handles) = (first < h.handle) × (h.handle ≤ last) × RiseWithin h.handle last handles
+-- it goes over one of these handles
+abbrev pub IsOver : List HandleView → BegunIteration → Type 0
+IsOver handles it = IsSome (handle_numbered (goes_over it) handles)
+
+-- at most 8 iterations were begun, each later than those before it, over handles that are open; a place
+-- was set to no number that was not given
+pub record HasIterations (s : ClientState) : Type 0 where
+  pub few : length s.iterations ≤ 8
+  pub numbers : RiseWithin iteration_number 0 s.last_iteration s.iterations
+  pub over_open : All (IsOver s.handles) s.iterations
+  pub places : length s.iteration_places ≡ 100
+  pub given : (place : ℕ) → slice_index s.iteration_places place ≤ s.last_iteration
 
 -- at most 32 handles are open, each taken later than those before it; a place was set to no number that
--- was not given
+-- was not given; and so it is with iterations
 pub record IsValid (s : ClientState) : Type 0 where
   pub few : length s.handles ≤ 32
-  pub numbers : RiseWithin 0 s.last_number s.handles
+  pub numbers : RiseWithin handle_number 0 s.last_number s.handles
   pub places : length s.places ≡ 100
   pub given : (place : ℕ) → slice_index s.places place ≤ s.last_number
+  pub iterations : HasIterations s

@@ -1,3 +1,4 @@
 pub mod Client
 pub mod ClientState
 pub mod Kept
+pub mod Numbered

@@ -1,8 +1,12 @@
 ghost use Rattle.std.specs.Prelude.{◌≡◌, ◌-◌, ◌^◌, ◌<◌, IfOk, OnOk, OnErr, IsSome};
-ghost use Rattle.client_handles.specs.ClientState.{handle_numbered, named_handle, has_handle_room, has_iteration_room, new_client, taken, taken_number, released, bound, dropped, IsValid};
+ghost use Rattle.client_handles.specs.ClientState.{handle_numbered, named_handle, has_handle_room, new_client, taken, taken_number, released, bound, dropped, IsValid};
+ghost use Rattle.client_handles.specs.ClientState.{iterated_handle, kept_iteration, IsLent, IsNotLent, has_iteration_room, added, added_answer, lent, returned, ended, ended_answer};
 
+use crate::begun::{
+    BegunIteration, ITERATIONS_MAX, copy_of_begun, end_over, handle_over, keep, place_of, take_kept,
+};
 use crate::handle_view::HandleView;
-use crate::kept::{Bound, PLACES, copy_of, handle_under, key_of, no_places};
+use crate::kept::{Bound, PLACES, copy_of, handle_of, handle_under, key_of, no_places};
 use ckpt_types::{AisError, CallbackSet, CkptId, Count, OpenFlags};
 use section_iter::Iteration;
 use slab::Slab;
@@ -12,10 +16,7 @@ use std::marker::Model;
 /// How many handles a client has open at most.
 pub const HANDLES_MAX: usize = 32;
 
-/// How many iterations a client has at most.
-pub const ITERATIONS_MAX: usize = 8;
-
-/// What one client keeps: its open handles, and the places that stand for them.
+/// What one client keeps: its open handles, the iterations over them, and the places that stand for both.
 #[derive(Drop)]
 pub struct Client {
     callbacks: CallbackSet,
@@ -24,7 +25,12 @@ pub struct Client {
     handles: Slab<HandleView>,
     /// To which handle each place was set last. That handle may be closed since.
     places: [Option<Bound>; PLACES],
-    iterations: Slab<Iteration>,
+    /// The number of the iteration last begun, or 0.
+    last_iteration: u32,
+    /// The iterations, in the order of their beginning.
+    iterations: Vec<BegunIteration>,
+    /// The number of the iteration to which each place was set last, or 0. It may have ended since.
+    iteration_places: [u32; PLACES],
 }
 
 impl Model for Client {
@@ -50,7 +56,9 @@ impl Client {
             last_number: 0,
             handles: Slab::with_capacity(alloc, HANDLES_MAX)?,
             places: no_places(),
-            iterations: Slab::with_capacity(alloc, ITERATIONS_MAX)?,
+            last_iteration: 0,
+            iterations: Vec::with_capacity(alloc, ITERATIONS_MAX)?,
+            iteration_places: [0; PLACES],
         })
     }
 
@@ -120,12 +128,14 @@ impl Client {
         Ok(self.last_number)
     }
 
-    /// Closes the handle of that number. Where none has it nothing changes.
+    /// Closes the handle of that number, and ends the iterations over it, also those that are lent. Where
+    /// none has the number nothing changes.
     pub fn release(&mut self, handle: u32)
         ensures { self.new ≡ released handle self.old }
     {
         if let Some(key) = key_of(&self.handles, handle) {
             self.handles.remove(key);
+            end_over(&mut self.iterations, handle);
         }
     }
 
@@ -144,8 +154,8 @@ impl Client {
         });
     }
 
-    /// Closes the handle for which a place stands, and tells it. `BadHandle` where it stands for none, and
-    /// then nothing changes.
+    /// Closes the handle for which a place stands, tells it, and ends the iterations over it. `BadHandle`
+    /// where it stands for none, and then nothing changes.
     pub fn drop_handle(&mut self, place: u8) -> Result<HandleView, AisError>
         requires { place < 100 }
         ensures answer { result ≡ named_handle place self.old }
@@ -156,7 +166,102 @@ impl Client {
         Ok(handle)
     }
 
-    /// An equal client, with as much room.
+    /// The handle over which the iteration goes for which a place stands. `BadHandle` where the place was
+    /// never set, or the iteration has ended.
+    pub fn iteration_handle(&self, place: u8) -> Result<HandleView, AisError>
+        requires { place < 100 }
+        ensures answer { result ≡ iterated_handle place self.now }
+        ensures valid { IsValid self.now }
+    {
+        let number = self.iteration_places[place as usize];
+        let Some(handle) = handle_over(self.iterations.as_slice(), number) else {
+            return Err(AisError::BadHandle);
+        };
+        let Some(opened) = handle_of(&self.handles, handle) else {
+            unreachable!()
+        };
+        Ok(opened)
+    }
+
+    /// Lends the iteration for which a place stands, and which is not lent. The place goes on to stand for
+    /// it. `BadHandle` where the place stands for none, and then nothing changes.
+    pub fn lend_iteration(&mut self, place: u8) -> Result<Iteration, AisError>
+        requires place { place < 100 }
+        requires not_lent { IsNotLent place self.old }
+        ensures answer { result ≡ kept_iteration place self.old }
+        ensures lent { OnOk result (self.new ≡ lent place self.old) }
+        ensures unchanged { OnErr result (self.new ≡ self.old) }
+    {
+        let number = self.iteration_places[place as usize];
+        let Some(at) = place_of(self.iterations.as_slice(), number) else {
+            return Err(AisError::BadHandle);
+        };
+        let Some(iteration) = take_kept(&mut self.iterations, at) else {
+            unreachable!()
+        };
+        Ok(iteration)
+    }
+
+    /// Takes back the iteration for which a place stands, and which is lent.
+    pub fn return_iteration(&mut self, place: u8, iteration: Iteration)
+        requires place { place < 100 }
+        requires lent { IsLent place self.old }
+        ensures { self.new ≡ returned place iteration self.old }
+    {
+        let number = self.iteration_places[place as usize];
+        let Some(at) = place_of(self.iterations.as_slice(), number) else {
+            unreachable!()
+        };
+        keep(&mut self.iterations, at, iteration);
+    }
+
+    /// Begins one iteration more, over an open handle, and lets a place stand for it. Another iteration for
+    /// which it stood before goes on. Where 8 were begun the answer is that count, and nothing changes.
+    pub fn add_iteration(
+        &mut self,
+        place: u8,
+        handle: u32,
+        iteration: Iteration,
+    ) -> Result<(), Count>
+        requires place { place < 100 }
+        requires opened { IsSome (handle_numbered handle self.old.handles) }
+        requires number { self.old.last_iteration < 2 ^ 32 - 1 }
+        ensures answer { result ≡ added_answer self.old }
+        ensures added { OnOk result (self.new ≡ added place handle iteration self.old) }
+        ensures unchanged { OnErr result (self.new ≡ self.old) }
+    {
+        if !self.iteration_room() {
+            return Err(Count {
+                count: ITERATIONS_MAX as u32,
+            });
+        }
+        self.last_iteration += 1;
+        self.iterations.push_reserved(BegunIteration {
+            number: self.last_iteration,
+            handle,
+            kept: Some(iteration),
+        });
+        self.iteration_places[place as usize] = self.last_iteration;
+        Ok(())
+    }
+
+    /// Ends the iteration for which a place stands. `BadHandle` where it stands for none, and then nothing
+    /// changes.
+    pub fn end_iteration(&mut self, place: u8) -> Result<(), AisError>
+        requires { place < 100 }
+        ensures answer { result ≡ ended_answer place self.old }
+        ensures ended { OnOk result (self.new ≡ ended place self.old) }
+        ensures unchanged { OnErr result (self.new ≡ self.old) }
+    {
+        let number = self.iteration_places[place as usize];
+        let Some(at) = place_of(self.iterations.as_slice(), number) else {
+            return Err(AisError::BadHandle);
+        };
+        self.iterations.remove(at);
+        Ok(())
+    }
+
+    /// An equal client, with as much room. An iteration that is lent is lent in the copy, too.
     pub fn copy(&self, alloc: Global) -> Result<Client, AllocError>
         ensures { IfOk result (λ copy. copy ≡ self.now) }
     {
@@ -165,7 +270,9 @@ impl Client {
             last_number: self.last_number,
             handles: copy_of(&self.handles, HANDLES_MAX)?,
             places: self.places,
-            iterations: Slab::with_capacity(alloc, ITERATIONS_MAX)?,
+            last_iteration: self.last_iteration,
+            iterations: copy_of_begun(alloc, self.iterations.as_slice())?,
+            iteration_places: self.iteration_places,
         })
     }
 }

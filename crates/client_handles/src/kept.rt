@@ -56,6 +56,15 @@ pub(crate) fn key_of(handles: &Slab<HandleView>, number: u32) -> Option<usize>
     None
 }
 
+/// The handle of that number.
+pub(crate) fn handle_of(handles: &Slab<HandleView>, number: u32) -> Option<HandleView>
+    ensures found { IfSome result (λ h. (key : ℕ) × (get handles.now key ≡ Some h) × (h.handle ≡ number)) }
+    ensures absent { IfNone result ((key : ℕ) (h : HandleView) → get handles.now key ≡ Some h → h.handle ≢ number) }
+{
+    let key = key_of(handles, number)?;
+    handle_under(handles, key, number)
+}
+
 /// A copy of the slab, with room for so many handles.
 pub(crate) fn copy_of(
     handles: &Slab<HandleView>,

@@ -1,3 +1,5 @@
+mod iterations;
+
 ghost use Rattle.std.specs.Prelude.{◌≡◌, ◌+◌, ◌-◌, ◌^◌, ◌<◌, ◌≤◌, length};
 
 use crate::{Client, HandleView};

@@ -1,0 +1,47 @@
+-- No iteration is lent, before and after each call, and after one was lent and returned.
+use Rattle.std.proofs.Common.{◌≡◌, ℕ, ◌==◌, Bool, true, false, cond, Option, Some, None, IsSome, slice_index, refl, sym, subst}
+use Rattle.std.specs.Option.{IfSome}
+use Rattle.std.proofs.lemmas.List.Elements.{All-filter, All-map, All-nil, All-push, All-weaker}
+use Rattle.ckpt_types.specs.declared.calls.CallbackSet.{CallbackSet}
+use Rattle.section_iter.specs.KeptIds.{KeptIds}
+use Rattle.client_handles.specs.ClientState.{ClientState, new_client, iteration_number, iteration_at, next_iteration, released, added, with_kept, keeping, lent, returned, ended, IsNotLent, NoneLent}
+use Rattle.client_handles.specs.declared.begun.BegunIteration.{BegunIteration}
+use Rattle.client_handles.proofs.NumberedLaws.{numbered-All}
+
+abbrev pub IsKept : BegunIteration → Type 0
+IsKept it = IsSome it.kept
+
+pub NoneLent-new : (callbacks : CallbackSet) → NoneLent (new_client callbacks)
+NoneLent-new callbacks = All-nil IsKept
+
+pub NoneLent-released : (number : ℕ) (s : ClientState) → NoneLent s → NoneLent (released number s)
+NoneLent-released number s none = All-filter _ IsKept s.iterations none
+
+pub NoneLent-ended : (place : ℕ) (s : ClientState) → NoneLent s → NoneLent (ended place s)
+NoneLent-ended place s none = All-filter _ IsKept s.iterations none
+
+pub NoneLent-added : (place handle : ℕ) (kept : KeptIds) (s : ClientState) → NoneLent s → NoneLent (added place handle kept s)
+NoneLent-added place handle kept s none = All-push IsKept s.iterations (next_iteration handle kept s) none refl
+
+if_some : (o : Option BegunIteration) → ((it : BegunIteration) → o ≡ Some it → IsKept it) → IfSome o IsKept
+if_some None found = tt
+if_some (Some it) found = found it refl
+
+-- so each may be lent
+pub IsNotLent-none : (place : ℕ) (s : ClientState) → NoneLent s → IsNotLent place s
+IsNotLent-none place s none = if_some (iteration_at place s) (λ it found. numbered-All iteration_number IsKept (slice_index s.iteration_places place) s.iterations it none found)
+
+kept_again : (kept : KeptIds) (number : ℕ) (it : BegunIteration) → IsKept it → (b : Bool) → (it.number == number) ≡ b →
+    IsKept (cond (iteration_number (cond b (with_kept None it) it) == number) (with_kept (Some kept) (cond b (with_kept None it) it)) (cond b (with_kept None it) it))
+kept_again kept number it is true test = subst (λ (b : Bool). IsKept (cond b (with_kept (Some kept) (with_kept None it)) (with_kept None it))) (sym test) refl
+kept_again kept number it is false test = subst (λ (b : Bool). IsKept (cond b (with_kept (Some kept) it) it)) (sym test) is
+
+-- and once it was lent and returned, none is lent
+pub NoneLent-returned_lent : (place : ℕ) (kept : KeptIds) (s : ClientState) → NoneLent s → NoneLent (returned place kept (lent place s))
+NoneLent-returned_lent place kept s none =
+    let number : ℕ = slice_index s.iteration_places place in
+    let lend : BegunIteration → BegunIteration = λ it. cond (iteration_number it == number) (with_kept None it) it in
+    let take_back : BegunIteration → BegunIteration = λ it. cond (iteration_number it == number) (with_kept (Some kept) it) it in
+    All-map IsKept take_back (keeping None number s.iterations)
+    (All-map (λ it. IsKept (take_back it)) lend s.iterations
+    (All-weaker IsKept (λ it. IsKept (take_back (lend it))) (λ it is. kept_again kept number it is (it.number == number) refl) s.iterations none))
