@@ -1,16 +1,24 @@
 -- What is read asks for no more than what is built.
-use Rattle.std.proofs.Common.{◌≡◌, refl, ◌<◌, ◌≤◌, Bool, true, false, not, ◌||◌, List, [], ◌∷◌, length, map, Option, Some, None, option_map, sum_by, nat_le, arith, subst, sym, ap, ◌∙◌, inl, inr, if◌then◌else◌}
+use Rattle.std.proofs.Common.{◌≡◌, refl, ◌^◌, ◌-◌, ◌<◌, ◌≤◌, Bool, true, false, not, ◌||◌, List, [], ◌∷◌, length, map, ℤ, pos, negsuc, ◌≤ℤ◌, int_lt, Option, Some, None, option_map, sum_by, arith, subst, sym, ap, ◌∙◌, inl, inr, if◌then◌else◌}
+use Rattle.std.specs.List.{All}
+use Rattle.std.proofs.lemmas.Int.{ints}
+use Rattle.std.proofs.lemmas.List.{length-map}
+use Rattle.std.proofs.lemmas.List.Elements.{All-nil, All-cons}
+use Rattle.std.proofs.lemmas.List.Sums.{sum_by-cons}
 use Rattle.ckpt_types.specs.declared.calls.CallbackSet.{CallbackSet}
+use Rattle.ckpt_types.specs.declared.update.ReadElement.{ReadElement}
 use Rattle.ckpt_types.specs.declared.update.Update.TheVariants as updates
 use Rattle.script_words.specs.declared.reason.Reason.{Reason}
 use Rattle.script_words.specs.declared.reason.Reason.TheVariants as reasons
+use Rattle.script_words.specs.Fitting.{IsMoment}
 use Rattle.script_lang.specs.declared.forms.LineWord.{LineWord}
 use Rattle.script_lang.specs.declared.forms.LineWord.TheVariants as word
 use Rattle.script_lang.specs.declared.lines.Line.{Line}
+use Rattle.script_lang.specs.declared.lines.Line.TheVariants as lines
 use Rattle.script_lang.specs.Table.{Values, Told, form, is_later, attributes, attributes_of, io_group, io_element, read_group, read_element}
-use Rattle.script_lang.specs.Grammar.{marks_of, order_fault, is_nodes, is_later_line, is_later_declared, is_later_attributes, asked_in}
+use Rattle.script_lang.specs.Grammar.{marks_of, moment_of, moment_after, order_fault, is_nodes, goes_back, is_later_line, is_later_declared, is_later_attributes, asked_in}
 use Rattle.script_lang.specs.Scripts.{FitAll, FitMore, FitGroups, FitTold, IsLine, Orderly, IsScript}
-use Rattle.script_lang.specs.BuiltScripts.{no_callbacks, IsBuiltDeclared, AreBuiltAttributes, IsOneWrite, IsOneRead, IsBuiltCall, AreBuiltCalls, IsOneNode, IsOneNodeFirst, IsBuiltScript}
+use Rattle.script_lang.specs.BuiltScripts.{no_callbacks, IsBuiltDeclared, AreBuiltAttributes, IsIoElement, IsReadElement, AreWrites, AreReads, IsBuiltLine, moment_behind, AreBuiltLines, IsOneNode, IsOneNodeFirst, IsBuiltScript}
 
 -- WHAT THE TESTS OF THE NARROWER FORMS TELL
 
@@ -39,39 +47,55 @@ all_declared : (o : Option (Values attributes)) → FitMore attributes o → is_
 all_declared None f h = tt
 all_declared (Some v) f h = declared v f h
 
-one_write : (vs : List (Values io_group)) → FitGroups io_group vs → 0 < length vs → nat_le 2 (length (map io_element vs)) ≡ false → IsOneWrite (updates.Write (map io_element vs))
-one_write [] f some h = absurd (omega (arith, some))
-one_write (v ∷ []) f some h = (omega (arith, f.0.1.0.1), f.0.0.1)
-one_write (v ∷ w ∷ vs) f some h = absurd (grind (arith, h))
+io_elements : (vs : List (Values io_group)) → FitGroups io_group vs → All IsIoElement (map io_element vs)
+io_elements [] f = All-nil IsIoElement
+io_elements (v ∷ vs) f = All-cons IsIoElement (io_element v) (map io_element vs) (omega (arith, f.0.1.0.1), f.0.0.1) (io_elements vs f.1)
 
-one_read : (vs : List (Values read_group)) → FitGroups read_group vs → 0 < length vs → nat_le 2 (length (map read_element vs)) ≡ false → sum_by (λ e. e.len) (map read_element vs) ≤ 16777216 → IsOneRead (map read_element vs)
-one_read [] f some h asked = absurd (omega (arith, some))
-one_read (v ∷ []) f some h asked = (omega (arith, f.0.1.0.1), omega (arith, asked), f.0.0.1)
-one_read (v ∷ w ∷ vs) f some h asked = absurd (grind (arith, h))
+writes : (vs : List (Values io_group)) → FitGroups io_group vs → 0 < length vs → length vs ≤ 256 → AreWrites (updates.Write (map io_element vs))
+writes vs f some most = let n = length-map vs io_element in (omega (arith, n, some), omega (arith, n, most), io_elements vs f)
 
--- ONE CASE FOR EACH WORD: a line of a form that is built is a call, or the nodes
+read_elements : (vs : List (Values read_group)) → FitGroups read_group vs → sum_by (λ e. e.len) (map read_element vs) ≤ 16777216 → All IsReadElement (map read_element vs)
+read_elements [] f asked = All-nil IsReadElement
+read_elements (v ∷ vs) f asked =
+    let all = sum_by-cons (λ (e : ReadElement). e.len) (read_element v) (map read_element vs) in
+    All-cons IsReadElement (read_element v) (map read_element vs) (omega (arith, f.0.1.0.1), omega (arith, all, asked), f.0.0.1) (read_elements vs f.1 (omega (arith, all, asked)))
 
-call_built : (k : LineWord) (v : Told (form k).shape) → FitTold (form k).shape v → is_later k ≡ false → is_nodes ((form k).line v) ≡ false → is_later_line ((form k).line v) ≡ false → asked_in ((form k).line v) ≤ 16777216 → IsBuiltCall ((form k).line v)
-call_built word.Nodes v f b n h asked = absurd (cc n)
-call_built word.Client v f b n h asked = (omega (arith, f.0), (omega (arith, f.1.0), f.1.1.0, no_calls_back v.1.1.1.0 h))
-call_built word.Open v f b n h asked = (omega (arith, f.0.0), (omega (arith, f.0.1.0), omega (arith, f.0.1.1.1.0.1), all_declared v.1 f.1 h))
-call_built word.Write v f b n h asked = (omega (arith, f.0.0), (omega (arith, f.0.1.0), one_write v.1 f.1 f.2 h))
-call_built word.Read v f b n h asked = (omega (arith, f.0.0), (omega (arith, f.0.1.0), one_read v.1 f.1 f.2 h asked))
-call_built _ v f b n h asked = absurd (cc b)
+reads : (vs : List (Values read_group)) → FitGroups read_group vs → 0 < length vs → length vs ≤ 256 → sum_by (λ e. e.len) (map read_element vs) ≤ 16777216 → AreReads (map read_element vs)
+reads vs f some most asked = let n = length-map vs read_element in (omega (arith, n, some), omega (arith, n, most), read_elements vs f asked, asked)
+
+-- a moment that the one before allows
+later_moment : (t u : ℤ) → IsMoment u → int_lt u t ≡ false → (t ≤ℤ u) × (u ≤ℤ pos (2 ^ 63 - 2))
+later_moment t (pos n) f h = (grind (arith, ints, h), grind (arith, ints, f))
+later_moment t (negsuc n) f h = absurd f
+
+-- ONE CASE FOR EACH WORD: a line of a form that is built is a call or a moment, or the nodes
+
+line_built : (t : ℤ) (k : LineWord) (v : Told (form k).shape) → FitTold (form k).shape v → is_later k ≡ false → is_nodes ((form k).line v) ≡ false → goes_back ((form k).line v) t ≡ false → is_later_line ((form k).line v) ≡ false → asked_in ((form k).line v) ≤ 16777216 → IsBuiltLine t ((form k).line v)
+line_built t word.Nodes v f b n m h asked = absurd (cc n)
+line_built t word.Client v f b n m h asked = (omega (arith, f.0), (omega (arith, f.1.0), f.1.1.0, no_calls_back v.1.1.1.0 h))
+line_built t word.Open v f b n m h asked = (omega (arith, f.0.0), (omega (arith, f.0.1.0), omega (arith, f.0.1.1.1.0.1), all_declared v.1 f.1 h))
+line_built t word.Status v f b n m h asked = (omega (arith, f.0), omega (arith, f.1.0))
+line_built t word.Create v f b n m h asked = (omega (arith, f.0), (omega (arith, f.1.0), (f.1.1.0, f.1.1.1.0)))
+line_built t word.Delete v f b n m h asked = (omega (arith, f.0), (omega (arith, f.1.0), f.1.1.0.1))
+line_built t word.Expire v f b n m h asked = (omega (arith, f.0), (omega (arith, f.1.0), (f.1.1.0.1, f.1.1.1.0)))
+line_built t word.Iter v f b n m h asked = (omega (arith, f.0), (omega (arith, f.1.0), omega (arith, f.1.1.0), omega (arith, f.1.1.1.0.1)))
+line_built t word.Next v f b n m h asked = (omega (arith, f.0), omega (arith, f.1.0))
+line_built t word.EndIter v f b n m h asked = (omega (arith, f.0), omega (arith, f.1.0))
+line_built t word.Write v f b n m h asked = (omega (arith, f.0.0), (omega (arith, f.0.1.0), writes v.1 f.1 f.2 f.3))
+line_built t word.Over v f b n m h asked = (omega (arith, f.0), (omega (arith, f.1.0), f.1.1.0.1))
+line_built t word.Read v f b n m h asked = (omega (arith, f.0.0), (omega (arith, f.0.1.0), reads v.1 f.1 f.2 f.3 asked))
+line_built t word.At v f b n m h asked = later_moment t v.0 f.0 m
+line_built t _ v f b n m h asked = absurd (cc b)
 
 node_built : (k : LineWord) (v : Told (form k).shape) → FitTold (form k).shape v → is_later k ≡ false → is_nodes ((form k).line v) ≡ true → is_later_line ((form k).line v) ≡ false → IsOneNode ((form k).line v)
 node_built word.Nodes v f b n h = grind (arith, h, f.0.0)
-node_built word.Client v f b n h = absurd (cc n)
-node_built word.Open v f b n h = absurd (cc n)
-node_built word.Write v f b n h = absurd (cc n)
-node_built word.Read v f b n h = absurd (cc n)
-node_built _ v f b n h = absurd (cc b)
+node_built _ v f b n h = absurd (cc n)
 
 -- FOR ALL AT ONCE
 
-as_call : (x : Line) → IsLine x → is_nodes x ≡ false → is_later_line x ≡ false → asked_in x ≤ 16777216 → IsBuiltCall x
-as_call x f n h asked = elim f.4 [
-  | inl e ↦ subst IsBuiltCall (sym e) (call_built f.0 f.1 f.2 f.3 (ap is_nodes (sym e) ∙ n) (ap is_later_line (sym e) ∙ h) (subst (λ y. asked_in y ≤ 16777216) e asked))
+as_line : (t : ℤ) (x : Line) → IsLine x → is_nodes x ≡ false → goes_back x t ≡ false → is_later_line x ≡ false → asked_in x ≤ 16777216 → IsBuiltLine t x
+as_line t x f n m h asked = elim f.4 [
+  | inl e ↦ subst (IsBuiltLine t) (sym e) (line_built t f.0 f.1 f.2 f.3 (ap is_nodes (sym e) ∙ n) (ap (λ y. goes_back y t) (sym e) ∙ m) (ap is_later_line (sym e) ∙ h) (subst (λ y. asked_in y ≤ 16777216) e asked))
   | inr p ↦ absurd (cc p.0)
 ]
 
@@ -81,9 +105,13 @@ as_node x f n h = elim f.4 [
   | inr p ↦ absurd (cc p.0)
 ]
 
-no_nodes_fault : (b : Bool) (o : Option Reason) → (if b then Some reasons.Nodes else o) ≡ None → b ≡ false
+no_nodes_fault : (b : Bool) (o : Option Reason) → (if b then Some reasons.Nodes else o) ≡ None → (b ≡ false) × (o ≡ None)
 no_nodes_fault true o e = absurd (cc)
-no_nodes_fault false o e = refl
+no_nodes_fault false o e = (refl, e)
+
+no_moment_fault : (b : Bool) (o : Option Reason) → (if b then Some reasons.Moment else o) ≡ None → b ≡ false
+no_moment_fault true o e = absurd (cc)
+no_moment_fault false o e = refl
 
 was_not : (b : Bool) → not b ≡ false → b ≡ true
 was_not true h = refl
@@ -91,19 +119,36 @@ was_not false h = absurd (cc)
 
 first_nodes : (x : Line) → order_fault (marks_of []) x ≡ None → is_nodes x ≡ true
 unfolding order_fault marks_of
-first_nodes x e = was_not (is_nodes x) (no_nodes_fault (not (is_nodes x)) _ e)
+first_nodes x e = was_not (is_nodes x) (no_nodes_fault (not (is_nodes x)) _ e).0
 
-later_nodes : (y : Line) (earlier : List Line) (x : Line) → order_fault (marks_of (y ∷ earlier)) x ≡ None → is_nodes x ≡ false
+later_nodes : (y : Line) (earlier : List Line) (x : Line) → order_fault (marks_of (y ∷ earlier)) x ≡ None → (is_nodes x ≡ false) × (goes_back x (moment_of (y ∷ earlier)) ≡ false)
 unfolding order_fault marks_of
-later_nodes y earlier x e = no_nodes_fault (is_nodes x) _ e
+later_nodes y earlier x e =
+    let p = no_nodes_fault (is_nodes x) _ e in
+    (p.0, no_moment_fault (goes_back x (moment_of (y ∷ earlier))) _ p.1)
 
-calls_built : (y : Line) (earlier xs : List Line) → Orderly (y ∷ earlier) xs → AreBuiltCalls xs
-calls_built y earlier [] o = tt
-calls_built y earlier (x ∷ xs) o = (as_call x o.0 (later_nodes y earlier x o.1) o.2 o.3, calls_built x (y ∷ earlier) xs o.4)
+-- the moment, as the grammar carries it along
+moment_behind-is : (t : ℤ) (x : Line) → moment_behind t x ≡ moment_after x t
+moment_behind-is t (lines.At u) = refl
+moment_behind-is t _ = refl
+
+-- no moment is set by the line of the nodes
+nodes_moment : (x : Line) → is_nodes x ≡ true → moment_of (x ∷ []) ≡ pos 0
+nodes_moment (lines.At u) n = absurd (cc n)
+nodes_moment _ n = refl
+
+lines_built : (y : Line) (earlier xs : List Line) → Orderly (y ∷ earlier) xs → AreBuiltLines (moment_of (y ∷ earlier)) xs
+lines_built y earlier [] o = tt
+lines_built y earlier (x ∷ xs) o =
+    let now = moment_of (y ∷ earlier) in
+    let p = later_nodes y earlier x o.1 in
+    (as_line now x o.0 p.0 p.1 o.2 o.3, subst (λ t. AreBuiltLines t xs) (sym (moment_behind-is now x)) (lines_built x (y ∷ earlier) xs o.4))
 
 first_built : (xs : List Line) → IsScript xs → IsOneNodeFirst xs
 first_built [] o = tt
-first_built (x ∷ xs) o = (as_node x o.0 (first_nodes x o.1) o.2, calls_built x [] xs o.4)
+first_built (x ∷ xs) o =
+    let n = first_nodes x o.1 in
+    (as_node x o.0 n o.2, subst (λ t. AreBuiltLines t xs) (nodes_moment x n) (lines_built x [] xs o.4))
 
 pub built_script : (xs : List Line) → IsScript xs → length xs ≤ 10000 → IsBuiltScript xs
 built_script xs o few = (first_built xs o, few)

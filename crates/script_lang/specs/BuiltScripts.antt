@@ -1,13 +1,15 @@
 -- What is asked for in a script of the forms that are built.
-use Rattle.std.specs.Prelude.{◌≡◌, ◌≢◌, ◌^◌, ◌<◌, ◌≤◌, ⊤, false, List, [], ◌∷◌, length, Option, Some, None}
+use Rattle.std.specs.Prelude.{◌≡◌, ◌≢◌, ◌^◌, ◌-◌, ◌<◌, ◌≤◌, ⊤, false, List, [], ◌∷◌, length, ℤ, pos, ◌≤ℤ◌, Option, Some, None, sum_by}
+use Rattle.std.specs.List.{All}
 use Rattle.ckpt_types.specs.declared.attributes.CreationAttributes.{CreationAttributes}
 use Rattle.ckpt_types.specs.declared.calls.CallbackSet.{CallbackSet}
 use Rattle.ckpt_types.specs.declared.operation.Op.{Op}
 use Rattle.ckpt_types.specs.declared.operation.Op.TheVariants as ops
+use Rattle.ckpt_types.specs.declared.update.IoElement.{IoElement}
 use Rattle.ckpt_types.specs.declared.update.ReadElement.{ReadElement}
 use Rattle.ckpt_types.specs.declared.update.Update.{Update}
 use Rattle.ckpt_types.specs.declared.update.Update.TheVariants as updates
-use Rattle.script_words.specs.Fitting.{IsVersion}
+use Rattle.script_words.specs.Fitting.{IsNewId, IsTime, IsVersion}
 use Rattle.script_lang.specs.declared.lines.Line.{Line}
 use Rattle.script_lang.specs.declared.lines.Line.TheVariants as lines
 
@@ -15,14 +17,14 @@ use Rattle.script_lang.specs.declared.lines.Line.TheVariants as lines
 abbrev pub no_callbacks : CallbackSet
 no_callbacks = record { opens = false; syncs = false }
 
--- at most one section, and no update option but that of all replicas, or malformed flags
+-- no update option but that of all replicas, or malformed flags
 pub record IsBuiltDeclared (a : CreationAttributes) : Type 0 where
   pub flags : a.creation_flags < 2 ^ 32
   pub not_active : a.creation_flags ≢ 2
   pub not_weak : a.creation_flags ≢ 4
   pub not_collocated_active : a.creation_flags ≢ 10
   pub not_collocated_weak : a.creation_flags ≢ 12
-  pub sections : a.max_sections < 2
+  pub sections : a.max_sections < 2 ^ 32
   pub size : a.checkpoint_size < 2 ^ 64
   pub section_size : a.max_section_size < 2 ^ 64
   pub id_size : a.max_section_id_size < 2 ^ 64
@@ -32,42 +34,84 @@ abbrev pub AreBuiltAttributes : Option CreationAttributes → Type 0
 AreBuiltAttributes None = ⊤
 AreBuiltAttributes (Some a) = IsBuiltDeclared a
 
--- a write of one element
-abbrev pub IsOneWrite : Update → Type 0
-IsOneWrite (updates.Write (e ∷ [])) = (e.offset < 2 ^ 64) × (length e.id ≤ 256)
-IsOneWrite _ = ⊥
+-- an offset of 64 bits, and an identifier of at most 256 bytes
+abbrev pub IsIoElement : IoElement → Type 0
+IsIoElement e = (e.offset < 2 ^ 64) × (length e.id ≤ 256)
 
--- a read of one element, of at most 16,777,216 bytes
-abbrev pub IsOneRead : List ReadElement → Type 0
-IsOneRead (e ∷ []) = (e.offset < 2 ^ 64) × (e.len ≤ 16777216) × (length e.id ≤ 256)
-IsOneRead _ = ⊥
+-- an offset of 64 bits, an identifier of at most 256 bytes, and at most 16,777,216 bytes to read
+abbrev pub IsReadElement : ReadElement → Type 0
+IsReadElement e = (e.offset < 2 ^ 64) × (e.len ≤ 16777216) × (length e.id ≤ 256)
+
+-- a write of 1 to 256 elements
+abbrev pub AreWrites : Update → Type 0
+AreWrites (updates.Write elements) = (0 < length elements) × (length elements ≤ 256) × All IsIoElement elements
+AreWrites _ = ⊥
+
+-- 1 to 256 elements of a read, which ask for at most 16,777,216 bytes together
+abbrev pub AreReads : List ReadElement → Type 0
+AreReads elements = (0 < length elements) × (length elements ≤ 256) × All IsReadElement elements × (sum_by (λ e. e.len) elements ≤ 16777216)
+
+-- a new section, under an identifier of at most 256 bytes or one that the service makes
+abbrev pub IsCreation : Update → Type 0
+IsCreation (updates.Create id expiration bytes) = IsNewId id × IsTime expiration
+IsCreation _ = ⊥
+
+-- a section is taken away
+abbrev pub IsDeletion : Update → Type 0
+IsDeletion (updates.Delete id) = length id ≤ 256
+IsDeletion _ = ⊥
+
+-- a section expires at another time
+abbrev pub IsExpirationSetting : Update → Type 0
+IsExpirationSetting (updates.SetExpiration id expiration) = (length id ≤ 256) × IsTime expiration
+IsExpirationSetting _ = ⊥
+
+-- other bytes for a section
+abbrev pub IsOverwriting : Update → Type 0
+IsOverwriting (updates.Overwrite id bytes) = length id ≤ 256
+IsOverwriting _ = ⊥
 
 -- a call that is built
 abbrev pub IsBuiltOp : Op → Type 0
 IsBuiltOp (ops.Client node version callbacks) = (node < 8) × IsVersion version × (callbacks ≡ no_callbacks)
 IsBuiltOp (ops.Open place name flags timeout attributes) = (place < 100) × (flags < 2 ^ 32) × AreBuiltAttributes attributes
-IsBuiltOp (ops.Write place update) = (place < 100) × IsOneWrite update
-IsBuiltOp (ops.Read place elements) = (place < 100) × IsOneRead elements
+IsBuiltOp (ops.Status place) = place < 100
+IsBuiltOp (ops.Create place update) = (place < 100) × IsCreation update
+IsBuiltOp (ops.Delete place update) = (place < 100) × IsDeletion update
+IsBuiltOp (ops.Expire place update) = (place < 100) × IsExpirationSetting update
+IsBuiltOp (ops.Iter iteration place chosen time) = (iteration < 100) × (place < 100) × (chosen < 2 ^ 64)
+IsBuiltOp (ops.Next iteration) = iteration < 100
+IsBuiltOp (ops.EndIter iteration) = iteration < 100
+IsBuiltOp (ops.Write place update) = (place < 100) × AreWrites update
+IsBuiltOp (ops.Over place update) = (place < 100) × IsOverwriting update
+IsBuiltOp (ops.Read place elements) = (place < 100) × AreReads elements
 IsBuiltOp _ = ⊥
 
--- a call of a client, begun and stepped to its end
-abbrev pub IsBuiltCall : Line → Type 0
-IsBuiltCall (lines.Call client op) = (client < 100) × IsBuiltOp op
-IsBuiltCall _ = ⊥
+-- at this moment, a call of a client, begun and stepped to its end; or a moment that is no earlier, of 2^63-2 at most
+abbrev pub IsBuiltLine : ℤ → Line → Type 0
+IsBuiltLine t (lines.Call client op) = (client < 100) × IsBuiltOp op
+IsBuiltLine t (lines.At u) = (t ≤ℤ u) × (u ≤ℤ pos (2 ^ 63 - 2))
+IsBuiltLine t _ = ⊥
 
-abbrev pub AreBuiltCalls : List Line → Type 0
-AreBuiltCalls [] = ⊤
-AreBuiltCalls (x ∷ xs) = IsBuiltCall x × AreBuiltCalls xs
+-- the moment behind a line
+abbrev pub moment_behind : ℤ → Line → ℤ
+moment_behind t (lines.At u) = u
+moment_behind t _ = t
+
+-- from this moment on, each line at the moment that those before it leave
+abbrev pub AreBuiltLines : ℤ → List Line → Type 0
+AreBuiltLines t [] = ⊤
+AreBuiltLines t (x ∷ xs) = IsBuiltLine t x × AreBuiltLines (moment_behind t x) xs
 
 -- one node comes up
 abbrev pub IsOneNode : Line → Type 0
 IsOneNode (lines.Nodes count) = count ≡ 1
 IsOneNode _ = ⊥
 
--- one node first, and then calls alone; or nothing
+-- one node first, and then calls and moments alone, from the moment 0 on; or nothing
 abbrev pub IsOneNodeFirst : List Line → Type 0
 IsOneNodeFirst [] = ⊤
-IsOneNodeFirst (x ∷ xs) = IsOneNode x × AreBuiltCalls xs
+IsOneNodeFirst (x ∷ xs) = IsOneNode x × AreBuiltLines (pos 0) xs
 
 -- A SCRIPT OF WHAT IS BUILT, of at most 10,000 lines
 abbrev pub IsBuiltScript : List Line → Type 0

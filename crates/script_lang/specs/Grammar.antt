@@ -4,8 +4,6 @@ use Rattle.std.specs.List.{slice_split, onto_first, list_any}
 use Rattle.ckpt_types.specs.declared.attributes.CreationAttributes.{CreationAttributes}
 use Rattle.ckpt_types.specs.declared.operation.Op.{Op}
 use Rattle.ckpt_types.specs.declared.operation.Op.TheVariants as ops
-use Rattle.ckpt_types.specs.declared.update.Update.{Update}
-use Rattle.ckpt_types.specs.declared.update.Update.TheVariants as updates
 use Rattle.script_words.specs.declared.reason.Reason.{Reason}
 use Rattle.script_words.specs.declared.reason.Reason.TheVariants as reasons
 use Rattle.script_words.specs.Words.{or_else}
@@ -174,25 +172,18 @@ limit_fault m x =
 
 -- THE NARROWER FORMS THAT ARE NOT BUILT YET
 
--- creation flags without those of the active replica and of collocated checkpoints, and one section at most
+-- creation flags with an update option of the active replica, collocated or not
 abbrev pub is_later_declared : CreationAttributes → Bool
-is_later_declared a = a.creation_flags == 2 || a.creation_flags == 4 || a.creation_flags == 10 || a.creation_flags == 12 || nat_le 2 a.max_sections
+is_later_declared a = a.creation_flags == 2 || a.creation_flags == 4 || a.creation_flags == 10 || a.creation_flags == 12
 
 abbrev pub is_later_attributes : Option CreationAttributes → Bool
 is_later_attributes None = false
 is_later_attributes (Some a) = is_later_declared a
 
--- a write of several elements
-abbrev pub is_later_update : Update → Bool
-is_later_update (updates.Write elements) = nat_le 2 (length elements)
-is_later_update _ = false
-
 abbrev pub is_later_op : Op → Bool
 is_later_op (ops.Client node version set) = set.opens || set.syncs
 is_later_op (ops.Open place name flags timeout attributes) = is_later_attributes attributes
 is_later_op (ops.OpenAsync place invocation name flags attributes) = is_later_attributes attributes
-is_later_op (ops.Write place update) = is_later_update update
-is_later_op (ops.Read place elements) = nat_le 2 (length elements)
 is_later_op _ = false
 
 -- more than one node, or a call as above

@@ -171,9 +171,28 @@ fn line_named(alloc: Global, word: LineWord, words: &[&[u8]]) -> Result<Line, Li
 pub fn is_later(word: LineWord) -> bool
     ensures { result ≡ spec_is_later word }
 {
-    !matches!(
+    matches!(
         word,
-        LineWord::Nodes | LineWord::Client | LineWord::Open | LineWord::Write | LineWord::Read
+        LineWord::Finalize
+            | LineWord::OpenAsync
+            | LineWord::Close
+            | LineWord::Unlink
+            | LineWord::Retain
+            | LineWord::Active
+            | LineWord::Sync
+            | LineWord::SyncAsync
+            | LineWord::Dispatch
+            | LineWord::Step
+            | LineWord::Finish
+            | LineWord::Copy
+            | LineWord::Fail
+            | LineWord::Join
+            | LineWord::Pull
+            | LineWord::Put
+            | LineWord::Propagate
+            | LineWord::Show
+            | LineWord::Race
+            | LineWord::End
     )
 }
 

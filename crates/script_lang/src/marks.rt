@@ -1,8 +1,8 @@
 ghost use Rattle.std.specs.Prelude.{◌≡◌, ◌<◌, ◌≤◌, ◌+◌, OnOk, IfErr, IfSome, IfNone, IfOk, Some, None, false, sum_by};
-ghost use Rattle.script_lang.specs.Grammar.{fault_after, marks_after, IsSmall, is_nodes, is_end, is_show, is_race as spec_is_race, goes_back, may_race_op as spec_may_race_op, may_race as spec_may_race, breaks_block, asked_in, moment_after, block_after, block_size, shows_after, is_later_declared as spec_is_later_declared, is_later_attributes as spec_is_later_attributes, is_later_update as spec_is_later_update, is_later_op as spec_is_later_op, is_later_line as spec_is_later_line};
+ghost use Rattle.script_lang.specs.Grammar.{fault_after, marks_after, IsSmall, is_nodes, is_end, is_show, is_race as spec_is_race, goes_back, may_race_op as spec_may_race_op, may_race as spec_may_race, breaks_block, asked_in, moment_after, block_after, block_size, shows_after, is_later_declared as spec_is_later_declared, is_later_attributes as spec_is_later_attributes, is_later_op as spec_is_later_op, is_later_line as spec_is_later_line};
 
 use crate::lines::Line;
-use ckpt_types::{CreationAttributes, Moment, Op, ReadElement, Update};
+use ckpt_types::{CreationAttributes, Moment, Op, ReadElement};
 use script_words::Reason;
 
 // The most bytes that the reads of a script ask for together.
@@ -211,17 +211,6 @@ fn is_later_op(op: &Op) -> bool
         Op::Client(_, _, callbacks) => callbacks.opens || callbacks.syncs,
         Op::Open(_, _, _, _, attributes) => is_later_attributes(attributes),
         Op::OpenAsync(_, _, _, _, attributes) => is_later_attributes(attributes),
-        Op::Write(_, update) => is_later_update(update.value()),
-        Op::Read(_, elements) => 2 <= elements.value().as_slice().len(),
-        _ => false,
-    }
-}
-
-fn is_later_update(update: &Update) -> bool
-    ensures { result ≡ spec_is_later_update update.now }
-{
-    match update {
-        Update::Write(elements) => 2 <= elements.as_slice().len(),
         _ => false,
     }
 }
@@ -235,10 +224,10 @@ fn is_later_attributes(attributes: &Option<CreationAttributes>) -> bool
     }
 }
 
-// The options of the active replica, collocated or not, or several sections.
+// The update options of the active replica, collocated or not.
 fn is_later_declared(declared: &CreationAttributes) -> bool
     ensures { result ≡ spec_is_later_declared declared.now }
 {
     let flags = declared.creation_flags;
-    flags == 2 || flags == 4 || flags == 10 || flags == 12 || 2 <= declared.max_sections
+    flags == 2 || flags == 4 || flags == 10 || flags == 12
 }
