@@ -18,10 +18,10 @@ use Rattle.world_core.specs.declared.world.World.{World}
 use Rattle.world_core.specs.RecordState.{is_up}
 use Rattle.world_core.specs.Machine.{Machine, empty_cluster}
 use Rattle.world_core.specs.Steps.{after}
-use Rattle.world_core.specs.Runs.{GoesOn, IsRunTo, SaysTrue, AnswersBegin, AnswersStep, last, last_from, left_of}
+use Rattle.world_core.specs.Runs.{GoesOn, IsRunTo, SaysTrue, AnswersBegin, AnswersStep, NoneInHand, last, last_from, left_of}
 use Rattle.world_core.specs.Shows.{hand_at}
 use Rattle.session_run.specs.Follows.{StepsToEnd, SaysTrueIn, IsWholeCall, AnswersLine, FollowsFrom, Follows}
-use Rattle.session_run.specs.Growing.{GrowsBy, IsFinish, NoneBut, NoneInHand}
+use Rattle.session_run.specs.Growing.{GrowsBy, IsFinish, NoneBut}
 
 -- what is left of a call that goes on are the steps of the call in hand
 steps_of_hand : (call : CallId) (op : Op) (end : Option Outcome) (o : Option InHand) (more : List Label) → GoesOn call op end o → IsFinish o more → StepsToEnd call end more

@@ -1,18 +1,19 @@
 -- Each line of a script of what is built can be played.
-use Rattle.std.proofs.Common.{◌≡◌, ℕ, zero, suc, ◌+◌, List, [], ◌∷◌, refl, sym, subst, arith}
+use Rattle.std.proofs.Common.{◌≡◌, ℕ, zero, suc, ◌+◌, ◌-◌, ◌^◌, List, [], ◌∷◌, ℤ, pos, ◌≤ℤ◌, refl, sym, subst, arith}
 use Rattle.std.specs.Prelude.{Option, Some, None}
+use Rattle.std.proofs.lemmas.Int.{ints}
 use Rattle.ckpt_types.specs.declared.attributes.CreationAttributes.{CreationAttributes}
 use Rattle.ckpt_types.specs.declared.calls.CallbackSet.{CallbackSet}
 use Rattle.ckpt_types.specs.declared.operation.Op.{Op}
 use Rattle.ckpt_types.specs.declared.operation.Op.TheVariants as ops
-use Rattle.ckpt_types.specs.declared.update.Update.{Update}
-use Rattle.ckpt_types.specs.declared.update.Update.TheVariants as updates
 use Rattle.run_labels.specs.declared.labels.Label.{Label}
 use Rattle.script_lang.specs.declared.lines.Line.{Line}
 use Rattle.script_lang.specs.declared.lines.Line.TheVariants as lines
-use Rattle.script_lang.specs.BuiltScripts.{no_callbacks, AreBuiltAttributes, IsOneWrite, IsBuiltOp}
-use Rattle.world_core.specs.Beginning.{RegistersNone, AreBuilt, IsWrite, IsBuilt}
+use Rattle.script_lang.specs.BuiltScripts.{no_callbacks, AreBuiltAttributes, IsBuiltOp, IsBuiltLine, AreBuiltLines, IsOneNodeFirst, moment_behind}
+use Rattle.world_core.specs.Beginning.{RegistersNone, AreBuilt, IsBuilt}
+use Rattle.world_core.specs.RecordState.{IsMomentFrom}
 use Rattle.session_run.specs.Growing.{AreLeft, CanPlay}
+use Rattle.session_run.specs.Playable.{IsPlayableLine, ArePlayable, IsPlayable}
 
 registers_none : (callbacks : CallbackSet) → callbacks ≡ no_callbacks → RegistersNone callbacks
 registers_none callbacks none = subst RegistersNone (sym none) (record { opens = refl; syncs = refl })
@@ -22,34 +23,58 @@ are_built None built = tt
 are_built (Some a) built = record {
   not_active = (built.not_active, built.not_collocated_active);
   not_weak = (built.not_weak, built.not_collocated_weak);
-  one_section = built.sections;
 }
-
-is_write : (u : Update) → IsOneWrite u → IsWrite u
-is_write (updates.Write elements) one = tt
-is_write (updates.Overwrite id bytes) one = absurd one
-is_write (updates.Create new expiration bytes) one = absurd one
-is_write (updates.Delete id) one = absurd one
-is_write (updates.SetExpiration id expiration) one = absurd one
-is_write updates.Nothing one = absurd one
 
 is_built : (op : Op) → IsBuiltOp op → IsBuilt op
 is_built (ops.Client node version callbacks) built = (built.0, registers_none callbacks built.2)
 is_built (ops.Open place name flags timeout a) built = (built.0, are_built a built.2)
-is_built (ops.Write place update) built = (built.0, is_write update built.1)
+is_built (ops.Create place update) built = built.0
+is_built (ops.Delete place update) built = built.0
+is_built (ops.Expire place update) built = built.0
+is_built (ops.Write place update) built = built.0
+is_built (ops.Over place update) built = built.0
 is_built (ops.Read place elements) built = built.0
+is_built (ops.Status place) built = built
+is_built (ops.Iter iteration place chosen time) built = (built.0, built.1)
+is_built (ops.Next iteration) built = built
+is_built (ops.EndIter iteration) built = built
 is_built op built = absurd built
 
+-- a moment that is before 2^63-1 is before the end of time
+is_moment : (t u : ℤ) → t ≤ℤ u → u ≤ℤ pos (2 ^ 63 - 2) → IsMomentFrom t u
+is_moment t u from before = (from, omega (arith, ints, before))
+
+is_playable : (t : ℤ) (line : Line) → IsBuiltLine t line → IsPlayableLine t line
+is_playable t (lines.Call client op) built = (built.0, is_built op built.1)
+is_playable t (lines.At u) built = is_moment t u built.0 built.1
+is_playable t line built = absurd built
+
+are_playable : (t : ℤ) (xs : List Line) → AreBuiltLines t xs → ArePlayable t xs
+are_playable t [] built = tt
+are_playable t (x ∷ xs) built = (is_playable t x built.0, are_playable (moment_behind t x) xs built.1)
+
+-- a script of what is built can be played
+pub playable : (xs : List Line) → IsOneNodeFirst xs → IsPlayable xs
+playable [] built = tt
+playable (x ∷ xs) built = (built.0, are_playable (pos 0) xs built.1)
+
+-- ---- line by line
+
 -- the next line of those that are left
-pub CanPlay-next : (i : ℕ) (line : Line) (rest : List Line) (log : List Label) → AreLeft i (line ∷ rest) → (i ≡ 0 → log ≡ []) → CanPlay log line
-CanPlay-next zero (lines.Nodes count) rest log left first = (left.0, first refl)
-CanPlay-next zero line rest log left first = absurd left.0
-CanPlay-next (suc i) (lines.Call client op) rest log left first = (left.0.0, is_built op left.0.1)
-CanPlay-next (suc i) line rest log left first = absurd left.0
+pub CanPlay-next : (i : ℕ) (t : ℤ) (line : Line) (rest : List Line) (log : List Label) → AreLeft i t (line ∷ rest) → (i ≡ 0 → log ≡ []) → CanPlay t log line
+CanPlay-next zero t (lines.Nodes count) rest log left first = (left.0, first refl)
+CanPlay-next zero t line rest log left first = absurd left.0
+CanPlay-next (suc i) t (lines.Nodes count) rest log left first = absurd left.0
+CanPlay-next (suc i) t line rest log left first = left.0
+
+-- one node comes up at the moment 0, and the moment is 0 behind it
+first_moment : (t : ℤ) (line : Line) (rest : List Line) → t ≡ pos 0 → IsPlayable (line ∷ rest) → ArePlayable (moment_behind t line) rest
+first_moment t (lines.Nodes count) rest start left = subst (λ t. ArePlayable t rest) (sym start) left.1
+first_moment t line rest start left = absurd left.0
 
 -- those behind it
-pub AreLeft-next : (i : ℕ) (line : Line) (rest : List Line) → AreLeft i (line ∷ rest) → AreLeft (i + 1) rest
-AreLeft-next i line rest left = let next : suc i ≡ i + 1 = omega arith in subst (λ n. AreLeft n rest) next (calls i left) where
-  calls : (i : ℕ) → AreLeft i (line ∷ rest) → AreLeft (suc i) rest
-  calls zero left = left.1
-  calls (suc i) left = left.1
+pub AreLeft-next : (i : ℕ) (t u : ℤ) (line : Line) (rest : List Line) → AreLeft i t (line ∷ rest) → (i ≡ 0 → t ≡ pos 0) → u ≡ moment_behind t line → AreLeft (i + 1) u rest
+AreLeft-next i t u line rest left start u_is = let next : suc i ≡ i + 1 = omega arith in subst (λ n. AreLeft n u rest) next (subst (λ t. ArePlayable t rest) (sym u_is) (behind i left start)) where
+  behind : (i : ℕ) → AreLeft i t (line ∷ rest) → (i ≡ 0 → t ≡ pos 0) → ArePlayable (moment_behind t line) rest
+  behind zero left start = first_moment t line rest (start refl) left
+  behind (suc i) left start = left.1

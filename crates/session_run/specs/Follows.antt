@@ -43,6 +43,7 @@ IsWholeCall m a op log = ⊥
 abbrev pub AnswersLine : Machine → Line → List Label → Type 0
 AnswersLine m (lines.Nodes n) log = log ≡ labels.Nodes n ∷ []
 AnswersLine m (lines.Call c op) log = IsWholeCall m (Client c) op log
+AnswersLine m (lines.At t) log = log ≡ labels.Moved t ∷ []
 AnswersLine m line log = ⊥
 
 -- from this state the lines come in order, each with its labels, and each in the state after the labels before it

@@ -1,14 +1,13 @@
 -- How a log grows while a line is played.
-use Rattle.std.specs.Prelude.{◌≡◌, ◌≢◌, ℕ, zero, suc, ◌<◌, List, [], ◌++◌, Option, Some, None}
+use Rattle.std.specs.Prelude.{◌≡◌, ◌≢◌, ℕ, zero, suc, List, [], ◌++◌, Option, Some, None, ℤ}
 use Rattle.script_lang.specs.declared.lines.Line.{Line}
 use Rattle.script_lang.specs.declared.lines.Line.TheVariants as lines
-use Rattle.script_lang.specs.BuiltScripts.{IsOneNodeFirst, AreBuiltCalls}
-use Rattle.world_core.specs.Beginning.{IsBuilt}
 use Rattle.run_labels.specs.declared.labels.Label.{Label}
 use Rattle.world_core.specs.declared.hands.InHand.{InHand}
 use Rattle.world_core.specs.declared.world.World.{World}
 use Rattle.world_core.specs.Shows.{hand_at}
 use Rattle.session_run.specs.Follows.{StepsToEnd}
+use Rattle.session_run.specs.Playable.{IsPlayableLine, ArePlayable, IsPlayable}
 
 -- the log is longer by labels that have this
 abbrev pub GrowsBy : List Label → List Label → (List Label → Type 0) → Type 0
@@ -23,17 +22,12 @@ IsFinish (Some h) more = StepsToEnd h.call None more
 abbrev pub NoneBut : ℕ → World → Type 0
 NoneBut c w = (d : ℕ) → d ≢ c → hand_at w.hands d ≡ None
 
--- no client has a call in hand
-abbrev pub NoneInHand : World → Type 0
-NoneInHand w = (c : ℕ) → hand_at w.hands c ≡ None
+-- the lines that are left behind so many, at a moment: all of a script, or those that come with the node up
+abbrev pub AreLeft : ℕ → ℤ → List Line → Type 0
+AreLeft zero t lines = IsPlayable lines
+AreLeft (suc i) t lines = ArePlayable t lines
 
--- the lines that are left behind so many: all of a script, or calls alone
-abbrev pub AreLeft : ℕ → List Line → Type 0
-AreLeft zero lines = IsOneNodeFirst lines
-AreLeft (suc i) lines = AreBuiltCalls lines
-
--- a line that is built, after a log
-abbrev pub CanPlay : List Label → Line → Type 0
-CanPlay log (lines.Nodes n) = (n ≡ 1) × (log ≡ [])
-CanPlay log (lines.Call c op) = (c < 100) × IsBuilt op
-CanPlay log line = ⊥
+-- the line can be played at a moment, after a log
+abbrev pub CanPlay : ℤ → List Label → Line → Type 0
+CanPlay t log (lines.Nodes n) = (n ≡ 1) × (log ≡ [])
+CanPlay t log line = IsPlayableLine t line

@@ -1,2 +1,3 @@
 pub mod Follows
 pub mod Growing
+pub mod Playable

@@ -1,14 +1,15 @@
 ghost use Rattle.std.specs.Prelude.{◌≡◌, ◌≢◌, ◌+◌, ◌-◌, ◌*◌, ◌<◌, ◌≤◌, ◌^◌, List, [], length, None, OnOk, OnErr, IfOk};
 ghost use Rattle.ckpt_types.specs.declared.identities.ActorName.TheVariants.{Client};
-ghost use Rattle.script_lang.specs.BuiltScripts.{IsOneNodeFirst};
+ghost use Rattle.script_lang.specs.BuiltScripts.{moment_behind};
 ghost use Rattle.world_core.specs.Beginning.{IsBuilt};
 ghost use Rattle.std.specs.Prelude.{false};
 ghost use Rattle.ckpt_types.specs.declared.identities.Who.TheVariants.{Actor};
 ghost use Rattle.world_core.specs.declared.world.Event.TheVariants as happenings;
-ghost use Rattle.world_core.specs.Runs.{IsNew, IsRunTo, Happens, last, left_of};
+ghost use Rattle.world_core.specs.Runs.{IsNew, IsRunTo, Happens, NoneInHand, last, left_of};
 ghost use Rattle.world_core.specs.Shows.{hand_at};
 ghost use Rattle.session_run.specs.Follows.{AnswersLine, Follows, IsWholeCall};
-ghost use Rattle.session_run.specs.Growing.{CanPlay, GrowsBy, IsFinish, NoneBut, NoneInHand};
+ghost use Rattle.session_run.specs.Growing.{CanPlay, GrowsBy, IsFinish, NoneBut};
+ghost use Rattle.session_run.specs.Playable.{IsPlayable};
 
 use ckpt_types::{ActorName, Op, Who};
 use outside_io::Gate;
@@ -31,7 +32,7 @@ pub fn session<R: Threads + Wait + Sync, G: Gate>(
 ) -> Result<(), AllocError>
     requires log { log.old.labels ≡ [] }
     requires world { IsNew world.old }
-    requires form { IsOneNodeFirst script.now }
+    requires form { IsPlayable script.now }
     requires lines { length script.now ≤ 2000000 }
     ensures run { IsRunTo world.new log.new.labels }
     ensures follows { OnOk result (Follows script.now log.new.labels) }
@@ -47,7 +48,7 @@ fn play(
 ) -> Result<(), AllocError>
     requires log { log.old.labels ≡ [] }
     requires world { IsNew world.old }
-    requires form { IsOneNodeFirst lines.now }
+    requires form { IsPlayable lines.now }
     requires lines { length lines.now ≤ 2000000 }
     ensures run { IsRunTo world.new log.new.labels }
     ensures follows { OnOk result (Follows lines.now log.new.labels) }
@@ -66,17 +67,19 @@ fn play_line(
     world: &mut World,
 ) -> Result<(), AllocError>
     requires run { IsRunTo world.old log.old.labels }
-    requires comes { CanPlay log.old.labels line.now }
+    requires comes { CanPlay world.old.cluster.moment log.old.labels line.now }
     requires idle { NoneInHand world.old }
     requires room { length log.old.labels + 40 < 2 ^ 32 - 2 }
     ensures run { IsRunTo world.new log.new.labels }
     ensures few { length log.new.labels ≤ length log.old.labels + 40 }
     ensures idle { OnOk result (NoneInHand world.new) }
+    ensures moment { OnOk result (world.new.cluster.moment ≡ moment_behind world.old.cluster.moment line.now) }
     ensures answers { OnOk result (GrowsBy log.old.labels log.new.labels (AnswersLine (last log.old.labels) line.now)) }
 {
     match line {
         Line::Nodes(count) => world.event(alloc, &Event::Nodes(*count), log),
         Line::Call(client, op) => play_call(alloc, *client, op, log, world),
+        Line::At(t) => world.event(alloc, &Event::At(*t), log),
         _ => unreachable!(),
     }
 }
@@ -97,6 +100,7 @@ fn play_call(
     ensures run { IsRunTo world.new log.new.labels }
     ensures few { length log.new.labels ≤ length log.old.labels + 40 }
     ensures idle { OnOk result (NoneInHand world.new) }
+    ensures moment { OnOk result (world.new.cluster.moment ≡ world.old.cluster.moment) }
     ensures answers { OnOk result (GrowsBy log.old.labels log.new.labels (IsWholeCall (last log.old.labels) (Client client) op.now)) }
 {
     begin(alloc, client, op, log, world)?;
@@ -112,6 +116,7 @@ fn finish(alloc: Global, client: u8, log: &mut RunLog, world: &mut World) -> Res
     ensures run { IsRunTo world.new log.new.labels }
     ensures few { length log.new.labels ≤ length log.old.labels + left_of world.old (Client client) }
     ensures idle { OnOk result (NoneInHand world.new) }
+    ensures moment { OnOk result (world.new.cluster.moment ≡ world.old.cluster.moment) }
     ensures steps { OnOk result (GrowsBy log.old.labels log.new.labels (IsFinish (hand_at world.old.hands client))) }
 {
     'stepping: while world.in_hand(client) {

@@ -7,7 +7,7 @@ use Rattle.client_handles.specs.ClientState.{handle_numbered}
 use Rattle.client_handles.specs.declared.handle_view.HandleView.{HandleView}
 use Rattle.world_core.specs.declared.world.World.{World}
 use Rattle.world_core.specs.TableState.{TableState}
-use Rattle.world_core.specs.Shows.{IsShown, handle_in_place}
+use Rattle.world_core.specs.Shows.{IsShown, handle_in_place, handle_over_place}
 use Rattle.world_core.specs.Happenings.{handle_named}
 use Rattle.world_core.proofs.Begin.{named_in}
 use Rattle.world_core.proofs.Held.{handles_fact}
@@ -28,10 +28,11 @@ pub table_has_no_zero : (w : World) (c : ℕ) (t : TableState) → IsShown w →
 table_has_no_zero w c t shown table =
     handles_fact w c t (λ handles. handle_numbered 0 handles ≡ None) table shown (none_has_zero (shown.state.handles c) (shown.facts.numbered c))
 
--- the handle of a place is the table's
-pub handle_named_is : (w : World) (c : ℕ) (place : Option ℕ) (t : TableState) → slice_get w.tables c ≡ Some t → handle_named w c place ≡ named_in place t
-handle_named_is w c None t table = refl
-handle_named_is w c (Some place) t table = ap (λ o. handle_in_place o place) table
+-- the handle of a place, or of a place's iteration, is the table's
+pub handle_named_is : (w : World) (c : ℕ) (place iteration : Option ℕ) (t : TableState) → slice_get w.tables c ≡ Some t → handle_named w c place iteration ≡ named_in place iteration t
+handle_named_is w c None None t table = refl
+handle_named_is w c None (Some iteration) t table = ap (λ o. handle_over_place o iteration) table
+handle_named_is w c (Some place) iteration t table = ap (λ o. handle_in_place o place) table
 
 -- what is told of some table is told of this one
 pub at_table : (P : TableState → Type 0) (o : Option TableState) (t : TableState) → o ≡ Some t → IsSomeAnd o P → P t

@@ -1,6 +1,9 @@
 -- A due request is of the call itself: a law of the definitions.
+use Rattle.world_core.specs.declared.reading.ActiveKind.{ActiveKind}
+use Rattle.world_core.specs.declared.reading.ActiveKind.TheVariants as kinds
+use Rattle.world_core.specs.declared.drivers.Rooms.{Rooms}
 use Rattle.std.proofs.Common.{◌≡◌, ℕ, Bool, true, false, ℤ, List, [], ◌∷◌, refl, subst, ◌∙◌, cond}
-use Rattle.std.specs.Prelude.{Option, Some, None, not, nat_le, length}
+use Rattle.std.specs.Prelude.{Option, Some, None, not, ◌&&◌, nat_le, length}
 use Rattle.ckpt_types.specs.declared.answers.Outcome.{Outcome}
 use Rattle.ckpt_types.specs.declared.attributes.CreationAttributes.{CreationAttributes}
 use Rattle.ckpt_types.specs.declared.identities.CallId.{CallId}
@@ -26,7 +29,7 @@ use Rattle.world_core.specs.declared.update_call.UpdateCall.{UpdateCall}
 use Rattle.world_core.specs.declared.update_call.UpdatePhase.{UpdatePhase}
 use Rattle.world_core.specs.declared.update_call.UpdatePhase.TheVariants.{Staging, Committing}
 use Rattle.world_core.specs.RecordState.{RecordState, entry_of, named}
-use Rattle.world_core.specs.Driving.{StepDone, Kept, first_lacking, last_having, accepts, create_next, entry_next, on_named, reserve_or_finish, on_making, by_making, commit_at, stage_at, by_phase, update_on, update_taken_by, on_active, active_on, on_kept, driver_start, driver_state, driver_taken, driver_next}
+use Rattle.world_core.specs.Driving.{StepDone, Kept, first_lacking, last_having, accepts, create_next, entry_next, on_named, reserve_or_finish, on_making, by_making, commit_at, stage_at, by_phase, update_on, update_taken_by, on_active, active_on, active_request, request_by, starts_iteration, on_kept, driver_start, driver_state, driver_taken, driver_next}
 use Rattle.world_core.specs.Machine.{CallState}
 use Rattle.world_core.specs.Steps.{driver_of}
 use Rattle.world_core.proofs.Deadlines.{in_time-either}
@@ -92,12 +95,24 @@ asks_update u now (Some e) = asks_phase u now (first_lacking 0 e.complete u.owne
 
 -- ---- a call to the active
 
-asks_active : (c : CallId) (a : ActiveCall) (e : Option Entry) → Asks c (active_on a e)
-asks_active c a None = tt
-asks_active c a (Some e) = at e.active where
-  at : (r : Option ℕ) → Asks c (on_active a r)
+asks_kind : (c call : CallId) (k r : ℕ) (kind : ActiveKind) → Asks c (Serve r (request_by call k kind))
+asks_kind c call k r kinds.Apply = tt
+asks_kind c call k r (kinds.Weak n) = tt
+asks_kind c call k r kinds.Read = tt
+asks_kind c call k r kinds.Status = tt
+asks_kind c call k r (kinds.Iterate choice) = tt
+asks_kind c call k r kinds.Next = tt
+
+asks_active : (c : CallId) (room : Bool) (a : ActiveCall) (e : Option Entry) → Asks c (active_on room a e)
+asks_active c room a None = tt
+asks_active c room a (Some e) = at e.active where
+  by_test : (b : Bool) (x : Outcome) (r : ℕ) → Asks c (cond b (End x) (Serve r (active_request a)))
+  by_test true x r = tt
+  by_test false x r = asks_kind c a.call a.ckpt r a.kind
+
+  at : (r : Option ℕ) → Asks c (on_active room a r)
   at None = tt
-  at (Some r) = tt
+  at (Some r) = by_test (starts_iteration a.kind && not room) _ r
 
 -- ---- any call
 
@@ -118,8 +133,15 @@ of_kept c None start h = tt
 of_kept c (Some k) start h = h k
 
 of_start : (call : CallId) (op : Op) (kept : Kept) → Of call (driver_start call op kept)
+of_start call (ops.Create place update) kept = of_kept call kept.ckpt _ (λ k. refl)
+of_start call (ops.Delete place update) kept = of_kept call kept.ckpt _ (λ k. refl)
+of_start call (ops.Expire place update) kept = of_kept call kept.ckpt _ (λ k. refl)
 of_start call (ops.Write place update) kept = of_kept call kept.ckpt _ (λ k. refl)
+of_start call (ops.Over place update) kept = of_kept call kept.ckpt _ (λ k. refl)
 of_start call (ops.Read place elements) kept = of_kept call kept.ckpt _ (λ k. tt)
+of_start call (ops.Status place) kept = of_kept call kept.ckpt _ (λ k. tt)
+of_start call (ops.Iter iteration place chosen time) kept = of_kept call kept.ckpt _ (λ k. tt)
+of_start call (ops.Next iteration) kept = of_kept call kept.ckpt _ (λ k. tt)
 of_start call op kept = tt
 
 of_taken : (call : CallId) (d : StepDone) (x : Driver) → Of call x → Of call (driver_taken d x)
@@ -130,12 +152,12 @@ of_steps : (call : CallId) (op : Op) (kept : Kept) (steps : List StepDone) → O
 of_steps call op kept [] = of_start call op kept
 of_steps call op kept (d ∷ steps) = of_taken call d (driver_state call op kept steps) (of_steps call op kept steps)
 
-asks_of : (R : RecordState) (room : Bool) (call : CallId) (x : Driver) → Of call x → Asks call (driver_next R room x)
+asks_of : (R : RecordState) (room : Rooms) (call : CallId) (x : Driver) → Of call x → Asks call (driver_next R room x)
 asks_of R room call (drivers.Enter r) h = asks_end call (nat_le 64 (length R.clients)) _ _
-asks_of R room call (drivers.Open o) h = asks_open call R room o o.making
+asks_of R room call (drivers.Open o) h = asks_open call R room.handles o o.making
 asks_of R room call (drivers.Update u) h = subst (λ (c : CallId). Asks c (driver_next R room (drivers.Update u))) h (asks_update u R.moment (entry_of u.ckpt R.entries))
-asks_of R room call (drivers.Active a) h = asks_active call a (entry_of a.ckpt R.entries)
+asks_of R room call (drivers.Active a) h = asks_active call room.iterations a (entry_of a.ckpt R.entries)
 
 -- what a call asks a node, it asks as itself
-pub own_request : (R : RecordState) (room : Bool) (s : CallState) (r : ℕ) (request : Request) → driver_next R room (driver_of s) ≡ Serve r request → IsOwn s.call request
+pub own_request : (R : RecordState) (room : Rooms) (s : CallState) (r : ℕ) (request : Request) → driver_next R room (driver_of s) ≡ Serve r request → IsOwn s.call request
 own_request R room s r request e = subst (Asks s.call) e (asks_of R room s.call (driver_of s) (of_steps s.call s.op s.kept s.steps))

@@ -18,10 +18,12 @@ use Rattle.world_core.specs.Places.{or_none}
 use Rattle.world_core.specs.Machine.{Machine}
 use Rattle.world_core.specs.Shows.{Does, History, hand_at, shown_hand}
 use Rattle.world_core.specs.Invariant.{Alone}
-use Rattle.world_core.specs.Runs.{IsRunTo, MayHappen, Happens, Answers, AnswersBegin, AnswersStep, IsStepOf, IsIdleWord, GoesOn, KeepsOthers, last}
+use Rattle.world_core.specs.Runs.{IsRunTo, MayHappen, Happens, Answers, AnswersBegin, AnswersStep, IsStepOf, IsIdleWord, GoesOn, KeepsOthers, NoneInHand, last}
 use Rattle.world_core.specs.Happenings.{ComesNow, IsAnswered, IsStep, BeginsOrSays}
 use Rattle.std.proofs.lemmas.Bool.{eq-eqb}
 use Rattle.world_core.proofs.Places.{get_set, there_is, tests_differ}
+use Rattle.world_core.proofs.LawFacts.{facts}
+use Rattle.world_core.proofs.Moving.{shown-moment}
 use Rattle.world_core.proofs.Running.{goes_on, nearer}
 use Rattle.world_core.proofs.Words.{cluster_is_empty}
 
@@ -34,6 +36,7 @@ comes_now w log (happenings.Begin (Node r) op) may = absurd may.comes.0
 comes_now w log (happenings.Step (whos.Actor (Client c)) finish) may = may.comes.0
 comes_now w log (happenings.Step (whos.Actor (Node r)) finish) may = absurd may.comes
 comes_now w log (happenings.Step (whos.Call call) finish) may = absurd may.comes
+comes_now w log (happenings.At t) may = may.comes.1
 
 -- ---- the calls in hand after it
 
@@ -125,7 +128,7 @@ module _ (c : ℕ) (op : Op) (old new : World) where
   begin_alone log (labels.Stepped call word verb k r reply end pieces) run others is = tt
   begin_alone log (labels.Failed node failed) run others is = tt
   begin_alone log (labels.Joined node incarnation) run others is = tt
-  begin_alone log (labels.Moved moment) run others is = tt
+  begin_alone log (labels.Moved moment) run others is = absurd is
   begin_alone log (labels.Pulled ckpt reply) run others is = tt
   begin_alone log (labels.Put ckpt node reply) run others is = tt
   begin_alone log (labels.Shown ckpt replicas) run others is = tt
@@ -143,7 +146,7 @@ idle_alone log a finish old new (labels.Began call op end) is = absurd is
 idle_alone log a finish old new (labels.Stepped call op verb k r reply end pieces) is = tt
 idle_alone log a finish old new (labels.Failed node failed) is = tt
 idle_alone log a finish old new (labels.Joined node incarnation) is = tt
-idle_alone log a finish old new (labels.Moved moment) is = tt
+idle_alone log a finish old new (labels.Moved moment) is = absurd is
 idle_alone log a finish old new (labels.Pulled ckpt reply) is = tt
 idle_alone log a finish old new (labels.Put ckpt node reply) is = tt
 idle_alone log a finish old new (labels.Shown ckpt replicas) is = tt
@@ -158,6 +161,13 @@ step_answers log c finish old new label run step =
     subst (λ p. AnswersStep (Client c) finish p old new label) (sym step.held)
     (subst (IsStepOf (Client c) (Some step.hand) old new) (sym step.label_is) (refl, goes, fewer))
 
+-- ---- the label of a moment
+
+-- nobody has a call in hand where it is set
+moment_alone : (log : List Label) (old : World) → IsRunTo old log → NoneInHand old → (a : ActorName) → (last log).in_hand a ≡ None
+moment_alone log old run idle (Client d) = let h = run.shows.history in ap (λ (m : Machine). m.in_hand (Client d)) run.shows.same ∙ ap (shown_hand (h.kept d) (h.steps d)) (idle d)
+moment_alone log old run idle (Node r) = ap (λ (m : Machine). m.in_hand (Node r)) run.shows.same
+
 -- ---- any event
 
 pub does_label : (event : Event) (old new : World) (label : Label) → IsAnswered event old new label → Does old new label
@@ -168,6 +178,7 @@ does_label (happenings.Step (whos.Actor (Client c)) finish) old new label (inl s
 does_label (happenings.Step (whos.Actor (Client c)) finish) old new label (inr idle) = idle.does
 does_label (happenings.Step (whos.Actor (Node r)) finish) old new label is = absurd is
 does_label (happenings.Step (whos.Call call) finish) old new label is = absurd is
+does_label (happenings.At t) old new label is = is.does
 
 alone_label : (event : Event) (log : List Label) (old new : World) (label : Label) → MayHappen old log event → IsAnswered event old new label → Alone (last log) label
 alone_label (happenings.Nodes n) log old new label may is = subst (Alone (last log)) (sym is.label_is) tt
@@ -177,6 +188,7 @@ alone_label (happenings.Step (whos.Actor (Client c)) finish) log old new label m
 alone_label (happenings.Step (whos.Actor (Client c)) finish) log old new label may (inr idle) = idle_alone log (Client c) finish old new label idle.word
 alone_label (happenings.Step (whos.Actor (Node r)) finish) log old new label may is = absurd is
 alone_label (happenings.Step (whos.Call call) finish) log old new label may is = absurd is
+alone_label (happenings.At t) log old new label may is = subst (Alone (last log)) (sym is.label_is) (moment_alone log old may.run may.comes.0)
 
 answers_label : (event : Event) (log : List Label) (old new : World) (label : Label) → IsRunTo old log → IsAnswered event old new label → Answers event old new label
 answers_label (happenings.Nodes n) log old new label run is = (is.label_is, is.hands)
@@ -186,6 +198,7 @@ answers_label (happenings.Step (whos.Actor (Client c)) finish) log old new label
 answers_label (happenings.Step (whos.Actor (Client c)) finish) log old new label run (inr idle) = subst (λ p. AnswersStep (Client c) finish p old new label) (sym idle.none) idle.word
 answers_label (happenings.Step (whos.Actor (Node r)) finish) log old new label run is = absurd is
 answers_label (happenings.Step (whos.Call call) finish) log old new label run is = absurd is
+answers_label (happenings.At t) log old new label run is = (is.label_is, is.hands)
 
 keeps_others : (event : Event) (old new : World) (label : Label) → IsAnswered event old new label → KeepsOthers event old new
 keeps_others (happenings.Nodes n) old new label is = tt
@@ -195,6 +208,7 @@ keeps_others (happenings.Step (whos.Actor (Client c)) finish) old new label (inl
 keeps_others (happenings.Step (whos.Actor (Client c)) finish) old new label (inr idle) = λ d apart. ap (λ hands. hand_at hands d) (idle_hands (Client c) finish old new label idle.word)
 keeps_others (happenings.Step (whos.Actor (Node r)) finish) old new label is = absurd is
 keeps_others (happenings.Step (whos.Call call) finish) old new label is = absurd is
+keeps_others (happenings.At t) old new label is = tt
 
 -- the run goes on by the label that answers the event
 pub run_with : (event : Event) (old new : World) (log longer : List Label) (label : Label) → MayHappen old log event → IsAnswered event old new label → longer ≡ log ++ label ∷ [] → IsRunTo new longer
@@ -203,9 +217,12 @@ run_with event old new log longer label may is grows =
 
 -- and the label answers it
 pub happens_with : (event : Event) (old new : World) (log longer : List Label) (label : Label) → MayHappen old log event → IsAnswered event old new label → longer ≡ log ++ label ∷ [] → Happens event old new log longer
-happens_with event old new log longer label may is grows = record {
-  label = label;
-  grows = grows;
-  answers = answers_label event log old new label may.run is;
-  others = keeps_others event old new label is;
-}
+happens_with event old new log longer label may is grows =
+    let answers = answers_label event log old new label may.run is in
+    record {
+      label = label;
+      grows = grows;
+      answers = answers;
+      others = keeps_others event old new label is;
+      moment = shown-moment event old new label (last log) may.run.shows (facts (last log) may.run.invariant) (does_label event old new label is) answers;
+    }

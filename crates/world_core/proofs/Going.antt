@@ -22,11 +22,11 @@ use Rattle.world_core.proofs.Entries.{IsLeft, KeepsIdentity, none_above, rises_f
 use Rattle.world_core.proofs.Places.{find_changed, find_pushed, not_changed}
 use Rattle.world_core.proofs.Recording.{GoesAt, NodeGoes, zero_there}
 
-goes_same : (k : ℕ) (o : Option Entry) (r : ℕ) (y : Option Replica) → GoesAt k o o r y
+pub goes_same : (k : ℕ) (o : Option Entry) (r : ℕ) (y : Option Replica) → GoesAt k o o r y
 goes_same k None r y = tt
 goes_same k (Some e) r y = (refl, refl, inl refl)
 
-goes_left : (k : ℕ) (old mid new : Option Entry) (r : ℕ) (y : Option Replica) → GoesAt k old mid r y → IsLeft mid new → GoesAt k old new r y
+pub goes_left : (k : ℕ) (old mid new : Option Entry) (r : ℕ) (y : Option Replica) → GoesAt k old mid r y → IsLeft mid new → GoesAt k old new r y
 goes_left k old mid new r y goes (inl none) = subst (λ (o : Option Entry). GoesAt k old o r y) (sym none) tt
 goes_left k old mid new r y goes (inr same) = subst (λ (o : Option Entry). GoesAt k old o r y) (sym same) goes
 
@@ -88,29 +88,30 @@ pushed_goes n xs new j r y upto is zero none = subst (λ (o : Option Entry). Goe
 pub record KeepsUp (old new : RecordState) : Type 0 where
   pub up : new.up ≡ old.up
   pub last : old.last_identity ≤ new.last_identity
+  pub moment : new.moment ≡ old.moment
 
 keeps_all : (R : RecordState) → KeepsUp R R
-keeps_all R = record { up = refl; last = omega arith }
+keeps_all R = record { up = refl; last = omega arith; moment = refl }
 
 created_keeps : (call : CallId) (name : List ℕ) (a : Option CreationAttributes) (R : RecordState) → KeepsUp R (created_as call name a R)
 created_keeps call name None R = keeps_all R
-created_keeps call name (Some a) R = record { up = refl; last = omega arith }
+created_keeps call name (Some a) R = record { up = refl; last = omega arith; moment = refl }
 
 at_keeps : (o : Option ℕ) (R : RecordState) (change : ℕ → RecordState) → ((k : ℕ) → KeepsUp R (change k)) → KeepsUp R (at_ckpt o R change)
 at_keeps None R change keeps = keeps_all R
 at_keeps (Some k) R change keeps = keeps k
 
 change_keeps : (call : CallId) (x : Driver) (step : RecordStep) (R : RecordState) → KeepsUp R (event_change call x step R)
-change_keeps call (drivers.Enter r) step R = record { up = refl; last = omega arith }
+change_keeps call (drivers.Enter r) step R = record { up = refl; last = omega arith; moment = refl }
 change_keeps call (drivers.Open o) events.Create R = created_keeps call o.ask.name o.ask.attrs R
-change_keeps call (drivers.Open o) events.Open R = at_keeps (identity_in (named o.ask.name R.entries)) R (λ k. opened k o.ask.client R) (λ k. record { up = refl; last = omega arith })
-change_keeps call (drivers.Open o) events.Finish R = at_keeps (making_ckpt o.making) R (λ k. finished k o.ask.client R) (λ k. record { up = refl; last = omega arith })
-change_keeps call (drivers.Open o) events.Undo R = at_keeps (making_ckpt o.making) R (λ k. undone k R) (λ k. record { up = refl; last = omega arith })
+change_keeps call (drivers.Open o) events.Open R = at_keeps (identity_in (named o.ask.name R.entries)) R (λ k. opened k o.ask.client R) (λ k. record { up = refl; last = omega arith; moment = refl })
+change_keeps call (drivers.Open o) events.Finish R = at_keeps (making_ckpt o.making) R (λ k. finished k o.ask.client R) (λ k. record { up = refl; last = omega arith; moment = refl })
+change_keeps call (drivers.Open o) events.Undo R = at_keeps (making_ckpt o.making) R (λ k. undone k R) (λ k. record { up = refl; last = omega arith; moment = refl })
 change_keeps call (drivers.Open o) step R = keeps_all R
 change_keeps call x step R = keeps_all R
 
 pub event_keeps : (call : CallId) (x : Driver) (step : RecordStep) (R : RecordState) → KeepsUp R (event_after call x step R)
-event_keeps call x step R = let k = change_keeps call x step R in record { up = k.up; last = k.last }
+event_keeps call x step R = let k = change_keeps call x step R in record { up = k.up; last = k.last; moment = k.moment }
 
 some_of : {X : Type 0} (o : Option X) (P : X → Type 0) → IsSomeAnd o P → (x : X) × (o ≡ Some x) × P x
 some_of None P h = absurd h

@@ -11,7 +11,7 @@ use Rattle.world_core.specs.declared.world.World.{World}
 use Rattle.world_core.specs.TableState.{TableState, with_handle}
 use Rattle.world_core.specs.Machine.{Machine}
 use Rattle.world_core.specs.Steps.{with_handle_at}
-use Rattle.world_core.specs.Shows.{History, machine_of, next_in, next_of, handles_in, numbered, place_in, last_in}
+use Rattle.world_core.specs.Shows.{History, machine_of, next_in, next_of, handles_in, iterations_in, numbered, place_in, last_in}
 use Rattle.world_core.proofs.Places.{get_set, tests_differ}
 
 set_case : (xs : List ℕ) (place n p : ℕ) → place < length xs → slice_index (slice_set xs place n) p ≡ cond (p == place) n (slice_index xs p)
@@ -42,6 +42,10 @@ module _ (t : TableState) (id : ℕ) (flags : OpenFlags) (creation_flags place :
   last_case : (b : Bool) (o : Option TableState) → cond b hd.handle (last_in o) ≡ last_in (cond b (Some t') o)
   last_case true o = refl
   last_case false o = refl
+
+  iterations_case : (b : Bool) (o : Option TableState) → (b ≡ true → o ≡ Some t) → iterations_in o ≡ iterations_in (cond b (Some t') o)
+  iterations_case true o is = ap iterations_in (is refl)
+  iterations_case false o is = refl
 
   -- its number is from 1
   number_is : (hd.handle == 0) ≡ false
@@ -75,4 +79,5 @@ module _ (t : TableState) (id : ℕ) (flags : OpenFlags) (creation_flags place :
         let handles = λ (d : ℕ). handles_case (d == c) (slice_get w.tables d) (handles_in (slice_get w.tables c)) (ap handles_in table) ∙ ap handles_in (table_at d) in
         let places = λ (d p : ℕ). place_case (d == c) (slice_get w.tables d) p within (its_table d) ∙ ap (λ o. place_in o p) (table_at d) in
         let lasts = λ (d : ℕ). last_case (d == c) (slice_get w.tables d) ∙ ap last_in (table_at d) in
-        λ i. record (machine_of w' h) { next = λ a. nexts a i; handles = λ d. handles d i; places = λ d p. places d p i; last_handles = λ d. lasts d i }
+        let iterations = λ (d : ℕ). iterations_case (d == c) (slice_get w.tables d) (its_table d) ∙ ap iterations_in (table_at d) in
+        λ i. record (machine_of w' h) { next = λ a. nexts a i; handles = λ d. handles d i; places = λ d p. places d p i; last_handles = λ d. lasts d i; iterations = λ d. iterations d i }

@@ -14,10 +14,10 @@ use Rattle.world_core.specs.Calls.{number_of, left}
 use Rattle.world_core.specs.TableState.{TableState}
 use Rattle.world_core.specs.Driving.{StepDone, driver_next, driver_taken}
 use Rattle.world_core.specs.HandSteps.{hand_taken}
-use Rattle.world_core.specs.Happenings.{room_in, IsNext}
+use Rattle.world_core.specs.Happenings.{rooms_in, IsNext}
 use Rattle.world_core.specs.Machine.{Machine, CallState}
-use Rattle.world_core.specs.Steps.{due, driver_of, room_of}
-use Rattle.world_core.specs.Shows.{IsShown, History, Fits, FitsHand, Facts, machine_of, handles_in, hand_at, shown_hand}
+use Rattle.world_core.specs.Steps.{due, driver_of, rooms_of}
+use Rattle.world_core.specs.Shows.{IsShown, History, Fits, FitsHand, Facts, room_for, machine_of, handles_in, hand_at, shown_hand}
 
 -- the call with its history
 abbrev pub state_in : History → ℕ → InHand → CallState
@@ -29,7 +29,11 @@ module _ (w : World) (h : History) (c : ℕ) (hand : InHand) (held : hand_at w.h
 
   -- it is where its steps have led it
   pub driver_is : Fits w h → hand.driver ≡ driver_of (state_in h c hand)
-  driver_is fits = subst (FitsHand (h.kept c) (h.steps c)) held (fits.hands c)
+  driver_is fits = (subst (FitsHand (h.kept c) (h.steps c)) held (fits.hands c)).0
+
+  -- with the room that it took for an iteration
+  pub iteration_is : Fits w h → hand.iteration ≡ room_for hand.op (h.kept c).sections
+  iteration_is fits = (subst (FitsHand (h.kept c) (h.steps c)) held (fits.hands c)).1
 
   -- it is the client's
   pub actor_is : Facts (machine_of w h) → hand.call.actor ≡ Client c
@@ -39,12 +43,12 @@ module _ (w : World) (h : History) (c : ℕ) (hand : InHand) (held : hand_at w.h
   in_hand_at facts = ap (machine_of w h).in_hand (actor_is facts) ∙ in_hand_is
 
   -- what the code finds due is due
-  pub due_is : Facts (machine_of w h) → Fits w h → (n : Next) → driver_next w.cluster (room_in w c) hand.driver ≡ n → due (machine_of w h) (state_in h c hand) ≡ n
-  due_is facts fits n next = (λ i. driver_next w.cluster (room_of (machine_of w h) (number_of (actor_is facts i))) (sym (driver_is fits) i)) ∙ next
+  pub due_is : Facts (machine_of w h) → Fits w h → (n : Next) → driver_next w.cluster (rooms_in w c) hand.driver ≡ n → due (machine_of w h) (state_in h c hand) ≡ n
+  due_is facts fits n next = (λ i. driver_next w.cluster (rooms_of (machine_of w h) (number_of (actor_is facts i))) (sym (driver_is fits) i)) ∙ next
 
 -- what is next for the call, is next for the one that is found in hand
-pub next_for : (w : World) (c : ℕ) (n : Next) (hand : InHand) → hand_at w.hands c ≡ Some hand → IsNext w c n → driver_next w.cluster (room_in w c) hand.driver ≡ n
-next_for w c n hand held next = ap (λ (h : InHand). driver_next w.cluster (room_in w c) h.driver) (same_Some hand next.hand (sym held ∙ next.held)) ∙ next.next_is
+pub next_for : (w : World) (c : ℕ) (n : Next) (hand : InHand) → hand_at w.hands c ≡ Some hand → IsNext w c n → driver_next w.cluster (rooms_in w c) hand.driver ≡ n
+next_for w c n hand held next = ap (λ (h : InHand). driver_next w.cluster (rooms_in w c) h.driver) (same_Some hand next.hand (sym held ∙ next.held)) ∙ next.next_is
 
 -- the call in hand of a client is the client's
 pub caller_is : (w : World) (c : ℕ) (hand : InHand) → hand_at w.hands c ≡ Some hand → IsShown w → hand.call.actor ≡ Client c
@@ -66,6 +70,10 @@ pub left_shown : (h : History) (c : ℕ) (hand : InHand) (done : StepDone) (end 
 left_shown h c hand done None = refl
 left_shown h c hand done (Some o) = refl
 
-pub left_fits : (h : History) (c : ℕ) (hand : InHand) (done : StepDone) (end : Option Outcome) → hand.driver ≡ driver_of (state_in h c hand) → FitsHand (h.kept c) (done ∷ h.steps c) (left end (hand_taken done hand))
-left_fits h c hand done None driver = ap (driver_taken done) driver
-left_fits h c hand done (Some o) driver = tt
+pub left_fits : (h : History) (c : ℕ) (hand : InHand) (done : StepDone) (end : Option Outcome) → FitsHand (h.kept c) (h.steps c) (Some hand) → FitsHand (h.kept c) (done ∷ h.steps c) (left end (hand_taken done hand))
+left_fits h c hand done None fits = (ap (driver_taken done) fits.0, fits.1)
+left_fits h c hand done (Some o) fits = tt
+
+-- what holds of the hands holds of the one in hand
+pub hand_fits : (w : World) (h : History) (c : ℕ) (hand : InHand) → hand_at w.hands c ≡ Some hand → Fits w h → FitsHand (h.kept c) (h.steps c) (Some hand)
+hand_fits w h c hand held fits = subst (FitsHand (h.kept c) (h.steps c)) held (fits.hands c)

@@ -1,5 +1,6 @@
 -- The law: of one node and one call at a time, what is due is allowed, and leaves the invariant.
-use Rattle.std.proofs.Common.{◌≡◌, ℕ, ◌+◌, ◌<◌, inl, inr, List, Option, Some, None, Bool, true, false, ℤ, refl, sym, ap, subst, ◌∙◌, arith}
+use Rattle.world_core.specs.declared.drivers.Rooms.{Rooms}
+use Rattle.std.proofs.Common.{◌≡◌, ℕ, ◌+◌, ◌<◌, inl, inr, List, Option, Some, None, true, false, ℤ, refl, sym, ap, subst, ◌∙◌, arith}
 use Rattle.std.specs.Prelude.{slice_index}
 use Rattle.std.proofs.lemmas.Option.{same_Some}
 use Rattle.ckpt_types.specs.declared.calls.OpenAsk.{OpenAsk}
@@ -17,7 +18,7 @@ use Rattle.world_core.specs.Calls.{client_of}
 use Rattle.world_core.specs.RecordState.{first_nodes, no_nodes, brought_up}
 use Rattle.world_core.specs.Driving.{driver_next, driver_taken, done_of}
 use Rattle.world_core.specs.Machine.{Machine, CallState, empty_cluster}
-use Rattle.world_core.specs.Steps.{Told, IsDone, IsDueStep, IsDue, driver_of, room_of, due, step_of, after}
+use Rattle.world_core.specs.Steps.{Told, IsDone, IsDueStep, IsDue, driver_of, rooms_of, due, step_of, after}
 use Rattle.world_core.specs.Guards.{IsAllowedStep, Allowed}
 use Rattle.world_core.specs.Runs.{Counts, steps_left}
 use Rattle.world_core.specs.Invariant.{Working, IsAt, IsWorking, Alone, InvariantWith, Invariant}
@@ -27,7 +28,8 @@ use Rattle.world_core.proofs.LawEnter.{enter_goes}
 use Rattle.world_core.proofs.LawOpening.{asking_goes}
 use Rattle.world_core.proofs.LawMaking.{making_goes}
 use Rattle.world_core.proofs.LawUpdate.{update_goes}
-use Rattle.world_core.proofs.LawRead.{read_goes}
+use Rattle.world_core.proofs.LawActive.{active_goes}
+use Rattle.world_core.proofs.LawMoment.{Invariant-moved, Counts-moved}
 use Rattle.world_core.proofs.LawBegin.{Invariant-begun, Counts-begun}
 
 -- ---- the empty cluster
@@ -43,7 +45,6 @@ invariant_empty = record {
     in_use = tt;
     entries = λ k e found. absurd (cc found);
     handles = λ c h among. let (i, below, is) = among in absurd (omega (arith, below));
-    next = λ a. omega arith;
     in_hand = λ a. refl;
     working = tt;
   };
@@ -54,6 +55,7 @@ pub counts_empty : Counts empty_cluster 0
 counts_empty = record {
   next = λ a. omega arith;
   last_handles = λ c. omega arith;
+  last_iterations = λ c. omega arith;
   effects = λ k r x is. absurd (cc is);
   identity = omega arith;
   references = λ k e c is. absurd (cc is);
@@ -62,17 +64,17 @@ counts_empty = record {
 -- ---- steps
 
 -- an open's next step, by what it is making
-open_goes : (m : Machine) (s : CallState) (call : CallId) (ask : OpenAsk) (deadline : Option ℤ) (making : Option Making) → InvariantWith (Some (record { state = s; driver = drivers.Open (record { call = call; ask = ask; deadline = deadline; making = making }) })) m → (room : Bool) (t : Told) → room_of m (client_of s.call) ≡ room
+open_goes : (m : Machine) (s : CallState) (call : CallId) (ask : OpenAsk) (deadline : Option ℤ) (making : Option Making) → InvariantWith (Some (record { state = s; driver = drivers.Open (record { call = call; ask = ask; deadline = deadline; making = making }) })) m → (room : Rooms) (t : Told) → rooms_of m (client_of s.call) ≡ room
     → IsDone m s (driver_next m.cluster room (drivers.Open (record { call = call; ask = ask; deadline = deadline; making = making }))) t → Goes m s (drivers.Open (record { call = call; ask = ask; deadline = deadline; making = making })) t
-open_goes m s call ask deadline None inv room t has done = asking_goes m s call ask deadline inv room t has done
+open_goes m s call ask deadline None inv room t has done = asking_goes m s call ask deadline inv room t (ap (λ (r : Rooms). r.handles) has) done
 open_goes m s call ask deadline (Some making) inv room t has done = making_goes m s call ask deadline making inv room t done
 
 -- the next step of a call
-driver_goes : (m : Machine) (s : CallState) (d : Driver) → InvariantWith (Some (record { state = s; driver = d })) m → (room : Bool) (t : Told) → room_of m (client_of s.call) ≡ room → IsDone m s (driver_next m.cluster room d) t → Goes m s d t
+driver_goes : (m : Machine) (s : CallState) (d : Driver) → InvariantWith (Some (record { state = s; driver = d })) m → (room : Rooms) (t : Told) → rooms_of m (client_of s.call) ≡ room → IsDone m s (driver_next m.cluster room d) t → Goes m s d t
 driver_goes m s (drivers.Enter r) inv room t has done = enter_goes m s r inv room t done
 driver_goes m s (drivers.Open o) inv room t has done = open_goes m s o.call o.ask o.deadline o.making inv room t has done
 driver_goes m s (drivers.Update u) inv room t has done = update_goes m s u inv room t done
-driver_goes m s (drivers.Active a) inv room t has done = read_goes m s a inv room t done
+driver_goes m s (drivers.Active a) inv room t has done = active_goes m s a.call a.ckpt a.kind inv room t has done
 
 -- a due step is of the call in hand
 pub record IsTaken (m : Machine) (call : CallId) (op : OpWord) (t : Told) : Type 0 where
@@ -94,8 +96,8 @@ taken_by (Some w) m call op t inv step =
       in_hand = step.in_hand ∙ ap Some (sym same);
       call_is = ap (λ (s : CallState). s.call) same ∙ step.call_is;
       word = ap (λ (s : CallState). word_of_op s.op) same ∙ step.word;
-      goes = driver_goes m w.state w.driver inv (room_of m (client_of w.state.call)) t refl
-          (subst (λ d. IsDone m w.state (driver_next m.cluster (room_of m (client_of w.state.call)) d) t) inv.working.0 (subst (λ s. IsDone m s (due m s) t) (sym same) step.done));
+      goes = driver_goes m w.state w.driver inv (rooms_of m (client_of w.state.call)) t refl
+          (subst (λ d. IsDone m w.state (driver_next m.cluster (rooms_of m (client_of w.state.call)) d) t) inv.working.0 (subst (λ s. IsDone m s (due m s) t) (sym same) step.done));
     }
 
 -- a due step is taken by the call in hand
@@ -112,8 +114,8 @@ none_and_first up none first = absurd (let e : ◌≡◌ {A = ℕ} 0 1 = ap (λ 
 IsAt-up : (m : Machine) (n : ℕ) (s : CallState) (d : Driver) → m.cluster.up ≡ no_nodes → IsAt m s d → IsAt (record m { cluster = brought_up n m.cluster }) s d
 IsAt-up m n s (drivers.Enter r) none at = absurd (let e : false ≡ true = sym (is_up-none r m.cluster none) ∙ at.up in cc)
 IsAt-up m n s (drivers.Open o) none at = none_and_first m.cluster.up none at.up
-IsAt-up m n s (drivers.Update u) none at = record { call = at.call; write = at.write; phase = at.phase; made = at.made; owned = at.owned }
-IsAt-up m n s (drivers.Active a) none at = record { read = at.read; made = at.made }
+IsAt-up m n s (drivers.Update u) none at = record { call = at.call; update = at.update; phase = at.phase; made = at.made; owned = at.owned }
+IsAt-up m n s (drivers.Active a) none at = record { call = at.call; kind = at.kind; made = at.made; kept = at.kept; sections = at.sections; handle = at.handle }
 
 -- likewise the call in hand, if there is one
 IsWorking-up : (m : Machine) (n : ℕ) (hand : Option Working) → m.cluster.up ≡ no_nodes → IsWorking m hand → IsWorking (record m { cluster = brought_up n m.cluster }) hand
@@ -131,7 +133,6 @@ Invariant-nodes m n inv one none = record {
     in_use = inv.holds.in_use;
     entries = inv.holds.entries;
     handles = inv.holds.handles;
-    next = inv.holds.next;
     in_hand = inv.holds.in_hand;
     working = IsWorking-up m n inv.hand none inv.holds.working;
   };
@@ -139,7 +140,7 @@ Invariant-nodes m n inv one none = record {
 
 -- and nothing counts more
 Counts-nodes : (m : Machine) (n nodes : ℕ) → Counts m n → Counts (record m { cluster = brought_up nodes m.cluster }) (n + 1)
-Counts-nodes m n nodes counts = let more = Counts-hands m m.in_hand n counts in record { next = more.next; last_handles = more.last_handles; effects = more.effects; identity = more.identity; references = more.references }
+Counts-nodes m n nodes counts = let more = Counts-hands m m.in_hand n counts in record { next = more.next; last_handles = more.last_handles; last_iterations = more.last_iterations; effects = more.effects; identity = more.identity; references = more.references }
 
 -- ---- the law
 
@@ -155,6 +156,7 @@ law m (labels.Stepped call op verb k r reply end pieces) inv alone is =
     (step_allowed m call op _ taken, subst (λ o. Invariant (step_of m o verb k r reply end)) (sym taken.in_hand) taken.goes.leads.holds)
 law m (labels.Word who word said) inv alone is = (is, inv)
 law m (labels.Nodes n) inv alone is = ((omega (arith, is.0), omega (arith, is.0), λ r. is_up-none r m.cluster is.1), Invariant-nodes m n inv is.0 is.1)
+law m (labels.Moved t) inv alone is = (is, Invariant-moved m t inv alone)
 law m l inv alone is = absurd is
 
 -- each label counts up by at most one
@@ -165,6 +167,7 @@ counts m (labels.Stepped call op verb k r reply end pieces) n inv is few =
     subst (λ o. Counts (step_of m o verb k r reply end) (n + 1)) (sym taken.in_hand) (taken.goes.leads.counts n few)
 counts m (labels.Word who word said) n inv is few = Counts-hands m m.in_hand n few
 counts m (labels.Nodes nodes) n inv is few = Counts-nodes m n nodes few
+counts m (labels.Moved t) n inv is few = Counts-moved m t n inv few
 counts m l n inv is few = absurd is
 
 -- a due step that does not end its call brings it nearer to its end

@@ -1,10 +1,14 @@
 -- A call begins.
+use Rattle.world_core.specs.declared.reading.ActiveKind.{ActiveKind}
+use Rattle.world_core.specs.declared.reading.ActiveKind.TheVariants as kinds
+use Rattle.client_handles.specs.declared.begun.BegunIteration.{BegunIteration}
 use Rattle.std.proofs.Common.{◌≡◌, ℕ, ◌+◌, ◌<◌, ◌≤◌, inl, inr, List, [], ◌∷◌, Option, Some, None, is_some, Bool, true, false, cond, ◌==◌, ◌||◌, ℤ, refl, sym, ap, subst, ◌∙◌, arith}
-use Rattle.std.specs.Prelude.{Contains, int_lt, pos}
+use Rattle.std.specs.Prelude.{IsSome, Contains, int_lt, pos}
 use Rattle.std.proofs.lemmas.Bool.{or_parts}
 use Rattle.std.proofs.lemmas.Option.{same_Some}
 use Rattle.std.proofs.lemmas.List.Elements.{Contains-append_right}
 use Rattle.ckpt_types.specs.declared.answers.Outcome.{Outcome}
+use Rattle.ckpt_types.specs.declared.answers.Outcome.TheVariants.{NoMemory}
 use Rattle.ckpt_types.specs.declared.attributes.CreationAttributes.{CreationAttributes}
 use Rattle.ckpt_types.specs.declared.identities.ActorName.{ActorName}
 use Rattle.ckpt_types.specs.declared.identities.ActorName.TheVariants.{Client, Node}
@@ -12,8 +16,6 @@ use Rattle.ckpt_types.specs.declared.identities.CallId.{CallId}
 use Rattle.ckpt_types.specs.declared.open_flags.OpenFlags.{OpenFlags}
 use Rattle.ckpt_types.specs.declared.operation.Op.{Op}
 use Rattle.ckpt_types.specs.declared.operation.Op.TheVariants as ops
-use Rattle.ckpt_types.specs.declared.update.ReadElement.{ReadElement}
-use Rattle.ckpt_types.specs.declared.update.Update.{Update}
 use Rattle.ckpt_types.specs.Attributes.{has_bad_open_flags}
 use Rattle.run_labels.specs.declared.labels.Label.TheVariants as labels
 use Rattle.client_handles.specs.ClientState.{handle_numbered}
@@ -21,15 +23,15 @@ use Rattle.client_handles.specs.declared.handle_view.HandleView.{HandleView}
 use Rattle.world_core.specs.declared.drivers.Driver.{Driver}
 use Rattle.world_core.specs.declared.drivers.Driver.TheVariants as drivers
 use Rattle.world_core.specs.declared.open_call.Making.{Making}
-use Rattle.world_core.specs.Calls.{same_actor, number_of, IsClient, put_actor}
+use Rattle.world_core.specs.Calls.{same_actor, number_of, IsClient}
 use Rattle.world_core.specs.Places.{find_key}
 use Rattle.world_core.specs.RecordState.{client_key, is_live_client, first_nodes}
-use Rattle.world_core.specs.Driving.{driver_start}
-use Rattle.world_core.specs.Beginning.{begin_end, if_live, on_handle, open_begin, attributes_are_bad, name_is_bad, IsBuilt}
+use Rattle.world_core.specs.Driving.{update_start, driver_start, active_start}
+use Rattle.world_core.specs.Beginning.{begin_end, if_live, on_handle, open_begin, attributes_are_bad, name_is_bad, IsBuilt, handle_place, iteration_place, ended_place, choice_of, end_iteration}
 use Rattle.world_core.specs.Machine.{Machine, CallState}
-use Rattle.world_core.specs.Steps.{IsBegun, MayBegin, handle_of_number, handle_in, named_handle, kept_at, begun}
+use Rattle.world_core.specs.Steps.{IsBegun, MayBegin, ckpt_of_handle, handle_of_number, handle_in, named_handle, kept_at, begun, handle_by, handle_over, iteration_in, with_ended, without_iteration, begun_call, IsBeginEnd}
 use Rattle.world_core.specs.Runs.{Counts}
-use Rattle.world_core.specs.Invariant.{Working, maker_by, slot_by, AreGoodAttributes, IsMade, IsMakingOrNone, IsAt, Alone, InvariantWith, Invariant}
+use Rattle.world_core.specs.Invariant.{Working, maker_by, slot_by, IsUpdateOf, AreGoodAttributes, IsMade, IsMakingOrNone, IsAt, Alone, InvariantWith, Invariant, IsKindOf}
 use Rattle.world_core.proofs.LawMoves.{same_actor-refl, same_actor-true}
 use Rattle.world_core.proofs.LawEnds.{no_slot, IsGoodEntry-as}
 
@@ -83,6 +85,21 @@ handle_in-made : (hand : Option Working) (m : Machine) (c : ℕ) (place : Option
 handle_in-made hand m c None h inv e = absurd (cc e)
 handle_in-made hand m c (Some place) h inv e = (inv.handles c h (handle_of_number-Contains (m.handles c) (m.places c place) h e)).1
 
+-- so it is of the handle over which an iteration goes
+over_made : (hand : Option Working) (m : Machine) (c : ℕ) (it : Option BegunIteration) (h : HandleView) → InvariantWith hand m → handle_over (m.handles c) it ≡ Some h → IsMade m h.id
+over_made hand m c None h inv e = absurd (cc e)
+over_made hand m c (Some it) h inv e = (inv.handles c h (handle_numbered-Contains it.handle (m.handles c) h e)).1
+
+-- and of the handle that an operation is about
+named_made : (hand : Option Working) (m : Machine) (c : ℕ) (place iteration : Option ℕ) (h : HandleView) → InvariantWith hand m → handle_by m c place iteration ≡ Some h → IsMade m h.id
+named_made hand m c None iteration h inv e = over_made hand m c (iteration_in (m.iterations c) iteration) h inv e
+named_made hand m c (Some place) iteration h inv e = handle_in-made hand m c (Some place) h inv e
+
+-- what ends an iteration goes on with nothing
+ends_at_once : (h : Option HandleView) → end_iteration h ≡ None → ⊥
+ends_at_once None e = cc e
+ends_at_once (Some h) e = cc e
+
 -- ---- where a call begins
 
 -- a client is live only where n0 is up
@@ -97,7 +114,7 @@ IsClient-number : (a : ActorName) → IsClient a → number_of a < 100
 IsClient-number (Client c) is = is
 IsClient-number (Node r) is = absurd is
 
-module _ (hand : Option Working) (m : Machine) (call : CallId) (inv : InvariantWith hand m) (client : IsClient call.actor) (number : 1 ≤ call.number) where
+module _ (hand : Option Working) (m : Machine) (call : CallId) (inv : InvariantWith hand m) (client : IsClient call.actor) where
   abbrev state_with : Op → Option HandleView → CallState
   state_with op h = record { call = call; op = op; kept = kept_at m.cluster (number_of call.actor) h; steps = []; snapshot = None }
 
@@ -110,30 +127,29 @@ module _ (hand : Option Working) (m : Machine) (call : CallId) (inv : InvariantW
     makes : (k : ℕ) → maker_by call k (start_with op h) ≡ None
     owns : (k : ℕ) → slot_by (state_with op h) k (start_with op h) ≡ None
 
-  -- a write on a handle starts with nothing staged
-  starts_write : (place : ℕ) (update : Update) (h : Option HandleView) → ((x : HandleView) → h ≡ Some x → IsMade m x.id) → (x : HandleView) × (h ≡ Some x) → Starts (ops.Write place update) h
-  starts_write place update h made (x, is) = subst (Starts (ops.Write place update)) (sym is) (record {
-    at = record { call = refl; write = tt; phase = refl; made = made x is; owned = inl refl };
-    makes = λ k. refl;
-    owns = λ k. no_slot (k == x.id);
+  -- an update on a handle starts with nothing staged
+  starts_update : (op : Op) (h : Option HandleView) → ((o : Option HandleView) → start_with op o ≡ update_start call (ckpt_of_handle o)) → IsUpdateOf op → ((x : HandleView) → h ≡ Some x → IsMade m x.id) → (x : HandleView) × (h ≡ Some x) → Starts op h
+  starts_update op h begins is made (x, there) = subst (Starts op) (sym there) (record {
+    at = subst (IsAt m (state_with op (Some x))) (sym (begins (Some x))) (record { call = refl; update = is; phase = refl; made = made x there; owned = inl refl });
+    makes = λ k. ap (maker_by call k) (begins (Some x));
+    owns = λ k. ap (slot_by (state_with op (Some x)) k) (begins (Some x)) ∙ no_slot (k == x.id);
   })
 
-  -- a read on a handle
-  starts_read : (place : ℕ) (elements : List ReadElement) (h : Option HandleView) → ((x : HandleView) → h ≡ Some x → IsMade m x.id) → (x : HandleView) × (h ≡ Some x) → Starts (ops.Read place elements) h
-  starts_read place elements h made (x, is) = subst (Starts (ops.Read place elements)) (sym is) (record {
-    at = record { read = tt; made = made x is };
-    makes = λ k. refl;
-    owns = λ k. refl;
+  -- a call to the active on a handle
+  starts_active : (op : Op) (kind : ActiveKind) (h : Option HandleView) → ((o : Option HandleView) → start_with op o ≡ active_start call kind (ckpt_of_handle o)) → IsKindOf kind op → named_handle m call.actor op ≡ h → ((x : HandleView) → h ≡ Some x → IsMade m x.id) → (x : HandleView) × (h ≡ Some x) → Starts op h
+  starts_active op kind h begins is named made (x, there) = subst (Starts op) (sym there) (record {
+    at = subst (IsAt m (state_with op (Some x))) (sym (begins (Some x))) (record { call = refl; kind = is; made = made x there; kept = refl; sections = refl; handle = subst (λ (o : Option HandleView). IsSome o) (sym (named ∙ there)) refl });
+    makes = λ k. ap (maker_by call k) (begins (Some x));
+    owns = λ k. ap (slot_by (state_with op (Some x)) k) (begins (Some x));
   })
 
   -- each operation that goes on
-  starts : (op : Op) (h : Option HandleView) → IsBuilt op → MayBegin m.cluster (number_of call.actor) op → begin_end (is_live_client (number_of call.actor) m.cluster) h op ≡ None → ((x : HandleView) → h ≡ Some x → IsMade m x.id) → Starts op h
-  starts (ops.Client r version callbacks) h built may goes made = record { at = record { op = refl; up = may.1; not_live = may.0 }; makes = λ k. refl; owns = λ k. refl }
-  starts (ops.Open place name flags timeout a) h built may goes made =
+  starts : (op : Op) (h : Option HandleView) → IsBuilt op → MayBegin m.cluster (number_of call.actor) op → begin_end (is_live_client (number_of call.actor) m.cluster) h op ≡ None → ((x : HandleView) → h ≡ Some x → IsMade m x.id) → named_handle m call.actor op ≡ h → Starts op h
+  starts (ops.Client r version callbacks) h built may goes made named = record { at = record { op = refl; up = may.1; not_live = may.0 }; makes = λ k. refl; owns = λ k. refl }
+  starts (ops.Open place name flags timeout a) h built may goes made named =
       let (live, rest) = if_live-None (is_live_client (number_of call.actor) m.cluster) _ goes in
       record {
         at = record {
-          number = number;
           client = refl;
           within = IsClient-number call.actor client;
           built = built;
@@ -148,9 +164,18 @@ module _ (hand : Option Working) (m : Machine) (call : CallId) (inv : InvariantW
         makes = λ k. refl;
         owns = λ k. refl;
       }
-  starts (ops.Write place update) h built may goes made = starts_write place update h made (on_handle-None h _ _ (if_live-None (is_live_client (number_of call.actor) m.cluster) _ goes).1)
-  starts (ops.Read place elements) h built may goes made = starts_read place elements h made (on_handle-None h _ _ (if_live-None (is_live_client (number_of call.actor) m.cluster) _ goes).1)
-  starts op h built may goes made = absurd built
+  starts (ops.Create place update) h built may goes made named = starts_update (ops.Create place update) h (λ o. refl) tt made (on_handle-None h _ _ (if_live-None (is_live_client (number_of call.actor) m.cluster) _ goes).1)
+  starts (ops.Delete place update) h built may goes made named = starts_update (ops.Delete place update) h (λ o. refl) tt made (on_handle-None h _ _ (if_live-None (is_live_client (number_of call.actor) m.cluster) _ goes).1)
+  starts (ops.Expire place update) h built may goes made named = starts_update (ops.Expire place update) h (λ o. refl) tt made (on_handle-None h _ _ (if_live-None (is_live_client (number_of call.actor) m.cluster) _ goes).1)
+  starts (ops.Write place update) h built may goes made named = starts_update (ops.Write place update) h (λ o. refl) tt made (on_handle-None h _ _ (if_live-None (is_live_client (number_of call.actor) m.cluster) _ goes).1)
+  starts (ops.Over place update) h built may goes made named = starts_update (ops.Over place update) h (λ o. refl) tt made (on_handle-None h _ _ (if_live-None (is_live_client (number_of call.actor) m.cluster) _ goes).1)
+  starts (ops.Read place elements) h built may goes made named = starts_active (ops.Read place elements) kinds.Read h (λ o. refl) tt named made (on_handle-None h _ _ (if_live-None (is_live_client (number_of call.actor) m.cluster) _ goes).1)
+  starts (ops.Status place) h built may goes made named = starts_active (ops.Status place) kinds.Status h (λ o. refl) tt named made (on_handle-None h _ _ (if_live-None (is_live_client (number_of call.actor) m.cluster) _ goes).1)
+  starts (ops.Iter iteration place chosen time) h built may goes made named =
+      starts_active (ops.Iter iteration place chosen time) (kinds.Iterate (choice_of chosen time)) h (λ o. refl) (refl, built.0, built.1) named made (on_handle-None h _ _ (if_live-None (is_live_client (number_of call.actor) m.cluster) _ goes).1)
+  starts (ops.Next iteration) h built may goes made named = starts_active (ops.Next iteration) kinds.Next h (λ o. refl) built named made (on_handle-None h _ _ (if_live-None (is_live_client (number_of call.actor) m.cluster) _ goes).1)
+  starts (ops.EndIter iteration) h built may goes made named = absurd (ends_at_once h (if_live-None (is_live_client (number_of call.actor) m.cluster) _ goes).1)
+  starts op h built may goes made named = absurd built
 
 -- ---- the state after a beginning
 
@@ -162,9 +187,9 @@ IsMakingOrNone-apart m next f (Some making) at = record { there = at.there; rese
 -- a call is where it is with other numbers and hands
 pub IsAt-apart : (m : Machine) (next : ActorName → ℕ) (f : ActorName → Option CallState) (s : CallState) (d : Driver) → IsAt m s d → IsAt (record m { next = next; in_hand = f }) s d
 IsAt-apart m next f s (drivers.Enter r) at = record { op = at.op; up = at.up; not_live = at.not_live }
-IsAt-apart m next f s (drivers.Open o) at = record { number = at.number; client = at.client; within = at.within; built = at.built; asks = at.asks; asked = at.asked; deadline = at.deadline; up = at.up; making = IsMakingOrNone-apart m next f o.making at.making; room = at.room; in_time = at.in_time }
-IsAt-apart m next f s (drivers.Update u) at = record { call = at.call; write = at.write; phase = at.phase; made = at.made; owned = at.owned }
-IsAt-apart m next f s (drivers.Active a) at = record { read = at.read; made = at.made }
+IsAt-apart m next f s (drivers.Open o) at = record { client = at.client; within = at.within; built = at.built; asks = at.asks; asked = at.asked; deadline = at.deadline; up = at.up; making = IsMakingOrNone-apart m next f o.making at.making; room = at.room; in_time = at.in_time }
+IsAt-apart m next f s (drivers.Update u) at = record { call = at.call; update = at.update; phase = at.phase; made = at.made; owned = at.owned }
+IsAt-apart m next f s (drivers.Active a) at = record { call = at.call; kind = at.kind; made = at.made; kept = at.kept; sections = at.sections; handle = at.handle }
 
 -- where the caller has none in hand and nobody else has, nobody has
 all_idle : (m : Machine) (call : CallId) (op : Op) (end : Option Outcome) → Alone m (labels.Began call op end) → m.in_hand call.actor ≡ None → (a : ActorName) → m.in_hand a ≡ None
@@ -175,36 +200,41 @@ all_idle m call op end alone none a =
     ] refl
 
 -- where nobody has a call in hand there is none
-none_in_hand : (hand : Option Working) (m : Machine) → InvariantWith hand m → ((a : ActorName) → m.in_hand a ≡ None) → hand ≡ None
+pub none_in_hand : (hand : Option Working) (m : Machine) → InvariantWith hand m → ((a : ActorName) → m.in_hand a ≡ None) → hand ≡ None
 none_in_hand None m inv none = refl
 none_in_hand (Some w) m inv none =
     absurd (let e : None ≡ Some w.state = sym (none w.state.call.actor) ∙ inv.in_hand w.state.call.actor ∙ ap (λ b. cond b (Some w.state) None) (same_actor-refl w.state.call.actor) in cc)
 
--- the next numbers count up from 1
-next_more : (f : ActorName → ℕ) (a b : ActorName) → ((c : ActorName) → 1 ≤ f c) → 1 ≤ put_actor f a (f a + 1) b
-next_more f a b from_one = elim (same_actor b a) as (λ t. 1 ≤ cond t (f a + 1) (f b)) [ true ↦ omega arith | false ↦ from_one b ]
+-- where no call is in hand, an iteration that ends leaves the invariant
+ended_leaves : (m : Machine) (c : ℕ) (place : Option ℕ) → InvariantWith None m → Invariant (with_ended c place m)
+ended_leaves m c None inv = record { hand = None; holds = inv }
+ended_leaves m c (Some place) inv = record {
+  hand = None;
+  holds = record { up = inv.up; rises = inv.rises; up_to = inv.up_to; in_use = inv.in_use; entries = inv.entries; handles = inv.handles; in_hand = inv.in_hand; working = tt };
+}
+
+-- a call that goes on answers nothing at once
+goes_on_begun : (op : Op) (due end : Option Outcome) → IsBeginEnd op due end → end ≡ None → due ≡ None
+goes_on_begun op due end (inl same) none = sym same ∙ none
+goes_on_begun op due end (inr refused) none = absurd (let e : None ≡ Some NoMemory = sym none ∙ refused.2 in cc)
 
 -- a beginning with no call in hand leaves the invariant
 begun_with : (m : Machine) (call : CallId) (op : Op) (end : Option Outcome) → InvariantWith None m → Alone m (labels.Began call op end) → IsBegun m call op end → Invariant (begun m call op end)
-begun_with m call op (Some o) inv alone is = record {
-  hand = None;
-  holds = record {
-    up = inv.up;
-    rises = inv.rises;
-    up_to = inv.up_to;
-    in_use = inv.in_use;
-    entries = inv.entries;
-    handles = inv.handles;
-    next = λ a. next_more m.next call.actor a inv.next;
-    in_hand = λ a. elim (same_actor a call.actor) as (λ b. cond b None (m.in_hand a) ≡ None) [ true ↦ refl | false ↦ inv.in_hand a ];
-    working = tt;
-  };
-}
+begun_with m call op (Some o) inv alone is = ended_leaves (begun_call m call op (Some o)) (number_of call.actor) (ended_place (Some o) op) (record {
+  up = inv.up;
+  rises = inv.rises;
+  up_to = inv.up_to;
+  in_use = inv.in_use;
+  entries = inv.entries;
+  handles = inv.handles;
+  in_hand = λ a. elim (same_actor a call.actor) as (λ b. cond b None (m.in_hand a) ≡ None) [ true ↦ refl | false ↦ inv.in_hand a ];
+  working = tt;
+})
 begun_with m call op None inv alone is =
-    let first = starts None m call inv is.client (subst (λ n. 1 ≤ n) (sym is.number) (inv.next call.actor)) op (named_handle m call.actor op) is.built is.may (sym is.answer)
-    (λ x found. handle_in-made None m (number_of call.actor) _ x inv found) in
+    let first = starts None m call inv is.client op (named_handle m call.actor op) is.built is.may (goes_on_begun op _ None is.answer refl)
+    (λ x found. named_made None m (number_of call.actor) (handle_place op) (iteration_place op) x inv found) refl in
     record {
-      hand = Some (record { state = state_with None m call inv is.client (subst (λ n. 1 ≤ n) (sym is.number) (inv.next call.actor)) op (named_handle m call.actor op); driver = driver_start call op (kept_at m.cluster (number_of call.actor) (named_handle m call.actor op)) });
+      hand = Some (record { state = state_with None m call inv is.client op (named_handle m call.actor op); driver = driver_start call op (kept_at m.cluster (number_of call.actor) (named_handle m call.actor op)) });
       holds = record {
         up = inv.up;
         rises = inv.rises;
@@ -212,7 +242,6 @@ begun_with m call op None inv alone is =
         in_use = inv.in_use;
         entries = λ k e found. IsGoodEntry-as None _ None _ e (m.replicas k 0) (sym (first.makes k)) (sym (first.owns k)) (inv.entries k e found);
         handles = inv.handles;
-        next = λ a. next_more m.next call.actor a inv.next;
         in_hand = λ a. ap (cond (same_actor a call.actor) (Some _)) (inv.in_hand a);
         working = (refl, IsAt-apart m (begun m call op None).next (begun m call op None).in_hand _ (driver_start call op (kept_at m.cluster (number_of call.actor) (named_handle m call.actor op))) first.at);
       };
@@ -222,12 +251,25 @@ begun_with m call op None inv alone is =
 pub Invariant-begun : (m : Machine) (call : CallId) (op : Op) (end : Option Outcome) → Invariant m → Alone m (labels.Began call op end) → IsBegun m call op end → Invariant (begun m call op end)
 Invariant-begun m call op end inv alone is = begun_with m call op end (subst (λ hand. InvariantWith hand m) (none_in_hand inv.hand m inv.holds (all_idle m call op end alone is.none_in_hand)) inv.holds) alone is
 
+-- an iteration that ends counts nothing
+ended_counts : (m : Machine) (c n : ℕ) (place : Option ℕ) → Counts m n → Counts (with_ended c place m) n
+ended_counts m c n None counts = counts
+ended_counts m c n (Some place) counts = record {
+  next = counts.next;
+  last_handles = counts.last_handles;
+  last_iterations = λ d. elim (d == c) as (λ b. (cond b (without_iteration place (m.iterations c)) (m.iterations d)).last ≤ n) [ true ↦ counts.last_iterations c | false ↦ counts.last_iterations d ];
+  effects = counts.effects;
+  identity = counts.identity;
+  references = counts.references;
+}
+
 -- a beginning counts one number on
 pub Counts-begun : (m : Machine) (call : CallId) (op : Op) (end : Option Outcome) (n : ℕ) → Counts m n → Counts (begun m call op end) (n + 1)
-Counts-begun m call op end n counts = record {
+Counts-begun m call op end n counts = ended_counts (begun_call m call op end) (number_of call.actor) (n + 1) (ended_place end op) (record {
   next = λ a. elim (same_actor a call.actor) as (λ b. cond b (m.next call.actor + 1) (m.next a) ≤ n + 1 + 1) [ true ↦ omega (arith, counts.next call.actor) | false ↦ omega (arith, counts.next a) ];
   last_handles = λ c. omega (arith, counts.last_handles c);
+  last_iterations = λ c. omega (arith, counts.last_iterations c);
   effects = λ k r x is. omega (arith, counts.effects k r x is);
   identity = omega arith;
   references = λ k e c is. omega (arith, counts.references k e c is);
-}
+})

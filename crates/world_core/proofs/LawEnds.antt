@@ -12,14 +12,15 @@ use Rattle.ckpt_types.specs.declared.update.ReadElement.{ReadElement}
 use Rattle.run_labels.specs.declared.words.Verb.TheVariants as verbs
 use Rattle.run_labels.specs.declared.labels.StepReply.TheVariants as words
 use Rattle.world_core.specs.declared.drivers.Driver.{Driver}
+use Rattle.world_core.specs.declared.reading.ActiveKind.TheVariants as kinds
 use Rattle.world_core.specs.declared.record.Entry.{Entry}
 use Rattle.world_core.specs.Calls.{put_actor}
 use Rattle.world_core.specs.RecordState.{RecordState, is_up, no_nodes, first_nodes, swept}
 use Rattle.world_core.specs.Serving.{elements_of}
 use Rattle.world_core.specs.Machine.{Machine, Staged, ReplicaState, CallState}
 use Rattle.world_core.specs.Steps.{Told, look_word}
-use Rattle.world_core.specs.Guards.{LookRow, OfOpen, OfRead, OfWrite, OfClient}
-use Rattle.world_core.specs.Invariant.{Working, maker_by, slot_by, IsGoodEntry, IsClientOf, OpensAs, IsWriteOf, IsReadOf, AllInUse, InvariantWith, Invariant}
+use Rattle.world_core.specs.Guards.{LookRow, OfOpen, OfRead, OfUpdate, OfClient}
+use Rattle.world_core.specs.Invariant.{Working, maker_by, slot_by, IsGoodEntry, IsClientOf, OpensAs, IsUpdateOf, IsKindOf, AllInUse, InvariantWith, Invariant}
 use Rattle.world_core.proofs.LawLists.{filter-stays}
 use Rattle.world_core.proofs.LawMoves.{Leads, Goes, in_hand_of-ended, Counts-hands}
 
@@ -36,14 +37,18 @@ OfOpen-is (ops.Open place name flags timeout a) ask P is p = subst (P name) is.1
 OfOpen-is op ask P is p = absurd is
 
 -- a read is one, of its elements
-pub OfRead-is : (op : Op) (P : List ReadElement → Type 0) → IsReadOf op → P (elements_of op) → OfRead op P
+pub OfRead-is : (op : Op) (P : List ReadElement → Type 0) → IsKindOf kinds.Read op → P (elements_of op) → OfRead op P
 OfRead-is (ops.Read place elements) P is p = p
 OfRead-is op P is p = absurd is
 
--- a write is one
-pub OfWrite-is : (op : Op) (P : Type 0) → IsWriteOf op → P → OfWrite op P
-OfWrite-is (ops.Write place update) P is p = p
-OfWrite-is op P is p = absurd is
+-- an update is one
+pub OfUpdate-is : (op : Op) (P : Type 0) → IsUpdateOf op → P → OfUpdate op P
+OfUpdate-is (ops.Create place update) P is p = p
+OfUpdate-is (ops.Delete place update) P is p = p
+OfUpdate-is (ops.Expire place update) P is p = p
+OfUpdate-is (ops.Write place update) P is p = p
+OfUpdate-is (ops.Over place update) P is p = p
+OfUpdate-is op P is p = absurd is
 
 -- ---- nodes
 
@@ -96,7 +101,6 @@ Invariant-ended m s d inv makes owns = record {
     in_use = inv.in_use;
     entries = λ k e found. IsGoodEntry-as (maker_by s.call k d) None (slot_by s k d) None e (m.replicas k 0) (makes k) (owns k) (inv.entries k e found);
     handles = inv.handles;
-    next = inv.next;
     in_hand = in_hand_of-ended m.in_hand s d inv.in_hand;
     working = tt;
   };

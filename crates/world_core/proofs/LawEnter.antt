@@ -1,5 +1,6 @@
 -- A client becomes live.
-use Rattle.std.proofs.Common.{◌≡◌, ℕ, ◌<◌, ◌≤◌, inl, inr, length, Some, None, Bool, true, false, cond, nat_le, refl, sym, ap, subst, ◌∙◌, arith}
+use Rattle.world_core.specs.declared.drivers.Rooms.{Rooms}
+use Rattle.std.proofs.Common.{◌≡◌, ℕ, ◌<◌, ◌≤◌, inl, inr, length, Some, None, true, false, cond, nat_le, refl, sym, ap, subst, ◌∙◌, arith}
 use Rattle.std.proofs.lemmas.Bool.{leb-true, leb-false}
 use Rattle.ckpt_types.specs.declared.ais_error.AisError.TheVariants.{NoResources}
 use Rattle.ckpt_types.specs.declared.answers.Answer.TheVariants as answers
@@ -40,7 +41,6 @@ module _ (m : Machine) (s : CallState) (r : ℕ) (inv : InvariantWith (Some (rec
         in_use = inv.in_use;
         entries = λ k e found. IsGoodEntry-replica None None e (m.replicas k 0) _ (λ complete. replicas_under-kept m (entered (client_of s.call) r s.call.number m.cluster) k e e found found complete complete) (inv.entries k e found);
         handles = inv.handles;
-        next = inv.next;
         in_hand = in_hand_of-ended m.in_hand s (drivers.Enter r) inv.in_hand;
         working = tt;
       };
@@ -48,6 +48,7 @@ module _ (m : Machine) (s : CallState) (r : ℕ) (inv : InvariantWith (Some (rec
     counts = λ n counts. let more = Counts-record m (entered (client_of s.call) r s.call.number m.cluster) n counts (omega (arith, counts.identity)) (λ k e c found. omega (arith, counts.references k e c found)) in record {
       next = more.next;
       last_handles = more.last_handles;
+      last_iterations = more.last_iterations;
       effects = more.effects;
       identity = more.identity;
       references = more.references;
@@ -77,7 +78,7 @@ module _ (m : Machine) (s : CallState) (r : ℕ) (inv : InvariantWith (Some (rec
   ]
 
   -- the next step of an Initialize
-  pub enter_goes : (room : Bool) (t : Told) → IsDone m s (driver_next m.cluster room (drivers.Enter r)) t → Goes m s (drivers.Enter r) t
+  pub enter_goes : (room : Rooms) (t : Told) → IsDone m s (driver_next m.cluster room (drivers.Enter r)) t → Goes m s (drivers.Enter r) t
   enter_goes room t done =
       elim (nat_le 64 (length m.cluster.clients)) as (λ b. nat_le 64 (length m.cluster.clients) ≡ b → IsDone m s (cond b (End (Refused NoResources (Count 64))) (Event events.Enter)) t → Goes m s (drivers.Enter r) t) [
         | true ↦ λ full done. look_goes m s (drivers.Enter r) (Refused NoResources (Count 64)) t inv (λ k. refl) (λ k. refl) refl (LookRefused-client m s s.op r inv.working.1.op (leb-true 64 (length m.cluster.clients) full)) done

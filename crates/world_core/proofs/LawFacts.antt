@@ -1,6 +1,7 @@
 -- What the code relies on holds wherever the invariant does.
-use Rattle.std.proofs.Common.{◌≡◌, ℕ, zero, suc, ◌<◌, inl, inr, length, Option, Some, None, Bool, true, false, cond, not, ◌==◌, nat_le, nat_lt, ℤ, refl, sym, ap, subst, ◌∙◌, arith}
-use Rattle.std.specs.Prelude.{IsSome, slice_index}
+use Rattle.world_core.specs.declared.drivers.Rooms.{Rooms}
+use Rattle.std.proofs.Common.{◌≡◌, ℕ, zero, suc, ◌<◌, inl, inr, length, Option, Some, None, Bool, true, false, cond, not, ◌&&◌, ◌==◌, nat_le, nat_lt, ℤ, refl, sym, ap, subst, ◌∙◌, arith}
+use Rattle.std.specs.Prelude.{IsSome, IsSomeAnd, slice_index}
 use Rattle.std.proofs.lemmas.Bool.{leb-false, ltb-true, and_parts}
 use Rattle.ckpt_types.specs.declared.ais_error.AisError.TheVariants.{Exist, NoResources}
 use Rattle.ckpt_types.specs.declared.answers.Cause.TheVariants.{Plain, Count}
@@ -18,34 +19,41 @@ use Rattle.world_core.specs.declared.drivers.Driver.{Driver}
 use Rattle.world_core.specs.declared.drivers.Driver.TheVariants as drivers
 use Rattle.world_core.specs.declared.open_call.Making.{Making}
 use Rattle.world_core.specs.declared.open_call.OpenCall.{OpenCall}
-use Rattle.world_core.specs.declared.reading.ActiveCall.{ActiveCall}
+use Rattle.world_core.specs.declared.reading.ActiveKind.{ActiveKind}
+use Rattle.world_core.specs.declared.reading.ActiveKind.TheVariants as kinds
 use Rattle.world_core.specs.declared.record.Entry.{Entry}
 use Rattle.world_core.specs.declared.update_call.UpdateCall.{UpdateCall}
 use Rattle.world_core.specs.Calls.{client_of}
 use Rattle.world_core.specs.RecordState.{RecordState, entry_of, named, is_up, first_nodes, no_nodes}
-use Rattle.world_core.specs.Serving.{IsReadyFor, IsStaged}
-use Rattle.world_core.specs.Driving.{driver_next, create_next, entry_next, on_named, on_free_name, accepts, reserve_or_finish, first_lacking}
-use Rattle.world_core.specs.Beginning.{IsBuilt}
+use Rattle.world_core.specs.Serving.{ckpt_of, IsReadyFor, IsStaged}
+use Rattle.world_core.specs.Driving.{driver_next, create_next, entry_next, on_named, on_free_name, accepts, reserve_or_finish, first_lacking, request_by, starts_iteration}
+use Rattle.world_core.specs.Beginning.{IsIterOf, IsNextOf, IsBuilt}
 use Rattle.world_core.specs.Machine.{Machine, CallState}
-use Rattle.world_core.specs.Steps.{due, driver_of, room_of, seen_at, seen, seen_slot, staged_moment}
-use Rattle.world_core.specs.Shows.{IsServable, IsReservable, AllReserved, IsEventReady, Facts}
-use Rattle.world_core.specs.Invariant.{Working, IsMakingEntry, IsAt, InvariantWith, Invariant}
+use Rattle.world_core.specs.Steps.{due, driver_of, room_of, rooms_of, named_handle, sections_declared, seen_at, seen, seen_slot, staged_moment}
+use Rattle.world_core.specs.Shows.{IsActive, IsServable, IsReservable, AllReserved, IsEventReady, Facts}
+use Rattle.world_core.specs.Invariant.{Working, IsKindOf, IsMakingEntry, IsAt, InvariantWith, Invariant}
 use Rattle.world_core.proofs.Deadlines.{in_time-either}
 use Rattle.world_core.proofs.LawMoves.{in_hand_of-Some, IsSomeAnd-from, IsSomeAnd-more}
 use Rattle.world_core.proofs.LawEnds.{slice_index-replicate, slice_index-first}
-use Rattle.world_core.proofs.LawMade.{made_seen}
+use Rattle.world_core.proofs.LawMade.{MadeAt, made_seen}
 use Rattle.world_core.proofs.LawMaking.{making_entry, making_is, open_next-unreserved, open_next-reserved}
 use Rattle.world_core.proofs.LawUpdate.{update_is, unstaged, staged_there, update_next-unstaged, update_next-staged, staged_moment-unstaged, unstaged_at, staged_at, own_slot}
-use Rattle.world_core.proofs.LawRead.{active_next-made, read_at}
+use Rattle.world_core.proofs.LawActive.{active_next-made, active_at}
 
 -- a due stage has the moment of the slots that stand
 abbrev pub HasMoment : Machine → Request → Type 0
 HasMoment m (requests.Stage call k t) = staged_moment m k ≡ t
 HasMoment m request = Unit {0}
 
+-- an iteration that is started has room for all sections that are declared, and a handle; one that goes on has a handle
+abbrev pub IsFor : Machine → CallState → Driver → Request → Type 0
+IsFor m s d (requests.Iterate call k choice) = (s.kept.sections ≡ sections_declared m.cluster (Some k)) × IsIterOf choice s.op × IsSome (named_handle m s.call.actor s.op) × IsActive d
+IsFor m s d (requests.Next call k) = IsNextOf s.op × IsSome (named_handle m s.call.actor s.op)
+IsFor m s d request = Unit {0}
+
 -- what the code relies on of what is due
 abbrev pub IsDueReady : Machine → CallState → Driver → Next → Type 0
-IsDueReady m s d (Serve r request) = (r < 8) × IsServable m r request × HasMoment m request
+IsDueReady m s d (Serve r request) = (r < 8) × IsServable m r request × HasMoment m request × IsFor m s d request
 IsDueReady m s d (Event step) = IsEventReady m s d step
 IsDueReady m s d (End o) = Unit {0}
 
@@ -56,7 +64,7 @@ up_within : (r : ℕ) (R : RecordState) → is_up r R ≡ true → r < 8
 up_within r R up = ltb-true r 8 (and_parts (nat_lt r 8) _ up).0
 
 -- a client enters where there is room
-enter_ready : (m : Machine) (s : CallState) (r : ℕ) → InvariantWith (Some (record { state = s; driver = drivers.Enter r })) m → (room : Bool) → IsDueReady m s (drivers.Enter r) (driver_next m.cluster room (drivers.Enter r))
+enter_ready : (m : Machine) (s : CallState) (r : ℕ) → InvariantWith (Some (record { state = s; driver = drivers.Enter r })) m → (room : Rooms) → IsDueReady m s (drivers.Enter r) (driver_next m.cluster room (drivers.Enter r))
 enter_ready m s r inv room =
     elim (nat_le 64 (length m.cluster.clients)) as (λ b. nat_le 64 (length m.cluster.clients) ≡ b → IsDueReady m s (drivers.Enter r) (cond b (End (Refused NoResources (Count 64))) (Event events.Enter))) [
       | true ↦ λ full. tt
@@ -119,17 +127,17 @@ module _ (m : Machine) (s : CallState) (call : CallId) (ask : OpenAsk) (deadline
   IsHere making = InvariantWith (Some (record { state = s; driver = making_at making })) m
 
   -- it reserves
-  unreserved_ready : (k : ℕ) → IsHere (record { ckpt = k; reserved = no_nodes; refused = false }) → (room : Bool) → IsDueReady m s (making_at (record { ckpt = k; reserved = no_nodes; refused = false })) (driver_next m.cluster room (making_at (record { ckpt = k; reserved = no_nodes; refused = false })))
+  unreserved_ready : (k : ℕ) → IsHere (record { ckpt = k; reserved = no_nodes; refused = false }) → (room : Rooms) → IsDueReady m s (making_at (record { ckpt = k; reserved = no_nodes; refused = false })) (driver_next m.cluster room (making_at (record { ckpt = k; reserved = no_nodes; refused = false })))
   unreserved_ready k inv room = subst (IsDueReady m s (making_at (record { ckpt = k; reserved = no_nodes; refused = false }))) (sym (open_next-unreserved m s call ask deadline k inv room))
-      (omega arith, IsSomeAnd-more (entry_of k m.cluster.entries) IsMakingEntry (λ e. IsReservable e 0) reservable (making_entry m s call ask deadline (record { ckpt = k; reserved = no_nodes; refused = false }) inv), tt)
+      (omega arith, IsSomeAnd-more (entry_of k m.cluster.entries) IsMakingEntry (λ e. IsReservable e 0) reservable (making_entry m s call ask deadline (record { ckpt = k; reserved = no_nodes; refused = false }) inv), tt, tt)
 
   -- it is finished
-  reserved_ready : (k : ℕ) → IsHere (record { ckpt = k; reserved = first_nodes 1; refused = false }) → m.reserved k 0 ≡ Some 1 → (room : Bool) → IsDueReady m s (making_at (record { ckpt = k; reserved = first_nodes 1; refused = false })) (driver_next m.cluster room (making_at (record { ckpt = k; reserved = first_nodes 1; refused = false })))
+  reserved_ready : (k : ℕ) → IsHere (record { ckpt = k; reserved = first_nodes 1; refused = false }) → m.reserved k 0 ≡ Some 1 → (room : Rooms) → IsDueReady m s (making_at (record { ckpt = k; reserved = first_nodes 1; refused = false })) (driver_next m.cluster room (making_at (record { ckpt = k; reserved = first_nodes 1; refused = false })))
   reserved_ready k inv reserved room = subst (IsDueReady m s (making_at (record { ckpt = k; reserved = first_nodes 1; refused = false }))) (sym (open_next-reserved m s call ask deadline k room inv.working.1.up))
       (all_reserved m k inv.working.1.up reserved, IsSomeAnd-more (entry_of k m.cluster.entries) IsMakingEntry _ finishable (making_entry m s call ask deadline (record { ckpt = k; reserved = first_nodes 1; refused = false }) inv))
 
   -- or undone
-  making_ready : (making : Making) → IsHere making → (room : Bool) → IsDueReady m s (making_at making) (driver_next m.cluster room (making_at making))
+  making_ready : (making : Making) → IsHere making → (room : Rooms) → IsDueReady m s (making_at making) (driver_next m.cluster room (making_at making))
   making_ready making inv room =
       elim making.refused as (λ b. making.refused ≡ b → IsDueReady m s (making_at making) (cond b (Event events.Undo) (reserve_or_finish making.ckpt (first_lacking 0 m.cluster.up making.reserved)))) [
         | true ↦ λ is. tt
@@ -150,7 +158,7 @@ module _ (m : Machine) (s : CallState) (call : CallId) (ask : OpenAsk) (deadline
 -- ---- an update
 
 -- an update stages, or commits a slot of its own
-update_ready : (m : Machine) (s : CallState) (u : UpdateCall) → InvariantWith (Some (record { state = s; driver = drivers.Update u })) m → (room : Bool) → IsDueReady m s (drivers.Update u) (driver_next m.cluster room (drivers.Update u))
+update_ready : (m : Machine) (s : CallState) (u : UpdateCall) → InvariantWith (Some (record { state = s; driver = drivers.Update u })) m → (room : Rooms) → IsDueReady m s (drivers.Update u) (driver_next m.cluster room (drivers.Update u))
 update_ready m s u inv room =
     let P : UpdateCall → Type 0 = λ v. InvariantWith (Some (record { state = s; driver = drivers.Update v })) m → IsDueReady m s (drivers.Update v) (driver_next m.cluster room (drivers.Update v)) in
     elim inv.working.1.owned [
@@ -162,7 +170,7 @@ update_ready m s u inv room =
     unstaged_ready inv =
         let at = unstaged_at m s u.ckpt u.moment inv in
         subst (IsDueReady m s (drivers.Update (unstaged s.call u.ckpt u.moment))) (sym (update_next-unstaged m s u.ckpt u.moment inv room))
-        (omega arith, IsSomeAnd-from (seen_at m u.ckpt 0) (IsReadyFor (requests.Stage s.call u.ckpt m.cluster.moment)) (seen u.ckpt at.entry.attributes at.replica) (made_seen m u.ckpt None at) tt, staged_moment-unstaged m s u.ckpt u.moment inv)
+        (omega arith, IsSomeAnd-from (seen_at m u.ckpt 0) (IsReadyFor (requests.Stage s.call u.ckpt m.cluster.moment)) (seen u.ckpt at.entry.attributes at.replica) (made_seen m u.ckpt None at) tt, staged_moment-unstaged m s u.ckpt u.moment inv, tt)
 
     staged_ready : InvariantWith (Some (record { state = s; driver = drivers.Update (staged_there s.call u.ckpt u.moment) })) m → IsDueReady m s (drivers.Update (staged_there s.call u.ckpt u.moment)) (driver_next m.cluster room (drivers.Update (staged_there s.call u.ckpt u.moment)))
     staged_ready inv =
@@ -172,30 +180,46 @@ update_ready m s u inv room =
           IsSomeAnd-from (seen_at m u.ckpt 0) (IsReadyFor (requests.Commit s.call u.ckpt)) (seen u.ckpt at.entry.attributes at.replica) (made_seen m u.ckpt (Some (own_slot s u.moment)) at)
               (IsSomeAnd-from (seen_slot at.replica.slot) (IsStaged s.call (seen u.ckpt at.entry.attributes at.replica)) _ (ap seen_slot at.is.slot) (record { owner = refl; fits = at.is.fits })),
           tt,
+          tt,
         )
 
 -- ---- a read
 
--- a read asks the active
-read_ready : (m : Machine) (s : CallState) (a : ActiveCall) → InvariantWith (Some (record { state = s; driver = drivers.Active a })) m → (room : Bool) → IsDueReady m s (drivers.Active a) (driver_next m.cluster room (drivers.Active a))
-read_ready m s a inv room =
-    let at = read_at m s a inv in
-    subst (IsDueReady m s (drivers.Active a)) (sym (active_next-made m s a inv room)) (omega arith, IsSomeAnd-from (seen_at m a.ckpt 0) (IsReadyFor (requests.Read a.ckpt)) (seen a.ckpt at.entry.attributes at.replica) (made_seen m a.ckpt None at) tt, tt)
+-- a call to the active asks it, unless it starts an iteration for which there is no room
+active_ready : (m : Machine) (s : CallState) (call : CallId) (k : ℕ) (kind : ActiveKind) → InvariantWith (Some (record { state = s; driver = drivers.Active (record { call = call; ckpt = k; kind = kind }) })) m → (room : Rooms)
+    → IsDueReady m s (drivers.Active (record { call = call; ckpt = k; kind = kind })) (driver_next m.cluster room (drivers.Active (record { call = call; ckpt = k; kind = kind })))
+active_ready m s call k kind inv room =
+    subst (IsDueReady m s (drivers.Active (record { call = call; ckpt = k; kind = kind }))) (sym (active_next-made m s call k kind inv room)) (by_kind kind inv.working.1.kind (starts_iteration kind && not room.iterations))
+  where
+    at : MadeAt m k None
+    at = active_at m s call k kind inv
+
+    there : (request : Request) → ckpt_of request ≡ k → IsReadyFor request (seen k at.entry.attributes at.replica) → IsSomeAnd (seen_at m (ckpt_of request) 0) (IsReadyFor request)
+    there request about ready = IsSomeAnd-from (seen_at m (ckpt_of request) 0) (IsReadyFor request) (seen k at.entry.attributes at.replica) (ap (λ j. seen_at m j 0) about ∙ made_seen m k None at) ready
+
+    by_kind : (x : ActiveKind) → IsKindOf x s.op → (b : Bool) → IsDueReady m s (drivers.Active (record { call = call; ckpt = k; kind = kind })) (cond b (End (Refused NoResources (Count 8))) (Serve 0 (request_by call k x)))
+    by_kind x is true = tt
+    by_kind kinds.Read is false = (omega arith, there (requests.Read k) refl tt, tt, tt)
+    by_kind kinds.Status is false = (omega arith, there (requests.Status k) refl tt, tt, tt)
+    by_kind (kinds.Iterate choice) is false = (omega arith, there (requests.Iterate call k choice) refl tt, tt, (inv.working.1.sections, is, inv.working.1.handle, tt))
+    by_kind kinds.Next is false = (omega arith, there (requests.Next call k) refl tt, tt, (is, inv.working.1.handle))
+    by_kind kinds.Apply is false = absurd is
+    by_kind (kinds.Weak n) is false = absurd is
 
 -- ---- any call
 
 -- an open, making something or not
-open_ready : (m : Machine) (s : CallState) (call : CallId) (ask : OpenAsk) (deadline : Option ℤ) (making : Option Making) → InvariantWith (Some (record { state = s; driver = drivers.Open (record { call = call; ask = ask; deadline = deadline; making = making }) })) m → (room : Bool)
+open_ready : (m : Machine) (s : CallState) (call : CallId) (ask : OpenAsk) (deadline : Option ℤ) (making : Option Making) → InvariantWith (Some (record { state = s; driver = drivers.Open (record { call = call; ask = ask; deadline = deadline; making = making }) })) m → (room : Rooms)
     → IsDueReady m s (drivers.Open (record { call = call; ask = ask; deadline = deadline; making = making })) (driver_next m.cluster room (drivers.Open (record { call = call; ask = ask; deadline = deadline; making = making })))
-open_ready m s call ask deadline None inv room = named_ready m s call ask deadline room (named ask.name m.cluster.entries) refl
+open_ready m s call ask deadline None inv room = named_ready m s call ask deadline room.handles (named ask.name m.cluster.entries) refl
 open_ready m s call ask deadline (Some making) inv room = making_ready m s call ask deadline making inv room
 
 -- what is due of any call
-driver_ready : (m : Machine) (s : CallState) (d : Driver) → InvariantWith (Some (record { state = s; driver = d })) m → (room : Bool) → IsDueReady m s d (driver_next m.cluster room d)
+driver_ready : (m : Machine) (s : CallState) (d : Driver) → InvariantWith (Some (record { state = s; driver = d })) m → (room : Rooms) → IsDueReady m s d (driver_next m.cluster room d)
 driver_ready m s (drivers.Enter r) inv room = enter_ready m s r inv room
 driver_ready m s (drivers.Open o) inv room = open_ready m s o.call o.ask o.deadline o.making inv room
 driver_ready m s (drivers.Update u) inv room = update_ready m s u inv room
-driver_ready m s (drivers.Active a) inv room = read_ready m s a inv room
+driver_ready m s (drivers.Active a) inv room = active_ready m s a.call a.ckpt a.kind inv room
 
 -- the call that an actor has in hand is the actor's, and what is due of it is ready
 hand_ready : (hand : Option Working) (m : Machine) (a : ActorName) (s : CallState) → InvariantWith hand m → m.in_hand a ≡ Some s → (s.call.actor ≡ a) × IsDueReady m s (driver_of s) (due m s)
@@ -204,7 +228,7 @@ hand_ready (Some w) m a s inv here =
     let (same, is) = in_hand_of-Some w a s (sym (inv.in_hand a) ∙ here) in (
       ap (λ (t : CallState). t.call.actor) (sym same) ∙ sym is,
       subst (λ t. IsDueReady m t (driver_of t) (due m t)) same
-          (subst (λ d. IsDueReady m w.state d (driver_next m.cluster (room_of m (client_of w.state.call)) d)) (sym inv.working.0) (driver_ready m w.state w.driver inv (room_of m (client_of w.state.call)))),
+          (subst (λ d. IsDueReady m w.state d (driver_next m.cluster (rooms_of m (client_of w.state.call)) d)) (sym inv.working.0) (driver_ready m w.state w.driver inv (rooms_of m (client_of w.state.call)))),
     )
 
 -- the call that an actor has in hand is where its steps have led it
@@ -230,6 +254,8 @@ facts m inv = record {
   up_to = inv.holds.up_to;
   ready = λ a s r request here is. let ready = subst (IsDueReady m s (driver_of s)) is (hand_ready inv.hand m a s inv.holds here).1 in (ready.0, ready.1);
   moments = λ a s r call k t here is free. (subst (IsDueReady m s (driver_of s)) is (hand_ready inv.hand m a s inv.holds here).1).2;
+  starts = λ a s r call k choice here is. let (own, all) = hand_ready inv.hand m a s inv.holds here in let ready = (subst (IsDueReady m s (driver_of s)) is all).3 in (ready.0, ready.1, subst (λ actor. IsSome (named_handle m actor s.op)) own ready.2, ready.3);
+  goes_on = λ a s r call k here is. let (own, all) = hand_ready inv.hand m a s inv.holds here in let ready = (subst (IsDueReady m s (driver_of s)) is all).3 in (ready.0, subst (λ actor. IsSome (named_handle m actor s.op)) own ready.1);
   events = λ a s step here is. subst (IsDueReady m s (driver_of s)) is (hand_ready inv.hand m a s inv.holds here).1;
   opens = λ a s o here is. open_fits m a s o inv here is;
   numbered = λ c h among. (inv.holds.handles c h among).0;

@@ -2,6 +2,7 @@
 use Rattle.std.proofs.Common.{◌≡◌, ℕ, ◌+◌, ◌≤◌, ◌⊎◌, inl, inr, [], ◌∷◌, length, Option, Some, None, true, false, cond, ◌==◌, ◌&&◌, ap, subst, ◌∙◌, arith}
 use Rattle.std.specs.Prelude.{IsTrue}
 use Rattle.std.proofs.lemmas.Option.{same_Some}
+use Rattle.ckpt_types.specs.declared.answers.Outcome.{Outcome}
 use Rattle.ckpt_types.specs.declared.answers.Outcome.TheVariants.{NoMemory}
 use Rattle.ckpt_types.specs.declared.identities.CallId.{CallId}
 use Rattle.node_msgs.specs.declared.requests.Request.{Request}
@@ -12,16 +13,20 @@ use Rattle.world_core.specs.declared.drivers.Driver.{Driver}
 use Rattle.world_core.specs.declared.record.Entry.{Entry}
 use Rattle.world_core.specs.RecordState.{entry_of, complete_of, first_nodes}
 use Rattle.world_core.specs.Places.{put2}
-use Rattle.world_core.specs.Serving.{ckpt_of, pieces_at}
+use Rattle.world_core.specs.Serving.{ckpt_of}
 use Rattle.world_core.specs.Driving.{driver_end, driver_taken, done_of, verb_of, word_of, event_verb, event_ckpt, event_node, event_end, takes_memory}
 use Rattle.world_core.specs.Machine.{Machine, Staged, ReplicaState, CallState}
-use Rattle.world_core.specs.Steps.{Told, IsServed, IsEvent, driver_of, seen, seen_by, seen_at, moment_from, moment_of_slot, moment_or, staged_moment}
+use Rattle.world_core.specs.Steps.{Told, ended_pieces, pieces_due, IsServed, IsEvent, driver_of, seen, seen_by, seen_at, moment_from, moment_of_slot, moment_or, staged_moment}
 use Rattle.world_core.specs.Guards.{complete_replicas, replicas_from, with_replica, OnReplica}
 use Rattle.world_core.specs.Runs.{Counts}
 use Rattle.world_core.specs.Invariant.{Working, maker_of, slot_of, IsGoodReplica, IsMadeEntry, IsGoodState, IsMade, InvariantWith}
 use Rattle.world_core.proofs.LawMoves.{Told-is, IsSomeAnd-at, IsSomeAnd-from}
 
 -- ---- the parts of a label
+
+-- how a served step ends its call, with the answer
+abbrev pub served_end : Machine → CallState → ℕ → Request → Driver → Reply → Option Outcome
+served_end m s r request d answer = let done = done_of m.cluster (verb_of request) (Some (ckpt_of request)) (Some r) (word_of answer) in driver_end s.op done answer (driver_taken done d)
 
 -- what a served step does, with the answer
 abbrev pub served_told : Machine → CallState → ℕ → Request → Driver → Reply → Told
@@ -30,16 +35,17 @@ served_told m s r request d answer = record {
   ckpt = Some (ckpt_of request);
   node = Some r;
   reply = word_of answer;
-  end = let done = done_of m.cluster (verb_of request) (Some (ckpt_of request)) (Some r) (word_of answer) in driver_end done answer (driver_taken done d);
-  pieces = pieces_at request s.op m.cluster.moment (seen_at m (ckpt_of request) r);
+  end = served_end m s r request d answer;
+  pieces = ended_pieces (served_end m s r request d answer) (pieces_due m s request r);
 }
 
 -- a served step's label is that
 pub IsServed-told : (m : Machine) (s : CallState) (r : ℕ) (request : Request) (t : Told) (d : Driver) (answer : Reply) (served : IsServed m s r request t) → driver_of s ≡ d → served.answer ≡ answer → t ≡ served_told m s r request d answer
 IsServed-told m s r request t d answer served at is =
     let word : t.reply ≡ word_of answer = served.reply ∙ ap word_of is in
-    Told-is t (served_told m s r request d answer) served.verb served.ckpt served.node word
-    (served.end ∙ (λ i. let done = done_of m.cluster (served.verb i) (served.ckpt i) (served.node i) (word i) in driver_end done (is i) (driver_taken done (at i)))) served.pieces
+    let end : t.end ≡ served_end m s r request d answer = served.end ∙ (λ i. let done = done_of m.cluster (served.verb i) (served.ckpt i) (served.node i) (word i) in driver_end s.op done (is i) (driver_taken done (at i))) in
+    Told-is t (served_told m s r request d answer) served.verb served.ckpt served.node word end
+    (served.pieces ∙ ap (λ end. ended_pieces end (pieces_due m s request r)) end)
 
 -- what a step of the record does
 abbrev pub event_told : Machine → Driver → RecordStep → Told
@@ -113,6 +119,7 @@ pub Counts-replica : (m : Machine) (k r : ℕ) (x : ReplicaState) (n : ℕ) → 
 Counts-replica m k r x n counts few = record {
   next = λ a. omega (arith, counts.next a);
   last_handles = λ c. omega (arith, counts.last_handles c);
+  last_iterations = λ c. omega (arith, counts.last_iterations c);
   effects = λ j q y is. elim ((j == k) && (q == r)) as (λ b. cond b (Some x) (m.replicas j q) ≡ Some y → length y.effects ≤ n + 1) [
     | true ↦ λ here. subst (λ (z : ReplicaState). length z.effects ≤ n + 1) (same_Some x y here) few
     | false ↦ λ there. omega (arith, counts.effects j q y there)

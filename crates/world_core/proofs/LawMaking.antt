@@ -1,4 +1,5 @@
 -- A checkpoint in the making is reserved on n0, and finished or undone.
+use Rattle.world_core.specs.declared.drivers.Rooms.{Rooms}
 use Rattle.std.proofs.Common.{◌≡◌, ℕ, zero, suc, ◌+◌, ◌<◌, ◌≤◌, inl, inr, List, ◌∷◌, Option, Some, None, Bool, true, false, cond, not, ◌==◌, ◌&&◌, nat_lt, ℤ, refl, sym, ap, subst, ◌∙◌, arith}
 use Rattle.std.specs.Prelude.{IsSome, IsSomeAnd, slice_index, slice_set}
 use Rattle.std.proofs.lemmas.Bool.{eq-eqb, and_right}
@@ -7,7 +8,6 @@ use Rattle.ckpt_types.specs.declared.answers.Answer.TheVariants as answers
 use Rattle.ckpt_types.specs.declared.answers.Outcome.TheVariants.{Done, NoMemory}
 use Rattle.ckpt_types.specs.declared.calls.OpenAsk.{OpenAsk}
 use Rattle.ckpt_types.specs.declared.identities.CallId.{CallId}
-use Rattle.ckpt_types.specs.declared.operation.Op.{Op}
 use Rattle.node_msgs.specs.declared.requests.Request.TheVariants as requests
 use Rattle.node_msgs.specs.declared.replies.Reply.TheVariants as replies
 use Rattle.node_msgs.specs.declared.next.RecordStep.TheVariants as events
@@ -20,14 +20,12 @@ use Rattle.world_core.specs.declared.drivers.Driver.TheVariants as drivers
 use Rattle.world_core.specs.declared.open_call.Making.{Making}
 use Rattle.world_core.specs.declared.open_call.OpenCall.{OpenCall}
 use Rattle.world_core.specs.declared.record.Entry.{Entry}
-use Rattle.world_core.specs.declared.replica.Replica.{Replica}
 use Rattle.world_core.specs.Calls.{client_of}
 use Rattle.world_core.specs.Places.{put2}
 use Rattle.world_core.specs.RecordState.{RecordState, identity_of, entry_of, complete_of, is_up, first_nodes, no_nodes, first_complete, made_with, finished, undone}
-use Rattle.world_core.specs.Serving.{pieces_at}
 use Rattle.world_core.specs.Driving.{StepDone, IsBefore, driver_next, driver_taken, done_of, event_after, first_lacking, reserve_or_finish}
 use Rattle.world_core.specs.Machine.{Machine, CallState}
-use Rattle.world_core.specs.Steps.{Told, IsDone, IsServed, IsEvent, seen_at, opened_state, replica_under, replicas_under, with_record, with_opened, with_handle_at, new_handle, stepped}
+use Rattle.world_core.specs.Steps.{Told, IsDone, IsServed, IsEvent, opened_state, replica_under, replicas_under, with_record, with_opened, with_handle_at, new_handle, stepped}
 use Rattle.world_core.specs.Guards.{IsMadeBy, IsInTime}
 use Rattle.world_core.specs.Runs.{lacking}
 use Rattle.world_core.specs.Invariant.{maker_by, IsMakingEntry, IsGoodEntry, IsMade, is_in_use, AllInUse, InvariantWith}
@@ -41,11 +39,6 @@ use Rattle.world_core.proofs.LawOpening.{handles-push, opened_place-is}
 pub there_is : {X : Type 0} (o : Option X) → IsSome o → (x : X) × (o ≡ Some x)
 there_is None there = absurd (cc there)
 there_is (Some x) there = (x, refl)
-
--- a reservation gives no pieces
-reserve_pieces : (k : ℕ) (op : Op) (now : ℤ) (x : Option Replica) → pieces_at (requests.Reserve k) op now x ≡ None
-reserve_pieces k op now None = refl
-reserve_pieces k op now (Some x) = refl
 
 -- where n0 alone is up it is the node that is up
 first_up : (r : ℕ) (R : RecordState) → R.up ≡ first_nodes 1 → is_up r R ≡ true → r ≡ 0
@@ -126,13 +119,12 @@ module _ (m : Machine) (s : CallState) (call : CallId) (ask : OpenAsk) (deadline
         in_use = AllInUse-filter _ m.cluster.entries inv.in_use;
         entries = good_undone;
         handles = λ c h among. let (from_one, made) = inv.handles c h among in (from_one, Changed-kept k None m.cluster.entries undone_then.entries (λ e. e.making ≡ None) change_undone (λ is. absurd (not_made is)) h.id made);
-        next = inv.next;
         in_hand = in_hand_of-ended m.in_hand s (drivers.Open at_making) inv.in_hand;
         working = tt;
       };
     };
     counts = λ n counts. let more = Counts-record m undone_then n counts (omega (arith, counts.identity)) (references-changed m k None undone_then.entries n counts change_undone (λ e c is. absurd (cc is))) in
-        record { next = more.next; last_handles = more.last_handles; effects = more.effects; identity = more.identity; references = more.references };
+        record { next = more.next; last_handles = more.last_handles; last_iterations = more.last_iterations; effects = more.effects; identity = more.identity; references = more.references };
   }
 
   -- the undoing
@@ -217,7 +209,6 @@ module _ (m : Machine) (s : CallState) (call : CallId) (ask : OpenAsk) (deadline
         entries = good_finished;
         handles = handles-push m.handles (λ h. (1 ≤ h.handle) × IsSomeAnd (entry_of h.id finished_then.entries) (λ e. e.making ≡ None)) (client_of s.call) handle
             (λ c h among. let (from_one, is) = inv.handles c h among in (from_one, made_still h.id is)) (omega arith, made_now);
-        next = inv.next;
         in_hand = in_hand_of-ended m.in_hand s (drivers.Open at_making) inv.in_hand;
         working = tt;
       };
@@ -225,7 +216,7 @@ module _ (m : Machine) (s : CallState) (call : CallId) (ask : OpenAsk) (deadline
     counts = λ n counts. let more = Counts-record m finished_then n counts (omega (arith, counts.identity))
         (references-changed m k (Some made) finished_then.entries n counts change_finished
         (λ e c is. subst (λ (f : Entry). slice_index f.references c ≤ n + 1) (same_Some made e is) (slice_index-one_more entry.references ask.client c n (λ d. counts.references k entry d found)))) in
-        record { next = more.next; last_handles = last_handles-put m (client_of s.call) n counts; effects = more.effects; identity = more.identity; references = more.references };
+        record { next = more.next; last_handles = last_handles-put m (client_of s.call) n counts; last_iterations = more.last_iterations; effects = more.effects; identity = more.identity; references = more.references };
   }
 
   -- the finish
@@ -277,7 +268,7 @@ module _ (m : Machine) (s : CallState) (call : CallId) (ask : OpenAsk) (deadline
   reserving = record m { reserved = put2 m.reserved k 0 (Some (slice_index m.cluster.up 0)) }
 
   -- it reserves on n0
-  pub open_next-unreserved : (room : Bool) → driver_next m.cluster room (drivers.Open (making_of unreserved)) ≡ Serve 0 (requests.Reserve k)
+  pub open_next-unreserved : (room : Rooms) → driver_next m.cluster room (drivers.Open (making_of unreserved)) ≡ Serve 0 (requests.Reserve k)
   open_next-unreserved room = ap (λ up. reserve_or_finish k (first_lacking 0 up no_nodes)) inv.working.1.up
 
   -- n0 has reserved under its incarnation
@@ -296,12 +287,10 @@ module _ (m : Machine) (s : CallState) (call : CallId) (ask : OpenAsk) (deadline
         in_use = inv.in_use;
         entries = inv.entries;
         handles = inv.handles;
-        next = inv.next;
         in_hand = in_hand_of-going m.in_hand s (drivers.Open (making_of unreserved)) (drivers.Open (making_of reserved)) (reserve_done ∷ s.steps) inv.in_hand;
         working = (
           ap (driver_taken reserve_done) inv.working.0,
           record {
-            number = inv.working.1.number;
             client = inv.working.1.client;
             within = inv.working.1.within;
             built = inv.working.1.built;
@@ -319,7 +308,7 @@ module _ (m : Machine) (s : CallState) (call : CallId) (ask : OpenAsk) (deadline
         );
       };
     };
-    counts = λ n counts. let more = Counts-hands m m.in_hand n counts in record { next = more.next; last_handles = more.last_handles; effects = more.effects; identity = more.identity; references = more.references };
+    counts = λ n counts. let more = Counts-hands m m.in_hand n counts in record { next = more.next; last_handles = more.last_handles; last_iterations = more.last_iterations; effects = more.effects; identity = more.identity; references = more.references };
   }
 
   -- or with its refusal
@@ -334,12 +323,10 @@ module _ (m : Machine) (s : CallState) (call : CallId) (ask : OpenAsk) (deadline
         in_use = inv.in_use;
         entries = inv.entries;
         handles = inv.handles;
-        next = inv.next;
         in_hand = in_hand_of-going m.in_hand s (drivers.Open (making_of unreserved)) (drivers.Open (making_of refused)) (memory_done ∷ s.steps) inv.in_hand;
         working = (
           ap (driver_taken memory_done) inv.working.0,
           record {
-            number = inv.working.1.number;
             client = inv.working.1.client;
             within = inv.working.1.within;
             built = inv.working.1.built;
@@ -354,7 +341,7 @@ module _ (m : Machine) (s : CallState) (call : CallId) (ask : OpenAsk) (deadline
         );
       };
     };
-    counts = λ n counts. let more = Counts-hands m m.in_hand n counts in record { next = more.next; last_handles = more.last_handles; effects = more.effects; identity = more.identity; references = more.references };
+    counts = λ n counts. let more = Counts-hands m m.in_hand n counts in record { next = more.next; last_handles = more.last_handles; last_iterations = more.last_iterations; effects = more.effects; identity = more.identity; references = more.references };
   }
 
   -- n0 is up
@@ -373,12 +360,12 @@ module _ (m : Machine) (s : CallState) (call : CallId) (ask : OpenAsk) (deadline
   reserve_goes : (t : Told) → IsServed m s 0 (requests.Reserve k) t → Goes m s (drivers.Open (making_of unreserved)) t
   reserve_goes t served = elim served.may [
     | inl ok ↦ subst (Goes m s (drivers.Open (making_of unreserved))) (sym (IsServed-told m s 0 (requests.Reserve k) t (drivers.Open (making_of unreserved)) (replies.Done answers.Nothing) served inv.working.0 ok)) (record {
-      row = ((up_there, by, before, refl), reserve_pieces k s.op m.cluster.moment (seen_at m k 0));
+      row = ((up_there, by, before, refl), refl);
       leads = leads_reserved;
       nearer = λ none. subst (λ up. lacking up (slice_set no_nodes 0 (slice_index up 0)) + 1 < lacking up no_nodes + 1) (sym inv.working.1.up) (omega arith);
     })
     | inr memory ↦ subst (Goes m s (drivers.Open (making_of unreserved))) (sym (IsServed-told m s 0 (requests.Reserve k) t (drivers.Open (making_of unreserved)) replies.NoMemory served inv.working.0 memory)) (record {
-      row = ((up_there, by, before, refl), reserve_pieces k s.op m.cluster.moment (seen_at m k 0));
+      row = ((up_there, by, before, refl), refl);
       leads = leads_refused;
       nearer = λ none. subst (λ up. 1 < lacking up no_nodes + 1) (sym inv.working.1.up) (omega arith);
     })
@@ -398,11 +385,11 @@ module _ (m : Machine) (s : CallState) (call : CallId) (ask : OpenAsk) (deadline
   IsHere making = InvariantWith (Some (record { state = s; driver = driver_at making })) m
 
   -- after the last reservation it is finished
-  pub open_next-reserved : (k : ℕ) (room : Bool) → m.cluster.up ≡ first_nodes 1 → driver_next m.cluster room (driver_at (record { ckpt = k; reserved = first_nodes 1; refused = false })) ≡ Event events.Finish
+  pub open_next-reserved : (k : ℕ) (room : Rooms) → m.cluster.up ≡ first_nodes 1 → driver_next m.cluster room (driver_at (record { ckpt = k; reserved = first_nodes 1; refused = false })) ≡ Event events.Finish
   open_next-reserved k room first = ap (λ up. reserve_or_finish k (first_lacking 0 up (first_nodes 1))) first
 
   -- the next step of a making
-  pub making_goes : (making : Making) → IsHere making → (room : Bool) (t : Told) → IsDone m s (driver_next m.cluster room (driver_at making)) t → Goes m s (driver_at making) t
+  pub making_goes : (making : Making) → IsHere making → (room : Rooms) (t : Told) → IsDone m s (driver_next m.cluster room (driver_at making)) t → Goes m s (driver_at making) t
   making_goes making inv room t done =
       elim making.refused as (λ b. making.refused ≡ b → Goes m s (driver_at making) t) [
         | true ↦ λ is. undo_goes m s call ask deadline making inv t (subst (λ b. IsDone m s (cond b (Event events.Undo) (reserve_or_finish making.ckpt (first_lacking 0 m.cluster.up making.reserved))) t) is done)

@@ -168,6 +168,7 @@ pub Counts-hands : (m : Machine) (f : ActorName → Option CallState) (n : ℕ) 
 Counts-hands m f n counts = record {
   next = λ a. omega (arith, counts.next a);
   last_handles = λ c. omega (arith, counts.last_handles c);
+  last_iterations = λ c. omega (arith, counts.last_iterations c);
   effects = λ k r x is. omega (arith, counts.effects k r x is);
   identity = omega arith;
   references = λ k e c is. omega (arith, counts.references k e c is);
@@ -178,6 +179,7 @@ pub Counts-record : (m : Machine) (R : RecordState) (n : ℕ) → Counts m n →
 Counts-record m R n counts identity references = record {
   next = λ a. omega (arith, counts.next a);
   last_handles = λ c. omega (arith, counts.last_handles c);
+  last_iterations = λ c. omega (arith, counts.last_iterations c);
   effects = λ k r x is. elim (replica_under-Some (entry_of k R.entries) (slice_index (complete_of (entry_of k m.cluster.entries)) r) r (m.replicas k r) x is) [
     | inl was ↦ omega (arith, counts.effects k r x was)
     | inr none ↦ omega (arith, ap length none)

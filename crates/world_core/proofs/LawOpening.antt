@@ -1,4 +1,5 @@
 -- An open is refused, creates a checkpoint, or opens one that is there.
+use Rattle.world_core.specs.declared.drivers.Rooms.{Rooms}
 use Rattle.std.proofs.Common.{◌≡◌, ℕ, ◌+◌, ◌<◌, ◌≤◌, inl, inr, List, [], ◌∷◌, ◌++◌, length, Option, Some, None, is_some, Bool, true, false, cond, not, ◌==◌, nat_le, ℤ, refl, sym, ap, subst, ◌∙◌, arith}
 use Rattle.std.specs.Prelude.{IsSomeAnd, Contains, slice_index}
 use Rattle.std.proofs.lemmas.Bool.{eq-eqb, leb-true, leb-false}
@@ -140,12 +141,10 @@ module _ (m : Machine) (s : CallState) (call : CallId) (ask : OpenAsk) (deadline
             Changed-kept next (Some new) m.cluster.entries after_it.entries (λ e. e.making ≡ None) change
                 (λ there. absurd (subst (λ o. IsSomeAnd o (λ e. e.making ≡ None)) none_before there)) h.id made,
           );
-          next = inv.next;
           in_hand = in_hand_of-going m.in_hand s (drivers.Open asking) (drivers.Open making) (create_done ∷ s.steps) inv.in_hand;
           working = (
             ap (driver_taken create_done) inv.working.0,
             record {
-              number = inv.working.1.number;
               client = inv.working.1.client;
               within = inv.working.1.within;
               built = inv.working.1.built;
@@ -165,7 +164,7 @@ module _ (m : Machine) (s : CallState) (call : CallId) (ask : OpenAsk) (deadline
       };
       counts = λ n counts. let more = Counts-record m after_it n counts (omega (arith, counts.identity))
           (references-changed m next (Some new) after_it.entries n counts change (λ e c is. subst (λ (f : Entry). slice_index f.references c ≤ n + 1) (same_Some new e is) (omega (arith, slice_index-replicate 100 c)))) in
-          record { next = more.next; last_handles = more.last_handles; effects = more.effects; identity = more.identity; references = more.references };
+          record { next = more.next; last_handles = more.last_handles; last_iterations = more.last_iterations; effects = more.effects; identity = more.identity; references = more.references };
     }
 
     -- its reservations and its finish are left
@@ -250,7 +249,6 @@ module _ (m : Machine) (s : CallState) (call : CallId) (ask : OpenAsk) (deadline
           handles = handles-push m.handles (λ h. (1 ≤ h.handle) × IsSomeAnd (entry_of h.id opened_then.entries) (λ f. f.making ≡ None)) (client_of s.call) handle
               (λ c h among. let (from_one, made) = inv.handles c h among in (from_one, made_still h.id made))
               (omega arith, made_still e.identity (IsSomeAnd-from (entry_of e.identity m.cluster.entries) (λ f. f.making ≡ None) e there good.making));
-          next = inv.next;
           in_hand = in_hand_of-ended m.in_hand s (drivers.Open asking) inv.in_hand;
           working = tt;
         };
@@ -258,7 +256,7 @@ module _ (m : Machine) (s : CallState) (call : CallId) (ask : OpenAsk) (deadline
       counts = λ n counts. let more = Counts-record m opened_then n counts (omega (arith, counts.identity))
           (references-changed m e.identity (Some with_reference) opened_then.entries n counts change_opened
           (λ f c is. subst (λ (g : Entry). slice_index g.references c ≤ n + 1) (same_Some with_reference f is) (slice_index-one_more e.references ask.client c n (λ d. counts.references e.identity e d there)))) in
-          record { next = more.next; last_handles = last_handles-put m (client_of s.call) n counts; effects = more.effects; identity = more.identity; references = more.references };
+          record { next = more.next; last_handles = last_handles-put m (client_of s.call) n counts; last_iterations = more.last_iterations; effects = more.effects; identity = more.identity; references = more.references };
     }
 
     -- it may be opened
@@ -329,5 +327,5 @@ module _ (m : Machine) (s : CallState) (call : CallId) (ask : OpenAsk) (deadline
       (λ d is late. refused_late t d (subst (λ o. MayExist o ask.attrs) (sym found) tt) is late) (λ before. entry_next-goes room e t has found before (accepts ask.attrs e) refl) done
 
   -- the next step of an open that makes nothing yet
-  pub asking_goes : (room : Bool) (t : Told) → room_of m (client_of s.call) ≡ room → IsDone m s (driver_next m.cluster room (drivers.Open asking)) t → Goes m s (drivers.Open asking) t
-  asking_goes room t has done = on_named-goes room (named ask.name m.cluster.entries) t has refl done
+  pub asking_goes : (room : Rooms) (t : Told) → room_of m (client_of s.call) ≡ room.handles → IsDone m s (driver_next m.cluster room (drivers.Open asking)) t → Goes m s (drivers.Open asking) t
+  asking_goes room t has done = on_named-goes room.handles (named ask.name m.cluster.entries) t has refl done

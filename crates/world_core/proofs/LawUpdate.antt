@@ -1,12 +1,12 @@
 -- An update is staged on the one replica and committed there.
-use Rattle.std.proofs.Common.{◌≡◌, ℕ, ◌+◌, ◌*◌, ◌<◌, inl, inr, List, ◌∷◌, Option, Some, None, Result, Ok, Err, Bool, true, false, cond, ◌==◌, ◌&&◌, ℤ, refl, sym, ap, subst, ◌∙◌, arith}
+use Rattle.world_core.specs.declared.drivers.Rooms.{Rooms}
+use Rattle.std.proofs.Common.{◌≡◌, ℕ, ◌+◌, ◌*◌, ◌<◌, inl, inr, List, ◌∷◌, Option, Some, None, Result, Ok, Err, true, false, cond, ◌==◌, ◌&&◌, ℤ, refl, sym, ap, subst, ◌∙◌, arith}
 use Rattle.std.specs.Prelude.{is_ok, slice_index, slice_set}
 use Rattle.std.proofs.lemmas.Bool.{eqb-true, eq-eqb}
 use Rattle.std.proofs.lemmas.Option.{same_Some}
 use Rattle.std.proofs.lemmas.List.{length_push}
 use Rattle.ckpt_types.specs.declared.answers.Answer.TheVariants as answers
 use Rattle.ckpt_types.specs.declared.answers.Outcome.TheVariants.{Done, Refused}
-use Rattle.ckpt_types.specs.declared.answers.Cause.TheVariants.{Index}
 use Rattle.ckpt_types.specs.declared.identities.CallId.{CallId}
 use Rattle.ckpt_types.specs.Sections.{Section}
 use Rattle.ckpt_types.specs.Updates.{Refusal, outcome}
@@ -21,15 +21,15 @@ use Rattle.world_core.specs.declared.update_call.UpdateCall.{UpdateCall}
 use Rattle.world_core.specs.declared.update_call.UpdatePhase.TheVariants.{Staging, Committing}
 use Rattle.world_core.specs.Places.{put2}
 use Rattle.world_core.specs.RecordState.{entry_of, complete_of, first_nodes, no_nodes}
-use Rattle.world_core.specs.Serving.{update_of, reply_at, pieces_at, stage_reply, done_or_refused}
-use Rattle.world_core.specs.Driving.{StepDone, driver_next, driver_taken, commit_end, done_of, update_on, by_phase, first_lacking, last_having, kept_moment}
+use Rattle.world_core.specs.Serving.{update_of, update_answer, told_id, slot_id, reply_at, pieces_at, stage_reply, done_or_refused}
+use Rattle.world_core.specs.Driving.{StepDone, driver_next, driver_taken, commit_end, refused_cause, done_of, update_on, by_phase, first_lacking, last_having, kept_moment}
 use Rattle.world_core.specs.Machine.{Machine, Staged, ReplicaState, CallState}
-use Rattle.world_core.specs.Steps.{Told, IsDone, IsServed, seen_slot, seen_at, staged_moment, with_slot, with_committed, effect_of, committed_slot, change_replica, stepped}
+use Rattle.world_core.specs.Steps.{Told, ended_pieces, IsDone, IsServed, seen_slot, seen_at, staged_moment, with_slot, with_committed, effect_of, committed_slot, change_replica, stepped}
 use Rattle.world_core.specs.Guards.{OnEach, StageOk, StageRefused, StageRow, CommitOk, CommitRow, IfSlot, HasSlotOrEffect, owns_slot, owned_elsewhere}
 use Rattle.world_core.specs.Runs.{steps_left, lacking, having}
 use Rattle.world_core.specs.Invariant.{slot_by, IsMadeEntry, IsGoodEntry, InvariantWith}
 use Rattle.world_core.proofs.LawMoves.{Leads, Goes, in_hand_of-going, in_hand_of-ended}
-use Rattle.world_core.proofs.LawEnds.{OfWrite-is, no_slot, IsGoodEntry-as, Leads-ended}
+use Rattle.world_core.proofs.LawEnds.{OfUpdate-is, no_slot, IsGoodEntry-as, Leads-ended}
 use Rattle.world_core.proofs.LawMade.{MadeAt, made_at, made_complete, made_seen, made_replicas, made_moment, made_OnReplica, IsServed-told, Counts-replica}
 
 -- an update that has staged nowhere, and one that has staged on n0
@@ -71,7 +71,7 @@ module _ (m : Machine) (s : CallState) (k : ℕ) (t : ℤ) (inv : InvariantWith 
   unstaged_at = made_at (Some (record { state = s; driver = drivers.Update (unstaged s.call k t) })) m k None inv inv.working.1.made (unowned k)
 
   -- it stages on n0
-  pub update_next-unstaged : (room : Bool) → driver_next m.cluster room (drivers.Update (unstaged s.call k t)) ≡ Serve 0 (requests.Stage s.call k m.cluster.moment)
+  pub update_next-unstaged : (room : Rooms) → driver_next m.cluster room (drivers.Update (unstaged s.call k t)) ≡ Serve 0 (requests.Stage s.call k m.cluster.moment)
   update_next-unstaged room =
       ap (update_on (unstaged s.call k t) m.cluster.moment) unstaged_at.found
       ∙ ap (λ cs. by_phase (unstaged s.call k t) m.cluster.moment (first_lacking 0 cs no_nodes) (last_having 0 cs no_nodes) Staging) unstaged_at.good.complete
@@ -131,16 +131,15 @@ module _ (m : Machine) (s : CallState) (k : ℕ) (t : ℤ) (inv : InvariantWith 
             (λ j. slot_by s j (drivers.Update (staged_there s.call k m.cluster.moment))) (λ j is. ap (λ b. cond b (Some (own_slot s m.cluster.moment)) None) is)
             (λ j is. unowned j ∙ sym (ap (λ b. cond b (Some (own_slot s m.cluster.moment)) None) is));
         handles = inv.handles;
-        next = inv.next;
         in_hand = in_hand_of-going m.in_hand s (drivers.Update (unstaged s.call k t)) (drivers.Update (staged_there s.call k m.cluster.moment)) (stage_done ∷ s.steps) inv.in_hand;
         working = (
           ap (driver_taken stage_done) inv.working.0
               ∙ ap (λ cs. drivers.Update (record { call = s.call; ckpt = k; owned = slice_set no_nodes 0 (slice_index cs 0); moment = kept_moment (last_having 0 cs no_nodes) m.cluster.moment t; phase = Staging })) (made_complete m k None unstaged_at),
-          record { call = refl; write = inv.working.1.write; phase = refl; made = inv.working.1.made; owned = inr refl },
+          record { call = refl; update = inv.working.1.update; phase = refl; made = inv.working.1.made; owned = inr refl },
         );
       };
     };
-    counts = λ n counts. let more = Counts-replica m k 0 with_stage n counts (omega (arith, counts.effects k 0 unstaged_at.replica unstaged_at.there)) in record { next = more.next; last_handles = more.last_handles; effects = more.effects; identity = more.identity; references = more.references };
+    counts = λ n counts. let more = Counts-replica m k 0 with_stage n counts (omega (arith, counts.effects k 0 unstaged_at.replica unstaged_at.there)) in record { next = more.next; last_handles = more.last_handles; last_iterations = more.last_iterations; effects = more.effects; identity = more.identity; references = more.references };
   }
 
   -- the guard of the stage
@@ -156,8 +155,8 @@ module _ (m : Machine) (s : CallState) (k : ℕ) (t : ℤ) (inv : InvariantWith 
   )
 
   -- and of its refusal
-  refused_row : (why : Refusal) → Gives (Err why) → StageRow m s k 0 words.Refused (Some (Refused why.error (Index why.index)))
-  refused_row why gives = made_OnReplica m k None unstaged_at (StageRefused m s.call (update_of s.op) k (Some (Refused why.error (Index why.index)))) (record {
+  refused_row : (why : Refusal) → Gives (Err why) → StageRow m s k 0 words.Refused (Some (Refused why.error (refused_cause s.op why.index)))
+  refused_row why gives = made_OnReplica m k None unstaged_at (StageRefused m s k (Some (Refused why.error (refused_cause s.op why.index)))) (record {
     free = unstaged_at.is.slot;
     none_own = subst (OnEach (λ y. owns_slot s.call y.slot ≡ false)) (sym (made_replicas m k None unstaged_at)) (ap (owns_slot s.call) unstaged_at.is.slot, tt);
     why = why;
@@ -174,18 +173,18 @@ module _ (m : Machine) (s : CallState) (k : ℕ) (t : ℤ) (inv : InvariantWith 
   stage_goes : (u : Told) → IsServed m s 0 (requests.Stage s.call k m.cluster.moment) u → (r : Result (List Section) Refusal) → Gives r → Goes m s (drivers.Update (unstaged s.call k t)) u
   unfolding with_stage stage_done
   stage_goes u served (Ok sections) gives = subst (Goes m s (drivers.Update (unstaged s.call k t))) (sym (IsServed-told m s 0 (requests.Stage s.call k m.cluster.moment) u (drivers.Update (unstaged s.call k t)) (replies.Done answers.Nothing) served inv.working.0 (answered u served (Ok sections) gives))) (record {
-    row = (OfWrite-is s.op _ inv.working.1.write (stage_row sections gives), no_pieces);
+    row = (OfUpdate-is s.op _ inv.working.1.update (stage_row sections gives), refl);
     leads = subst (λ o. Leads m (stepped (change_replica m k 0 o (with_slot s.call (update_of s.op) (staged_moment m k))) s verbs.Stage (Some k) (Some 0) words.Ok None)) (sym unstaged_at.there) (leads_staged sections gives);
     nearer = λ none. subst (λ o. steps_left (change_replica m k 0 o (with_slot s.call (update_of s.op) (staged_moment m k))).cluster (driver_taken (done_of (change_replica m k 0 o (with_slot s.call (update_of s.op) (staged_moment m k))).cluster verbs.Stage (Some k) (Some 0) words.Ok) (drivers.Update (unstaged s.call k t))) < steps_left m.cluster (drivers.Update (unstaged s.call k t))) (sym unstaged_at.there) stage_nearer;
   })
   stage_goes u served (Err why) gives = subst (Goes m s (drivers.Update (unstaged s.call k t))) (sym (IsServed-told m s 0 (requests.Stage s.call k m.cluster.moment) u (drivers.Update (unstaged s.call k t)) (replies.Refused why.error why.index) served inv.working.0 (answered u served (Err why) gives))) (record {
-    row = (OfWrite-is s.op _ inv.working.1.write (refused_row why gives), no_pieces);
+    row = (OfUpdate-is s.op _ inv.working.1.update (refused_row why gives), no_pieces);
     leads = Leads-ended m s (drivers.Update (unstaged s.call k t)) inv (λ j. refl) unowned;
     nearer = λ none. absurd (cc none);
   })
 
   -- the next step of an update that has staged nowhere
-  pub unstaged_goes : (room : Bool) (u : Told) → IsDone m s (driver_next m.cluster room (drivers.Update (unstaged s.call k t))) u → Goes m s (drivers.Update (unstaged s.call k t)) u
+  pub unstaged_goes : (room : Rooms) (u : Told) → IsDone m s (driver_next m.cluster room (drivers.Update (unstaged s.call k t))) u → Goes m s (drivers.Update (unstaged s.call k t)) u
   unstaged_goes room u done = stage_goes u (subst (λ next. IsDone m s next u) (update_next-unstaged room) done) (outcome unstaged_at.entry.attributes (update_of s.op) m.cluster.moment unstaged_at.replica.sections) refl
 
 -- ---- committing
@@ -200,7 +199,7 @@ module _ (m : Machine) (s : CallState) (k : ℕ) (t : ℤ) (inv : InvariantWith 
   staged_at = made_at (Some (record { state = s; driver = drivers.Update (staged_there s.call k t) })) m k (Some (own_slot s t)) inv inv.working.1.made owned_at
 
   -- it commits on n0
-  pub update_next-staged : (room : Bool) → driver_next m.cluster room (drivers.Update (staged_there s.call k t)) ≡ Serve 0 (requests.Commit s.call k)
+  pub update_next-staged : (room : Rooms) → driver_next m.cluster room (drivers.Update (staged_there s.call k t)) ≡ Serve 0 (requests.Commit s.call k)
   update_next-staged room =
       ap (update_on (staged_there s.call k t) m.cluster.moment) staged_at.found
       ∙ ap (λ cs. by_phase (staged_there s.call k t) m.cluster.moment (first_lacking 0 cs (first_nodes 1)) (last_having 0 cs (first_nodes 1)) Staging) staged_at.good.complete
@@ -210,7 +209,7 @@ module _ (m : Machine) (s : CallState) (k : ℕ) (t : ℤ) (inv : InvariantWith 
   with_commit = committed_slot staged_at.entry.attributes staged_at.replica (Some (own_slot s t))
 
   -- it ends, and the slot is gone
-  leads_committed : Leads m (stepped (record m { replicas = put2 m.replicas k 0 (Some with_commit) }) s verbs.Commit (Some k) (Some 0) words.Ok (Some (Done answers.Nothing)))
+  leads_committed : Leads m (stepped (record m { replicas = put2 m.replicas k 0 (Some with_commit) }) s verbs.Commit (Some k) (Some 0) words.Ok (Some (Done (update_answer (update_of s.op)))))
   unfolding with_commit
   leads_committed = record {
     holds = record {
@@ -224,29 +223,31 @@ module _ (m : Machine) (s : CallState) (k : ℕ) (t : ℤ) (inv : InvariantWith 
             (record { complete = staged_at.good.complete; active = staged_at.good.active; replica = record { slot = refl; fits = tt } }) inv.entries
             (λ j. None) (λ j is. refl) (λ j is. ap (λ b. cond b (Some (own_slot s t)) None) is);
         handles = inv.handles;
-        next = inv.next;
         in_hand = in_hand_of-ended m.in_hand s (drivers.Update (staged_there s.call k t)) inv.in_hand;
         working = tt;
       };
     };
-    counts = λ n counts. let more = Counts-replica m k 0 with_commit n counts (omega (arith, length_push staged_at.replica.effects (effect_of (own_slot s t)), counts.effects k 0 staged_at.replica staged_at.there)) in record { next = more.next; last_handles = more.last_handles; effects = more.effects; identity = more.identity; references = more.references };
+    counts = λ n counts. let more = Counts-replica m k 0 with_commit n counts (omega (arith, length_push staged_at.replica.effects (effect_of (own_slot s t)), counts.effects k 0 staged_at.replica staged_at.there)) in record { next = more.next; last_handles = more.last_handles; last_iterations = more.last_iterations; effects = more.effects; identity = more.identity; references = more.references };
   }
 
   -- the guard of the commit
-  commit_row : CommitRow m s k 0 words.Ok (Some (Done answers.Nothing))
-  commit_row = made_OnReplica m k (Some (own_slot s t)) staged_at (λ e x. CommitOk m s.call k 0 (Some (Done answers.Nothing)) x) (record {
+  commit_row : CommitRow m s k 0 words.Ok (Some (Done (update_answer (update_of s.op)))) (told_id (update_of s.op) t staged_at.replica.sections)
+  commit_row = made_OnReplica m k (Some (own_slot s t)) staged_at (λ e x. CommitOk m s.call (update_of s.op) k 0 (Some (Done (update_answer (update_of s.op)))) (told_id (update_of s.op) t staged_at.replica.sections) x) (record {
     slot = own_slot s t;
     staged = staged_at.is.slot;
     owner = refl;
     origin = inl refl;
     others = subst (OnEach (λ y. HasSlotOrEffect staged_at.replica (own_slot s t) y y.slot)) (sym (made_replicas m k (Some (own_slot s t)) staged_at))
         (subst (HasSlotOrEffect staged_at.replica (own_slot s t) staged_at.replica) (sym staged_at.is.slot) (refl, refl, refl, refl), tt);
-    answer = ap (λ (others : List (ℕ × ReplicaState)). cond (owned_elsewhere s.call 0 others) None (Some (Done answers.Nothing))) (sym (made_replicas m k (Some (own_slot s t)) staged_at));
+    answer = ap (λ (others : List (ℕ × ReplicaState)). cond (owned_elsewhere s.call 0 others) None (Some (Done (update_answer (update_of s.op))))) (sym (made_replicas m k (Some (own_slot s t)) staged_at));
+    told = ap (λ (others : List (ℕ × ReplicaState)). cond (owned_elsewhere s.call 0 others) None (told_id (update_of s.op) t staged_at.replica.sections)) (sym (made_replicas m k (Some (own_slot s t)) staged_at));
   })
 
-  -- a commit gives no pieces
-  commit_pieces : pieces_at (requests.Commit s.call k) s.op m.cluster.moment (seen_at m k 0) ≡ None
-  commit_pieces = ap (pieces_at (requests.Commit s.call k) s.op m.cluster.moment) (made_seen m k (Some (own_slot s t)) staged_at)
+  -- the identifier of a new section
+  commit_pieces : pieces_at (requests.Commit s.call k) s.op m.cluster.moment (seen_at m k 0) ≡ told_id (update_of s.op) t staged_at.replica.sections
+  commit_pieces =
+      ap (pieces_at (requests.Commit s.call k) s.op m.cluster.moment) (made_seen m k (Some (own_slot s t)) staged_at)
+      ∙ ap (λ z. slot_id (update_of s.op) staged_at.replica.sections (seen_slot z)) staged_at.is.slot
 
   -- what the replica becomes
   committed_is : with_committed (entry_of k m.cluster.entries) staged_at.replica ≡ with_commit
@@ -254,24 +255,24 @@ module _ (m : Machine) (s : CallState) (k : ℕ) (t : ℤ) (inv : InvariantWith 
   committed_is = ap (λ o. with_committed o staged_at.replica) staged_at.found ∙ ap (committed_slot staged_at.entry.attributes staged_at.replica) staged_at.is.slot
 
   -- the call ends by the last commit
-  commit_end-last : commit_end Committing (last_having 0 (complete_of (entry_of k m.cluster.entries)) (slice_set (first_nodes 1) 0 0)) ≡ Some (Done answers.Nothing)
-  commit_end-last = ap (λ cs. commit_end Committing (last_having 0 cs (slice_set (first_nodes 1) 0 0))) (made_complete m k (Some (own_slot s t)) staged_at)
+  commit_end-last : commit_end Committing (update_answer (update_of s.op)) (last_having 0 (complete_of (entry_of k m.cluster.entries)) (slice_set (first_nodes 1) 0 0)) ≡ Some (Done (update_answer (update_of s.op)))
+  commit_end-last = ap (λ cs. commit_end Committing (update_answer (update_of s.op)) (last_having 0 cs (slice_set (first_nodes 1) 0 0))) (made_complete m k (Some (own_slot s t)) staged_at)
 
   -- the commit
   commit_goes : (u : Told) → IsServed m s 0 (requests.Commit s.call k) u → Goes m s (drivers.Update (staged_there s.call k t)) u
   unfolding with_commit
   commit_goes u served =
-      let told = IsServed-told m s 0 (requests.Commit s.call k) u (drivers.Update (staged_there s.call k t)) (replies.Done answers.Nothing) served inv.working.0
+      let told = IsServed-told m s 0 (requests.Commit s.call k) u (drivers.Update (staged_there s.call k t)) (replies.Done (update_answer (update_of s.op))) served inv.working.0
       (served.may ∙ ap (reply_at (requests.Commit s.call k) s.op m.cluster.moment) (made_seen m k (Some (own_slot s t)) staged_at)) in
-      subst (Goes m s (drivers.Update (staged_there s.call k t))) (sym (told ∙ (λ i. record { verb = verbs.Commit; ckpt = Some k; node = Some 0; reply = words.Ok; end = commit_end-last i; pieces = commit_pieces i }))) (record {
-        row = (OfWrite-is s.op _ inv.working.1.write commit_row, refl);
-        leads = subst (λ o. Leads m (stepped (change_replica m k 0 o (with_committed (entry_of k m.cluster.entries))) s verbs.Commit (Some k) (Some 0) words.Ok (Some (Done answers.Nothing)))) (sym staged_at.there)
-            (subst (λ x. Leads m (stepped (record m { replicas = put2 m.replicas k 0 (Some x) }) s verbs.Commit (Some k) (Some 0) words.Ok (Some (Done answers.Nothing)))) (sym committed_is) leads_committed);
+      subst (Goes m s (drivers.Update (staged_there s.call k t))) (sym (told ∙ (λ i. record { verb = verbs.Commit; ckpt = Some k; node = Some 0; reply = words.Ok; end = commit_end-last i; pieces = ended_pieces (commit_end-last i) (commit_pieces i) }))) (record {
+        row = OfUpdate-is s.op _ inv.working.1.update commit_row;
+        leads = subst (λ o. Leads m (stepped (change_replica m k 0 o (with_committed (entry_of k m.cluster.entries))) s verbs.Commit (Some k) (Some 0) words.Ok (Some (Done (update_answer (update_of s.op)))))) (sym staged_at.there)
+            (subst (λ x. Leads m (stepped (record m { replicas = put2 m.replicas k 0 (Some x) }) s verbs.Commit (Some k) (Some 0) words.Ok (Some (Done (update_answer (update_of s.op)))))) (sym committed_is) leads_committed);
         nearer = λ none. absurd (cc none);
       })
 
   -- the next step of an update that has staged on n0
-  pub staged_goes : (room : Bool) (u : Told) → IsDone m s (driver_next m.cluster room (drivers.Update (staged_there s.call k t))) u → Goes m s (drivers.Update (staged_there s.call k t)) u
+  pub staged_goes : (room : Rooms) (u : Told) → IsDone m s (driver_next m.cluster room (drivers.Update (staged_there s.call k t))) u → Goes m s (drivers.Update (staged_there s.call k t)) u
   staged_goes room u done = commit_goes u (subst (λ next. IsDone m s next u) (update_next-staged room) done)
 
 -- ---- any update
@@ -281,7 +282,7 @@ pub update_is : (u : UpdateCall) (call : CallId) (owned : List ℕ) → u.call �
 update_is u call owned is owns phase = λ i. record { call = is i; ckpt = u.ckpt; owned = owns i; moment = u.moment; phase = phase i }
 
 -- the next step of an update
-pub update_goes : (m : Machine) (s : CallState) (u : UpdateCall) → InvariantWith (Some (record { state = s; driver = drivers.Update u })) m → (room : Bool) (t : Told) → IsDone m s (driver_next m.cluster room (drivers.Update u)) t → Goes m s (drivers.Update u) t
+pub update_goes : (m : Machine) (s : CallState) (u : UpdateCall) → InvariantWith (Some (record { state = s; driver = drivers.Update u })) m → (room : Rooms) (t : Told) → IsDone m s (driver_next m.cluster room (drivers.Update u)) t → Goes m s (drivers.Update u) t
 update_goes m s u inv room t done =
     let P : UpdateCall → Type 0 = λ v. InvariantWith (Some (record { state = s; driver = drivers.Update v })) m → IsDone m s (driver_next m.cluster room (drivers.Update v)) t → Goes m s (drivers.Update v) t in
     elim inv.working.1.owned [

@@ -5,10 +5,14 @@ pub mod Calls
 pub mod Deadlines
 pub mod Entries
 pub mod Events
+pub mod Finding
 pub mod Going
+pub mod GoingOn
 pub mod Handles
 pub mod Held
+pub mod IterationSteps
 pub mod Law
+pub mod LawActive
 pub mod LawBegin
 pub mod LawEnds
 pub mod LawEnter
@@ -16,13 +20,14 @@ pub mod LawFacts
 pub mod LawLists
 pub mod LawMade
 pub mod LawMaking
+pub mod LawMoment
 pub mod LawMoves
 pub mod LawOpening
-pub mod LawRead
 pub mod LawRuns
 pub mod LawUpdate
 pub mod Look
 pub mod Maps
+pub mod Moving
 pub mod New
 pub mod Openers
 pub mod Openings
@@ -32,6 +37,7 @@ pub mod Readiness
 pub mod RecordEvent
 pub mod RecordSteps
 pub mod Recording
+pub mod Refusing
 pub mod Reserve
 pub mod Retention
 pub mod Rows
@@ -41,4 +47,3 @@ pub mod Stepping
 pub mod Taken
 pub mod Told
 pub mod Words
-pub mod Refusing

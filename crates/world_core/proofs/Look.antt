@@ -18,7 +18,7 @@ use Rattle.world_core.specs.Places.{put}
 use Rattle.world_core.specs.Driving.{driver_next}
 use Rattle.world_core.specs.Machine.{Machine, CallState}
 use Rattle.world_core.specs.Steps.{IsDue, IsDone, after, step_of, look_word}
-use Rattle.world_core.specs.Happenings.{room_in}
+use Rattle.world_core.specs.Happenings.{rooms_in}
 use Rattle.world_core.specs.Shows.{Does, Fits, Facts, History, machine_of, hand_at}
 use Rattle.world_core.proofs.Held.{state_in, in_hand_at, actor_is, due_is}
 use Rattle.world_core.proofs.Maps.{put_hand, fits_hand}
@@ -29,7 +29,7 @@ look_label hand o = Stepped hand.call (word_of_op hand.op) verbs.Look None None 
 abbrev look_world : World → ℕ → World
 look_world w c = record w { hands = slice_set w.hands c None }
 
-module _ (w : World) (h : History) (c : ℕ) (o : Outcome) (hand : InHand) (facts : Facts (machine_of w h)) (fits : Fits w h) (held : hand_at w.hands c ≡ Some hand) (next : driver_next w.cluster (room_in w c) hand.driver ≡ End o) where
+module _ (w : World) (h : History) (c : ℕ) (o : Outcome) (hand : InHand) (facts : Facts (machine_of w h)) (fits : Fits w h) (held : hand_at w.hands c ≡ Some hand) (next : driver_next w.cluster (rooms_in w c) hand.driver ≡ End o) where
   abbrev m : Machine
   m = machine_of w h
 
@@ -58,7 +58,7 @@ module _ (w : World) (h : History) (c : ℕ) (o : Outcome) (hand : InHand) (fact
   fits_later : Fits (look_world w c) later
   fits_later = record { replicas = fits.replicas; reserved = fits.reserved; fresh = fits.fresh; hands = fits_hand h w.hands c hand None [] held tt fits.hands }
 
-module _ (w : World) (c : ℕ) (o : Outcome) (hand : InHand) (held : hand_at w.hands c ≡ Some hand) (next : driver_next w.cluster (room_in w c) hand.driver ≡ End o) where
+module _ (w : World) (c : ℕ) (o : Outcome) (hand : InHand) (held : hand_at w.hands c ≡ Some hand) (next : driver_next w.cluster (rooms_in w c) hand.driver ≡ End o) where
   look_does : Does w (look_world w c) (look_label hand o)
   look_does = record {
     due_is = λ m s f. subst (λ m. IsDue m (look_label hand o)) (sym s.same) (due_step w s.history c o hand (subst Facts s.same f) s.fits held next);

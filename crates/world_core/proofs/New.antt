@@ -9,8 +9,8 @@ use Rattle.world_core.specs.RecordState.{RecordState, entry_of}
 use Rattle.world_core.specs.TableState.{TableState}
 use Rattle.world_core.specs.NewTable.{no_callbacks}
 use Rattle.world_core.specs.Serving.{replica_in}
-use Rattle.world_core.specs.Machine.{empty_cluster}
-use Rattle.world_core.specs.Shows.{History, Shows, Fits, FitsReplica, FitsReserved, FitsHand, machine_of, complete_replica, handles_in, hand_of, last_in, next_of, numbered, place_in, reserved_in, shown_hand, shown_replica, where_complete}
+use Rattle.world_core.specs.Machine.{empty_cluster, no_iterations}
+use Rattle.world_core.specs.Shows.{History, Shows, Fits, FitsReplica, FitsReserved, FitsHand, machine_of, complete_replica, handles_in, hand_of, last_in, next_of, numbered, place_in, reserved_in, shown_hand, shown_replica, where_complete, iterations_of, iterations_in}
 use Rattle.world_core.specs.Invariant.{Invariant}
 use Rattle.world_core.specs.Runs.{IsNew, IsRunTo}
 use Rattle.world_core.proofs.Law.{counts_empty}
@@ -33,7 +33,7 @@ abbrev nothing : History
 nothing = record {
   effects = λ k r. [];
   origins = λ k r. record { actor = Client 0; number = 0 };
-  kept = λ c. record { ckpt = None; node = 0; moment = pos 0 };
+  kept = λ c. record { ckpt = None; sections = 0; node = 0; moment = pos 0 };
   steps = λ c. [];
 }
 
@@ -49,6 +49,10 @@ none_taken : (o : Option TableState) → ((t : TableState) → o ≡ Some t → 
 none_taken None new = refl
 none_taken (Some t) new = sym (ap (λ (s : ClientState). s.last_number) (new t refl))
 
+none_begun : (o : Option TableState) → ((t : TableState) → o ≡ Some t → t.client ≡ new_client no_callbacks) → no_iterations ≡ iterations_in o
+none_begun None new = refl
+none_begun (Some t) new = sym (ap iterations_of (new t refl))
+
 module _ (w : World) (new : IsNew w) where
   no_replica : (k r : ℕ) → complete_replica w.cluster w.nodes k r ≡ None
   no_replica k r = ap (λ R. complete_replica R w.nodes k r) new.cluster ∙ ap (λ (n : ℕ). where_complete n (replica_in w.nodes k r)) (zero_there r)
@@ -58,7 +62,7 @@ module _ (w : World) (new : IsNew w) where
   nexts (Node r) = refl
 
   hands : (a : ActorName) → None ≡ hand_of nothing w.hands a
-  hands (Client c) = sym (ap (shown_hand (record { ckpt = None; node = 0; moment = pos 0 }) []) (new.hands c))
+  hands (Client c) = sym (ap (shown_hand (record { ckpt = None; sections = 0; node = 0; moment = pos 0 }) []) (new.hands c))
   hands (Node r) = refl
 
   shows_nothing : empty_cluster ≡ machine_of w nothing
@@ -73,7 +77,7 @@ module _ (w : World) (new : IsNew w) where
         handles = λ c. no_handles (slice_get w.tables c) (new.tables c) i;
         places = λ c p. no_place (slice_get w.tables c) p (new.tables c) i;
         last_handles = λ c. none_taken (slice_get w.tables c) (new.tables c) i;
-        iterations = λ c p. None;
+        iterations = λ c. none_begun (slice_get w.tables c) (new.tables c) i;
         pending = λ c. [];
         next = λ a. nexts a i;
         in_hand = λ a. hands a i;
@@ -85,7 +89,7 @@ module _ (w : World) (new : IsNew w) where
     replicas = λ k r. subst (FitsReplica k (entry_of k w.cluster.entries) []) (sym (no_replica k r)) tt;
     reserved = λ k r. subst (λ (R : RecordState). FitsReserved k (entry_of k R.entries) r (replica_in w.nodes k r)) (sym new.cluster) tt;
     fresh = λ k r above. ap (λ nodes. replica_in nodes k r) new.nodes ∙ none_there k r;
-    hands = λ c. subst (FitsHand (record { ckpt = None; node = 0; moment = pos 0 }) []) (sym (new.hands c)) tt;
+    hands = λ c. subst (FitsHand (record { ckpt = None; sections = 0; node = 0; moment = pos 0 }) []) (sym (new.hands c)) tt;
   }
 
   -- a new world shows the empty cluster

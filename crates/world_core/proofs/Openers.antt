@@ -1,6 +1,7 @@
 -- An open's driver is of an open of its client, and asks for a handle only where there is room: laws of the definitions.
+use Rattle.world_core.specs.declared.drivers.Rooms.{Rooms}
 use Rattle.std.proofs.Common.{◌≡◌, ℕ, ℤ, ◌<◌, Bool, true, false, List, [], ◌∷◌, refl, sym, ap, subst, ◌∙◌, cond}
-use Rattle.std.specs.Prelude.{Option, Some, None, IsSomeAnd, not, nat_le, length}
+use Rattle.std.specs.Prelude.{◌&&◌, Option, Some, None, IsSomeAnd, not, nat_le, length}
 use Rattle.ckpt_types.specs.declared.answers.Outcome.{Outcome}
 use Rattle.ckpt_types.specs.declared.attributes.CreationAttributes.{CreationAttributes}
 use Rattle.ckpt_types.specs.declared.calls.OpenAsk.{OpenAsk}
@@ -10,7 +11,7 @@ use Rattle.ckpt_types.specs.declared.operation.Op.TheVariants as ops
 use Rattle.node_msgs.specs.declared.next.RecordStep.{RecordStep}
 use Rattle.node_msgs.specs.declared.next.RecordStep.TheVariants as events
 use Rattle.node_msgs.specs.declared.next.Next.{Next}
-use Rattle.node_msgs.specs.declared.next.Next.TheVariants.{Event, End}
+use Rattle.node_msgs.specs.declared.next.Next.TheVariants.{Event, End, Serve}
 use Rattle.run_labels.specs.declared.words.Verb.{Verb}
 use Rattle.run_labels.specs.declared.words.Verb.TheVariants as verbs
 use Rattle.run_labels.specs.declared.labels.StepReply.{StepReply}
@@ -28,7 +29,7 @@ use Rattle.world_core.specs.declared.update_call.UpdatePhase.TheVariants.{Stagin
 use Rattle.world_core.specs.declared.world.World.{World}
 use Rattle.world_core.specs.Calls.{number_of, client_of}
 use Rattle.world_core.specs.RecordState.{RecordState, entry_of, named}
-use Rattle.world_core.specs.Driving.{StepDone, Kept, first_lacking, last_having, accepts, create_next, entry_next, on_named, reserve_or_finish, by_making, create_taken, reserve_taken, with_making, open_taken_by, commit_at, by_phase, update_on, on_active, active_on, on_kept, driver_start, driver_state, driver_taken, driver_next, event_ckpt, identity_in, making_ckpt}
+use Rattle.world_core.specs.Driving.{StepDone, Kept, first_lacking, last_having, accepts, create_next, entry_next, on_named, reserve_or_finish, by_making, create_taken, reserve_taken, with_making, open_taken_by, commit_at, by_phase, update_on, on_active, active_on, on_kept, driver_start, driver_state, driver_taken, driver_next, event_ckpt, identity_in, making_ckpt, active_request, starts_iteration}
 use Rattle.world_core.specs.Beginning.{opened_place, IsBuilt}
 use Rattle.world_core.specs.Shows.{IsShown, Facts, hand_at}
 use Rattle.world_core.proofs.Deadlines.{in_time-either}
@@ -75,8 +76,15 @@ opens_kept call op (Some k) start h = h k
 
 opens_start : (call : CallId) (op : Op) (kept : Kept) → Opens call op (driver_start call op kept)
 opens_start call (ops.Open place name flags timeout a) kept = record { call_is = refl; client = refl; place = tt }
+opens_start call (ops.Create place update) kept = opens_kept call (ops.Create place update) kept.ckpt _ (λ k. tt)
+opens_start call (ops.Delete place update) kept = opens_kept call (ops.Delete place update) kept.ckpt _ (λ k. tt)
+opens_start call (ops.Expire place update) kept = opens_kept call (ops.Expire place update) kept.ckpt _ (λ k. tt)
 opens_start call (ops.Write place update) kept = opens_kept call (ops.Write place update) kept.ckpt _ (λ k. tt)
+opens_start call (ops.Over place update) kept = opens_kept call (ops.Over place update) kept.ckpt _ (λ k. tt)
 opens_start call (ops.Read place elements) kept = opens_kept call (ops.Read place elements) kept.ckpt _ (λ k. tt)
+opens_start call (ops.Status place) kept = opens_kept call (ops.Status place) kept.ckpt _ (λ k. tt)
+opens_start call (ops.Iter iteration place chosen time) kept = opens_kept call (ops.Iter iteration place chosen time) kept.ckpt _ (λ k. tt)
+opens_start call (ops.Next iteration) kept = opens_kept call (ops.Next iteration) kept.ckpt _ (λ k. tt)
 opens_start call op kept = tt
 
 opens_taken : (call : CallId) (op : Op) (d : StepDone) (x : Driver) → Opens call op x → Opens call op (driver_taken d x)
@@ -173,25 +181,29 @@ room_update : (room : Bool) (u : UpdateCall) (now : ℤ) (e : Option Entry) → 
 room_update room u now None = tt
 room_update room u now (Some e) = room_phase room u now (first_lacking 0 e.complete u.owned) (last_having 0 e.complete u.owned) u.phase
 
-room_active : (room : Bool) (a : ActiveCall) (e : Option Entry) → HasRoomFor room (active_on a e)
-room_active room a None = tt
-room_active room a (Some e) = at e.active where
-  at : (r : Option ℕ) → HasRoomFor room (on_active a r)
+room_active : (room place : Bool) (a : ActiveCall) (e : Option Entry) → HasRoomFor room (active_on place a e)
+room_active room place a None = tt
+room_active room place a (Some e) = at e.active where
+  by_test : (b : Bool) (x : Outcome) (r : ℕ) → HasRoomFor room (cond b (End x) (Serve r (active_request a)))
+  by_test true x r = tt
+  by_test false x r = tt
+
+  at : (r : Option ℕ) → HasRoomFor room (on_active place a r)
   at None = tt
-  at (Some r) = tt
+  at (Some r) = by_test (starts_iteration a.kind && not place) _ r
 
 room_enter : (room b : Bool) (x : Outcome) → HasRoomFor room (cond b (End x) (Event events.Enter))
 room_enter room true x = tt
 room_enter room false x = tt
 
-room_next : (R : RecordState) (room : Bool) (x : Driver) → HasRoomFor room (driver_next R room x)
-room_next R room (drivers.Enter r) = room_enter room (nat_le 64 (length R.clients)) _
-room_next R room (drivers.Open o) = room_making R room o o.making
-room_next R room (drivers.Update u) = room_update room u R.moment (entry_of u.ckpt R.entries)
-room_next R room (drivers.Active a) = room_active room a (entry_of a.ckpt R.entries)
+room_next : (R : RecordState) (room : Rooms) (x : Driver) → HasRoomFor room.handles (driver_next R room x)
+room_next R room (drivers.Enter r) = room_enter room.handles (nat_le 64 (length R.clients)) _
+room_next R room (drivers.Open o) = room_making R room.handles o o.making
+room_next R room (drivers.Update u) = room_update room.handles u R.moment (entry_of u.ckpt R.entries)
+room_next R room (drivers.Active a) = room_active room.handles room.iterations a (entry_of a.ckpt R.entries)
 
-pub open_room : (R : RecordState) (room : Bool) (x : Driver) → driver_next R room x ≡ Event events.Open → room ≡ true
-open_room R room x e = subst (HasRoomFor room) e (room_next R room x)
+pub open_room : (R : RecordState) (room : Rooms) (x : Driver) → driver_next R room x ≡ Event events.Open → room.handles ≡ true
+open_room R room x e = subst (HasRoomFor room.handles) e (room_next R room x)
 
-pub create_room : (R : RecordState) (room : Bool) (x : Driver) → driver_next R room x ≡ Event events.Create → room ≡ true
-create_room R room x e = subst (HasRoomFor room) e (room_next R room x)
+pub create_room : (R : RecordState) (room : Rooms) (x : Driver) → driver_next R room x ≡ Event events.Create → room.handles ≡ true
+create_room R room x e = subst (HasRoomFor room.handles) e (room_next R room x)

@@ -29,7 +29,7 @@ use Rattle.world_core.specs.Beginning.{opened_place, opened_for}
 use Rattle.world_core.specs.Machine.{Machine, CallState}
 use Rattle.world_core.specs.Steps.{IsDue, IsDone, after, changed, creation_flags_of, driver_of, event_done, new_handle, step_of, stepped, with_handle_at, with_opened, with_record}
 use Rattle.world_core.specs.HandSteps.{hand_taken}
-use Rattle.world_core.specs.Happenings.{room_in}
+use Rattle.world_core.specs.Happenings.{rooms_in}
 use Rattle.world_core.specs.Shows.{Does, IsShown, Fits, Facts, IsEventReady, IsFinishable, History, machine_of, last_in, hand_at}
 use Rattle.world_core.proofs.Going.{event_goes, event_keeps}
 use Rattle.world_core.proofs.Handles.{handle_is}
@@ -139,7 +139,7 @@ abbrev opened_world : World → ℕ → InHand → RecordStep → ℕ → ℕ �
 opened_world w c hand step j place t =
     told_world (record w { cluster = record_after w hand step; tables = slice_set w.tables c (table_with (record_after w hand step) hand j place t) }) c hand (its_step w hand step) (event_end step (ckpt_in w hand step))
 
-module _ (w : World) (h : History) (c : ℕ) (step : RecordStep) (hand : InHand) (facts : Facts (machine_of w h)) (fits : Fits w h) (held : hand_at w.hands c ≡ Some hand) (next : driver_next w.cluster (room_in w c) hand.driver ≡ Event step) where
+module _ (w : World) (h : History) (c : ℕ) (step : RecordStep) (hand : InHand) (facts : Facts (machine_of w h)) (fits : Fits w h) (held : hand_at w.hands c ≡ Some hand) (next : driver_next w.cluster (rooms_in w c) hand.driver ≡ Event step) where
   abbrev m : Machine
   m = machine_of w h
 
@@ -250,7 +250,7 @@ module _ (w : World) (h : History) (c : ℕ) (step : RecordStep) (hand : InHand)
     opened_fits : Fits (opened_world w c hand step j place t) (with_step h1 c done)
     opened_fits = told_fits w2 h1 c hand done its_end actor fits2 held
 
-module _ (w : World) (c : ℕ) (step : RecordStep) (hand : InHand) (held : hand_at w.hands c ≡ Some hand) (next : driver_next w.cluster (room_in w c) hand.driver ≡ Event step) where
+module _ (w : World) (c : ℕ) (step : RecordStep) (hand : InHand) (held : hand_at w.hands c ≡ Some hand) (next : driver_next w.cluster (rooms_in w c) hand.driver ≡ Event step) where
   -- what the step asks of the record
   pub event_ready : IsShown w → EventNeeds w.cluster hand.driver step
   event_ready shown =

@@ -25,7 +25,7 @@ use Rattle.world_core.specs.RecordReady.{IsRecordReady}
 use Rattle.world_core.specs.Driving.{driver_next, done_of, event_ckpt, event_verb, event_node, event_end, event_after, takes_memory}
 use Rattle.world_core.specs.Beginning.{opened_place, opened_for, IsBuilt}
 use Rattle.world_core.specs.Giving.{gives_handle}
-use Rattle.world_core.specs.Happenings.{IsStep, room_in}
+use Rattle.world_core.specs.Happenings.{IsStep, rooms_in}
 use Rattle.world_core.specs.HandSteps.{hand_taken}
 use Rattle.world_core.specs.TableState.{TableState, with_handle}
 use Rattle.world_core.specs.Steps.{room_of, creation_flags_of}
@@ -80,11 +80,11 @@ when_err P (Err e) is h = h
 -- the client has a place and room for a handle
 pub record CanGive (w : World) (c : ℕ) (hand : InHand) : Type 0 where
   pub built : IsBuilt hand.op
-  pub room : room_in w c ≡ true
+  pub room : (rooms_in w c).handles ≡ true
 
-module _ (w : World) (c : ℕ) (step : RecordStep) (hand : InHand) (held : hand_at w.hands c ≡ Some hand) (next : driver_next w.cluster (room_in w c) hand.driver ≡ Event step) (shown : IsShown w) where
+module _ (w : World) (c : ℕ) (step : RecordStep) (hand : InHand) (held : hand_at w.hands c ≡ Some hand) (next : driver_next w.cluster (rooms_in w c) hand.driver ≡ Event step) (shown : IsShown w) where
   abbrev OpensSo : OpenCall → Type 0
-  OpensSo o = IsBuilt hand.op × (IsSome o.making → room_in w c ≡ true)
+  OpensSo o = IsBuilt hand.op × (IsSome o.making → (rooms_in w c).handles ≡ true)
 
   -- what the facts say of an open in hand
   opens_fact : (o : OpenCall) → hand.driver ≡ drivers.Open o → OpensSo o
@@ -94,8 +94,8 @@ module _ (w : World) (c : ℕ) (step : RecordStep) (hand : InHand) (held : hand_
       let f = facts.opens (Client c) (state_in h c hand) o (in_hand_is w h c hand held) (sym (driver_is w h c hand held shown.shows.fits) ∙ is) in
       (f.0, λ some. ap (λ a. room_of (machine_of w h) (number_of a)) (sym (actor_is w h c hand held facts)) ∙ f.1 some)
 
-  can_give_by : (step : RecordStep) (x : Driver) → hand.driver ≡ x → driver_next w.cluster (room_in w c) x ≡ Event step → EventNeeds w.cluster x step → GivesHandle step → CanGive w c hand
-  can_give_by events.Open (drivers.Open o) is next needs gives = let f = opens_fact o is in record { built = f.0; room = open_room w.cluster (room_in w c) (drivers.Open o) next }
+  can_give_by : (step : RecordStep) (x : Driver) → hand.driver ≡ x → driver_next w.cluster (rooms_in w c) x ≡ Event step → EventNeeds w.cluster x step → GivesHandle step → CanGive w c hand
+  can_give_by events.Open (drivers.Open o) is next needs gives = let f = opens_fact o is in record { built = f.0; room = open_room w.cluster (rooms_in w c) (drivers.Open o) next }
   can_give_by events.Finish (drivers.Open o) is next needs gives = let f = opens_fact o is in record { built = f.0; room = f.1 (making_there o.making needs) } where
     making_there : (m : Option Making) → IsSomeAnd m (λ making. IsSomeAnd (entry_of making.ckpt w.cluster.entries) (λ e. Unit {0})) → IsSome m
     making_there None h = absurd h

@@ -1,11 +1,13 @@
 -- A refusal leaves the record, the replicas, and the handles as they were.
+use Rattle.ckpt_types.specs.Reads.{NextGiven, given, description, facts_of}
+use Rattle.world_core.specs.Calls.{number_of}
+use Rattle.world_core.specs.Beginning.{ended_place}
 use Rattle.std.proofs.Common.{◌≡◌, ℕ, List, [], ◌∷◌, ◌++◌, Option, Some, None, Bool, true, false, cond, refl, sym, ap, subst, ◌∙◌, IsSomeAnd}
 use Rattle.ckpt_types.specs.declared.answers.Answer.{Answer}
 use Rattle.ckpt_types.specs.declared.answers.Answer.TheVariants as answers
 use Rattle.ckpt_types.specs.declared.answers.Outcome.{Outcome}
-use Rattle.ckpt_types.specs.declared.answers.Outcome.TheVariants.{Done, NoMemory}
+use Rattle.ckpt_types.specs.declared.answers.Outcome.TheVariants.{Done, Refused}
 use Rattle.ckpt_types.specs.declared.attributes.CreationAttributes.{CreationAttributes}
-use Rattle.ckpt_types.specs.declared.calls.Version.{Version}
 use Rattle.ckpt_types.specs.declared.operation.Op.{Op}
 use Rattle.ckpt_types.specs.declared.operation.Op.TheVariants as ops
 use Rattle.run_labels.specs.declared.words.Verb.{Verb}
@@ -16,10 +18,11 @@ use Rattle.run_labels.specs.declared.labels.Label.{Label}
 use Rattle.run_labels.specs.declared.labels.Label.TheVariants as labels
 use Rattle.world_core.specs.declared.record.Entry.{Entry}
 use Rattle.world_core.specs.RecordState.{entry_of}
+use Rattle.world_core.specs.Serving.{update_of, update_answer}
 use Rattle.world_core.specs.Machine.{Machine, ReplicaState, CallState}
-use Rattle.world_core.specs.Steps.{Told, changed, stepped, step_of, after}
-use Rattle.world_core.specs.Guards.{AtCkpt, AtNode, AtNodeAlone, OfOpen, OfWrite, OfClient, OnReplica, CommitOk, Row, IsAllowedStep, Allowed, owned_elsewhere, complete_replicas}
-use Rattle.world_core.specs.Runs.{last_from, last, IsRunFrom, IsRun, IsRunTo}
+use Rattle.world_core.specs.Steps.{changed, stepped, step_of, after, with_ended, begun_call, ids_asked, Told}
+use Rattle.world_core.specs.Guards.{AtCkpt, AtNode, AtNodeAlone, OfOpen, OfUpdate, OfClient, OnReplica, CommitOk, Row, Allowed, owned_elsewhere, complete_replicas, OfIter, OfNext, IterOk, NextOk, NextAnswer}
+use Rattle.world_core.specs.Runs.{last_from, last, IsRunFrom, IsRun}
 use Rattle.world_core.specs.Refusals.{IsRefused, IsRefusal, LeavesAll, RefusalLeaves}
 use Rattle.world_core.proofs.LawRuns.{last-push}
 
@@ -44,9 +47,21 @@ of_open : (op : Op) (P : List ℕ → Option CreationAttributes → Type 0) → 
 of_open (ops.Open place name flags timeout a) P p not_so = not_so name a p
 of_open op P p not_so = absurd p
 
-of_write : (op : Op) (P : Type 0) → OfWrite op P → (P → ⊥) → ⊥
-of_write (ops.Write place update) P p not_so = not_so p
-of_write op P p not_so = absurd p
+of_update : (op : Op) (P : Type 0) → OfUpdate op P → (P → ⊥) → ⊥
+of_update (ops.Create place update) P p not_so = not_so p
+of_update (ops.Delete place update) P p not_so = not_so p
+of_update (ops.Expire place update) P p not_so = not_so p
+of_update (ops.Write place update) P p not_so = not_so p
+of_update (ops.Over place update) P p not_so = not_so p
+of_update op P p not_so = absurd p
+
+of_iter : (op : Op) (P : Type 0) → OfIter op P → (P → ⊥) → ⊥
+of_iter (ops.Iter iteration place chosen time) P p not_so = not_so p
+of_iter op P p not_so = absurd p
+
+of_next : (op : Op) (P : Type 0) → OfNext op P → (P → ⊥) → ⊥
+of_next (ops.Next iteration) P p not_so = not_so p
+of_next op P p not_so = absurd p
 
 of_client : (op : Op) (q : ℕ) (P : Type 0) → OfClient op q P → (P → ⊥) → ⊥
 of_client (ops.Client r version callbacks) q P p not_so = not_so p.1
@@ -67,9 +82,13 @@ done end answer is refused = subst IsRefused is refused
 goes_on : (end : Option Outcome) → end ≡ None → IsRefused end → ⊥
 goes_on end is refused = subst IsRefused is refused
 
-committed : (b : Bool) (end : Option Outcome) → end ≡ cond b None (Some (Done answers.Nothing)) → IsRefused end → ⊥
-committed true end is refused = goes_on end is refused
-committed false end is refused = done end answers.Nothing is refused
+committed : (b : Bool) (answer : Answer) (end : Option Outcome) → end ≡ cond b None (Some (Done answer)) → IsRefused end → ⊥
+committed true answer end is refused = goes_on end is refused
+committed false answer end is refused = done end answer is refused
+
+given_next : (next : Option NextGiven) (end : Option Outcome) (pieces : Option (List (List ℕ))) → NextAnswer next words.Ok end pieces → IsRefused end → ⊥
+given_next (Some next) end pieces answer refused = done end (answers.Section (facts_of (description next.section))) answer.0 refused
+given_next None end pieces answer refused = answer
 
 -- a step that ends its call with a refusal changes nothing
 changed_same : (m : Machine) (s : CallState) (verb : Verb) (k r : Option ℕ) (reply : StepReply) (end : Option Outcome) (pieces : Option (List (List ℕ)))
@@ -86,11 +105,18 @@ changed_same m s verbs.Finish k r words.Ok end pieces row refused = absurd (at_c
 changed_same m s verbs.Finish k r reply end pieces row refused = refl
 changed_same m s verbs.Undo k r words.Ok end pieces row refused = absurd (at_ckpt k r _ row.0 (λ k p. subst IsRefused p.2 refused))
 changed_same m s verbs.Undo k r reply end pieces row refused = refl
-changed_same m s verbs.Stage k r words.Ok end pieces row refused = absurd (at_node k r _ row.0 (λ k r p. of_write s.op _ p (λ p. goes_on end p.1 refused)))
+changed_same m s verbs.Stage k r words.Ok end pieces row refused = absurd (at_node k r _ row.0 (λ k r p. of_update s.op _ p (λ p. goes_on end p.1 refused)))
 changed_same m s verbs.Stage k r reply end pieces row refused = refl
-changed_same m s verbs.Commit k r words.Ok end pieces row refused = absurd (at_node k r _ row.0 (λ k r p. of_write s.op _ p (λ p. on_replica m k r (λ e x. CommitOk m s.call k r end x) p (λ e x (ok : CommitOk m s.call k r end x). committed (owned_elsewhere s.call r (complete_replicas m k)) end ok.answer refused))))
+changed_same m s verbs.Commit k r words.Ok end pieces row refused = absurd (at_node k r _ row (λ k r p. of_update s.op _ p (λ p. on_replica m k r (λ e x. CommitOk m s.call (update_of s.op) k r end pieces x) p (λ e x (ok : CommitOk m s.call (update_of s.op) k r end pieces x). committed (owned_elsewhere s.call r (complete_replicas m k)) (update_answer (update_of s.op)) end ok.answer refused))))
 changed_same m s verbs.Commit k r reply end pieces row refused = refl
 changed_same m s verbs.Read k r reply end pieces row refused = refl
+changed_same m s verbs.Status k r reply end pieces row refused = refl
+changed_same m s verbs.Iter k r words.Ok end pieces row refused = absurd (at_node k r _ row.0 (λ k r p. of_iter s.op _ p (λ p. on_replica m k r (IterOk m s r end) p (λ e x (ok : IterOk m s r end e x). done end answers.Nothing ok.answer refused))))
+changed_same m s verbs.Iter k r reply end pieces row refused = refl
+changed_same m s verbs.Next k r words.Ok end pieces row refused =
+    let t : Told = record { verb = verbs.Next; ckpt = k; node = r; reply = words.Ok; end = end; pieces = pieces } in
+    absurd (at_node k r _ row (λ k r p. of_next s.op _ p (λ p. on_replica m k r (NextOk m s r t) p (λ e x (ok : NextOk m s r t e x). given_next (given (ids_asked m s) m.cluster.moment x.sections) end pieces ok.answer refused))))
+changed_same m s verbs.Next k r reply end pieces row refused = refl
 changed_same m s verbs.Look k r reply end pieces row refused = refl
 changed_same m s verb k r reply end pieces row refused = absurd row
 
@@ -102,11 +128,21 @@ leaves_step m s verb k r reply end same = record {
   replicas = λ k r. ap (λ (x : Machine). x.replicas k r) same;
   handles = λ c. ap (λ (x : Machine). x.handles c) same;
   places = λ c p. ap (λ (x : Machine). x.places c p) same;
+  iterations = λ c. ap (λ (x : Machine). x.iterations c) same;
 }
 
--- THE LAW: a label that the machine allows and that ends a call with a refusal leaves sections, names and handles as they were
+-- a refused beginning ends no iteration
+ended_none : (end : Option Outcome) (op : Op) → IsRefused end → ended_place end op ≡ None
+ended_none (Some (Refused error cause)) op refused = refl
+ended_none (Some (Done answer)) op refused = absurd refused
+ended_none (Some o) op refused = absurd refused
+ended_none None op refused = absurd refused
+
+-- THE LAW: a label that the machine allows and that ends a call with a refusal leaves sections, names, handles and iterations as they were
 pub refusal_leaves : (m : Machine) (l : Label) → Allowed m l → IsRefusal l → LeavesAll m (after m l)
-refusal_leaves m (labels.Began call op end) allowed refused = record { cluster = refl; replicas = λ k r. refl; handles = λ c. refl; places = λ c p. refl }
+refusal_leaves m (labels.Began call op end) allowed refused =
+    subst (λ (place : Option ℕ). LeavesAll m (with_ended (number_of call.actor) place (begun_call m call op end))) (sym (ended_none end op refused))
+    (record { cluster = refl; replicas = λ k r. refl; handles = λ c. refl; places = λ c p. refl; iterations = λ c. refl })
 refusal_leaves m (labels.Stepped call op verb k r reply end pieces) allowed refused =
     subst (λ (o : Option CallState). LeavesAll m (step_of m o verb k r reply end)) (sym allowed.in_hand)
     (leaves_step m allowed.state verb k r reply end (changed_same m allowed.state verb k r reply end pieces allowed.row refused))

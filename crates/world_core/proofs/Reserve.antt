@@ -27,12 +27,12 @@ use Rattle.world_core.specs.RecordState.{RecordState, entry_of, complete_of}
 use Rattle.world_core.specs.Serving.{replica_key, replica_in, pieces_at, opened_replica, added, reserved_at}
 use Rattle.world_core.specs.Driving.{StepDone, driver_next, driver_taken, driver_end, word_of}
 use Rattle.world_core.specs.Machine.{Machine, CallState}
-use Rattle.world_core.specs.Steps.{IsDue, IsDone, MayAnswer, after, step_of, seen_at}
+use Rattle.world_core.specs.Steps.{ended_pieces, IsDue, IsDone, MayAnswer, after, step_of, seen_at}
 use Rattle.world_core.specs.HandSteps.{hand_taken}
-use Rattle.world_core.specs.Happenings.{room_in}
+use Rattle.world_core.specs.Happenings.{rooms_in}
 use Rattle.world_core.specs.Shows.{Does, IsShown, Fits, FitsReplica, FitsReserved, IsOpening, Facts, IsReservable, History, machine_of, shown_replica, where_complete, complete_replica, where_not_complete, shown_reservation, reserved_in, hand_at}
 use Rattle.world_core.proofs.Entries.{none_above}
-use Rattle.world_core.proofs.Held.{state_in, in_hand_is, in_hand_at, driver_is, actor_is, due_is, left_shown, left_fits}
+use Rattle.world_core.proofs.Held.{state_in, in_hand_is, in_hand_at, driver_is, actor_is, due_is, left_shown, left_fits, hand_fits}
 use Rattle.world_core.proofs.Maps.{both_true, same_there, node_case, fits_reserved_case, fits_fresh, put_hand, fits_hand}
 use Rattle.world_core.proofs.Places.{find_pushed, get_set, there_is}
 use Rattle.world_core.proofs.Serve.{served_step}
@@ -113,8 +113,12 @@ none_read : (k : ℕ) (op : Op) (now : ℤ) (y : Option Replica) → None ≡ pi
 none_read k op now None = refl
 none_read k op now (Some x) = refl
 
+none_ended : (end : Option Outcome) → None ≡ ended_pieces end None
+none_ended None = refl
+none_ended (Some end) = refl
+
 abbrev end_of : World → ℕ → ℕ → InHand → Reply → Option Outcome
-end_of w r k hand reply = driver_end (served_step w (Reserve k) r reply) reply (driver_taken (served_step w (Reserve k) r reply) hand.driver)
+end_of w r k hand reply = driver_end hand.op (served_step w (Reserve k) r reply) reply (driver_taken (served_step w (Reserve k) r reply) hand.driver)
 
 abbrev reserve_label : World → ℕ → ℕ → InHand → Reply → Label
 reserve_label w r k hand reply = Stepped hand.call (word_of_op hand.op) verbs.Reserve (Some k) (Some r) (word_of reply) (end_of w r k hand reply) None
@@ -125,7 +129,7 @@ refused_world w c r k hand = told_world w c hand (served_step w (Reserve k) r No
 abbrev reserve_world : World → ℕ → ℕ → ℕ → InHand → Entry → World
 reserve_world w c r k hand e = record (told_world w c hand (served_step w (Reserve k) r (Done answers.Nothing)) (end_of w r k hand (Done answers.Nothing))) { nodes = reserved_at w.nodes r (opened_replica k e.attributes e.made) }
 
-module _ (w : World) (h : History) (c r k : ℕ) (hand : InHand) (facts : Facts (machine_of w h)) (fits : Fits w h) (held : hand_at w.hands c ≡ Some hand) (next : driver_next w.cluster (room_in w c) hand.driver ≡ Serve r (Reserve k)) where
+module _ (w : World) (h : History) (c r k : ℕ) (hand : InHand) (facts : Facts (machine_of w h)) (fits : Fits w h) (held : hand_at w.hands c ≡ Some hand) (next : driver_next w.cluster (rooms_in w c) hand.driver ≡ Serve r (Reserve k)) where
   abbrev m : Machine
   m = machine_of w h
 
@@ -148,8 +152,8 @@ module _ (w : World) (h : History) (c r k : ℕ) (hand : InHand) (facts : Facts 
       ckpt = refl;
       node = refl;
       reply = refl;
-      pieces = none_read k hand.op w.cluster.moment (seen_at m k r);
-      end = ap (λ x. driver_end (served_step w (Reserve k) r reply) reply (driver_taken (served_step w (Reserve k) r reply) x)) (driver_is w h c hand held fits);
+      pieces = none_ended (end_of w r k hand reply) ∙ ap (ended_pieces (end_of w r k hand reply)) (none_read k hand.op w.cluster.moment (seen_at m k r));
+      end = ap (λ x. driver_end hand.op (served_step w (Reserve k) r reply) reply (driver_taken (served_step w (Reserve k) r reply) x)) (driver_is w h c hand held fits);
     });
   }
 
@@ -197,10 +201,10 @@ module _ (w : World) (h : History) (c r k : ℕ) (hand : InHand) (facts : Facts 
       replicas = λ j q. subst (FitsReplica j (entry_of j w.cluster.entries) (h.effects j q)) (sym (same j q)) (fits.replicas j q);
       reserved = fits_more w.cluster w.nodes w'.nodes k r new e at there free refl fits.reserved;
       fresh = fits_fresh w.cluster.last_identity w.nodes w'.nodes k r new at (λ above. let z : None ≡ Some e = sym (none_above w.cluster.last_identity k w.cluster.entries facts.up_to above) ∙ there in absurd (cc z)) fits.fresh;
-      hands = fits_hand h w.hands c hand (left its_end (hand_taken done hand)) (done ∷ h.steps c) held (left_fits h c hand done its_end (driver_is w h c hand held fits)) fits.hands;
+      hands = fits_hand h w.hands c hand (left its_end (hand_taken done hand)) (done ∷ h.steps c) held (left_fits h c hand done its_end (hand_fits w h c hand held fits)) fits.hands;
     }
 
-module _ (w : World) (c r k : ℕ) (hand : InHand) (held : hand_at w.hands c ≡ Some hand) (next : driver_next w.cluster (room_in w c) hand.driver ≡ Serve r (Reserve k)) where
+module _ (w : World) (c r k : ℕ) (hand : InHand) (held : hand_at w.hands c ≡ Some hand) (next : driver_next w.cluster (rooms_in w c) hand.driver ≡ Serve r (Reserve k)) where
   -- what the step asks: the node is there, and the checkpoint, whose attributes are well formed and for which the node is not complete
   pub reserve_ready : IsShown w → (r < 8) × IsSomeAnd (entry_of k w.cluster.entries) (λ e. IsReservable e r)
   reserve_ready shown = ready w shown.shows.history c r k hand (subst Facts shown.shows.same shown.facts) shown.shows.fits held next
@@ -227,7 +231,7 @@ module _ (w : World) (c r k : ℕ) (hand : InHand) (held : hand_at w.hands c ≡
 
   -- the node reserves, with the parts as the code names them
   pub reserve_done : (e : Entry) (nodes : List (List Replica)) (hands : List (Option InHand)) (word : OpWord) (end : Option Outcome) → entry_of k w.cluster.entries ≡ Some e → r < length w.nodes →
-      nodes ≡ reserved_at w.nodes r (opened_replica k e.attributes e.made) → end ≡ driver_end (served_step w (Reserve k) r (Done answers.Nothing)) (Done answers.Nothing) (driver_taken (served_step w (Reserve k) r (Done answers.Nothing)) hand.driver) →
+      nodes ≡ reserved_at w.nodes r (opened_replica k e.attributes e.made) → end ≡ driver_end hand.op (served_step w (Reserve k) r (Done answers.Nothing)) (Done answers.Nothing) (driver_taken (served_step w (Reserve k) r (Done answers.Nothing)) hand.driver) →
       hands ≡ slice_set w.hands c (left end (hand_taken (served_step w (Reserve k) r (Done answers.Nothing)) hand)) → word ≡ word_of_op hand.op →
       Does w (record w { nodes = nodes; hands = hands }) (Stepped hand.call word verbs.Reserve (Some k) (Some r) words.Ok end None)
   reserve_done e nodes hands word end there within nodes_is end_is hands_is word_is =
@@ -237,7 +241,7 @@ module _ (w : World) (c r k : ℕ) (hand : InHand) (held : hand_at w.hands c ≡
       (λ i. (sym nodes_is i, g i, sym word_is i, sym end_is i)) (reserve_does e there within)
 
   -- the node is refused the memory
-  pub reserve_refused : (hands : List (Option InHand)) (word : OpWord) (end : Option Outcome) → end ≡ driver_end (served_step w (Reserve k) r NoMemory) NoMemory (driver_taken (served_step w (Reserve k) r NoMemory) hand.driver) →
+  pub reserve_refused : (hands : List (Option InHand)) (word : OpWord) (end : Option Outcome) → end ≡ driver_end hand.op (served_step w (Reserve k) r NoMemory) NoMemory (driver_taken (served_step w (Reserve k) r NoMemory) hand.driver) →
       hands ≡ slice_set w.hands c (left end (hand_taken (served_step w (Reserve k) r NoMemory) hand)) → word ≡ word_of_op hand.op → Does w (record w { hands = hands }) (Stepped hand.call word verbs.Reserve (Some k) (Some r) words.Memory end None)
   reserve_refused hands word end end_is hands_is word_is =
       let g : slice_set w.hands c (left (end_of w r k hand NoMemory) (hand_taken (served_step w (Reserve k) r NoMemory) hand)) ≡ hands

@@ -3,10 +3,11 @@ use Rattle.std.proofs.Common.{◌≡◌, ◌≢◌, ℕ, ◌+◌, ℤ, List, ◌
 use Rattle.std.specs.Prelude.{Option, Some, None, Result, Ok, Err, IsSomeAnd}
 use Rattle.ckpt_types.specs.declared.identities.CallId.{CallId}
 use Rattle.ckpt_types.specs.declared.operation.Op.{Op}
+use Rattle.ckpt_types.specs.declared.sections.Choice.{Choice}
 use Rattle.ckpt_types.specs.Sections.{Section}
 use Rattle.ckpt_types.specs.Updates.{Refusal, outcome}
 use Rattle.node_msgs.specs.declared.requests.Request.{Request}
-use Rattle.node_msgs.specs.declared.requests.Request.TheVariants.{Reserve, Stage, Commit}
+use Rattle.node_msgs.specs.declared.requests.Request.TheVariants.{Reserve, Iterate, Next, Stage, Commit}
 use Rattle.run_labels.specs.declared.words.Verb.TheVariants as verbs
 use Rattle.world_core.specs.declared.record.Entry.{Entry}
 use Rattle.world_core.specs.declared.replica.Replica.{Replica}
@@ -20,6 +21,12 @@ use Rattle.world_core.specs.Steps.{changed, change_replica, with_slot, with_comm
 use Rattle.world_core.specs.Shows.{shown_replica, FitsReplica}
 use Rattle.world_core.proofs.Calls.{IsOwn}
 use Rattle.world_core.proofs.Maps.{put2_same}
+
+-- the request is served by the replica alone: it takes no storage, and no iteration travels beside it
+pub record IsPlain (request : Request) : Type 0 where
+  pub reserves_none : (k : ℕ) → request ≢ Reserve k
+  pub starts_none : (call : CallId) (k : ℕ) (choice : Choice) → request ≢ Iterate call k choice
+  pub goes_on_with_none : (call : CallId) (k : ℕ) → request ≢ Next call k
 
 -- the effects of the replica, and the origin of its slot, after a request
 
@@ -64,14 +71,16 @@ module _ (M : Machine) (s : CallState) (k r : ℕ) (E : List Effect) (o : CallId
       ∙ ap (λ a. change_replica M k r (shown_replica E o (Some (record x { slot = Some slot }))) (with_committed (Some (record e { attributes = a })))) (sym same)
 
 -- every row
-pub row_moves : (M : Machine) (s : CallState) (r : ℕ) (E : List Effect) (o : CallId) (x : Replica) (e : Entry) (request : Request) → ((k : ℕ) → request ≢ Reserve k) → entry_of (ckpt_of request) M.cluster.entries ≡ Some e → x.store.attributes ≡ e.attributes →
+pub row_moves : (M : Machine) (s : CallState) (r : ℕ) (E : List Effect) (o : CallId) (x : Replica) (e : Entry) (request : Request) → IsPlain request → entry_of (ckpt_of request) M.cluster.entries ≡ Some e → x.store.attributes ≡ e.attributes →
     M.replicas (ckpt_of request) r ≡ shown_replica E o (Some x) → IsReadyFor request x → IsOwn s.call request → ((call : CallId) (k : ℕ) (t : ℤ) → request ≡ Stage call k t → x.slot ≡ None → staged_moment M k ≡ t) →
     changed M s (verb_of request) (Some (ckpt_of request)) (Some r) (word_of (reply_of request s.op M.cluster.moment x))
     ≡ record M { replicas = put2 M.replicas (ckpt_of request) r (shown_replica (effects_after request x o E) (origin_after request x o) (Some (replica_after request s.op x))) }
-row_moves M s r E o x e (Reserve k) other at same is ready own moment = absurd (other k refl)
-row_moves M s r E o x e (Stage call k t) other at same is ready own moment = stage_moves M s k r E o x call t x.slot (outcome x.store.attributes (update_of s.op) t x.store.sections) is own (λ n. moment call k t refl n)
-row_moves M s r E o x e (Commit call k) other at same is ready own moment = commit_moves M s k r E o x x.slot e (IsStaged call x) at same is ready
-row_moves M s r E o x e request other at same is ready own moment = stays M s (ckpt_of request) r E o x (shown_replica E o (Some x)) is
+row_moves M s r E o x e (Reserve k) plain at same is ready own moment = absurd (plain.reserves_none k refl)
+row_moves M s r E o x e (Iterate call k choice) plain at same is ready own moment = absurd (plain.starts_none call k choice refl)
+row_moves M s r E o x e (Next call k) plain at same is ready own moment = absurd (plain.goes_on_with_none call k refl)
+row_moves M s r E o x e (Stage call k t) plain at same is ready own moment = stage_moves M s k r E o x call t x.slot (outcome x.store.attributes (update_of s.op) t x.store.sections) is own (λ n. moment call k t refl n)
+row_moves M s r E o x e (Commit call k) plain at same is ready own moment = commit_moves M s k r E o x x.slot e (IsStaged call x) at same is ready
+row_moves M s r E o x e request plain at same is ready own moment = stays M s (ckpt_of request) r E o x (shown_replica E o (Some x)) is
 
 -- and the replica still fits
 fits_commit : (k : ℕ) (e : Option Entry) (E : List Effect) (o : CallId) (x : Replica) (p : Option Slot) → FitsReplica k e E (Some (record x { slot = p })) → FitsReplica k e (effects_with p o E) (Some (committed (record x { slot = p }) p))

@@ -162,6 +162,7 @@ roomy w log to few =
     record {
       next = λ c. let n = counts.next (Client c) in omega (arith, n, few);
       handles = λ c. let n = counts.last_handles c in omega (arith, n, few);
+      iterations = λ c. let n = counts.last_iterations c in omega (arith, n, few);
       updates = λ k r x is.
           let n = counts.effects k r _ (ap (shown_replica (h.effects k r) (h.origins k r)) is) in
           let e = (subst (FitsReplica k (entry_of k w.cluster.entries) (h.effects k r)) is (to.shows.fits.replicas k r)).2 in

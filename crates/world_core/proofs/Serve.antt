@@ -1,5 +1,5 @@
 -- A step of a call that a node serves, whatever the request, a reservation aside.
-use Rattle.std.proofs.Common.{◌≡◌, ◌≢◌, ℕ, ◌-◌, ◌^◌, ◌<◌, Bool, true, false, ℤ, List, ◌∷◌, length, refl, sym, ap, subst, ◌∙◌, cond}
+use Rattle.std.proofs.Common.{◌≡◌, ℕ, ◌-◌, ◌^◌, ◌<◌, ℤ, List, ◌∷◌, refl, sym, ap, subst, ◌∙◌, cond}
 use Rattle.std.specs.Prelude.{Option, Some, None, ◌==◌, ◌&&◌, IsSomeAnd, slice_index, slice_set}
 use Rattle.ckpt_types.specs.declared.answers.Outcome.{Outcome}
 use Rattle.ckpt_types.specs.declared.identities.ActorName.TheVariants.{Client}
@@ -7,6 +7,7 @@ use Rattle.ckpt_types.specs.declared.identities.CallId.{CallId}
 use Rattle.ckpt_types.specs.declared.operation.Op.{Op}
 use Rattle.node_msgs.specs.declared.requests.Request.{Request}
 use Rattle.node_msgs.specs.declared.requests.Request.TheVariants.{Reserve, Stage}
+use Rattle.node_msgs.specs.declared.requests.Request.TheVariants as requests
 use Rattle.node_msgs.specs.declared.replies.Reply.{Reply}
 use Rattle.node_msgs.specs.declared.next.Next.{Next}
 use Rattle.node_msgs.specs.declared.next.Next.TheVariants.{Serve}
@@ -17,9 +18,7 @@ use Rattle.run_labels.specs.declared.labels.Label.{Label}
 use Rattle.run_labels.specs.declared.labels.Label.TheVariants.{Stepped}
 use Rattle.run_labels.specs.OpWord.{word_of_op}
 use Rattle.world_core.specs.declared.hands.InHand.{InHand}
-use Rattle.world_core.specs.declared.record.Entry.{Entry}
 use Rattle.world_core.specs.declared.replica.Replica.{Replica}
-use Rattle.world_core.specs.declared.replica.Slot.{Slot}
 use Rattle.world_core.specs.declared.world.World.{World}
 use Rattle.world_core.specs.Calls.{put_actor, left}
 use Rattle.world_core.specs.Places.{put, put2}
@@ -27,61 +26,27 @@ use Rattle.world_core.specs.RecordState.{entry_of, complete_of}
 use Rattle.world_core.specs.Serving.{ckpt_of, replica_in, reply_at, pieces_at, replica_after, served, IsReadyFor, IsReadyAt}
 use Rattle.world_core.specs.Driving.{StepDone, driver_next, driver_taken, driver_end, done_of, verb_of, word_of}
 use Rattle.world_core.specs.Machine.{Machine, Effect, ReplicaState, CallState}
-use Rattle.world_core.specs.Steps.{IsDue, IsDone, MayAnswer, after, changed, stepped, step_of, seen_by, seen_at, seen_slot, staged_moment}
+use Rattle.world_core.specs.Steps.{ended_pieces, pieces_due, IsDue, IsDone, MayAnswer, after, changed, stepped, step_of, seen_at, staged_moment}
 use Rattle.world_core.specs.HandSteps.{hand_taken}
-use Rattle.world_core.specs.Happenings.{room_in}
-use Rattle.world_core.specs.Shows.{Does, IsShown, IsRoomy, Fits, FitsReplica, Facts, IsServable, IsFree, History, machine_of, shown_replica, shown_slot, where_complete, complete_replica, hand_at}
+use Rattle.world_core.specs.Happenings.{rooms_in}
+use Rattle.world_core.specs.Shows.{Does, IsShown, IsRoomy, Fits, Facts, IsServable, IsFree, History, machine_of, shown_replica, shown_slot, complete_replica, hand_at}
 use Rattle.world_core.proofs.Calls.{IsOwn, own_request}
-use Rattle.world_core.proofs.Held.{state_in, in_hand_is, in_hand_at, driver_is, actor_is, due_is, left_shown, left_fits}
+use Rattle.world_core.proofs.Held.{state_in, in_hand_is, in_hand_at, driver_is, actor_is, due_is, left_shown, left_fits, hand_fits}
 use Rattle.world_core.proofs.Maps.{served_at, complete_at, put_replica, fits_replica, reserved_same, fits_reserved, fits_fresh, put_hand, fits_hand}
-use Rattle.world_core.proofs.Rows.{effects_after, origin_after, row_moves, row_fits}
+use Rattle.world_core.proofs.Rows.{IsPlain, effects_after, origin_after, row_moves, row_fits}
+use Rattle.world_core.proofs.Finding.{There}
+use Rattle.world_core.proofs.Finding as finding
 
-seen_same : (o : CallId) (p : Option Slot) → seen_slot (shown_slot o p) ≡ p
-seen_same o None = refl
-seen_same o (Some slot) = refl
+-- what is asked of a replica as it is, is answered by that replica
+may_answer : (m : Machine) (s : CallState) (r : ℕ) (request : Request) (answer : Reply) → IsPlain request → answer ≡ reply_at request s.op m.cluster.moment (seen_at m (ckpt_of request) r) → MayAnswer m s request r answer
+may_answer m s r (Reserve k) answer plain h = absurd (plain.reserves_none k refl)
+may_answer m s r (requests.Next call k) answer plain h = absurd (plain.goes_on_with_none call k refl)
+may_answer m s r request answer plain h = h
 
--- the replica that a due request finds
-record There (k c : ℕ) (e : Option Entry) (E : List Effect) (o : CallId) (y : Option Replica) (P : Replica → Type 0) : Type 0 where
-  replica : Replica
-  entry : Entry
-  at : e ≡ Some entry
-  is : y ≡ Some replica
-  complete : (c == 0) ≡ false
-  attributes : replica.store.attributes ≡ entry.attributes
-  fits : FitsReplica k e E (Some replica)
-  seen : seen_by k e (shown_replica E o (where_complete c y)) ≡ Some replica
-  holds : P replica
-
-there : (k c : ℕ) (e : Option Entry) (E : List Effect) (o : CallId) (y : Option Replica) (P : Replica → Type 0) → FitsReplica k e E (where_complete c y) → IsSomeAnd (seen_by k e (shown_replica E o (where_complete c y))) P → There k c e E o y P
-there k c None E o y P fits some = absurd some
-there k c (Some e) E o y P fits some = by_test (c == 0) refl y fits some where
-  by_test : (b : Bool) → (c == 0) ≡ b → (y : Option Replica) → FitsReplica k (Some e) E (cond b None y) → IsSomeAnd (seen_by k (Some e) (shown_replica E o (cond b None y))) P → There k c (Some e) E o y P
-  by_test true t y fits some = absurd some
-  by_test false t None fits some = absurd some
-  by_test false t (Some x) fits some =
-      let same : record { ckpt = k; store = record { attributes = e.attributes; sections = x.store.sections }; count = length E; generation = x.generation; slot = seen_slot (shown_slot o x.slot) } ≡ x
-      = λ i. record { ckpt = sym fits.0 i; store = record { attributes = sym fits.1 i; sections = x.store.sections }; count = fits.2 i; generation = x.generation; slot = seen_same o x.slot i } in
-      record {
-        replica = x;
-        entry = e;
-        at = refl;
-        is = refl;
-        complete = t;
-        attributes = fits.1;
-        fits = fits;
-        seen = ap (λ b. seen_by k (Some e) (shown_replica E o (cond b None (Some x)))) t ∙ ap Some same;
-        holds = subst P same some;
-      }
-
--- what is no reservation is asked of a replica, and its answer is that replica's
-
-servable : (m : Machine) (r : ℕ) (request : Request) → ((k : ℕ) → request ≢ Reserve k) → IsServable m r request → IsSomeAnd (seen_at m (ckpt_of request) r) (IsReadyFor request)
-servable m r (Reserve k) other h = absurd (other k refl)
-servable m r request other h = h
-
-may_answer : (m : Machine) (s : CallState) (r : ℕ) (request : Request) (answer : Reply) → ((k : ℕ) → request ≢ Reserve k) → answer ≡ reply_at request s.op m.cluster.moment (seen_at m (ckpt_of request) r) → MayAnswer m s request r answer
-may_answer m s r (Reserve k) answer other h = absurd (other k refl)
-may_answer m s r request answer other h = h
+-- with its pieces
+pieces_plain : (m : Machine) (s : CallState) (r : ℕ) (request : Request) → IsPlain request → pieces_due m s request r ≡ pieces_at request s.op m.cluster.moment (seen_at m (ckpt_of request) r)
+pieces_plain m s r (requests.Next call k) plain = absurd (plain.goes_on_with_none call k refl)
+pieces_plain m s r request plain = refl
 
 abbrev pub served_step : World → Request → ℕ → Reply → StepDone
 served_step w request r reply = done_of w.cluster (verb_of request) (Some (ckpt_of request)) (Some r) (word_of reply)
@@ -93,15 +58,15 @@ abbrev pieces_in : World → ℕ → Request → InHand → Option (List (List �
 pieces_in w r request hand = pieces_at request hand.op w.cluster.moment (replica_in w.nodes (ckpt_of request) r)
 
 abbrev end_with : World → ℕ → Request → InHand → Reply → Option Outcome
-end_with w r request hand reply = driver_end (served_step w request r reply) reply (driver_taken (served_step w request r reply) hand.driver)
+end_with w r request hand reply = driver_end hand.op (served_step w request r reply) reply (driver_taken (served_step w request r reply) hand.driver)
 
 abbrev serve_label : World → ℕ → Request → InHand → Label
-serve_label w r request hand = let reply = reply_in w r request hand in Stepped hand.call (word_of_op hand.op) (verb_of request) (Some (ckpt_of request)) (Some r) (word_of reply) (end_with w r request hand reply) (pieces_in w r request hand)
+serve_label w r request hand = let reply = reply_in w r request hand in Stepped hand.call (word_of_op hand.op) (verb_of request) (Some (ckpt_of request)) (Some r) (word_of reply) (end_with w r request hand reply) (ended_pieces (end_with w r request hand reply) (pieces_in w r request hand))
 
 abbrev serve_world : World → ℕ → ℕ → Request → InHand → World
 serve_world w c r request hand = let reply = reply_in w r request hand in record w { nodes = served w.nodes r request hand.op; hands = slice_set w.hands c (left (end_with w r request hand reply) (hand_taken (served_step w request r reply) hand)) }
 
-module _ (w : World) (h : History) (c r : ℕ) (request : Request) (hand : InHand) (other : (k : ℕ) → request ≢ Reserve k) (facts : Facts (machine_of w h)) (fits : Fits w h) (held : hand_at w.hands c ≡ Some hand) (next : driver_next w.cluster (room_in w c) hand.driver ≡ Serve r request) where
+module _ (w : World) (h : History) (c r : ℕ) (request : Request) (hand : InHand) (plain : IsPlain request) (facts : Facts (machine_of w h)) (fits : Fits w h) (held : hand_at w.hands c ≡ Some hand) (next : driver_next w.cluster (rooms_in w c) hand.driver ≡ Serve r request) where
   abbrev m : Machine
   m = machine_of w h
 
@@ -117,17 +82,17 @@ module _ (w : World) (h : History) (c r : ℕ) (request : Request) (hand : InHan
   abbrev o : CallId
   o = h.origins k r
 
-  ready : (r < 8) × IsServable m r request
-  ready = facts.ready (Client c) s r request (in_hand_is w h c hand held) (due_is w h c hand held facts fits (Serve r request) next)
+  abbrev ready : (r < 8) × IsServable m r request
+  ready = finding.ready w h c r request hand plain.reserves_none facts fits held next
 
-  found : There k (slice_index (complete_of (entry_of k w.cluster.entries)) r) (entry_of k w.cluster.entries) E o (replica_in w.nodes k r) (IsReadyFor request)
-  found = there k (slice_index (complete_of (entry_of k w.cluster.entries)) r) (entry_of k w.cluster.entries) E o (replica_in w.nodes k r) (IsReadyFor request) (fits.replicas k r) (servable m r request other ready.1)
+  abbrev found : There k (slice_index (complete_of (entry_of k w.cluster.entries)) r) (entry_of k w.cluster.entries) E o (replica_in w.nodes k r) (IsReadyFor request)
+  found = finding.found w h c r request hand plain.reserves_none facts fits held next
 
   abbrev x : Replica
   x = found.replica
 
-  seen_is : seen_at m k r ≡ replica_in w.nodes k r
-  seen_is = found.seen ∙ sym found.is
+  abbrev seen_is : seen_at m k r ≡ replica_in w.nodes k r
+  seen_is = finding.seen_is w h c r request hand plain.reserves_none facts fits held next
 
   shown : m.replicas k r ≡ shown_replica E o (Some x)
   shown = ap (λ b. shown_replica E o (cond b None (replica_in w.nodes k r))) found.complete ∙ ap (shown_replica E o) found.is
@@ -170,15 +135,15 @@ module _ (w : World) (h : History) (c r : ℕ) (request : Request) (hand : InHan
     in_hand = in_hand_at w h c hand held facts;
     call_is = refl;
     word = refl;
-    done = subst (λ (n : Next). IsDone m s n (record { verb = verb_of request; ckpt = Some k; node = Some r; reply = word_of reply; end = end; pieces = pieces_in w r request hand })) (sym (due_is w h c hand held facts fits (Serve r request) next)) (record {
+    done = subst (λ (n : Next). IsDone m s n (record { verb = verb_of request; ckpt = Some k; node = Some r; reply = word_of reply; end = end; pieces = ended_pieces end (pieces_in w r request hand) })) (sym (due_is w h c hand held facts fits (Serve r request) next)) (record {
       answer = reply;
-      may = may_answer m s r request reply other (ap (reply_at request hand.op w.cluster.moment) (sym seen_is));
+      may = may_answer m s r request reply plain (ap (reply_at request hand.op w.cluster.moment) (sym seen_is));
       verb = refl;
       ckpt = refl;
       node = refl;
       reply = refl;
-      pieces = ap (pieces_at request hand.op w.cluster.moment) (sym seen_is);
-      end = ap (λ x. driver_end done reply (driver_taken done x)) (driver_is w h c hand held fits);
+      pieces = ap (ended_pieces end) (ap (pieces_at request hand.op w.cluster.moment) (sym seen_is) ∙ sym (pieces_plain m s r request plain));
+      end = ap (λ x. driver_end hand.op done reply (driver_taken done x)) (driver_is w h c hand held fits);
     });
   }
 
@@ -188,7 +153,7 @@ module _ (w : World) (h : History) (c r : ℕ) (request : Request) (hand : InHan
   move : changed m s (verb_of request) (Some k) (Some r) (word_of reply) ≡ record m { replicas = put2 m.replicas k r (shown_replica E' o' (Some x')) }
   move =
       ap (λ (b : Option Replica). changed m s (verb_of request) (Some k) (Some r) (word_of (reply_at request hand.op w.cluster.moment b))) found.is
-      ∙ row_moves m s r E o x found.entry request other found.at found.attributes shown found.holds own moment
+      ∙ row_moves m s r E o x found.entry request plain found.at found.attributes shown found.holds own moment
 
   at_each : (j q : ℕ) → replica_in w'.nodes j q ≡ cond ((j == k) && (q == r)) (Some x') (replica_in w.nodes j q)
   at_each = served_at w.nodes r request hand.op x found.is
@@ -211,17 +176,17 @@ module _ (w : World) (h : History) (c r : ℕ) (request : Request) (hand : InHan
     replicas = fits_replica w.cluster h.effects (complete_replica w.cluster w.nodes) (complete_replica w.cluster w'.nodes) k r E' x' complete_each (row_fits k (entry_of k w.cluster.entries) E o x request hand.op found.fits) fits.replicas;
     reserved = fits_reserved w.cluster w.nodes w'.nodes k r x' at_each found.complete fits.reserved;
     fresh = fits_fresh w.cluster.last_identity w.nodes w'.nodes k r x' at_each (λ above. let z : None ≡ Some x = sym (fits.fresh k r above) ∙ found.is in absurd (cc z)) fits.fresh;
-    hands = fits_hand h w.hands c hand (left end (hand_taken done hand)) (done ∷ h.steps c) held (left_fits h c hand done end (driver_is w h c hand held fits)) fits.hands;
+    hands = fits_hand h w.hands c hand (left end (hand_taken done hand)) (done ∷ h.steps c) held (left_fits h c hand done end (hand_fits w h c hand held fits)) fits.hands;
   }
 
-module _ (w : World) (c r : ℕ) (request : Request) (hand : InHand) (other : (k : ℕ) → request ≢ Reserve k) (held : hand_at w.hands c ≡ Some hand) (next : driver_next w.cluster (room_in w c) hand.driver ≡ Serve r request) where
+module _ (w : World) (c r : ℕ) (request : Request) (hand : InHand) (plain : IsPlain request) (held : hand_at w.hands c ≡ Some hand) (next : driver_next w.cluster (rooms_in w c) hand.driver ≡ Serve r request) where
   serve_does : Does w (serve_world w c r request hand) (serve_label w r request hand)
   serve_does = record {
-    due_is = λ m s f. subst (λ m. IsDue m (serve_label w r request hand)) (sym s.same) (due_step w s.history c r request hand other (subst Facts s.same f) s.fits held next);
+    due_is = λ m s f. subst (λ m. IsDue m (serve_label w r request hand)) (sym s.same) (due_step w s.history c r request hand plain (subst Facts s.same f) s.fits held next);
     shows = λ m s f. let facts = subst Facts s.same f in record {
-      history = later w s.history c r request hand other facts s.fits held next;
-      same = ap (λ m. after m (serve_label w r request hand)) s.same ∙ after_is w s.history c r request hand other facts s.fits held next;
-      fits = fits_later w s.history c r request hand other facts s.fits held next;
+      history = later w s.history c r request hand plain facts s.fits held next;
+      same = ap (λ m. after m (serve_label w r request hand)) s.same ∙ after_is w s.history c r request hand plain facts s.fits held next;
+      fits = fits_later w s.history c r request hand plain facts s.fits held next;
     };
   }
 
@@ -230,25 +195,25 @@ module _ (w : World) (c r : ℕ) (request : Request) (hand : InHand) (other : (k
 
   -- what the step asks of its node: the node is there
   pub serve_node : IsShown w → r < 8
-  serve_node shown = (ready w shown.shows.history c r request hand other (subst Facts shown.shows.same shown.facts) shown.shows.fits held next).0
+  serve_node shown = (ready w shown.shows.history c r request hand plain (subst Facts shown.shows.same shown.facts) shown.shows.fits held next).0
 
   -- and its replica is ready for the request
   pub serve_ready : IsShown w → IsRoomy w → IsReadyAt request (replica_in w.nodes (ckpt_of request) r)
   serve_ready shown room =
-      let f = found w shown.shows.history c r request hand other (subst Facts shown.shows.same shown.facts) shown.shows.fits held next in
+      let f = found w shown.shows.history c r request hand plain (subst Facts shown.shows.same shown.facts) shown.shows.fits held next in
       ready_at (replica_in w.nodes (ckpt_of request) r) f.replica f.is f.holds (room.updates (ckpt_of request) r f.replica (ap (λ b. cond b None (replica_in w.nodes (ckpt_of request) r)) f.complete ∙ f.is))
 
   -- the node serves the request, with the parts of the new world and of the label as the code names them
   pub serve_done : (op : Op) (now : ℤ) (nodes : List (List Replica)) (hands : List (Option InHand)) (word : OpWord) (verb : Verb) (k : ℕ) (said : StepReply) (reply : Reply) (end : Option Outcome) (pieces : Option (List (List ℕ))) →
-      op ≡ hand.op → now ≡ w.cluster.moment → reply ≡ reply_at request op now (replica_in w.nodes (ckpt_of request) r) → pieces ≡ pieces_at request op now (replica_in w.nodes (ckpt_of request) r) → nodes ≡ served w.nodes r request op →
-      end ≡ driver_end (served_step w request r reply) reply (driver_taken (served_step w request r reply) hand.driver) → hands ≡ slice_set w.hands c (left end (hand_taken (served_step w request r reply) hand)) →
+      op ≡ hand.op → now ≡ w.cluster.moment → reply ≡ reply_at request op now (replica_in w.nodes (ckpt_of request) r) → pieces ≡ ended_pieces end (pieces_at request op now (replica_in w.nodes (ckpt_of request) r)) → nodes ≡ served w.nodes r request op →
+      end ≡ driver_end hand.op (served_step w request r reply) reply (driver_taken (served_step w request r reply) hand.driver) → hands ≡ slice_set w.hands c (left end (hand_taken (served_step w request r reply) hand)) →
       word ≡ word_of_op hand.op → verb ≡ verb_of request → k ≡ ckpt_of request → said ≡ word_of reply → Does w (record w { nodes = nodes; hands = hands }) (Stepped hand.call word verb (Some k) (Some r) said end pieces)
   serve_done op now nodes hands word verb k said reply end pieces op_is now_is reply_is pieces_is nodes_is end_is hands_is word_is verb_is k_is said_is =
       let y = replica_in w.nodes (ckpt_of request) r in
       let a : reply_in w r request hand ≡ reply = (λ i. reply_at request (sym op_is i) (sym now_is i) y) ∙ sym reply_is in
-      let p : pieces_in w r request hand ≡ pieces = (λ i. pieces_at request (sym op_is i) (sym now_is i) y) ∙ sym pieces_is in
       let n : served w.nodes r request hand.op ≡ nodes = ap (served w.nodes r request) (sym op_is) ∙ sym nodes_is in
       let e : end_with w r request hand (reply_in w r request hand) ≡ end = ap (end_with w r request hand) a ∙ sym end_is in
+      let p : ended_pieces (end_with w r request hand (reply_in w r request hand)) (pieces_in w r request hand) ≡ pieces = (λ i. ended_pieces (e i) (pieces_at request (sym op_is i) (sym now_is i) y)) ∙ sym pieces_is in
       let g : slice_set w.hands c (left (end_with w r request hand (reply_in w r request hand)) (hand_taken (served_step w request r (reply_in w r request hand)) hand)) ≡ hands
       = (λ i. slice_set w.hands c (left (e i) (hand_taken (served_step w request r (a i)) hand))) ∙ sym hands_is in
       subst (λ (y : List (List Replica) × List (Option InHand) × OpWord × Verb × ℕ × StepReply × Option Outcome × Option (List (List ℕ))). Does w (record w { nodes = y.0; hands = y.1 }) (Stepped hand.call y.2 y.3 (Some y.4) (Some r) y.5 y.6 y.7))

@@ -25,12 +25,13 @@ use Rattle.world_core.specs.Serving.{ckpt_of, replica_in, reply_at, pieces_at, s
 use Rattle.world_core.specs.Reserving.{IsReserved}
 use Rattle.world_core.specs.Driving.{verb_of, word_of}
 use Rattle.world_core.specs.HandSteps.{hand_taken, hand_end}
-use Rattle.world_core.specs.Steps.{look_word}
+use Rattle.world_core.specs.Steps.{ended_pieces, look_word}
 use Rattle.world_core.specs.Shows.{IsShown, IsRoomy, IsReservable, hand_at}
 use Rattle.world_core.specs.Happenings.{IsNext, IsStep}
 use Rattle.world_core.proofs.Held.{next_for}
 use Rattle.world_core.proofs.Look.{look_done}
 use Rattle.world_core.proofs.Reserve.{reserve_ready, reserve_done, reserve_refused}
+use Rattle.world_core.proofs.Rows.{IsPlain}
 use Rattle.world_core.proofs.Serve.{served_step, serve_node, serve_ready, serve_done}
 
 -- what is there is not none
@@ -59,15 +60,15 @@ look_is w c o hand hands word reply held next hands_is word_is reply_is = record
 }
 
 -- a step that a node serves
-module _ (w : World) (c r : ℕ) (request : Request) (hand : InHand) (held : hand_at w.hands c ≡ Some hand) (next : IsNext w c (Serve r request)) (other : (k : ℕ) → request ≢ Reserve k) where
+module _ (w : World) (c r : ℕ) (request : Request) (hand : InHand) (held : hand_at w.hands c ≡ Some hand) (next : IsNext w c (Serve r request)) (plain : IsPlain request) where
   pub node_there : IsShown w → r < 8
-  node_there = serve_node w c r request hand other held (next_for w c (Serve r request) hand held next)
+  node_there = serve_node w c r request hand plain held (next_for w c (Serve r request) hand held next)
 
   pub node_ready : IsShown w → IsRoomy w → IsReadyAt request (replica_in w.nodes (ckpt_of request) r)
-  node_ready = serve_ready w c r request hand other held (next_for w c (Serve r request) hand held next)
+  node_ready = serve_ready w c r request hand plain held (next_for w c (Serve r request) hand held next)
 
   pub serve_is : (now : ℤ) (nodes : List (List Replica)) (hands : List (Option InHand)) (word : OpWord) (verb : Verb) (k : ℕ) (said : StepReply) (reply : Reply) (end : Option Outcome) (pieces : Option (List (List ℕ))) →
-      now ≡ w.cluster.moment → reply ≡ reply_at request hand.op now (replica_in w.nodes (ckpt_of request) r) → pieces ≡ pieces_at request hand.op now (replica_in w.nodes (ckpt_of request) r) → nodes ≡ served w.nodes r request hand.op →
+      now ≡ w.cluster.moment → reply ≡ reply_at request hand.op now (replica_in w.nodes (ckpt_of request) r) → pieces ≡ ended_pieces end (pieces_at request hand.op now (replica_in w.nodes (ckpt_of request) r)) → nodes ≡ served w.nodes r request hand.op →
       end ≡ hand_end (served_step w request r reply) reply (hand_taken (served_step w request r reply) hand) → hands ≡ slice_set w.hands c (left end (hand_taken (served_step w request r reply) hand)) →
       word ≡ word_of_op hand.op → verb ≡ verb_of request → k ≡ ckpt_of request → said ≡ word_of reply → IsStep c w (record w { nodes = nodes; hands = hands }) (Stepped hand.call word verb (Some k) (Some r) said end pieces)
   serve_is now nodes hands word verb k said reply end pieces now_is reply_is pieces_is nodes_is end_is hands_is word_is verb_is k_is said_is = record {
@@ -85,7 +86,7 @@ module _ (w : World) (c r : ℕ) (request : Request) (hand : InHand) (held : han
     same_call = refl;
     same_op = refl;
     hands = hands_is;
-    does = serve_done w c r request hand other held (next_for w c (Serve r request) hand held next) hand.op now nodes hands word verb k said reply end pieces refl now_is reply_is pieces_is nodes_is end_is hands_is word_is verb_is k_is said_is;
+    does = serve_done w c r request hand plain held (next_for w c (Serve r request) hand held next) hand.op now nodes hands word verb k said reply end pieces refl now_is reply_is pieces_is nodes_is end_is hands_is word_is verb_is k_is said_is;
   }
 
 some_there : {P : Entry → Type 0} (o : Option Entry) → IsSomeAnd o P → (e : Entry) × (o ≡ Some e) × P e

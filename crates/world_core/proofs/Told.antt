@@ -11,7 +11,7 @@ use Rattle.world_core.specs.Driving.{StepDone}
 use Rattle.world_core.specs.Machine.{Machine}
 use Rattle.world_core.specs.HandSteps.{hand_taken}
 use Rattle.world_core.specs.Shows.{Fits, History, machine_of, hand_at}
-use Rattle.world_core.proofs.Held.{state_in, driver_is, left_shown, left_fits}
+use Rattle.world_core.proofs.Held.{state_in, left_shown, left_fits, hand_fits}
 use Rattle.world_core.proofs.Maps.{put_hand, fits_hand}
 
 -- the history with one step more of a client's call
@@ -37,5 +37,5 @@ module _ (w : World) (h : History) (c : ℕ) (hand : InHand) (done : StepDone) (
     replicas = fits.replicas;
     reserved = fits.reserved;
     fresh = fits.fresh;
-    hands = fits_hand h w.hands c hand (left end (hand_taken done hand)) (done ∷ h.steps c) held (left_fits h c hand done end (driver_is w h c hand held fits)) fits.hands;
+    hands = fits_hand h w.hands c hand (left end (hand_taken done hand)) (done ∷ h.steps c) held (left_fits h c hand done end (hand_fits w h c hand held fits)) fits.hands;
   }

@@ -1,10 +1,11 @@
 -- What a call answers when it begins, by its arguments, the tables and the record: the first refusal that applies.
-use Rattle.std.specs.Prelude.{◌≡◌, ◌≢◌, ℕ, ◌<◌, List, length, Option, Some, None, Bool, true, false, not, ◌||◌, ◌==◌, nat_lt, if◌then◌else◌, ℤ, pos, int_lt, Result, Ok, Err}
+use Rattle.std.specs.Prelude.{◌≡◌, ◌≢◌, ℕ, ◌<◌, List, length, Option, Some, None, Bool, true, false, not, ◌||◌, ◌==◌, nat_le, nat_lt, if◌then◌else◌, ℤ, pos, int_lt, Result, Ok, Err}
 use Rattle.ckpt_types.specs.declared.ais_error.AisError.{AisError}
 use Rattle.ckpt_types.specs.declared.ais_error.AisError.TheVariants as errors
 use Rattle.ckpt_types.specs.declared.answers.Cause.TheVariants.{Plain}
 use Rattle.ckpt_types.specs.declared.answers.Outcome.{Outcome}
-use Rattle.ckpt_types.specs.declared.answers.Outcome.TheVariants.{Refused}
+use Rattle.ckpt_types.specs.declared.answers.Answer.TheVariants as answers
+use Rattle.ckpt_types.specs.declared.answers.Outcome.TheVariants.{Done, Refused}
 use Rattle.ckpt_types.specs.declared.attributes.CreationAttributes.{CreationAttributes}
 use Rattle.ckpt_types.specs.declared.bytes.TheConstants.{NAME_MAX}
 use Rattle.ckpt_types.specs.declared.calls.CallbackSet.{CallbackSet}
@@ -12,6 +13,7 @@ use Rattle.ckpt_types.specs.declared.calls.Version.{Version}
 use Rattle.ckpt_types.specs.declared.open_flags.OpenFlags.{OpenFlags}
 use Rattle.ckpt_types.specs.declared.open_flags.TheConstants.{CHECKPOINT_CREATE}
 use Rattle.ckpt_types.specs.declared.operation.Op.{Op}
+use Rattle.ckpt_types.specs.declared.sections.Choice.{Choice}
 use Rattle.ckpt_types.specs.declared.operation.Op.TheVariants as ops
 use Rattle.ckpt_types.specs.declared.update.Update.{Update}
 use Rattle.ckpt_types.specs.declared.update.Update.TheVariants as updates
@@ -61,6 +63,22 @@ may_write flags = flags.write
 abbrev pub may_read : OpenFlags → Bool
 may_read flags = flags.read
 
+abbrev pub may_always : OpenFlags → Bool
+may_always flags = true
+
+-- a choice is one of five
+abbrev pub choice_is_bad : ℕ → Bool
+choice_is_bad chosen = (chosen == 0) || nat_lt 5 chosen
+
+-- an iteration is ended at once, where its place stands for one
+abbrev pub end_iteration : Option HandleView → Option Outcome
+end_iteration None = refused errors.BadHandle
+end_iteration (Some h) = Some (Done answers.Nothing)
+
+-- an update, on a handle that was opened for writing
+abbrev pub update_begin : Option HandleView → Update → Option Outcome
+update_begin h update = on_handle h (update_is_bad update) may_write
+
 abbrev pub if_live : Bool → Option Outcome → Option Outcome
 if_live true answer = answer
 if_live false answer = refused errors.BadHandle
@@ -69,15 +87,46 @@ if_live false answer = refused errors.BadHandle
 abbrev pub begin_end : Bool → Option HandleView → Op → Option Outcome
 begin_end live h (ops.Client r version callbacks) = if version_is_bad version then refused errors.Version else None
 begin_end live h (ops.Open place name flags timeout a) = if_live live (open_begin name flags timeout a)
-begin_end live h (ops.Write place update) = if_live live (on_handle h (update_is_bad update) may_write)
+begin_end live h (ops.Create place update) = if_live live (update_begin h update)
+begin_end live h (ops.Delete place update) = if_live live (update_begin h update)
+begin_end live h (ops.Expire place update) = if_live live (update_begin h update)
+begin_end live h (ops.Write place update) = if_live live (update_begin h update)
+begin_end live h (ops.Over place update) = if_live live (update_begin h update)
 begin_end live h (ops.Read place elements) = if_live live (on_handle h (vector_is_bad (length elements)) may_read)
+begin_end live h (ops.Status place) = if_live live (on_handle h false may_always)
+begin_end live h (ops.Iter iteration place chosen time) = if_live live (on_handle h (choice_is_bad chosen) may_read)
+begin_end live h (ops.Next iteration) = if_live live (on_handle h false may_always)
+begin_end live h (ops.EndIter iteration) = if_live live (end_iteration h)
 begin_end live h op = None
 
--- the place of the handle that an operation names, and the one that an open names
+-- the place of the handle that an operation names, the place of the iteration that it goes on with or ends, and the place that an open names
 abbrev pub handle_place : Op → Option ℕ
+handle_place (ops.Create place update) = Some place
+handle_place (ops.Delete place update) = Some place
+handle_place (ops.Expire place update) = Some place
 handle_place (ops.Write place update) = Some place
+handle_place (ops.Over place update) = Some place
 handle_place (ops.Read place elements) = Some place
+handle_place (ops.Status place) = Some place
+handle_place (ops.Iter iteration place chosen time) = Some place
 handle_place op = None
+
+abbrev pub iteration_place : Op → Option ℕ
+iteration_place (ops.Next iteration) = Some iteration
+iteration_place (ops.EndIter iteration) = Some iteration
+iteration_place op = None
+
+-- the place of the iteration that an operation starts, and its choice; what is none chooses nothing
+abbrev pub started_place : Op → Option ℕ
+started_place (ops.Iter iteration place chosen time) = Some iteration
+started_place op = None
+
+abbrev pub choice_of : ℕ → ℤ → Choice
+choice_of chosen time = record { chosen = if nat_le chosen 5 then chosen else 0; time = time }
+
+abbrev pub chosen_choice : Op → Choice
+chosen_choice (ops.Iter iteration place chosen time) = choice_of chosen time
+chosen_choice op = choice_of 0 (pos 0)
 
 abbrev pub opened_place : Op → Option ℕ
 opened_place (ops.Open place name flags timeout a) = Some place
@@ -95,6 +144,25 @@ abbrev pub opened_for : Op → OpenFlags
 opened_for (ops.Open place name flags timeout a) = flags_or_none (open_flags_of flags)
 opened_for op = no_flags
 
+-- the place of the iteration that a call has ended at its beginning
+abbrev pub ended_place : Option Outcome → Op → Option ℕ
+ended_place (Some (Done answer)) (ops.EndIter iteration) = Some iteration
+ended_place end op = None
+
+-- an iteration that is started takes room for the identifiers that it keeps
+abbrev pub takes_room : Op → Bool
+takes_room (ops.Iter iteration place chosen time) = true
+takes_room op = false
+
+-- the operation starts an iteration with this choice, or goes on with one
+abbrev pub IsIterOf : Choice → Op → Type 0
+IsIterOf choice (ops.Iter iteration place chosen time) = (choice ≡ choice_of chosen time) × (iteration < 100) × (place < 100)
+IsIterOf choice op = ⊥
+
+abbrev pub IsNextOf : Op → Type 0
+IsNextOf (ops.Next iteration) = iteration < 100
+IsNextOf op = ⊥
+
 -- ---- the operations that are built
 
 -- callbacks are not kept yet: none is registered
@@ -103,24 +171,27 @@ pub record RegistersNone (callbacks : CallbackSet) : Type 0 where
   pub syncs : callbacks.syncs ≡ false
 
 -- of the attributes that pass their check, these are not built yet: updates on the active replica alone (creation flags 2,
--- collocated 10), weak ones (4, collocated 12), and more than one section
+-- collocated 10), and weak ones (4, collocated 12)
 pub record IsBuiltAttributes (a : CreationAttributes) : Type 0 where
   pub not_active : (a.creation_flags ≢ 2) × (a.creation_flags ≢ 10)
   pub not_weak : (a.creation_flags ≢ 4) × (a.creation_flags ≢ 12)
-  pub one_section : a.max_sections < 2
 
 abbrev pub AreBuilt : Option CreationAttributes → Type 0
 AreBuilt None = Unit {0}
 AreBuilt (Some a) = IsBuiltAttributes a
 
-abbrev pub IsWrite : Update → Type 0
-IsWrite (updates.Write elements) = Unit {0}
-IsWrite update = ⊥
-
--- an Initialize on one of eight nodes, an open, a write and a read, with places from 0 to 99; the others are not built yet
+-- an Initialize on one of eight nodes, an open, an update, a read, a status, and iterations, with places from 0 to 99; the others are not built yet
 abbrev pub IsBuilt : Op → Type 0
 IsBuilt (ops.Client r version callbacks) = (r < 8) × RegistersNone callbacks
 IsBuilt (ops.Open place name flags timeout a) = (place < 100) × AreBuilt a
-IsBuilt (ops.Write place update) = (place < 100) × IsWrite update
+IsBuilt (ops.Create place update) = place < 100
+IsBuilt (ops.Delete place update) = place < 100
+IsBuilt (ops.Expire place update) = place < 100
+IsBuilt (ops.Write place update) = place < 100
+IsBuilt (ops.Over place update) = place < 100
 IsBuilt (ops.Read place elements) = place < 100
+IsBuilt (ops.Status place) = place < 100
+IsBuilt (ops.Iter iteration place chosen time) = (iteration < 100) × (place < 100)
+IsBuilt (ops.Next iteration) = iteration < 100
+IsBuilt (ops.EndIter iteration) = iteration < 100
 IsBuilt op = ⊥

@@ -4,6 +4,7 @@ use Rattle.moment_rules.specs.Times.{sum_until_end, is_reached}
 use Rattle.ckpt_types.specs.declared.ais_error.AisError.TheVariants.{NotExist, Exist, Timeout, TryAgain, NoResources}
 use Rattle.ckpt_types.specs.declared.answers.Answer.{Answer}
 use Rattle.ckpt_types.specs.declared.answers.Answer.TheVariants as answers
+use Rattle.ckpt_types.specs.declared.answers.Cause.{Cause}
 use Rattle.ckpt_types.specs.declared.answers.Cause.TheVariants.{Plain, Index, Holder, Deadline, Count}
 use Rattle.ckpt_types.specs.declared.answers.Outcome.{Outcome}
 use Rattle.ckpt_types.specs.declared.answers.Outcome.TheVariants.{Done, Refused, NoMemory}
@@ -24,16 +25,19 @@ use Rattle.run_labels.specs.declared.words.Verb.TheVariants as verbs
 use Rattle.run_labels.specs.declared.labels.StepReply.{StepReply}
 use Rattle.run_labels.specs.declared.labels.StepReply.TheVariants as words
 use Rattle.world_core.specs.declared.record.Entry.{Entry}
+use Rattle.world_core.specs.declared.drivers.Rooms.{Rooms}
 use Rattle.world_core.specs.declared.drivers.Driver.{Driver}
 use Rattle.world_core.specs.declared.drivers.Driver.TheVariants as drivers
 use Rattle.world_core.specs.declared.open_call.Making.{Making}
 use Rattle.world_core.specs.declared.open_call.OpenCall.{OpenCall}
 use Rattle.world_core.specs.declared.reading.ActiveCall.{ActiveCall}
+use Rattle.world_core.specs.declared.reading.ActiveKind.{ActiveKind}
 use Rattle.world_core.specs.declared.reading.ActiveKind.TheVariants as kinds
 use Rattle.world_core.specs.declared.update_call.UpdateCall.{UpdateCall}
 use Rattle.world_core.specs.declared.update_call.UpdatePhase.{UpdatePhase}
 use Rattle.world_core.specs.declared.update_call.UpdatePhase.TheVariants.{Staging, Committing}
 use Rattle.world_core.specs.Calls.{client_of}
+use Rattle.world_core.specs.Beginning.{choice_of}
 use Rattle.ckpt_types.specs.Attributes.{same_but_retention}
 use Rattle.world_core.specs.RecordState.{RecordState, entry_of, complete_of, named, is_live, no_nodes, entered, created, opened, finished, undone, swept}
 
@@ -251,38 +255,58 @@ update_taken_by d u _ = u
 abbrev pub update_taken : StepDone → UpdateCall → UpdateCall
 update_taken d u = update_taken_by d u d.verb
 
-abbrev pub done_if_none : Option ℕ → Option Outcome
-done_if_none None = Some (Done answers.Nothing)
-done_if_none (Some r) = None
+abbrev pub done_if_none : Answer → Option ℕ → Option Outcome
+done_if_none answer None = Some (Done answer)
+done_if_none answer (Some r) = None
 
-abbrev pub commit_end : UpdatePhase → Option ℕ → Option Outcome
-commit_end Committing last = done_if_none last
-commit_end Staging last = None
+-- a commit ends the update where it leaves no slot of the call
+abbrev pub commit_end : UpdatePhase → Answer → Option ℕ → Option Outcome
+commit_end Committing answer last = done_if_none answer last
+commit_end Staging answer last = None
 
 -- ---- a call to the active
 
+abbrev pub request_by : CallId → ℕ → ActiveKind → Request
+request_by call k kinds.Apply = requests.Apply call k
+request_by call k (kinds.Weak n) = requests.Mark call k
+request_by call k kinds.Read = requests.Read k
+request_by call k kinds.Status = requests.Status k
+request_by call k (kinds.Iterate choice) = requests.Iterate call k choice
+request_by call k kinds.Next = requests.Next call k
+
 abbrev pub active_request : ActiveCall → Request
-active_request a = requests.Read a.ckpt
+active_request a = request_by a.call a.ckpt a.kind
 
-abbrev pub on_active : ActiveCall → Option ℕ → Next
-on_active a None = End (Refused NotExist Plain)
-on_active a (Some r) = Serve r (active_request a)
+-- it starts an iteration, for which its client needs a free place
+abbrev pub starts_iteration : ActiveKind → Bool
+starts_iteration (kinds.Iterate choice) = true
+starts_iteration kind = false
 
-abbrev pub active_on : ActiveCall → Option Entry → Next
-active_on a None = End (Refused NotExist Plain)
-active_on a (Some e) = on_active a e.active
+abbrev pub on_active : Bool → ActiveCall → Option ℕ → Next
+on_active room a None = End (Refused NotExist Plain)
+on_active room a (Some r) = if starts_iteration a.kind && not room then End (Refused NoResources (Count 8)) else Serve r (active_request a)
 
-abbrev pub active_next : RecordState → ActiveCall → Next
-active_next R a = active_on a (entry_of a.ckpt R.entries)
+abbrev pub active_on : Bool → ActiveCall → Option Entry → Next
+active_on room a None = End (Refused NotExist Plain)
+active_on room a (Some e) = on_active room a e.active
+
+abbrev pub active_next : RecordState → Bool → ActiveCall → Next
+active_next R room a = active_on room a (entry_of a.ckpt R.entries)
 
 -- ---- any call
 
--- room: the client has a free place for a handle
-abbrev pub driver_next : RecordState → Bool → Driver → Next
-driver_next R room (drivers.Enter r) = if nat_le 64 (length R.clients) then End (Refused NoResources (Count 64)) else Event events.Enter
-driver_next R room (drivers.Open o) = open_next R room o
-driver_next R room (drivers.Update u) = update_next R u
-driver_next R room (drivers.Active a) = active_next R a
+-- a refusal of a vector tells the index of its first refused element
+abbrev pub refused_cause : Op → ℕ → Cause
+refused_cause (ops.Write place update) index = Index index
+refused_cause (ops.Read place elements) index = Index index
+refused_cause op index = Plain
+
+-- by the record, and by what the client's own tables have a free place for
+abbrev pub driver_next : RecordState → Rooms → Driver → Next
+driver_next R rooms (drivers.Enter r) = if nat_le 64 (length R.clients) then End (Refused NoResources (Count 64)) else Event events.Enter
+driver_next R rooms (drivers.Open o) = open_next R rooms.handles o
+driver_next R rooms (drivers.Update u) = update_next R u
+driver_next R rooms (drivers.Active a) = active_next R rooms.iterations a
 
 abbrev pub driver_taken : StepDone → Driver → Driver
 driver_taken d (drivers.Enter r) = drivers.Enter r
@@ -291,23 +315,23 @@ driver_taken d (drivers.Update u) = drivers.Update (update_taken d u)
 driver_taken d (drivers.Active a) = drivers.Active a
 
 -- how a call ends by a reply that was done, the driver being as it is after the step
-abbrev pub done_end_by : StepDone → UpdateCall → Verb → Option Outcome
-done_end_by d u verbs.Commit = commit_end u.phase (last_having 0 d.complete u.owned)
-done_end_by d u _ = None
+abbrev pub done_end_by : StepDone → Answer → UpdateCall → Verb → Option Outcome
+done_end_by d answer u verbs.Commit = commit_end u.phase answer (last_having 0 d.complete u.owned)
+done_end_by d answer u _ = None
 
 abbrev pub done_end : StepDone → Answer → Driver → Option Outcome
 done_end d answer (drivers.Enter r) = None
 done_end d answer (drivers.Open o) = None
-done_end d answer (drivers.Update u) = done_end_by d u d.verb
+done_end d answer (drivers.Update u) = done_end_by d answer u d.verb
 done_end d answer (drivers.Active a) = Some (Done answer)
 
--- how a call ends by a node's reply; where nothing comes of it, the call goes on
-abbrev pub driver_end : StepDone → Reply → Driver → Option Outcome
-driver_end d (replies.Done answer) x = done_end d answer x
-driver_end d (replies.Held by) x = if d.live then Some (Refused TryAgain (Holder by)) else None
-driver_end d (replies.Refused error index) x = Some (Refused error (Index index))
-driver_end d replies.NoReplica x = Some (Refused NotExist Plain)
-driver_end d _ x = None
+-- how a call of an operation ends by a node's reply; where nothing comes of it, the call goes on
+abbrev pub driver_end : Op → StepDone → Reply → Driver → Option Outcome
+driver_end op d (replies.Done answer) x = done_end d answer x
+driver_end op d (replies.Held by) x = if d.live then Some (Refused TryAgain (Holder by)) else None
+driver_end op d (replies.Refused error index) x = Some (Refused error (refused_cause op index))
+driver_end op d replies.NoReplica x = Some (Refused NotExist Plain)
+driver_end op d _ x = None
 
 -- ---- steps of the record
 
@@ -389,9 +413,10 @@ event_after call driver step R = swept (event_change call driver step R)
 
 -- ---- a beginning
 
--- what a call keeps of the tables and of the record at its beginning: the checkpoint of its handle, the client's node, and the moment
+-- what a call keeps of the tables and of the record at its beginning: the checkpoint of its handle, how many sections that one declares, the client's node, and the moment
 pub record Kept : Type 0 where
   pub ckpt : Option ℕ
+  pub sections : ℕ
   pub node : ℕ
   pub moment : ℤ
 
@@ -404,6 +429,13 @@ abbrev pub on_kept : Option ℕ → (ℕ → Driver) → Driver
 on_kept None start = drivers.Enter 0
 on_kept (Some k) start = start k
 
+-- an update has staged nowhere when it begins
+abbrev pub update_start : CallId → Option ℕ → Driver
+update_start call ckpt = on_kept ckpt (λ k. drivers.Update (record { call = call; ckpt = k; owned = no_nodes; moment = pos 0; phase = Staging }))
+
+abbrev pub active_start : CallId → ActiveKind → Option ℕ → Driver
+active_start call kind ckpt = on_kept ckpt (λ k. drivers.Active (record { call = call; ckpt = k; kind = kind }))
+
 -- the driver of a call that begins; operations that are not built have none of their own, and none of them begins
 abbrev pub driver_start : CallId → Op → Kept → Driver
 driver_start call (ops.Client r version callbacks) kept = drivers.Enter r
@@ -413,8 +445,15 @@ driver_start call (ops.Open place name flags timeout attributes) kept = drivers.
   deadline = Some (sum_until_end kept.moment timeout);
   making = None;
 })
-driver_start call (ops.Write place update) kept = on_kept kept.ckpt (λ k. drivers.Update (record { call = call; ckpt = k; owned = no_nodes; moment = pos 0; phase = Staging }))
-driver_start call (ops.Read place elements) kept = on_kept kept.ckpt (λ k. drivers.Active (record { call = call; ckpt = k; kind = kinds.Read }))
+driver_start call (ops.Create place update) kept = update_start call kept.ckpt
+driver_start call (ops.Delete place update) kept = update_start call kept.ckpt
+driver_start call (ops.Expire place update) kept = update_start call kept.ckpt
+driver_start call (ops.Write place update) kept = update_start call kept.ckpt
+driver_start call (ops.Over place update) kept = update_start call kept.ckpt
+driver_start call (ops.Read place elements) kept = active_start call kinds.Read kept.ckpt
+driver_start call (ops.Status place) kept = active_start call kinds.Status kept.ckpt
+driver_start call (ops.Iter iteration place chosen time) kept = active_start call (kinds.Iterate (choice_of chosen time)) kept.ckpt
+driver_start call (ops.Next iteration) kept = active_start call kinds.Next kept.ckpt
 driver_start call op kept = drivers.Enter 0
 
 -- where a call's steps have led it, the newest first

@@ -15,7 +15,7 @@ use Rattle.ckpt_types.specs.declared.operation.Op.TheVariants as ops
 use Rattle.ckpt_types.specs.declared.update.ReadElement.{ReadElement}
 use Rattle.ckpt_types.specs.declared.update.Update.{Update}
 use Rattle.ckpt_types.specs.Updates.{Refusal, outcome}
-use Rattle.ckpt_types.specs.Reads.{read}
+use Rattle.ckpt_types.specs.Reads.{read, status, NextGiven, given, description, facts_of}
 use Rattle.run_labels.specs.declared.words.OpWord.{OpWord}
 use Rattle.run_labels.specs.declared.words.Verb.{Verb}
 use Rattle.run_labels.specs.declared.words.Verb.TheVariants as verbs
@@ -26,11 +26,11 @@ use Rattle.run_labels.specs.declared.labels.Label.TheVariants as labels
 use Rattle.run_labels.specs.OpWord.{word_of_op}
 use Rattle.world_core.specs.declared.record.Entry.{Entry}
 use Rattle.world_core.specs.Calls.{same_call, client_of}
-use Rattle.world_core.specs.RecordState.{entry_of, complete_of, named, is_live, is_live_client, is_up}
-use Rattle.world_core.specs.Driving.{IsBefore, accepts, deadline_from}
-use Rattle.world_core.specs.Serving.{update_of}
+use Rattle.world_core.specs.RecordState.{entry_of, complete_of, named, is_live, is_live_client, is_up, IsMomentFrom}
+use Rattle.world_core.specs.Driving.{IsBefore, accepts, deadline_from, refused_cause}
+use Rattle.world_core.specs.Serving.{update_of, update_answer, told_id}
 use Rattle.world_core.specs.Machine.{Machine, Staged, ReplicaState, CallState}
-use Rattle.world_core.specs.Steps.{Told, IsBegun, IsWord, room_of, staged_moment, effect_of}
+use Rattle.world_core.specs.Steps.{Told, IsBegun, IsWord, room_of, rooms_of, ids_asked, staged_moment, effect_of}
 
 -- ---- the complete replicas of a checkpoint, with their nodes, in node order
 
@@ -78,12 +78,13 @@ pub record StageOk (m : Machine) (call : CallId) (update : Update) (k : ℕ) (e 
   pub only_own : OnEach (λ y. IfSlot y.slot (λ slot. slot ≡ record { owner = call; origin = call; update = update; moment = staged_moment m k })) (complete_replicas m k)
 
 -- refused: no complete replica has a slot of the call, and the outcome at the record's moment is the refusal
-pub record StageRefused (m : Machine) (call : CallId) (update : Update) (k : ℕ) (end : Option Outcome) (e : Entry) (x : ReplicaState) : Type 0 where
+pub record StageRefused (m : Machine) (s : CallState) (k : ℕ) (end : Option Outcome) (e : Entry) (x : ReplicaState) : Type 0 where
   pub free : x.slot ≡ None
-  pub none_own : OnEach (λ y. owns_slot call y.slot ≡ false) (complete_replicas m k)
+  pub none_own : OnEach (λ y. owns_slot s.call y.slot ≡ false) (complete_replicas m k)
   pub why : Refusal
-  pub refused : outcome e.attributes update m.cluster.moment x.sections ≡ Err why
-  pub answer : end ≡ Some (Refused why.error (Index why.index))
+  pub refused : outcome e.attributes (update_of s.op) m.cluster.moment x.sections ≡ Err why
+  -- the cause is the index for a write alone
+  pub answer : end ≡ Some (Refused why.error (refused_cause s.op why.index))
 
 -- held: another call owns the slot; where that call is live, this one is to try again
 pub record StageHeld (m : Machine) (call by : CallId) (end : Option Outcome) (x : ReplicaState) : Type 0 where
@@ -94,7 +95,7 @@ pub record StageHeld (m : Machine) (call by : CallId) (end : Option Outcome) (x 
 
 abbrev pub StageRow : Machine → CallState → ℕ → ℕ → StepReply → Option Outcome → Type 0
 StageRow m s k r words.Ok end = OnReplica m k r (StageOk m s.call (update_of s.op) k) × (end ≡ None)
-StageRow m s k r words.Refused end = OnReplica m k r (StageRefused m s.call (update_of s.op) k end)
+StageRow m s k r words.Refused end = OnReplica m k r (StageRefused m s k end)
 StageRow m s k r (words.Held by) end = OnReplica m k r (λ e x. StageHeld m s.call by end x)
 StageRow m s k r reply end = ⊥
 
@@ -104,18 +105,19 @@ HasSlotOrEffect x slot y (Some other) = (other.origin ≡ slot.origin) × (other
 HasSlotOrEffect x slot y None = y.effects ≡ x.effects ++ effect_of slot ∷ []
 
 -- committed: the call owns the slot, whose update is its own or of a call that is not live, and every complete replica has that update staged on equal effects, or has it
-pub record CommitOk (m : Machine) (call : CallId) (k r : ℕ) (end : Option Outcome) (x : ReplicaState) : Type 0 where
+pub record CommitOk (m : Machine) (call : CallId) (update : Update) (k r : ℕ) (end : Option Outcome) (pieces : Option (List (List ℕ))) (x : ReplicaState) : Type 0 where
   pub slot : Staged
   pub staged : x.slot ≡ Some slot
   pub owner : slot.owner ≡ call
   pub origin : (slot.origin ≡ call) ⊎ (is_live m.cluster slot.origin ≡ false)
   pub others : OnEach (λ y. HasSlotOrEffect x slot y y.slot) (complete_replicas m k)
-  -- an update is answered OK by the commit after which no complete replica has a slot of the call
-  pub answer : end ≡ (if owned_elsewhere call r (complete_replicas m k) then None else Some (Done answers.Nothing))
+  -- an update is answered OK by the commit after which no complete replica has a slot of the call; a creation tells its identifier then
+  pub answer : end ≡ (if owned_elsewhere call r (complete_replicas m k) then None else Some (Done (update_answer update)))
+  pub told : pieces ≡ (if owned_elsewhere call r (complete_replicas m k) then None else told_id update slot.moment x.sections)
 
-abbrev pub CommitRow : Machine → CallState → ℕ → ℕ → StepReply → Option Outcome → Type 0
-CommitRow m s k r words.Ok end = OnReplica m k r (λ e x. CommitOk m s.call k r end x)
-CommitRow m s k r reply end = ⊥
+abbrev pub CommitRow : Machine → CallState → ℕ → ℕ → StepReply → Option Outcome → Option (List (List ℕ)) → Type 0
+CommitRow m s k r words.Ok end pieces = OnReplica m k r (λ e x. CommitOk m s.call (update_of s.op) k r end pieces x)
+CommitRow m s k r reply end pieces = ⊥
 
 -- ---- reads, on the active
 
@@ -125,6 +127,40 @@ ReadRow m elements k r t = OnReplica m k r (λ e x. (e.active ≡ Some r) × Rea
   ReadAnswer m elements x words.Ok = (pieces : List (List ℕ)) × (read elements m.cluster.moment x.sections ≡ Ok pieces) × (t.pieces ≡ Some pieces) × (t.end ≡ Some (Done answers.Pieces))
   ReadAnswer m elements x words.Refused = (why : Refusal) × (read elements m.cluster.moment x.sections ≡ Err why) × (t.pieces ≡ None) × (t.end ≡ Some (Refused why.error (Index why.index)))
   ReadAnswer m elements x reply = ⊥
+
+-- ---- status and iterations, on the active
+
+-- the status of its sections
+pub record StatusOk (m : Machine) (r : ℕ) (end : Option Outcome) (e : Entry) (x : ReplicaState) : Type 0 where
+  pub active : e.active ≡ Some r
+  pub answer : end ≡ Some (Done (answers.Status (status e.attributes m.cluster.moment x.sections)))
+
+abbrev pub StatusRow : Machine → ℕ → ℕ → StepReply → Option Outcome → Type 0
+StatusRow m k r words.Ok end = OnReplica m k r (StatusOk m r end)
+StatusRow m k r reply end = ⊥
+
+-- an iteration is started, for which the client has a free place
+pub record IterOk (m : Machine) (s : CallState) (r : ℕ) (end : Option Outcome) (e : Entry) (x : ReplicaState) : Type 0 where
+  pub active : e.active ≡ Some r
+  pub room : (rooms_of m (client_of s.call)).iterations ≡ true
+  pub answer : end ≡ Some (Done answers.Nothing)
+
+abbrev pub IterRow : Machine → CallState → ℕ → ℕ → StepReply → Option Outcome → Type 0
+IterRow m s k r words.Ok end = OnReplica m k r (IterOk m s r end)
+IterRow m s k r reply end = ⊥
+
+-- the next section that its iteration gives, or that none is left
+abbrev pub NextAnswer : Option NextGiven → StepReply → Option Outcome → Option (List (List ℕ)) → Type 0
+NextAnswer (Some next) words.Ok end pieces = (end ≡ Some (Done (answers.Section (facts_of (description next.section))))) × (pieces ≡ Some (next.section.id ∷ []))
+NextAnswer None words.Refused end pieces = (end ≡ Some (Refused errors.NoSections Plain)) × (pieces ≡ None)
+NextAnswer next reply end pieces = ⊥
+
+pub record NextOk (m : Machine) (s : CallState) (r : ℕ) (t : Told) (e : Entry) (x : ReplicaState) : Type 0 where
+  pub active : e.active ≡ Some r
+  pub answer : NextAnswer (given (ids_asked m s) m.cluster.moment x.sections) t.reply t.end t.pieces
+
+abbrev pub NextRow : Machine → CallState → ℕ → ℕ → Told → Type 0
+NextRow m s k r t = OnReplica m k r (NextOk m s r t)
 
 -- ---- clients, makings and opens
 
@@ -244,11 +280,23 @@ NoActiveLook m (Some k) errors.NotExist Plain = HasNoActive (entry_of k m.cluste
   HasNoActive (Some e) = e.active ≡ None
 NoActiveLook m k error cause = ⊥
 
+-- there is no active, or the client has as many iterations as it may have
+abbrev pub IterLook : Machine → CallState → AisError → Cause → Type 0
+IterLook m s errors.NoResources (Count n) = IsSomeAnd s.kept.ckpt (λ k. IsSomeAnd (entry_of k m.cluster.entries) (λ e. IsSome e.active)) × ((rooms_of m (client_of s.call)).iterations ≡ false) × (n ≡ 8)
+IterLook m s error cause = NoActiveLook m s.kept.ckpt error cause
+
 abbrev pub LookRefused : Machine → CallState → Op → AisError → Cause → Type 0
 LookRefused m s (ops.Client r version callbacks) error cause = EnterLook m error cause
 LookRefused m s (ops.Open place name flags timeout a) error cause = OpenLook m s name a error cause
+LookRefused m s (ops.Create place update) error cause = GoneLook m s.kept.ckpt error cause
+LookRefused m s (ops.Delete place update) error cause = GoneLook m s.kept.ckpt error cause
+LookRefused m s (ops.Expire place update) error cause = GoneLook m s.kept.ckpt error cause
 LookRefused m s (ops.Write place update) error cause = GoneLook m s.kept.ckpt error cause
+LookRefused m s (ops.Over place update) error cause = GoneLook m s.kept.ckpt error cause
 LookRefused m s (ops.Read place elements) error cause = NoActiveLook m s.kept.ckpt error cause
+LookRefused m s (ops.Status place) error cause = NoActiveLook m s.kept.ckpt error cause
+LookRefused m s (ops.Iter iteration place chosen time) error cause = IterLook m s error cause
+LookRefused m s (ops.Next iteration) error cause = NoActiveLook m s.kept.ckpt error cause
 LookRefused m s op error cause = ⊥
 
 abbrev pub LookRow : Machine → CallState → Option Outcome → Type 0
@@ -278,9 +326,25 @@ abbrev pub OfRead : Op → (List ReadElement → Type 0) → Type 0
 OfRead (ops.Read place elements) P = P elements
 OfRead op P = ⊥
 
-abbrev pub OfWrite : Op → Type 0 → Type 0
-OfWrite (ops.Write place update) P = P
-OfWrite op P = ⊥
+abbrev pub OfUpdate : Op → Type 0 → Type 0
+OfUpdate (ops.Create place update) P = P
+OfUpdate (ops.Delete place update) P = P
+OfUpdate (ops.Expire place update) P = P
+OfUpdate (ops.Write place update) P = P
+OfUpdate (ops.Over place update) P = P
+OfUpdate op P = ⊥
+
+abbrev pub OfStatus : Op → Type 0 → Type 0
+OfStatus (ops.Status place) P = P
+OfStatus op P = ⊥
+
+abbrev pub OfIter : Op → Type 0 → Type 0
+OfIter (ops.Iter iteration place chosen time) P = P
+OfIter op P = ⊥
+
+abbrev pub OfNext : Op → Type 0 → Type 0
+OfNext (ops.Next iteration) P = P
+OfNext op P = ⊥
 
 abbrev pub OfClient : Op → ℕ → Type 0 → Type 0
 OfClient (ops.Client r version callbacks) q P = (q ≡ r) × P
@@ -293,9 +357,12 @@ Row m s verbs.Create t = AtCkpt t.ckpt t.node (λ k. OfOpen s.op (λ name a. Cre
 Row m s verbs.Reserve t = AtNode t.ckpt t.node (λ k r. ReserveRow m s k r t.reply t.end) × (t.pieces ≡ None)
 Row m s verbs.Finish t = AtCkpt t.ckpt t.node (λ k. FinishRow m s k t.reply t.end) × (t.pieces ≡ None)
 Row m s verbs.Undo t = AtCkpt t.ckpt t.node (λ k. UndoRow m s k t.reply t.end) × (t.pieces ≡ None)
-Row m s verbs.Stage t = AtNode t.ckpt t.node (λ k r. OfWrite s.op (StageRow m s k r t.reply t.end)) × (t.pieces ≡ None)
-Row m s verbs.Commit t = AtNode t.ckpt t.node (λ k r. OfWrite s.op (CommitRow m s k r t.reply t.end)) × (t.pieces ≡ None)
+Row m s verbs.Stage t = AtNode t.ckpt t.node (λ k r. OfUpdate s.op (StageRow m s k r t.reply t.end)) × (t.pieces ≡ None)
+Row m s verbs.Commit t = AtNode t.ckpt t.node (λ k r. OfUpdate s.op (CommitRow m s k r t.reply t.end t.pieces))
 Row m s verbs.Read t = AtNode t.ckpt t.node (λ k r. OfRead s.op (λ elements. ReadRow m elements k r t))
+Row m s verbs.Status t = AtNode t.ckpt t.node (λ k r. OfStatus s.op (StatusRow m k r t.reply t.end)) × (t.pieces ≡ None)
+Row m s verbs.Iter t = AtNode t.ckpt t.node (λ k r. OfIter s.op (IterRow m s k r t.reply t.end)) × (t.pieces ≡ None)
+Row m s verbs.Next t = AtNode t.ckpt t.node (λ k r. OfNext s.op (NextRow m s k r t))
 Row m s verbs.Look t = (t.ckpt ≡ None) × (t.node ≡ None) × (t.reply ≡ words.Refused) × LookRow m s t.end × (t.pieces ≡ None)
 Row m s verb t = ⊥
 
@@ -312,4 +379,5 @@ Allowed m (labels.Began call op end) = IsBegun m call op end
 Allowed m (labels.Stepped call op verb k r reply end pieces) = IsAllowedStep m call op (record { verb = verb; ckpt = k; node = r; reply = reply; end = end; pieces = pieces })
 Allowed m (labels.Word who word said) = IsWord m who word said
 Allowed m (labels.Nodes n) = (0 < n) × (n < 9) × ((r : ℕ) → is_up r m.cluster ≡ false)
+Allowed m (labels.Moved t) = IsMomentFrom m.cluster.moment t
 Allowed m label = ⊥

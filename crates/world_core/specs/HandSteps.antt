@@ -10,4 +10,4 @@ hand_taken d h = record h { driver = driver_taken d h.driver }
 
 -- how it ends by a node's reply, being as it is after the step
 abbrev pub hand_end : StepDone → Reply → InHand → Option Outcome
-hand_end d reply h = driver_end d reply h.driver
+hand_end d reply h = driver_end h.op d reply h.driver

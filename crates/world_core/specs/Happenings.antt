@@ -1,5 +1,5 @@
 -- What an event does to the world, with the label that answers it.
-use Rattle.std.specs.Prelude.{◌≡◌, ◌⊎◌, ℕ, ◌<◌, List, length, Option, Some, None, Bool, nat_lt, slice_get, slice_set}
+use Rattle.std.specs.Prelude.{◌≡◌, ◌⊎◌, ℕ, ◌<◌, List, length, Option, Some, None, Bool, nat_lt, ℤ, slice_get, slice_set}
 use Rattle.ckpt_types.specs.declared.answers.Outcome.{Outcome}
 use Rattle.ckpt_types.specs.declared.identities.ActorName.TheVariants.{Client}
 use Rattle.ckpt_types.specs.declared.identities.CallId.{CallId}
@@ -12,32 +12,38 @@ use Rattle.run_labels.specs.declared.labels.StepReply.{StepReply}
 use Rattle.run_labels.specs.declared.words.OpWord.{OpWord}
 use Rattle.run_labels.specs.declared.words.Verb.{Verb}
 use Rattle.client_handles.specs.declared.client.TheConstants.{HANDLES_MAX}
+use Rattle.client_handles.specs.declared.begun.TheConstants.{ITERATIONS_MAX}
 use Rattle.client_handles.specs.declared.handle_view.HandleView.{HandleView}
+use Rattle.world_core.specs.declared.drivers.Rooms.{Rooms}
 use Rattle.world_core.specs.declared.hands.InHand.{InHand}
 use Rattle.world_core.specs.declared.world.Event.{Event}
 use Rattle.world_core.specs.declared.world.Event.TheVariants as happenings
 use Rattle.world_core.specs.declared.world.World.{World}
 use Rattle.world_core.specs.Calls.{left}
-use Rattle.world_core.specs.RecordState.{empty_record}
+use Rattle.world_core.specs.RecordState.{empty_record, IsMomentFrom}
 use Rattle.world_core.specs.Driving.{driver_next}
 use Rattle.world_core.specs.Beginning.{IsBuilt}
-use Rattle.world_core.specs.Shows.{Does, handles_in, handle_in_place, hand_at}
+use Rattle.world_core.specs.Shows.{Does, handles_in, iterations_in, handle_in_place, handle_over_place, hand_at}
 use Rattle.world_core.specs.Runs.{AnswersBegin, IsIdleWord}
 
--- the client has a free place for a handle
-abbrev pub room_in : World → ℕ → Bool
-room_in w c = nat_lt (length (handles_in (slice_get w.tables c))) HANDLES_MAX
+-- what the client's tables have a free place for
+abbrev pub rooms_in : World → ℕ → Rooms
+rooms_in w c = record {
+  handles = nat_lt (length (handles_in (slice_get w.tables c))) HANDLES_MAX;
+  iterations = nat_lt (length (iterations_in (slice_get w.tables c)).begun) ITERATIONS_MAX;
+}
 
--- the handle for which a place of the client stands
-abbrev pub handle_named : World → ℕ → Option ℕ → Option HandleView
-handle_named w c None = None
-handle_named w c (Some place) = handle_in_place (slice_get w.tables c) place
+-- the handle of the place of a handle, or else of the place of an iteration
+abbrev pub handle_named : World → ℕ → Option ℕ → Option ℕ → Option HandleView
+handle_named w c (Some place) iteration = handle_in_place (slice_get w.tables c) place
+handle_named w c None None = None
+handle_named w c None (Some iteration) = handle_over_place (slice_get w.tables c) iteration
 
 -- this is next for the call that the client has in hand
 pub record IsNext (w : World) (c : ℕ) (next : Next) : Type 0 where
   pub hand : InHand
   pub held : hand_at w.hands c ≡ Some hand
-  pub next_is : driver_next w.cluster (room_in w c) hand.driver ≡ next
+  pub next_is : driver_next w.cluster (rooms_in w c) hand.driver ≡ next
 
 -- the client's call takes a step: it is in hand after it just where the step did not end it
 pub record IsStep (c : ℕ) (old new : World) (label : Label) : Type 0 where
@@ -87,11 +93,18 @@ pub record BringsUp (n : ℕ) (old new : World) (label : Label) : Type 0 where
   pub hands : new.hands ≡ old.hands
   pub does : Does old new label
 
+-- the moment is set, and the calls in hand are as they were
+pub record SetsMoment (t : ℤ) (old new : World) (label : Label) : Type 0 where
+  pub label_is : label ≡ labels.Moved t
+  pub hands : new.hands ≡ old.hands
+  pub does : Does old new label
+
 -- what the event asks of the world
 abbrev pub ComesNow : World → Event → Type 0
 ComesNow w (happenings.Nodes n) = (n ≡ 1) × (w.cluster ≡ empty_record)
 ComesNow w (happenings.Begin (Client c) op) = (c < 100) × IsBuilt op
 ComesNow w (happenings.Step (whos.Actor (Client c)) finish) = c < 100
+ComesNow w (happenings.At t) = IsMomentFrom w.cluster.moment t
 ComesNow w event = ⊥
 
 -- what the event does, with the label that answers it
@@ -99,4 +112,5 @@ abbrev pub IsAnswered : Event → World → World → Label → Type 0
 IsAnswered (happenings.Nodes n) old new label = BringsUp n old new label
 IsAnswered (happenings.Begin (Client c) op) old new label = Begins c op old new label
 IsAnswered (happenings.Step (whos.Actor (Client c)) finish) old new label = IsStep c old new label ⊎ IsIdle c finish old new label
+IsAnswered (happenings.At t) old new label = SetsMoment t old new label
 IsAnswered event old new label = ⊥

@@ -16,6 +16,8 @@ use Rattle.world_core.specs.declared.drivers.Driver.TheVariants as drivers
 use Rattle.world_core.specs.declared.open_call.Making.{Making}
 use Rattle.world_core.specs.declared.open_call.OpenCall.{OpenCall}
 use Rattle.world_core.specs.declared.reading.ActiveCall.{ActiveCall}
+use Rattle.world_core.specs.declared.reading.ActiveKind.{ActiveKind}
+use Rattle.world_core.specs.declared.reading.ActiveKind.TheVariants as kinds
 use Rattle.world_core.specs.declared.record.Entry.{Entry}
 use Rattle.world_core.specs.declared.update_call.UpdateCall.{UpdateCall}
 use Rattle.world_core.specs.declared.update_call.UpdatePhase.TheVariants.{Staging}
@@ -23,9 +25,9 @@ use Rattle.world_core.specs.Calls.{same_actor, client_of}
 use Rattle.world_core.specs.RecordState.{entry_of, first_nodes, no_nodes, has_references, is_live_client, is_up}
 use Rattle.world_core.specs.Serving.{update_of}
 use Rattle.world_core.specs.Driving.{IsBefore, deadline_from}
-use Rattle.world_core.specs.Beginning.{IsBuilt}
+use Rattle.world_core.specs.Beginning.{IsIterOf, IsNextOf, IsBuilt}
 use Rattle.world_core.specs.Machine.{Machine, Staged, ReplicaState, CallState}
-use Rattle.world_core.specs.Steps.{driver_of, room_of}
+use Rattle.world_core.specs.Steps.{driver_of, room_of, sections_declared, named_handle}
 use Rattle.world_core.specs.Shows.{IdentitiesRise, AllUpTo}
 
 -- ---- the call in hand
@@ -125,13 +127,21 @@ abbrev pub OpensAs : Op → OpenAsk → Type 0
 OpensAs (ops.Open place name flags timeout a) ask = (ask.name ≡ name) × (ask.attrs ≡ a)
 OpensAs op ask = ⊥
 
-abbrev pub IsWriteOf : Op → Type 0
-IsWriteOf (ops.Write place update) = Unit {0}
-IsWriteOf op = ⊥
+abbrev pub IsUpdateOf : Op → Type 0
+IsUpdateOf (ops.Create place update) = Unit {0}
+IsUpdateOf (ops.Delete place update) = Unit {0}
+IsUpdateOf (ops.Expire place update) = Unit {0}
+IsUpdateOf (ops.Write place update) = Unit {0}
+IsUpdateOf (ops.Over place update) = Unit {0}
+IsUpdateOf op = ⊥
 
-abbrev pub IsReadOf : Op → Type 0
-IsReadOf (ops.Read place elements) = Unit {0}
-IsReadOf op = ⊥
+-- a call to the active is of the kind that its operation asks for
+abbrev pub IsKindOf : ActiveKind → Op → Type 0
+IsKindOf kinds.Read (ops.Read place elements) = Unit {0}
+IsKindOf kinds.Status (ops.Status place) = Unit {0}
+IsKindOf (kinds.Iterate choice) op = IsIterOf choice op
+IsKindOf kinds.Next op = IsNextOf op
+IsKindOf kind op = ⊥
 
 -- attributes that were given passed their check
 abbrev pub AreGoodAttributes : Option CreationAttributes → Type 0
@@ -153,7 +163,6 @@ pub record IsEnterAt (m : Machine) (s : CallState) (r : ℕ) : Type 0 where
   pub not_live : is_live_client (client_of s.call) m.cluster ≡ false
 
 pub record IsOpenAt (m : Machine) (s : CallState) (o : OpenCall) : Type 0 where
-  pub number : 1 ≤ s.call.number
   pub client : o.ask.client ≡ client_of s.call
   pub within : o.ask.client < 100
   pub built : IsBuilt s.op
@@ -169,20 +178,25 @@ pub record IsOpenAt (m : Machine) (s : CallState) (o : OpenCall) : Type 0 where
 -- an update has staged nowhere, or on n0
 pub record IsUpdateAt (m : Machine) (s : CallState) (u : UpdateCall) : Type 0 where
   pub call : u.call ≡ s.call
-  pub write : IsWriteOf s.op
+  pub update : IsUpdateOf s.op
   pub phase : u.phase ≡ Staging
   pub made : IsMade m u.ckpt
   pub owned : (u.owned ≡ no_nodes) ⊎ (u.owned ≡ first_nodes 1)
 
-pub record IsReadAt (m : Machine) (s : CallState) (a : ActiveCall) : Type 0 where
-  pub read : IsReadOf s.op
+pub record IsActiveAt (m : Machine) (s : CallState) (a : ActiveCall) : Type 0 where
+  pub call : a.call ≡ s.call
+  pub kind : IsKindOf a.kind s.op
   pub made : IsMade m a.ckpt
+  pub kept : s.kept.ckpt ≡ Some a.ckpt
+  -- what its checkpoint declares is as it was at its beginning, and its handle is there
+  pub sections : s.kept.sections ≡ sections_declared m.cluster (Some a.ckpt)
+  pub handle : IsSome (named_handle m s.call.actor s.op)
 
 abbrev pub IsAt : Machine → CallState → Driver → Type 0
 IsAt m s (drivers.Enter r) = IsEnterAt m s r
 IsAt m s (drivers.Open o) = IsOpenAt m s o
 IsAt m s (drivers.Update u) = IsUpdateAt m s u
-IsAt m s (drivers.Active a) = IsReadAt m s a
+IsAt m s (drivers.Active a) = IsActiveAt m s a
 
 -- its steps have led it there
 abbrev pub IsWorking : Machine → Option Working → Type 0
@@ -201,7 +215,6 @@ pub record InvariantWith (hand : Option Working) (m : Machine) : Type 0 where
   pub entries : (k : ℕ) (e : Entry) → entry_of k m.cluster.entries ≡ Some e → IsGoodEntry (maker_of hand k) (slot_of hand k) e (m.replicas k 0)
   -- a handle has a number from 1, and its checkpoint is there and made
   pub handles : (c : ℕ) (h : HandleView) → Contains (m.handles c) h → (1 ≤ h.handle) × IsMade m h.id
-  pub next : (a : ActorName) → 1 ≤ m.next a
   pub in_hand : (a : ActorName) → m.in_hand a ≡ in_hand_of hand a
   pub working : IsWorking m hand
 
@@ -211,7 +224,8 @@ pub record Invariant (m : Machine) : Type 0 where
 
 -- ---- one call at a time
 
--- where a call begins, nobody else has one in hand
+-- where a call begins, nobody else has one in hand; where the moment is set, nobody has
 abbrev pub Alone : Machine → Label → Type 0
 Alone m (labels.Began call op end) = (a : ActorName) → a ≢ call.actor → m.in_hand a ≡ None
+Alone m (labels.Moved t) = (a : ActorName) → m.in_hand a ≡ None
 Alone m label = Unit {0}

@@ -2,7 +2,12 @@
 use Rattle.std.specs.Prelude.{◌≡◌, ℕ, ◌≤◌, List, [], length, sum_by, Option, Some, None}
 use Rattle.ckpt_types.specs.declared.answers.Answer.TheVariants as answers
 use Rattle.ckpt_types.specs.declared.operation.Op.{Op}
+use Rattle.ckpt_types.specs.declared.update.NewId.{NewId}
+use Rattle.ckpt_types.specs.declared.update.NewId.TheVariants.{Given, Generated}
 use Rattle.ckpt_types.specs.declared.update.ReadElement.{ReadElement}
+use Rattle.ckpt_types.specs.declared.update.Update.{Update}
+use Rattle.ckpt_types.specs.declared.update.Update.TheVariants as updates
+use Rattle.ckpt_types.specs.Buffer.{Buffer}
 use Rattle.node_msgs.specs.declared.requests.Request.{Request}
 use Rattle.node_msgs.specs.declared.requests.Request.TheVariants as requests
 use Rattle.node_msgs.specs.declared.replies.Reply.{Reply}
@@ -21,13 +26,31 @@ pub record IsLentRead (elements : List ReadElement) (lent : Lent) : Type 0 where
   pub places : length elements ≤ lent.read.spare_pieces
   pub bytes : bytes_asked elements ≤ lent.read.spare_bytes
 
--- a stage is lent the operation's update, and a read its elements and a buffer
+-- how long the identifier of a new section is
+abbrev pub id_length : NewId → ℕ
+id_length (Given id) = length id
+id_length Generated = 8
+
+-- a creation is lent an empty buffer with room for the identifier that it tells
+pub record IsLentId (new : NewId) (read : Buffer) : Type 0 where
+  pub empty : read.pieces ≡ []
+  pub places : 1 ≤ read.spare_pieces
+  pub bytes : id_length new ≤ read.spare_bytes
+
+abbrev pub IsLentFor : Update → Buffer → Type 0
+IsLentFor (updates.Create new expiration bytes) read = IsLentId new read
+IsLentFor update read = Unit {0}
+
+-- a stage is lent the operation's update, a commit room for what it tells, and a read its elements and a buffer
 abbrev pub IsLent : Request → Op → Lent → Type 0
 IsLent (requests.Stage call k t) op lent = lent.update ≡ Some (update_of op)
+IsLent (requests.Commit call k) op lent = IsLentFor (update_of op) lent.read
 IsLent (requests.Read k) op lent = IsLentRead (elements_of op) lent
 IsLent request op lent = Unit {0}
 
 -- the pieces that came with a reply
 abbrev pub pieces_told : Reply → List (List ℕ) → Option (List (List ℕ))
 pieces_told (replies.Done answers.Pieces) pieces = Some pieces
+pieces_told (replies.Done answers.Created) pieces = Some pieces
+pieces_told (replies.Done (answers.Section facts)) pieces = Some pieces
 pieces_told reply pieces = None

@@ -1,5 +1,5 @@
 -- The state of the checkpoint machine.
-use Rattle.std.specs.Prelude.{ℕ, List, [], Option, None, ℤ}
+use Rattle.std.specs.Prelude.{ℕ, List, [], Option, None, replicate, ℤ}
 use Rattle.ckpt_types.specs.declared.calls.AsyncKind.{AsyncKind}
 use Rattle.ckpt_types.specs.declared.answers.Outcome.{Outcome}
 use Rattle.ckpt_types.specs.declared.identities.ActorName.{ActorName}
@@ -7,6 +7,7 @@ use Rattle.ckpt_types.specs.declared.identities.CallId.{CallId}
 use Rattle.ckpt_types.specs.declared.operation.Op.{Op}
 use Rattle.ckpt_types.specs.declared.update.Update.{Update}
 use Rattle.ckpt_types.specs.Sections.{Section}
+use Rattle.client_handles.specs.declared.begun.BegunIteration.{BegunIteration}
 use Rattle.client_handles.specs.declared.handle_view.HandleView.{HandleView}
 use Rattle.world_core.specs.RecordState.{RecordState, empty_record}
 use Rattle.world_core.specs.Driving.{StepDone, Kept}
@@ -45,10 +46,11 @@ pub record Snapshot : Type 0 where
   pub effects : List Effect
   pub generation : ℕ
 
--- an iteration: the handle it goes over, and the identifiers that it keeps
-pub record IterationState : Type 0 where
-  pub handle : ℕ
-  pub identifiers : List (List ℕ)
+-- what a client keeps of iterations: the number of the one last begun or 0, those that have not ended in the order of their beginning, and by place the number of the one to which it was set last or 0
+pub record IterationTable : Type 0 where
+  pub last : ℕ
+  pub begun : List BegunIteration
+  pub places : List ℕ
 
 -- an asynchronous call that has not been dispatched, with its outcome once it is finished
 pub record PendingCall : Type 0 where
@@ -76,13 +78,16 @@ pub record Machine : Type 0 where
   pub handles : ℕ → List HandleView
   pub places : ℕ → ℕ → Option ℕ
   pub last_handles : ℕ → ℕ
-  pub iterations : ℕ → ℕ → Option IterationState
+  pub iterations : ℕ → IterationTable
   pub pending : ℕ → List PendingCall
   -- the number that each client's and node's next call gets
   pub next : ActorName → ℕ
   -- the call in hand of each client and node, and the unfinished asynchronous operations
   pub in_hand : ActorName → Option CallState
   pub operations : CallId → Option CallState
+
+abbrev pub no_iterations : IterationTable
+no_iterations = record { last = 0; begun = []; places = replicate 100 0 }
 
 -- no node is up, and nothing has happened
 abbrev pub empty_cluster : Machine
@@ -94,7 +99,7 @@ empty_cluster = record {
   handles = λ c. [];
   places = λ c p. None;
   last_handles = λ c. 0;
-  iterations = λ c p. None;
+  iterations = λ c. no_iterations;
   pending = λ c. [];
   next = λ a. 1;
   in_hand = λ a. None;

@@ -1,8 +1,8 @@
 -- The record of the cluster, on which all nodes agree, and its steps.
-use Rattle.std.specs.Prelude.{ℕ, ◌+◌, List, [], ◌∷◌, ◌++◌, map, filter, find, Option, Some, None, is_some, Bool, false, not, ◌&&◌, ◌||◌, ◌==◌, nat_eq, nat_lt, if◌then◌else◌, ℤ, pos, replicate, slice_set, slice_index}
+use Rattle.std.specs.Prelude.{ℕ, ◌+◌, List, [], ◌∷◌, ◌++◌, map, filter, find, Option, Some, None, is_some, Bool, false, not, ◌&&◌, ◌||◌, ◌==◌, nat_eq, nat_lt, if◌then◌else◌, ℤ, pos, ◌≤ℤ◌, ◌<ℤ◌, replicate, slice_set, slice_index}
 use Rattle.std.specs.List.{list_any}
 use Rattle.std.specs.Cmp.Lexicographic.{pointwise}
-use Rattle.moment_rules.specs.Times.{sum_until_end, is_reached}
+use Rattle.moment_rules.specs.Times.{never, sum_until_end, is_reached}
 use Rattle.ckpt_types.specs.declared.identities.ActorName.{ActorName}
 use Rattle.ckpt_types.specs.declared.identities.ActorName.TheVariants.{Client, Node}
 use Rattle.ckpt_types.specs.declared.identities.CallId.{CallId}
@@ -95,6 +95,16 @@ stays t e = is_some e.making || has_references e || (is_some e.name && not (is_r
 
 abbrev pub swept : RecordState → RecordState
 swept R = record R { entries = filter (stays R.moment) R.entries }
+
+-- ---- the moment
+
+-- a moment that may be set where the first holds: not before it, and before the end of time
+abbrev pub IsMomentFrom : ℤ → ℤ → Type 0
+IsMomentFrom before t = (before ≤ℤ t) × (t <ℤ never)
+
+-- the moment is set, and what is over then is swept away
+abbrev pub moved : ℤ → RecordState → RecordState
+moved t R = swept (record R { moment = t })
 
 -- ---- the steps
 

@@ -17,12 +17,13 @@ IsRefusal (labels.Began call op end) = IsRefused end
 IsRefusal (labels.Stepped call op verb k r reply end pieces) = IsRefused end
 IsRefusal label = ⊥
 
--- the record with its names, the sections of every replica, and the handles of every client with their places are as they were
+-- the record with its names, the sections of every replica, and the handles and iterations of every client with their places are as they were
 pub record LeavesAll (m m' : Machine) : Type 0 where
   pub cluster : m'.cluster ≡ m.cluster
   pub replicas : (k r : ℕ) → m'.replicas k r ≡ m.replicas k r
   pub handles : (c : ℕ) → m'.handles c ≡ m.handles c
   pub places : (c p : ℕ) → m'.places c p ≡ m.places c p
+  pub iterations : (c : ℕ) → m'.iterations c ≡ m.iterations c
 
 -- where the last label is a refusal, the state after it has all of this as the state before it
 abbrev pub RefusalLeaves : List Label → List Label → Type 0

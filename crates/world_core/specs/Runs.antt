@@ -1,5 +1,5 @@
 -- Runs of the machine that the world shows.
-use Rattle.std.specs.Prelude.{◌≡◌, ◌≢◌, ℕ, ◌+◌, ◌*◌, ◌-◌, ◌<◌, ◌≤◌, ◌^◌, List, [], ◌∷◌, ◌++◌, length, replicate, Option, Some, None, Bool, true, false, if◌then◌else◌, slice_get, slice_index}
+use Rattle.std.specs.Prelude.{◌≡◌, ◌≢◌, ℕ, ◌+◌, ◌*◌, ◌-◌, ◌<◌, ◌≤◌, ◌^◌, List, [], ◌∷◌, ◌++◌, length, replicate, Option, Some, None, Bool, true, false, if◌then◌else◌, ℤ, slice_get, slice_index}
 use Rattle.ckpt_types.specs.declared.answers.Outcome.{Outcome}
 use Rattle.ckpt_types.specs.declared.identities.ActorName.{ActorName}
 use Rattle.ckpt_types.specs.declared.identities.ActorName.TheVariants.{Client}
@@ -24,7 +24,7 @@ use Rattle.world_core.specs.declared.record.Entry.{Entry}
 use Rattle.world_core.specs.declared.world.Event.{Event}
 use Rattle.world_core.specs.declared.world.Event.TheVariants as happenings
 use Rattle.world_core.specs.declared.world.World.{World}
-use Rattle.world_core.specs.RecordState.{RecordState, entry_of, complete_of, empty_record, is_up}
+use Rattle.world_core.specs.RecordState.{RecordState, entry_of, complete_of, empty_record, is_up, IsMomentFrom}
 use Rattle.world_core.specs.TableState.{TableState}
 use Rattle.world_core.specs.NewTable.{no_callbacks}
 use Rattle.world_core.specs.Driving.{lacks, has}
@@ -60,6 +60,7 @@ IsRun log = IsRunFrom empty_cluster log
 pub record Counts (m : Machine) (n : ℕ) : Type 0 where
   pub next : (a : ActorName) → m.next a ≤ n + 1
   pub last_handles : (c : ℕ) → m.last_handles c ≤ n
+  pub last_iterations : (c : ℕ) → (m.iterations c).last ≤ n
   pub effects : (k r : ℕ) (x : ReplicaState) → m.replicas k r ≡ Some x → length x.effects ≤ n
   pub identity : m.cluster.last_identity ≤ n
   pub references : (k : ℕ) (e : Entry) (c : ℕ) → entry_of k m.cluster.entries ≡ Some e → slice_index e.references c ≤ n
@@ -92,10 +93,15 @@ abbrev pub OneActor : World → Who → Type 0
 OneActor w (whos.Actor a) = NoneButOf w a
 OneActor w who = ⊥
 
+-- no client has a call in hand
+abbrev pub NoneInHand : World → Type 0
+NoneInHand w = (d : ℕ) → hand_at w.hands d ≡ None
+
 abbrev pub Comes : World → List Label → Event → Type 0
 Comes w log (happenings.Nodes n) = (n ≡ 1) × (log ≡ [])
 Comes w log (happenings.Begin a op) = NoneButOf w a × IsBuilt op
 Comes w log (happenings.Step who finish) = OneActor w who
+Comes w log (happenings.At t) = NoneInHand w × IsMomentFrom w.cluster.moment t
 
 -- how many of the nodes the call lacks, and has
 abbrev pub lacking : List ℕ → List ℕ → ℕ
@@ -177,6 +183,7 @@ Answers (happenings.Nodes n) old new label = (label ≡ labels.Nodes n) × (new.
 Answers (happenings.Begin a op) old new label = AnswersBegin a op old new label
 Answers (happenings.Step (whos.Actor a) finish) old new label = AnswersStep a finish (hand_of_actor old a) old new label
 Answers (happenings.Step who finish) old new label = ⊥
+Answers (happenings.At t) old new label = (label ≡ labels.Moved t) × (new.hands ≡ old.hands)
 
 -- the calls of other clients are as they were
 abbrev pub KeepsOthers : Event → World → World → Type 0
@@ -184,12 +191,18 @@ KeepsOthers (happenings.Begin (Client c) op) old new = (d : ℕ) → d ≢ c →
 KeepsOthers (happenings.Step (whos.Actor (Client c)) finish) old new = (d : ℕ) → d ≢ c → hand_at new.hands d ≡ hand_at old.hands d
 KeepsOthers event old new = Unit {0}
 
+-- the moment after an event; the first is the one before it
+abbrev pub moment_of : Event → ℤ → ℤ
+moment_of (happenings.At t) before = t
+moment_of event before = before
+
 -- one label more, which answers the event
 pub record Happens (event : Event) (old new : World) (log longer : List Label) : Type 0 where
   pub label : Label
   pub grows : longer ≡ log ++ label ∷ []
   pub answers : Answers event old new label
   pub others : KeepsOthers event old new
+  pub moment : new.cluster.moment ≡ moment_of event old.cluster.moment
 
 -- an event that may come, in the world after a log
 pub record MayHappen (w : World) (log : List Label) (event : Event) : Type 0 where

@@ -1,17 +1,20 @@
 -- What a node answers to a request, and what becomes of its one replica.
 use Rattle.std.specs.Prelude.{◌≡◌, ℕ, ◌+◌, ◌-◌, ◌<◌, ◌^◌, List, [], ◌∷◌, ◌++◌, Option, Some, None, Result, Ok, Err, IsOk, IsSomeAnd, ℤ, slice_get, slice_set}
 use Rattle.std.specs.Result.{result_ok}
+use Rattle.ckpt_types.specs.declared.ais_error.AisError.TheVariants.{NoSections}
+use Rattle.ckpt_types.specs.declared.answers.Answer.{Answer}
 use Rattle.ckpt_types.specs.declared.answers.Answer.TheVariants as answers
 use Rattle.ckpt_types.specs.declared.attributes.CreationAttributes.{CreationAttributes}
 use Rattle.ckpt_types.specs.declared.identities.CallId.{CallId}
 use Rattle.ckpt_types.specs.declared.operation.Op.{Op}
 use Rattle.ckpt_types.specs.declared.operation.Op.TheVariants as ops
+use Rattle.ckpt_types.specs.declared.sections.Choice.{Choice}
 use Rattle.ckpt_types.specs.declared.update.ReadElement.{ReadElement}
 use Rattle.ckpt_types.specs.declared.update.Update.{Update}
 use Rattle.ckpt_types.specs.declared.update.Update.TheVariants as updates
-use Rattle.ckpt_types.specs.Sections.{Section, opening}
-use Rattle.ckpt_types.specs.Updates.{Refusal, outcome}
-use Rattle.ckpt_types.specs.Reads.{read}
+use Rattle.ckpt_types.specs.Sections.{Section, opening, present}
+use Rattle.ckpt_types.specs.Updates.{Refusal, outcome, new_id}
+use Rattle.ckpt_types.specs.Reads.{read, status, NextGiven, given, chosen, description, facts_of}
 use Rattle.node_msgs.specs.declared.requests.Request.{Request}
 use Rattle.node_msgs.specs.declared.requests.Request.TheVariants as requests
 pub use Rattle.node_msgs.specs.Requests.{ckpt_of}
@@ -64,11 +67,28 @@ committed x (Some slot) = record x {
   slot = None;
 }
 
+-- what an update that is done answers: a creation tells the identifier of its section
+abbrev pub update_answer : Update → Answer
+update_answer (updates.Create new expiration bytes) = answers.Created
+update_answer update = answers.Nothing
+
+-- that identifier, which an update at a moment makes over the sections before it
+abbrev pub told_id : Update → ℤ → List Section → Option (List (List ℕ))
+told_id (updates.Create new expiration bytes) t sections = Some (new_id new (present t sections) ∷ [])
+told_id update t sections = None
+
+-- told by the replica that commits it
+abbrev pub slot_id : Update → List Section → Option Slot → Option (List (List ℕ))
+slot_id update sections None = None
+slot_id update sections (Some slot) = told_id update slot.moment sections
+
 -- the answer of a replica to a request of a call with this operation, at the record's moment
 abbrev pub reply_of : Request → Op → ℤ → Replica → Reply
 reply_of (requests.Stage call k t) op now x = stage_reply (outcome x.store.attributes (update_of op) t x.store.sections) x.slot
-reply_of (requests.Commit call k) op now x = replies.Done answers.Nothing
+reply_of (requests.Commit call k) op now x = replies.Done (update_answer (update_of op))
 reply_of (requests.Read k) op now x = done_or_refused (replies.Done answers.Pieces) (read (elements_of op) now x.store.sections)
+reply_of (requests.Status k) op now x = replies.Done (answers.Status (status x.store.attributes now x.store.sections))
+reply_of (requests.Iterate call k choice) op now x = replies.Done answers.Nothing
 reply_of _ op now x = replies.NoReplica
 
 -- and what the replica becomes
@@ -77,9 +97,10 @@ replica_after (requests.Stage call k t) op x = record x { slot = stage_slot (out
 replica_after (requests.Commit call k) op x = committed x x.slot
 replica_after _ op x = x
 
--- and the pieces that a read gives
+-- and the pieces that a read gives, or a commit with the identifier of a new section
 abbrev pub pieces_of : Request → Op → ℤ → Replica → Option (List (List ℕ))
 pieces_of (requests.Read k) op now x = result_ok (read (elements_of op) now x.store.sections)
+pieces_of (requests.Commit call k) op now x = slot_id (update_of op) x.store.sections x.slot
 pieces_of _ op now x = None
 
 -- ---- when a request may come
@@ -118,7 +139,35 @@ abbrev pub pieces_at : Request → Op → ℤ → Option Replica → Option (Lis
 pieces_at request op now None = None
 pieces_at request op now (Some x) = pieces_of request op now x
 
--- the nodes after a request to one of them
+-- ---- iterations
+
+-- the next section of an iteration, told without its identifier; or that none is left
+abbrev pub next_reply : Option NextGiven → Reply
+next_reply None = replies.Refused NoSections 0
+next_reply (Some next) = replies.Done (answers.Section (facts_of (description next.section)))
+
+-- that identifier
+abbrev pub next_id : Option NextGiven → Option (List (List ℕ))
+next_id None = None
+next_id (Some next) = Some (next.section.id ∷ [])
+
+-- what the replica gives next to one who keeps these identifiers
+abbrev pub given_at : List (List ℕ) → ℤ → Option Replica → Option NextGiven
+given_at ids now None = None
+given_at ids now (Some x) = given ids now x.store.sections
+
+abbrev pub next_reply_at : List (List ℕ) → ℤ → Option Replica → Reply
+next_reply_at ids now None = replies.NoReplica
+next_reply_at ids now (Some x) = next_reply (given ids now x.store.sections)
+
+-- what the replica gives to keep to an iteration that starts
+abbrev pub chosen_at : Choice → ℤ → Option Replica → List (List ℕ)
+chosen_at choice now None = []
+chosen_at choice now (Some x) = chosen choice now x.store.sections
+
+-- ---- the nodes after a request
+
+-- to one of them
 abbrev pub served : List (List Replica) → ℕ → Request → Op → List (List Replica)
 served nodes r request op = slice_set nodes r (change_key replica_key (ckpt_of request) (replica_after request op) (list_or (slice_get nodes r)))
 

@@ -3,6 +3,10 @@ use Rattle.std.specs.Prelude.{◌≡◌, ℕ, ◌-◌, ◌^◌, ◌<◌, ◌≤�
 use Rattle.ckpt_types.specs.declared.identities.ActorName.{ActorName}
 use Rattle.ckpt_types.specs.declared.identities.ActorName.TheVariants.{Client, Node}
 use Rattle.ckpt_types.specs.declared.identities.CallId.{CallId}
+use Rattle.ckpt_types.specs.declared.operation.Op.{Op}
+use Rattle.ckpt_types.specs.declared.operation.Op.TheVariants as ops
+use Rattle.ckpt_types.specs.declared.sections.Choice.{Choice}
+use Rattle.section_iter.specs.KeptIds.{KeptIds}
 use Rattle.ckpt_types.specs.Attributes.{is_malformed}
 use Rattle.node_msgs.specs.declared.requests.Request.{Request}
 use Rattle.node_msgs.specs.declared.requests.Request.TheVariants as requests
@@ -10,7 +14,7 @@ use Rattle.node_msgs.specs.declared.next.RecordStep.{RecordStep}
 use Rattle.node_msgs.specs.declared.next.RecordStep.TheVariants as events
 use Rattle.node_msgs.specs.declared.next.Next.TheVariants.{Serve, Event}
 use Rattle.run_labels.specs.declared.labels.Label.{Label}
-use Rattle.client_handles.specs.ClientState.{handle_at}
+use Rattle.client_handles.specs.ClientState.{ClientState, handle_at, iteration_at}
 use Rattle.client_handles.specs.declared.handle_view.HandleView.{HandleView}
 use Rattle.world_core.specs.declared.drivers.Driver.{Driver}
 use Rattle.world_core.specs.declared.drivers.Driver.TheVariants as drivers
@@ -27,9 +31,9 @@ use Rattle.world_core.specs.RecordState.{RecordState, entry_of, complete_of, nam
 use Rattle.world_core.specs.TableState.{TableState}
 use Rattle.world_core.specs.Serving.{ckpt_of, replica_in, opened_replica, IsReadyFor}
 use Rattle.world_core.specs.Driving.{StepDone, Kept, driver_state}
-use Rattle.world_core.specs.Beginning.{IsBuilt}
-use Rattle.world_core.specs.Machine.{Machine, Effect, Staged, ReplicaState, CallState}
-use Rattle.world_core.specs.Steps.{IsDue, after, due, driver_of, room_of, seen_at, staged_moment}
+use Rattle.world_core.specs.Beginning.{IsIterOf, IsNextOf, IsBuilt}
+use Rattle.world_core.specs.Machine.{IterationTable, no_iterations, Machine, Effect, Staged, ReplicaState, CallState}
+use Rattle.world_core.specs.Steps.{IsDue, after, due, driver_of, room_of, seen_at, staged_moment, sections_declared, named_handle, handle_over}
 
 -- ---- what the machine keeps and the code does not
 
@@ -94,6 +98,19 @@ abbrev pub last_in : Option TableState → ℕ
 last_in None = 0
 last_in (Some t) = t.client.last_number
 
+-- what a client keeps of iterations
+abbrev pub iterations_of : ClientState → IterationTable
+iterations_of client = record { last = client.last_iteration; begun = client.iterations; places = client.iteration_places }
+
+abbrev pub iterations_in : Option TableState → IterationTable
+iterations_in None = no_iterations
+iterations_in (Some t) = iterations_of t.client
+
+-- the handle over which the iteration goes for which a place stands
+abbrev pub handle_over_place : Option TableState → ℕ → Option HandleView
+handle_over_place None p = None
+handle_over_place (Some t) p = handle_over t.client.handles (iteration_at p t.client)
+
 -- the handle for which a place stands
 abbrev pub handle_in_place : Option TableState → ℕ → Option HandleView
 handle_in_place None p = None
@@ -127,7 +144,7 @@ machine_of w h = record {
   handles = λ c. handles_in (slice_get w.tables c);
   places = λ c p. place_in (slice_get w.tables c) p;
   last_handles = λ c. last_in (slice_get w.tables c);
-  iterations = λ c p. None;
+  iterations = λ c. iterations_in (slice_get w.tables c);
   pending = λ c. [];
   next = next_of w.tables;
   in_hand = hand_of h w.hands;
@@ -153,9 +170,14 @@ FitsReserved k None r x = Unit {0}
 FitsReserved k (Some e) r x = slice_index e.complete r ≡ 0 → IsOpening k e x
 
 -- a call is where its steps have led it
+-- the room that it has in hand for an iteration
+abbrev pub room_for : Op → ℕ → Option KeptIds
+room_for (ops.Iter iteration place chosen time) sections = Some (record { ids = []; room = sections })
+room_for op sections = None
+
 abbrev pub FitsHand : Kept → List StepDone → Option InHand → Type 0
 FitsHand kept steps None = Unit {0}
-FitsHand kept steps (Some h) = h.driver ≡ driver_state h.call h.op kept steps
+FitsHand kept steps (Some h) = (h.driver ≡ driver_state h.call h.op kept steps) × (h.iteration ≡ room_for h.op kept.sections)
 
 pub record Fits (w : World) (h : History) : Type 0 where
   pub replicas : (k r : ℕ) → FitsReplica k (entry_of k w.cluster.entries) (h.effects k r) (complete_replica w.cluster w.nodes k r)
@@ -215,6 +237,11 @@ IsEventReady m s (drivers.Open o) events.Finish = IsFinishable m o.making
 IsEventReady m s (drivers.Open o) events.Undo = IsSomeAnd o.making (λ making. Unit {0})
 IsEventReady m s driver step = ⊥
 
+-- a call to the active alone
+abbrev pub IsActive : Driver → Type 0
+IsActive (drivers.Active a) = Unit {0}
+IsActive driver = ⊥
+
 pub record Facts (m : Machine) : Type 0 where
   -- a call in hand is its actor's
   pub callers : (a : ActorName) (s : CallState) → m.in_hand a ≡ Some s → s.call.actor ≡ a
@@ -226,6 +253,9 @@ pub record Facts (m : Machine) : Type 0 where
   pub events : (a : ActorName) (s : CallState) (step : RecordStep) → m.in_hand a ≡ Some s → due m s ≡ Event step → IsEventReady m s (driver_of s) step
   -- an open has a place for its handle, and with a checkpoint in the making room for the handle
   pub opens : (a : ActorName) (s : CallState) (o : OpenCall) → m.in_hand a ≡ Some s → driver_of s ≡ drivers.Open o → IsBuilt s.op × (IsSome o.making → room_of m (client_of s.call) ≡ true)
+  -- an iteration that is started has room for all sections that are declared, and one that goes on is there
+  pub starts : (a : ActorName) (s : CallState) (r : ℕ) (call : CallId) (k : ℕ) (choice : Choice) → m.in_hand a ≡ Some s → due m s ≡ Serve r (requests.Iterate call k choice) → (s.kept.sections ≡ sections_declared m.cluster (Some k)) × IsIterOf choice s.op × IsSome (named_handle m a s.op) × IsActive (driver_of s)
+  pub goes_on : (a : ActorName) (s : CallState) (r : ℕ) (call : CallId) (k : ℕ) → m.in_hand a ≡ Some s → due m s ≡ Serve r (requests.Next call k) → IsNextOf s.op × IsSome (named_handle m a s.op)
   -- the numbers of handles are from 1
   pub numbered : (c : ℕ) (h : HandleView) → Contains (m.handles c) h → 1 ≤ h.handle
 
@@ -244,6 +274,7 @@ pub record Does (old new : World) (label : Label) : Type 0 where
 pub record IsRoomy (w : World) : Type 0 where
   pub next : (c : ℕ) → next_in (slice_get w.tables c) < 2 ^ 32 - 1
   pub handles : (c : ℕ) → last_in (slice_get w.tables c) < 2 ^ 32 - 1
+  pub iterations : (c : ℕ) → (iterations_in (slice_get w.tables c)).last < 2 ^ 32 - 1
   pub updates : (k r : ℕ) (x : Replica) → complete_replica w.cluster w.nodes k r ≡ Some x → x.count < 2 ^ 64 - 1
   pub identity : w.cluster.last_identity < 2 ^ 32 - 1
   pub references : (k : ℕ) (e : Entry) (c : ℕ) → entry_of k w.cluster.entries ≡ Some e → slice_index e.references c < 2 ^ 32 - 1

@@ -1,5 +1,8 @@
 -- Which label is due, with its answer, and the state after a label.
-use Rattle.std.specs.Prelude.{◌≡◌, ◌≢◌, ◌⊎◌, ℕ, ◌+◌, List, [], ◌∷◌, ◌++◌, length, Option, Some, None, IsTrue, Bool, true, false, ◌==◌, nat_lt, if◌then◌else◌, ℤ, slice_index}
+use Rattle.section_iter.specs.KeptIds.{KeptIds}
+use Rattle.section_iter.specs.Next.{kept_after}
+use Rattle.std.specs.Option.{option_and_then}
+use Rattle.std.specs.Prelude.{slice_set, ◌≡◌, ◌≢◌, ◌⊎◌, ℕ, ◌+◌, List, [], ◌∷◌, ◌++◌, length, Option, Some, None, IsTrue, Bool, true, false, ◌==◌, nat_lt, if◌then◌else◌, ℤ, slice_index}
 use Rattle.ckpt_types.specs.declared.answers.Answer.TheVariants as answers
 use Rattle.ckpt_types.specs.declared.answers.Outcome.{Outcome}
 use Rattle.ckpt_types.specs.declared.answers.Outcome.TheVariants.{Done, NoMemory}
@@ -13,6 +16,7 @@ use Rattle.ckpt_types.specs.declared.operation.Op.TheVariants as ops
 use Rattle.ckpt_types.specs.declared.update.Update.{Update}
 use Rattle.ckpt_types.specs.Sections.{opening}
 use Rattle.ckpt_types.specs.Updates.{outcome}
+use Rattle.ckpt_types.specs.Reads.{NextGiven}
 use Rattle.node_msgs.specs.declared.requests.Request.{Request}
 use Rattle.node_msgs.specs.declared.requests.Request.TheVariants as requests
 use Rattle.node_msgs.specs.declared.replies.Reply.{Reply}
@@ -34,21 +38,25 @@ use Rattle.run_labels.specs.declared.labels.StepReply.TheVariants as words
 use Rattle.run_labels.specs.declared.labels.Label.{Label}
 use Rattle.run_labels.specs.declared.labels.Label.TheVariants as labels
 use Rattle.run_labels.specs.OpWord.{word_of_op}
-use Rattle.client_handles.specs.ClientState.{handle_numbered}
+use Rattle.client_handles.specs.Numbered.{without, stands_for}
+use Rattle.client_handles.specs.ClientState.{handle_numbered, iteration_number, keeping}
+use Rattle.client_handles.specs.declared.begun.BegunIteration.{BegunIteration}
+use Rattle.client_handles.specs.declared.begun.TheConstants.{ITERATIONS_MAX}
 use Rattle.client_handles.specs.declared.client.TheConstants.{HANDLES_MAX}
 use Rattle.client_handles.specs.declared.handle_view.HandleView.{HandleView}
 use Rattle.world_core.specs.declared.drivers.Driver.{Driver}
+use Rattle.world_core.specs.declared.drivers.Rooms.{Rooms}
 use Rattle.world_core.specs.declared.record.Entry.{Entry}
 use Rattle.world_core.specs.declared.record.LiveClient.{LiveClient}
 use Rattle.world_core.specs.declared.replica.Replica.{Replica}
 use Rattle.world_core.specs.declared.replica.Slot.{Slot}
 use Rattle.world_core.specs.Calls.{number_of, client_of, IsClient, put_actor, left}
 use Rattle.world_core.specs.Places.{find_key, put, put2}
-use Rattle.world_core.specs.RecordState.{RecordState, entry_of, complete_of, client_key, is_live_client, is_up, no_nodes, brought_up}
-use Rattle.world_core.specs.Serving.{update_of, ckpt_of, reply_at, pieces_at, or_same}
+use Rattle.world_core.specs.RecordState.{RecordState, entry_of, complete_of, client_key, is_live_client, is_up, no_nodes, brought_up, IsMomentFrom, moved}
+use Rattle.world_core.specs.Serving.{update_of, ckpt_of, reply_at, pieces_at, or_same, next_reply_at, next_id, given_at, chosen_at}
 use Rattle.world_core.specs.Driving.{Kept, driver_state, driver_next, driver_taken, driver_end, done_of, word_of, verb_of, event_verb, event_ckpt, event_node, event_end, event_after, takes_memory}
-use Rattle.world_core.specs.Beginning.{begin_end, handle_place, opened_place, opened_for, IsBuilt}
-use Rattle.world_core.specs.Machine.{Machine, Effect, Applied, Staged, ReplicaState, CallState}
+use Rattle.world_core.specs.Beginning.{begin_end, handle_place, iteration_place, started_place, ended_place, chosen_choice, opened_place, opened_for, takes_room, IsBuilt}
+use Rattle.world_core.specs.Machine.{IterationTable, Machine, Effect, Applied, Staged, ReplicaState, CallState}
 
 -- ---- what the code sees of one replica
 
@@ -76,13 +84,47 @@ driver_of s = driver_state s.call s.op s.kept s.steps
 abbrev pub room_of : Machine → ℕ → Bool
 room_of m c = nat_lt (length (m.handles c)) HANDLES_MAX
 
+-- what its tables have a free place for
+abbrev pub rooms_of : Machine → ℕ → Rooms
+rooms_of m c = record { handles = room_of m c; iterations = nat_lt (length (m.iterations c).begun) ITERATIONS_MAX }
+
 abbrev pub due : Machine → CallState → Next
-due m s = driver_next m.cluster (room_of m (client_of s.call)) (driver_of s)
+due m s = driver_next m.cluster (rooms_of m (client_of s.call)) (driver_of s)
+
+-- ---- iterations
+
+-- the iteration for which a place stands: none where it was never set, or the iteration has ended
+abbrev pub iteration_in : IterationTable → Option ℕ → Option BegunIteration
+iteration_in table None = None
+iteration_in table (Some place) = stands_for iteration_number table.places table.begun place
+
+-- what is kept of it
+abbrev pub kept_in : IterationTable → Option ℕ → Option KeptIds
+kept_in table place = option_and_then (λ (it : BegunIteration). it.kept) (iteration_in table place)
+
+abbrev pub ids_of : Option KeptIds → List (List ℕ)
+ids_of None = []
+ids_of (Some kept) = kept.ids
+
+-- the identifiers that the iteration keeps with which a call goes on
+abbrev pub ids_asked : Machine → CallState → List (List ℕ)
+ids_asked m s = ids_of (kept_in (m.iterations (client_of s.call)) (iteration_place s.op))
 
 -- a reservation is done or refused for memory; every other answer is that of the one replica
 abbrev pub MayAnswer : Machine → CallState → Request → ℕ → Reply → Type 0
 MayAnswer m s (requests.Reserve k) r answer = (answer ≡ replies.Done answers.Nothing) ⊎ (answer ≡ replies.NoMemory)
+MayAnswer m s (requests.Next call k) r answer = answer ≡ next_reply_at (ids_asked m s) m.cluster.moment (seen_at m k r)
 MayAnswer m s request r answer = answer ≡ reply_at request s.op m.cluster.moment (seen_at m (ckpt_of request) r)
+
+-- the pieces that come with the answer
+abbrev pub pieces_due : Machine → CallState → Request → ℕ → Option (List (List ℕ))
+pieces_due m s (requests.Next call k) r = next_id (given_at (ids_asked m s) m.cluster.moment (seen_at m k r))
+pieces_due m s request r = pieces_at request s.op m.cluster.moment (seen_at m (ckpt_of request) r)
+
+-- a label has the pieces of the step that ends its call
+abbrev pub ended_pieces : Option Outcome → Option (List (List ℕ)) → Option (List (List ℕ))
+ended_pieces None pieces = None
+ended_pieces (Some end) pieces = pieces
 
 abbrev pub look_word : Outcome → StepReply
 look_word (Done answer) = words.Done
@@ -104,8 +146,8 @@ pub record IsServed (m : Machine) (s : CallState) (r : ℕ) (request : Request) 
   pub ckpt : t.ckpt ≡ Some (ckpt_of request)
   pub node : t.node ≡ Some r
   pub reply : t.reply ≡ word_of answer
-  pub pieces : t.pieces ≡ pieces_at request s.op m.cluster.moment (seen_at m (ckpt_of request) r)
-  pub end : t.end ≡ (let done = done_of m.cluster t.verb t.ckpt t.node t.reply in driver_end done answer (driver_taken done (driver_of s)))
+  pub pieces : t.pieces ≡ ended_pieces t.end (pieces_due m s request r)
+  pub end : t.end ≡ (let done = done_of m.cluster t.verb t.ckpt t.node t.reply in driver_end s.op done answer (driver_taken done (driver_of s)))
 
 -- a step of the record is done, or what takes memory is refused it and ends
 pub record IsEvent (m : Machine) (s : CallState) (step : RecordStep) (t : Told) : Type 0 where
@@ -139,8 +181,18 @@ abbrev pub handle_in : Machine → ℕ → Option ℕ → Option HandleView
 handle_in m c None = None
 handle_in m c (Some place) = handle_of_number (m.handles c) (m.places c place)
 
+-- the handle over which an iteration of a client goes
+abbrev pub handle_over : List HandleView → Option BegunIteration → Option HandleView
+handle_over handles it = option_and_then (λ (it : BegunIteration). handle_numbered it.handle handles) it
+
+-- the handle of the place of a handle, or else of the place of an iteration
+abbrev pub handle_by : Machine → ℕ → Option ℕ → Option ℕ → Option HandleView
+handle_by m c (Some place) iteration = handle_in m c (Some place)
+handle_by m c None iteration = handle_over (m.handles c) (iteration_in (m.iterations c) iteration)
+
+-- the handle that an operation is about
 abbrev pub named_handle : Machine → ActorName → Op → Option HandleView
-named_handle m a op = handle_in m (number_of a) (handle_place op)
+named_handle m a op = handle_by m (number_of a) (handle_place op) (iteration_place op)
 
 abbrev pub ckpt_of_handle : Option HandleView → Option ℕ
 ckpt_of_handle None = None
@@ -150,14 +202,27 @@ abbrev pub node_of_client : Option LiveClient → ℕ
 node_of_client None = 0
 node_of_client (Some live) = live.node
 
+-- how many sections a checkpoint declares; 0 where it is gone
+abbrev pub sections_in : Option Entry → ℕ
+sections_in None = 0
+sections_in (Some e) = e.attributes.max_sections
+
+abbrev pub sections_declared : RecordState → Option ℕ → ℕ
+sections_declared R None = 0
+sections_declared R (Some k) = sections_in (entry_of k R.entries)
+
 -- what a call keeps at its beginning
 abbrev pub kept_at : RecordState → ℕ → Option HandleView → Kept
-kept_at R c h = record { ckpt = ckpt_of_handle h; node = node_of_client (find_key client_key c R.clients); moment = R.moment }
+kept_at R c h = record { ckpt = ckpt_of_handle h; sections = sections_declared R (ckpt_of_handle h); node = node_of_client (find_key client_key c R.clients); moment = R.moment }
 
 -- an Initialize begins for a client that is not live, on a node that is up
 abbrev pub MayBegin : RecordState → ℕ → Op → Type 0
 MayBegin R c (ops.Client r version callbacks) = (is_live_client c R ≡ false) × (is_up r R ≡ true)
 MayBegin R c op = Unit {0}
+
+-- a call answers at once by its first refusal, or goes on; one that takes room may be refused the memory
+abbrev pub IsBeginEnd : Op → Option Outcome → Option Outcome → Type 0
+IsBeginEnd op due end = (end ≡ due) ⊎ (IsTrue (takes_room op) × (due ≡ None) × (end ≡ Some NoMemory))
 
 pub record IsBegun (m : Machine) (call : CallId) (op : Op) (end : Option Outcome) : Type 0 where
   pub client : IsClient call.actor
@@ -165,7 +230,7 @@ pub record IsBegun (m : Machine) (call : CallId) (op : Op) (end : Option Outcome
   pub number : call.number ≡ m.next call.actor
   pub none_in_hand : m.in_hand call.actor ≡ None
   pub may : MayBegin m.cluster (number_of call.actor) op
-  pub answer : end ≡ begin_end (is_live_client (number_of call.actor) m.cluster) (named_handle m call.actor op) op
+  pub answer : IsBeginEnd op (begin_end (is_live_client (number_of call.actor) m.cluster) (named_handle m call.actor op) op) end
 
 -- ---- a word in place of a call
 
@@ -189,6 +254,7 @@ IsDue m (labels.Began call op end) = IsBegun m call op end
 IsDue m (labels.Stepped call op verb k r reply end pieces) = IsDueStep m call op (record { verb = verb; ckpt = k; node = r; reply = reply; end = end; pieces = pieces })
 IsDue m (labels.Word who word said) = IsWord m who word said
 IsDue m (labels.Nodes n) = (n ≡ 1) × (m.cluster.up ≡ no_nodes)
+IsDue m (labels.Moved t) = IsMomentFrom m.cluster.moment t
 IsDue m label = ⊥
 
 -- ---- the state after a label
@@ -280,6 +346,35 @@ abbrev pub with_opened : CallState → Option ℕ → Machine → Machine
 with_opened s None m = m
 with_opened s (Some k) m = with_handle_at m (client_of s.call) (new_handle m.cluster (m.last_handles (client_of s.call)) s.op k) (opened_place s.op)
 
+-- an iteration that a client starts over a handle, with these identifiers, in room for so many; the place stands for it
+abbrev pub with_started : ℕ → ℕ → KeptIds → IterationTable → IterationTable
+with_started place handle kept table = record {
+  last = table.last + 1;
+  begun = table.begun ++ record { number = table.last + 1; handle = handle; kept = Some kept } ∷ [];
+  places = slice_set table.places place (table.last + 1);
+}
+
+abbrev pub with_iteration : Machine → ℕ → Option HandleView → Option ℕ → KeptIds → Machine
+with_iteration m c (Some h) (Some place) kept = record m { iterations = put m.iterations c (with_started place h.handle kept (m.iterations c)) }
+with_iteration m c h place kept = m
+
+-- the replica of a node gives what is chosen now
+abbrev pub start_done : Machine → CallState → ℕ → ℕ → Machine
+start_done m s k r = with_iteration m (client_of s.call) (named_handle m s.call.actor s.op) (started_place s.op)
+    (record { ids = chosen_at (chosen_choice s.op) m.cluster.moment (seen_at m k r); room = s.kept.sections })
+
+-- this is kept of a place's iteration
+abbrev pub with_kept_at : ℕ → KeptIds → IterationTable → IterationTable
+with_kept_at place kept table = record table { begun = keeping (Some kept) (slice_index table.places place) table.begun }
+
+-- it keeps what stands behind the one that was given; all where none was
+abbrev pub with_next : Machine → ℕ → Option ℕ → Option KeptIds → Option NextGiven → Machine
+with_next m c (Some place) (Some kept) (Some next) = record m { iterations = put m.iterations c (with_kept_at place (kept_after kept (Some next)) (m.iterations c)) }
+with_next m c place kept next = m
+
+abbrev pub next_done : Machine → CallState → ℕ → ℕ → Machine
+next_done m s k r = with_next m (client_of s.call) (iteration_place s.op) (kept_in (m.iterations (client_of s.call)) (iteration_place s.op)) (given_at (ids_asked m s) m.cluster.moment (seen_at m k r))
+
 abbrev pub event_done : Machine → CallState → RecordStep → Machine
 event_done m s step = with_record m (event_after s.call (driver_of s) step m.cluster)
 
@@ -293,6 +388,8 @@ changed m s verbs.Finish k r reply = on_ok reply m (with_opened s k (event_done 
 changed m s verbs.Undo k r reply = on_ok reply m (event_done m s events.Undo)
 changed m s verbs.Stage k r reply = on_ok reply m (at_some k m (λ k. at_some r m (λ r. change_replica m k r (m.replicas k r) (with_slot s.call (update_of s.op) (staged_moment m k)))))
 changed m s verbs.Commit k r reply = on_ok reply m (at_some k m (λ k. at_some r m (λ r. change_replica m k r (m.replicas k r) (with_committed (entry_of k m.cluster.entries)))))
+changed m s verbs.Iter k r reply = on_ok reply m (at_some k m (λ k. at_some r m (start_done m s k)))
+changed m s verbs.Next k r reply = on_ok reply m (at_some k m (λ k. at_some r m (next_done m s k)))
 changed m s verb k r reply = m
 
 -- m is the state after the change: what the call keeps of the record is of then
@@ -303,8 +400,16 @@ abbrev pub step_of : Machine → Option CallState → Verb → Option ℕ → Op
 step_of m None verb k r reply end = m
 step_of m (Some s) verb k r reply end = stepped (changed m s verb k r reply) s verb k r reply end
 
-abbrev pub begun : Machine → CallId → Op → Option Outcome → Machine
-begun m call op end = record m {
+-- an iteration that a call ends at its beginning
+abbrev pub without_iteration : ℕ → IterationTable → IterationTable
+without_iteration place table = record table { begun = without iteration_number (slice_index table.places place) table.begun }
+
+abbrev pub with_ended : ℕ → Option ℕ → Machine → Machine
+with_ended c None m = m
+with_ended c (Some place) m = record m { iterations = put m.iterations c (without_iteration place (m.iterations c)) }
+
+abbrev pub begun_call : Machine → CallId → Op → Option Outcome → Machine
+begun_call m call op end = record m {
   next = put_actor m.next call.actor (m.next call.actor + 1);
   in_hand = put_actor m.in_hand call.actor (left end (record {
     call = call;
@@ -315,8 +420,12 @@ begun m call op end = record m {
   }));
 }
 
+abbrev pub begun : Machine → CallId → Op → Option Outcome → Machine
+begun m call op end = with_ended (number_of call.actor) (ended_place end op) (begun_call m call op end)
+
 abbrev pub after : Machine → Label → Machine
 after m (labels.Began call op end) = begun m call op end
 after m (labels.Stepped call op verb k r reply end pieces) = step_of m (m.in_hand call.actor) verb k r reply end
 after m (labels.Nodes n) = record m { cluster = brought_up n m.cluster }
+after m (labels.Moved t) = with_record m (moved t m.cluster)
 after m label = m

@@ -1,7 +1,12 @@
 -- What a client keeps: the number of its next call, its handles, and the places that stand for them.
-use Rattle.std.specs.Prelude.{ℕ, ◌+◌}
+use Rattle.std.specs.Prelude.{ℕ, ◌+◌, Option, Some, None}
+use Rattle.std.specs.Option.{option_and_then}
 use Rattle.ckpt_types.specs.declared.open_flags.OpenFlags.{OpenFlags}
-use Rattle.client_handles.specs.ClientState.{ClientState, taken, bound}
+use Rattle.ckpt_types.specs.Reads.{NextGiven}
+use Rattle.section_iter.specs.KeptIds.{KeptIds}
+use Rattle.section_iter.specs.Next.{kept_after}
+use Rattle.client_handles.specs.ClientState.{ClientState, taken, bound, added, iteration_at, returned, ended}
+use Rattle.client_handles.specs.declared.begun.BegunIteration.{BegunIteration}
 
 pub record TableState : Type 0 where
   pub next : ℕ
@@ -12,6 +17,31 @@ pub record TableState : Type 0 where
 abbrev pub with_handle : ℕ → OpenFlags → ℕ → ℕ → TableState → TableState
 with_handle id flags creation_flags place t = record t { client = bound place (t.client.last_number + 1) (taken id flags creation_flags t.client) }
 
+-- an iteration more is begun over the handle of that number, and the place stands for it
+abbrev pub with_started_iteration : ℕ → ℕ → KeptIds → TableState → TableState
+with_started_iteration place handle kept t = record t { client = added place handle kept t.client }
+
+-- what is kept of the iteration of a place
+abbrev pub kept_at : ℕ → TableState → Option KeptIds
+kept_at place t = option_and_then (λ (it : BegunIteration). it.kept) (iteration_at place t.client)
+
+-- it keeps what stands behind the one that was given; all where none was
+abbrev pub gone_on_with : ℕ → Option KeptIds → Option NextGiven → TableState → TableState
+gone_on_with place (Some kept) (Some next) t = record t { client = returned place (kept_after kept (Some next)) t.client }
+gone_on_with place kept next t = t
+
+abbrev pub gone_on : ℕ → Option NextGiven → TableState → TableState
+gone_on place next t = gone_on_with place (kept_at place t) next t
+
+-- the iteration of a place is no more
+abbrev pub without_begun : ℕ → TableState → TableState
+without_begun place t = record t { client = ended place t.client }
+
 -- one call more was begun
 abbrev pub advanced : TableState → TableState
 advanced t = record t { next = t.next + 1 }
+
+-- which has ended the iteration of a place at once, if it names one
+abbrev pub begun_with : Option ℕ → TableState → TableState
+begun_with None t = advanced t
+begun_with (Some place) t = advanced (without_begun place t)

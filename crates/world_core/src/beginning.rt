@@ -1,13 +1,13 @@
-ghost use Rattle.std.specs.Prelude.{◌≡◌, None, not, if◌then◌else◌};
+ghost use Rattle.std.specs.Prelude.{◌≡◌, None, false, not, if◌then◌else◌};
 ghost use Rattle.ckpt_types.specs.declared.ais_error.AisError.TheVariants as errors;
 ghost use Rattle.ckpt_types.specs.Attributes.{has_flag, has_bad_open_flags, is_malformed};
-ghost use Rattle.world_core.specs.Beginning.{refused, version_is_bad, name_is_bad, attributes_are_bad, open_begin, vector_is_bad, update_is_bad, on_handle, may_write, may_read, begin_end, handle_place, opened_place, no_flags, opened_for};
+ghost use Rattle.world_core.specs.Beginning.{refused, version_is_bad, name_is_bad, attributes_are_bad, open_begin, vector_is_bad, update_is_bad, on_handle, may_write, may_read, may_always, choice_is_bad, choice_of, end_iteration, update_begin, begin_end, handle_place, iteration_place, started_place, ended_place, takes_room, opened_place, no_flags, opened_for};
 ghost use Rattle.world_core.specs.Steps.{ckpt_of_handle};
 
 use crate::world::VECTOR_MAX;
 use ckpt_types::{
-    AisError, Bytes, CHECKPOINT_CREATE, Cause, CkptId, CreationAttributes, Moment, NAME_MAX,
-    OPEN_FLAGS_ALL, Op, OpenFlags, Outcome, Update, Version,
+    AisError, Answer, Bytes, CHECKPOINT_CREATE, Cause, Choice, CkptId, CreationAttributes, Moment,
+    NAME_MAX, OPEN_FLAGS_ALL, Op, OpenFlags, Outcome, Update, Version,
 };
 use client_handles::HandleView;
 
@@ -28,9 +28,13 @@ pub fn begin_end(live: bool, handle: &Option<HandleView>, op: &Op) -> Option<Out
                 refused(AisError::BadHandle)
             }
         }
-        Op::Write(_, update) => {
+        Op::Create(_, update)
+        | Op::Delete(_, update)
+        | Op::Expire(_, update)
+        | Op::Write(_, update)
+        | Op::Over(_, update) => {
             if live {
-                write_begin(handle, update_is_bad(update.value()))
+                update_begin(handle, update.value())
             } else {
                 refused(AisError::BadHandle)
             }
@@ -38,6 +42,27 @@ pub fn begin_end(live: bool, handle: &Option<HandleView>, op: &Op) -> Option<Out
         Op::Read(_, elements) => {
             if live {
                 read_begin(handle, vector_is_bad(elements.value().as_slice().len()))
+            } else {
+                refused(AisError::BadHandle)
+            }
+        }
+        Op::Iter(_, _, chosen, _) => {
+            if live {
+                read_begin(handle, choice_is_bad(*chosen))
+            } else {
+                refused(AisError::BadHandle)
+            }
+        }
+        Op::Status(_) | Op::Next(_) => {
+            if live {
+                handle_begin(handle)
+            } else {
+                refused(AisError::BadHandle)
+            }
+        }
+        Op::EndIter(_) => {
+            if live {
+                end_iteration(handle)
             } else {
                 refused(AisError::BadHandle)
             }
@@ -51,10 +76,64 @@ pub fn handle_place(op: &Op) -> Option<u8>
     ensures { result ≡ handle_place op.now }
 {
     match op {
-        Op::Write(place, _) => Some(*place),
-        Op::Read(place, _) => Some(*place),
+        Op::Create(place, _)
+        | Op::Delete(place, _)
+        | Op::Expire(place, _)
+        | Op::Write(place, _)
+        | Op::Over(place, _)
+        | Op::Read(place, _)
+        | Op::Status(place)
+        | Op::Iter(_, place, _, _) => Some(*place),
         _ => None,
     }
+}
+
+/// The place of the iteration with which an operation goes on, or which it ends.
+pub fn iteration_place(op: &Op) -> Option<u8>
+    ensures { result ≡ iteration_place op.now }
+{
+    match op {
+        Op::Next(iteration) | Op::EndIter(iteration) => Some(*iteration),
+        _ => None,
+    }
+}
+
+/// The place of the iteration that an operation starts.
+pub fn started_place(op: &Op) -> Option<u8>
+    ensures { result ≡ started_place op.now }
+{
+    match op {
+        Op::Iter(iteration, _, _, _) => Some(*iteration),
+        _ => None,
+    }
+}
+
+/// The place of the iteration that a call has ended at its beginning.
+pub fn ended_place(op: &Op, end: &Option<Outcome>) -> Option<u8>
+    ensures { result ≡ ended_place end.now op.now }
+{
+    match (op, end) {
+        (Op::EndIter(iteration), Some(Outcome::Done(_))) => Some(*iteration),
+        _ => None,
+    }
+}
+
+/// Whether an operation takes room for an iteration.
+pub fn takes_room(op: &Op) -> bool
+    ensures { result ≡ takes_room op.now }
+{
+    match op {
+        Op::Iter(_, _, _, _) => true,
+        _ => false,
+    }
+}
+
+/// The choice of an iteration; what is none chooses nothing.
+pub fn choice_of(chosen: u64, time: Moment) -> Choice
+    ensures { result ≡ choice_of chosen time }
+{
+    let chosen = if chosen <= 5 { chosen as u32 } else { 0 };
+    Choice { chosen, time }
 }
 
 /// The place that an open names for its handle.
@@ -189,12 +268,12 @@ fn update_is_bad(update: &Update) -> bool
     }
 }
 
-fn write_begin(handle: &Option<HandleView>, bad: bool) -> Option<Outcome>
-    ensures { result ≡ on_handle handle.now bad may_write }
+fn update_begin(handle: &Option<HandleView>, update: &Update) -> Option<Outcome>
+    ensures { result ≡ update_begin handle.now update.now }
 {
     match handle {
         None => refused(AisError::BadHandle),
-        Some(handle) => may_begin(bad, handle.flags.write),
+        Some(handle) => may_begin(update_is_bad(update), handle.flags.write),
     }
 }
 
@@ -204,6 +283,30 @@ fn read_begin(handle: &Option<HandleView>, bad: bool) -> Option<Outcome>
     match handle {
         None => refused(AisError::BadHandle),
         Some(handle) => may_begin(bad, handle.flags.read),
+    }
+}
+
+fn choice_is_bad(chosen: u64) -> bool
+    ensures { result ≡ choice_is_bad chosen }
+{
+    chosen == 0 || chosen > 5
+}
+
+fn handle_begin(handle: &Option<HandleView>) -> Option<Outcome>
+    ensures { result ≡ on_handle handle.now false may_always }
+{
+    match handle {
+        None => refused(AisError::BadHandle),
+        Some(_) => None,
+    }
+}
+
+fn end_iteration(handle: &Option<HandleView>) -> Option<Outcome>
+    ensures { result ≡ end_iteration handle.now }
+{
+    match handle {
+        None => refused(AisError::BadHandle),
+        Some(_) => Some(Outcome::Done(Answer::Nothing)),
     }
 }
 

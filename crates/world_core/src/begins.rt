@@ -4,19 +4,22 @@ ghost use Rattle.ckpt_types.specs.declared.identities.Who.TheVariants.{Actor};
 ghost use Rattle.run_labels.specs.declared.words.LineWord.TheVariants as linewords;
 ghost use Rattle.run_labels.specs.declared.labels.Label.TheVariants as labels;
 ghost use Rattle.world_core.specs.RecordState.{empty_record};
-ghost use Rattle.world_core.specs.Beginning.{IsBuilt, handle_place};
-ghost use Rattle.world_core.specs.Steps.{MayBegin};
-ghost use Rattle.world_core.specs.Shows.{IsShown, IsRoomy, hand_at};
+ghost use Rattle.world_core.specs.Beginning.{IsBuilt, handle_place, iteration_place};
+ghost use Rattle.world_core.specs.Steps.{MayBegin, IsBeginEnd};
+ghost use Rattle.world_core.specs.Shows.{IsShown, IsRoomy, hand_at, room_for};
 ghost use Rattle.world_core.specs.Happenings.{BringsUp, Begins, handle_named};
 
-use crate::beginning::{begin_end, handle_place};
+use crate::beginning::{
+    begin_end, ckpt_of_handle, ended_place, handle_place, iteration_place, takes_room,
+};
 use crate::drivers::Driver;
 use crate::hands::InHand;
 use crate::world::World;
-use ckpt_types::{ActorName, CallId, Op, Who};
+use ckpt_types::{ActorName, CallId, CreationAttributes, Op, Outcome, Who};
 use client_handles::HandleView;
 use run_labels::{Label, LineWord, OpWord, Said};
-use std::alloc::AllocError;
+use section_iter::Iteration;
+use std::alloc::{AllocError, Global};
 
 impl World {
     /// The first nodes come up.
@@ -30,7 +33,7 @@ impl World {
     }
 
     /// A call of a client begins, or a word answers its line. Want of memory leaves the world as it was.
-    pub fn begin(&mut self, c: u8, op: &Op) -> Result<Label, AllocError>
+    pub fn begin(&mut self, alloc: Global, c: u8, op: &Op) -> Result<Label, AllocError>
         requires client { c < 100 }
         requires built { IsBuilt op.now }
         requires shown { IsShown self.old }
@@ -49,10 +52,10 @@ impl World {
                 return Ok(said(c, OpWord::of(op), Said::Down));
             }
         }
-        self.begin_call(c, op)
+        self.begin_call(alloc, c, op)
     }
 
-    fn begin_call(&mut self, c: u8, op: &Op) -> Result<Label, AllocError>
+    fn begin_call(&mut self, alloc: Global, c: u8, op: &Op) -> Result<Label, AllocError>
         requires client { c < 100 }
         requires built { IsBuilt op.now }
         requires none { hand_at self.old.hands c ≡ None }
@@ -67,15 +70,19 @@ impl World {
             number: self.tables.number(c),
         };
         let handle = self.named_handle(c, op);
-        let end = begin_end(self.cluster.is_live_client(c), &handle, op);
+        let due = begin_end(self.cluster.is_live_client(c), &handle, op);
         let driver = Driver::start(call, op, &handle, &self.cluster)?;
+        let own = copy(op)?;
+        let begun = copy(op)?;
+        let declared = self.cluster.declared(ckpt_of_handle(&handle));
+        let (end, iteration) = take_room(alloc, op, &declared, due);
         let hand = InHand {
             call,
-            op: copy(op)?,
+            op: own,
             driver,
+            iteration,
         };
-        let begun = copy(op)?;
-        self.tables.advance(c);
+        self.tables.begin(c, ended_place(op, &end));
         self.hands.begin(c, hand, &end);
         Ok(Label::Began {
             call,
@@ -84,16 +91,38 @@ impl World {
         })
     }
 
-    // The handle for which the place stands that the operation names.
+    // The handle that the operation is about: that of the place of a handle, or else of an iteration.
     fn named_handle(&self, c: u8, op: &Op) -> Option<HandleView>
         requires client { c < 100 }
         requires built { IsBuilt op.now }
-        ensures { result ≡ handle_named self.now c (handle_place op.now) }
+        ensures { result ≡ handle_named self.now c (handle_place op.now) (iteration_place op.now) }
     {
-        match handle_place(op) {
-            None => None,
-            Some(place) => self.tables.handle(c, place),
+        if let Some(place) = handle_place(op) {
+            return self.tables.handle(c, place);
         }
+        match iteration_place(op) {
+            None => None,
+            Some(place) => self.tables.iteration_handle(c, place),
+        }
+    }
+}
+
+// An operation that starts an iteration and goes on takes the room for it; where the memory is refused, it ends.
+fn take_room(
+    alloc: Global,
+    op: &Op,
+    declared: &CreationAttributes,
+    due: Option<Outcome>,
+) -> (Option<Outcome>, Option<Iteration>)
+    ensures end { IsBeginEnd op.now due result.0 }
+    ensures room { result.0 ≡ None → result.1 ≡ room_for op.now declared.now.max_sections }
+{
+    if !takes_room(op) || due.is_some() {
+        return (due, None);
+    }
+    match Iteration::reserve(alloc, declared) {
+        Ok(iteration) => (None, Some(iteration)),
+        Err(AllocError) => (Some(Outcome::NoMemory), None),
     }
 }
 

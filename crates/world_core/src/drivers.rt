@@ -1,13 +1,11 @@
-ghost use Rattle.std.specs.Prelude.{◌≡◌, ◌-◌, ◌^◌, ◌<◌, Some, IfOk, pos};
+ghost use Rattle.std.specs.Prelude.{◌≡◌, ◌-◌, ◌^◌, ◌<◌, Some, IfOk};
 ghost use Rattle.world_core.specs.Serving.{ckpt_of};
-ghost use Rattle.world_core.specs.Driving.{driver_next, driver_taken, driver_end, driver_start, done_end, done_of, verb_of, word_of, event_verb, event_ckpt, event_node, event_end, opened_end, making_ckpt, takes_memory, on_kept};
-ghost use Rattle.world_core.specs.RecordState.{no_nodes};
+ghost use Rattle.world_core.specs.Driving.{driver_next, driver_taken, driver_end, driver_start, update_start, active_start, done_end, done_of, verb_of, word_of, event_verb, event_ckpt, event_node, event_end, opened_end, making_ckpt, takes_memory, refused_cause};
 ghost use Rattle.world_core.specs.Calls.{client_of};
 ghost use Rattle.world_core.specs.Steps.{kept_at};
-ghost use Rattle.world_core.specs.declared.drivers.Driver.TheVariants.{Update, Active};
 ghost use Rattle.run_labels.specs.declared.labels.StepReply.TheVariants as words;
 
-use crate::beginning::ckpt_of_handle;
+use crate::beginning::{choice_of, ckpt_of_handle};
 use crate::messages::word_of;
 use crate::open_call::{Making, OpenCall};
 use crate::reading::{ActiveCall, ActiveKind};
@@ -18,6 +16,15 @@ use client_handles::HandleView;
 use node_msgs::{Next, RecordStep, Reply, Request};
 use run_labels::StepReply;
 use std::alloc::AllocError;
+
+/// What the tables of a client have a free place for.
+#[derive(Clone, Copy, Debug)]
+pub struct Rooms {
+    /// A handle.
+    pub handles: bool,
+    /// An iteration.
+    pub iterations: bool,
+}
 
 /// What drives a call that is in hand.
 #[derive(Debug, Drop)]
@@ -59,15 +66,26 @@ impl Driver {
                     making: None,
                 }))
             }
-            Op::Write(_, _) => Ok(update_start(call, ckpt_of_handle(handle))),
-            Op::Read(_, _) => Ok(read_start(call, ckpt_of_handle(handle))),
+            Op::Create(_, _)
+            | Op::Delete(_, _)
+            | Op::Expire(_, _)
+            | Op::Write(_, _)
+            | Op::Over(_, _) => Ok(update_start(call, ckpt_of_handle(handle))),
+            Op::Read(_, _) => Ok(active_start(call, ActiveKind::Read, ckpt_of_handle(handle))),
+            Op::Status(_) => Ok(active_start(call, ActiveKind::Status, ckpt_of_handle(handle))),
+            Op::Iter(_, _, chosen, time) => Ok(active_start(
+                call,
+                ActiveKind::Iterate(choice_of(*chosen, *time)),
+                ckpt_of_handle(handle),
+            )),
+            Op::Next(_) => Ok(active_start(call, ActiveKind::Next, ckpt_of_handle(handle))),
             _ => Ok(Driver::Enter(0)),
         }
     }
 
-    /// What the call does next; `room` tells whether its client has a free place for a handle.
-    pub fn next(&self, cluster: &Record, room: bool) -> Next
-        ensures { result ≡ driver_next cluster.now room self.now }
+    /// What the call does next, by the record and by what its client's tables have a free place for.
+    pub fn next(&self, cluster: &Record, rooms: Rooms) -> Next
+        ensures { result ≡ driver_next cluster.now rooms self.now }
     {
         match self {
             Driver::Enter(_) => {
@@ -80,15 +98,16 @@ impl Driver {
                     Next::Event(RecordStep::Enter)
                 }
             }
-            Driver::Open(open_call) => open_call.next(cluster, room),
+            Driver::Open(open_call) => open_call.next(cluster, rooms.handles),
             Driver::Update(update) => update.next(cluster),
-            Driver::Active(active) => active.next(cluster),
+            Driver::Active(active) => active.next(cluster, rooms.iterations),
         }
     }
 
-    /// The call takes a node's answer. What it ends with, if it ends.
+    /// The call takes a node's answer. What its operation ends with, if it ends.
     pub fn take(
         &mut self,
+        op: &Op,
         cluster: &Record,
         r: NodeId,
         request: &Request,
@@ -96,10 +115,10 @@ impl Driver {
     ) -> Option<Outcome>
         requires { r < 8 }
         ensures new { self.new ≡ driver_taken (done_of cluster.now (verb_of request.now) (Some (ckpt_of request.now)) (Some r) (word_of reply.now)) self.old }
-        ensures end { result ≡ driver_end (done_of cluster.now (verb_of request.now) (Some (ckpt_of request.now)) (Some r) (word_of reply.now)) reply.now self.new }
+        ensures end { result ≡ driver_end op.now (done_of cluster.now (verb_of request.now) (Some (ckpt_of request.now)) (Some r) (word_of reply.now)) reply.now self.new }
     {
         self.taken(cluster, r, request, word_of(reply));
-        self.end(cluster, r, request, reply)
+        self.end(op, cluster, r, request, reply)
     }
 
     fn taken(&mut self, cluster: &Record, r: NodeId, request: &Request, word: StepReply)
@@ -113,8 +132,15 @@ impl Driver {
         }
     }
 
-    fn end(&self, cluster: &Record, r: NodeId, request: &Request, reply: &Reply) -> Option<Outcome>
-        ensures { result ≡ driver_end (done_of cluster.now (verb_of request.now) (Some (ckpt_of request.now)) (Some r) (word_of reply.now)) reply.now self.now }
+    fn end(
+        &self,
+        op: &Op,
+        cluster: &Record,
+        r: NodeId,
+        request: &Request,
+        reply: &Reply,
+    ) -> Option<Outcome>
+        ensures { result ≡ driver_end op.now (done_of cluster.now (verb_of request.now) (Some (ckpt_of request.now)) (Some r) (word_of reply.now)) reply.now self.now }
     {
         match reply {
             Reply::Done(answer) => self.done_end(cluster, r, request, answer),
@@ -125,7 +151,9 @@ impl Driver {
                     None
                 }
             }
-            Reply::Refused(error, index) => Some(Outcome::Refused(*error, Cause::Index(*index))),
+            Reply::Refused(error, index) => {
+                Some(Outcome::Refused(*error, refused_cause(op, *index)))
+            }
             Reply::NoReplica => Some(Outcome::Refused(AisError::NotExist, Cause::Plain)),
             _ => None,
         }
@@ -142,7 +170,7 @@ impl Driver {
     {
         match self {
             Driver::Enter(_) | Driver::Open(_) => None,
-            Driver::Update(update) => update.end(cluster, r, request, StepReply::Ok),
+            Driver::Update(update) => update.end(cluster, r, request, answer),
             Driver::Active(_) => Some(Outcome::Done(*answer)),
         }
     }
@@ -164,8 +192,18 @@ impl Driver {
     }
 }
 
+// A refusal of a vector tells the index of its first refused element.
+fn refused_cause(op: &Op, index: u32) -> Cause
+    ensures { result ≡ refused_cause op.now index }
+{
+    match op {
+        Op::Write(_, _) | Op::Read(_, _) => Cause::Index(index),
+        _ => Cause::Plain,
+    }
+}
+
 fn update_start(call: CallId, ckpt: Option<CkptId>) -> Driver
-    ensures { result ≡ on_kept ckpt (λ k. Update (record { call = call; ckpt = k; owned = no_nodes; moment = pos 0; phase = UpdatePhase.Staging })) }
+    ensures { result ≡ update_start call ckpt }
 {
     match ckpt {
         None => Driver::Enter(0),
@@ -179,16 +217,12 @@ fn update_start(call: CallId, ckpt: Option<CkptId>) -> Driver
     }
 }
 
-fn read_start(call: CallId, ckpt: Option<CkptId>) -> Driver
-    ensures { result ≡ on_kept ckpt (λ k. Active (record { call = call; ckpt = k; kind = ActiveKind.Read })) }
+fn active_start(call: CallId, kind: ActiveKind, ckpt: Option<CkptId>) -> Driver
+    ensures { result ≡ active_start call kind ckpt }
 {
     match ckpt {
         None => Driver::Enter(0),
-        Some(ckpt) => Driver::Active(ActiveCall {
-            call,
-            ckpt,
-            kind: ActiveKind::Read,
-        }),
+        Some(ckpt) => Driver::Active(ActiveCall { call, ckpt, kind }),
     }
 }
 

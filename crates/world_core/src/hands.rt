@@ -2,7 +2,8 @@ ghost use Rattle.std.specs.Prelude.{◌≡◌, ◌≢◌, ◌<◌, [], length, r
 ghost use Rattle.run_labels.specs.OpWord.{word_of_op};
 ghost use Rattle.world_core.specs.Calls.{left};
 ghost use Rattle.world_core.specs.Serving.{update_of, elements_of, ckpt_of};
-ghost use Rattle.world_core.specs.Lending.{bytes_asked, IsLentRead, IsLent};
+ghost use Rattle.world_core.specs.Lending.{bytes_asked, IsLentRead, IsLentFor, IsLent};
+ghost use Rattle.ckpt_types.specs.declared.update.Update.TheVariants as updates;
 ghost use Rattle.world_core.specs.Driving.{done_of, verb_of, word_of, event_verb};
 ghost use Rattle.world_core.specs.HandSteps.{hand_taken, hand_end};
 ghost use Rattle.world_core.specs.Shows.{hand_at};
@@ -12,13 +13,17 @@ use crate::drivers::Driver;
 use crate::nodes::Lent;
 use crate::record::Record;
 use ckpt_types::{
-    CallId, CkptId, NodeId, Op, Outcome, ReadBuf, ReadElement, ReadVector, SharedReads,
+    CallId, CkptId, NewId, NodeId, Op, Outcome, ReadBuf, ReadElement, ReadVector, SharedReads,
     SharedUpdate, Update,
 };
 use node_msgs::{RecordStep, Reply, Request};
 use run_labels::{OpWord, StepReply};
+use section_iter::Iteration;
 use std::alloc::{AllocError, Global};
 use std::marker::Model;
+
+/// How many bytes an identifier has that the service makes.
+const NUMBERED_LEN: usize = 8;
 
 /// A call that is begun and not ended.
 #[derive(Drop)]
@@ -29,6 +34,8 @@ pub struct InHand {
     pub op: Op,
     /// What drives it.
     pub driver: Driver,
+    /// The room that it took for an iteration.
+    pub iteration: Option<Iteration>,
 }
 
 /// The call in hand of each client, c0 to c99.
@@ -56,13 +63,14 @@ impl InHand {
         OpWord::of(&self.op)
     }
 
-    /// What travels beside a request of the call: a share of its update, or of its elements with a buffer that
-    /// has room for what they may give.
+    /// What travels beside a request of the call: a share of its update, a buffer with room for the identifier of
+    /// a new section, or a share of its elements with a buffer that has room for what they may give.
     pub fn lend(&self, alloc: Global, request: &Request) -> Result<Lent, AllocError>
         ensures { IfOk result (λ lent. IsLent request.now self.now.op lent) }
     {
         match request {
             Request::Stage(_, _, _) => lend_update(alloc, &self.op),
+            Request::Commit(_, _) => lend_identifier(alloc, &self.op),
             Request::Read(_) => lend_read(alloc, &self.op),
             _ => lend_nothing(alloc),
         }
@@ -79,7 +87,7 @@ impl InHand {
         ensures new { self.new ≡ hand_taken (done_of cluster.now (verb_of request.now) (Some (ckpt_of request.now)) (Some r) (word_of reply.now)) self.old }
         ensures end { result ≡ hand_end (done_of cluster.now (verb_of request.now) (Some (ckpt_of request.now)) (Some r) (word_of reply.now)) reply.now self.new }
     {
-        self.driver.take(cluster, r, request, reply)
+        self.driver.take(&self.op, cluster, r, request, reply)
     }
 
     fn told(
@@ -168,6 +176,15 @@ impl Hands {
             word,
             end,
         );
+    }
+
+    /// A client's call is in hand no more, and is given to who ends it.
+    pub fn remove(&mut self, c: u8) -> Option<InHand>
+        requires { hand_at self.old c ≢ None }
+        ensures hand { result ≡ hand_at self.old c }
+        ensures new { self.new ≡ slice_set self.old c None }
+    {
+        remove_at(self.list.as_mut_slice(), c as usize)
     }
 
     /// A client's call is in hand no more.
@@ -287,6 +304,15 @@ fn settle_told(
     }
 }
 
+fn remove_at(list: &mut [Option<InHand>], c: usize) -> Option<InHand>
+    requires { hand_at list.old c ≢ None }
+    ensures hand { result ≡ hand_at list.old c }
+    ensures new { list.new ≡ slice_set list.old c None }
+{
+    let slot = &mut list[c];
+    slot.take()
+}
+
 fn clear_at(list: &mut [Option<InHand>], c: usize)
     requires { hand_at list.old c ≢ None }
     ensures { list.new ≡ slice_set list.old c None }
@@ -320,6 +346,43 @@ fn lend_update(alloc: Global, op: &Op) -> Result<Lent, AllocError>
         vector: None,
         update: Some(share_update(alloc, op)?),
     })
+}
+
+fn lend_identifier(alloc: Global, op: &Op) -> Result<Lent, AllocError>
+    ensures { IfOk result (λ lent. IsLentFor (update_of op.now) lent.read) }
+{
+    let Some(update) = update_in(op) else {
+        return lend_nothing(alloc);
+    };
+    Ok(Lent {
+        read: reserve_id(alloc, update)?,
+        vector: None,
+        update: None,
+    })
+}
+
+fn reserve_id(alloc: Global, update: &Update) -> Result<ReadBuf, AllocError>
+    ensures { IfOk result (IsLentFor update.now) }
+{
+    match update {
+        Update::Create(NewId::Given(id), _, _) => ReadBuf::reserve(alloc, 1, id.as_slice().len()),
+        Update::Create(NewId::Generated, _, _) => ReadBuf::reserve(alloc, 1, NUMBERED_LEN),
+        _ => ReadBuf::reserve(alloc, 0, 0),
+    }
+}
+
+/// The update that an operation asks for, if it asks for one.
+pub fn update_in(op: &Op) -> Option<&Update>
+    ensures { MatchOption result (update_of op.now ≡ updates.Nothing) (λ update. update_of op.now ≡ update.now) }
+{
+    match op {
+        Op::Create(_, update)
+        | Op::Delete(_, update)
+        | Op::Expire(_, update)
+        | Op::Write(_, update)
+        | Op::Over(_, update) => Some(update.value()),
+        _ => None,
+    }
 }
 
 fn lend_read(alloc: Global, op: &Op) -> Result<Lent, AllocError>

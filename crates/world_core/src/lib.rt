@@ -6,7 +6,9 @@ mod begins;
 mod by_node;
 mod drivers;
 mod hands;
+mod iterating;
 mod messages;
+mod moments;
 mod nodes;
 mod open_call;
 mod reading;
@@ -17,7 +19,7 @@ mod tables;
 mod update_call;
 mod world;
 
-pub use drivers::Driver;
+pub use drivers::{Driver, Rooms};
 pub use hands::{Hands, InHand};
 pub use nodes::{Lent, Node, Nodes};
 pub use open_call::{Making, OpenCall};

@@ -1,16 +1,20 @@
-ghost use Rattle.std.specs.Prelude.{◌≡◌, ◌<◌, [], ◌++◌, ◌∷◌, false, Option, Some, IfOk, IfSome, OnOk, OnErr, length, replicate, slice_get};
+ghost use Rattle.std.specs.Prelude.{◌≡◌, ◌<◌, ◌≤◌, [], ◌++◌, ◌∷◌, false, Option, Some, None, IfOk, IfSome, IsSomeAnd, MatchOption, OnOk, OnErr, length, replicate, slice_get};
+ghost use Rattle.ckpt_types.specs.declared.section_id.TheConstants.{SECTION_ID_MAX};
+ghost use Rattle.section_iter.specs.Next.{kept_after};
 ghost use Rattle.ckpt_types.specs.Attributes.{is_malformed};
 ghost use Rattle.world_core.specs.Places.{find_key, change_key, place_key};
-ghost use Rattle.world_core.specs.Serving.{replica_key, ckpt_of, replica_after, replica_in, reply_at, pieces_at, served, IsReadyAt, opened_replica, added, reserved_at};
+ghost use Rattle.world_core.specs.Serving.{replica_key, ckpt_of, replica_after, replica_in, reply_at, pieces_at, served, IsReadyAt, opened_replica, added, reserved_at, chosen_at, given_at, next_id, next_reply_at};
 ghost use Rattle.world_core.specs.Lending.{IsLent, pieces_told};
+ghost use Rattle.world_core.specs.Steps.{ended_pieces};
 
 use crate::messages::ckpt_of;
 use crate::replica::Replica;
 use ckpt_types::{
-    Answer, CkptId, CreationAttributes, Moment, NodeId, Op, Pieces, ReadBuf, SharedReads,
-    SharedUpdate,
+    Answer, Choice, CkptId, CreationAttributes, Moment, NodeId, Op, Outcome, Pieces, ReadBuf,
+    SharedReads, SharedUpdate,
 };
 use node_msgs::{Reply, Request};
+use section_iter::Iteration;
 use section_store::Store;
 use std::alloc::{AllocError, Global};
 use std::marker::Model;
@@ -88,6 +92,50 @@ impl Nodes {
         serve_node(self.list.as_mut_slice(), r, request, op, now, lent)
     }
 
+    /// The replica that a node has of a checkpoint gives what is chosen now to an iteration with room for it. It
+    /// takes no memory.
+    pub fn start(
+        &self,
+        r: NodeId,
+        ckpt: CkptId,
+        iteration: &mut Iteration,
+        choice: Choice,
+        now: Moment,
+    )
+        requires node { r < 8 }
+        requires room { IsSomeAnd (replica_in self.now ckpt r) (λ x. x.store.attributes.max_sections ≤ iteration.old.room) }
+        ensures { iteration.new ≡ record iteration.old { ids = chosen_at choice now (replica_in self.now ckpt r) } }
+    {
+        let Some(replica) = self.list[r as usize].find(ckpt) else {
+            unreachable!()
+        };
+        replica.start(iteration, choice, now);
+    }
+
+    /// The next section that the replica of a node gives to an iteration; its identifier is put into the empty
+    /// buffer. It takes no memory.
+    pub fn next(
+        &self,
+        r: NodeId,
+        ckpt: CkptId,
+        iteration: &mut Iteration,
+        now: Moment,
+        out: &mut ReadBuf,
+    ) -> Reply
+        requires node { r < 8 }
+        requires empty { out.old.pieces ≡ [] }
+        requires places { 1 ≤ out.old.spare_pieces }
+        requires bytes { SECTION_ID_MAX ≤ out.old.spare_bytes }
+        ensures reply { result ≡ next_reply_at iteration.old.ids now (replica_in self.now ckpt r) }
+        ensures pieces { pieces_told result out.new.pieces ≡ next_id (given_at iteration.old.ids now (replica_in self.now ckpt r)) }
+        ensures new { iteration.new ≡ kept_after iteration.old (given_at iteration.old.ids now (replica_in self.now ckpt r)) }
+    {
+        match self.list[r as usize].find(ckpt) {
+            None => Reply::NoReplica,
+            Some(replica) => replica.next(iteration, now, out),
+        }
+    }
+
     /// A node takes all the storage of a replica, and opens it; what is reserved already stays.
     pub fn reserve(
         &mut self,
@@ -108,6 +156,13 @@ impl Nodes {
 }
 
 impl Node {
+    // Its replica of a checkpoint.
+    fn find(&self, ckpt: CkptId) -> Option<&Replica>
+        ensures { MatchOption result (find_key replica_key ckpt self.now ≡ None) (λ replica. find_key replica_key ckpt self.now ≡ Some replica.now) }
+    {
+        find_at(self.replicas.as_slice(), ckpt)
+    }
+
     fn serve(&mut self, request: &Request, op: &Op, now: Moment, lent: &mut Lent) -> Reply
         requires ready { IsReadyAt request.now (find_key replica_key (ckpt_of request.now) self.old) }
         requires lent { IsLent request.now op.now lent.old }
@@ -133,12 +188,15 @@ impl Node {
     }
 }
 
-/// The pieces that came with a reply. It takes no memory.
-pub fn told_pieces(reply: &Reply, read: ReadBuf) -> Option<Pieces>
-    ensures { result ≡ pieces_told reply.now read.pieces }
+/// The pieces of the label of a step that ended its call or did not, where these came with the reply. It takes no
+/// memory.
+pub fn told_pieces(end: &Option<Outcome>, reply: &Reply, read: ReadBuf) -> Option<Pieces>
+    ensures { result ≡ ended_pieces end.now (pieces_told reply.now read.pieces) }
 {
-    match reply {
-        Reply::Done(Answer::Pieces) => Some(Pieces::from_buf(read)),
+    match (end, reply) {
+        (Some(_), Reply::Done(Answer::Pieces | Answer::Created | Answer::Section(_))) => {
+            Some(Pieces::from_buf(read))
+        }
         _ => None,
     }
 }
@@ -162,6 +220,17 @@ fn place_of(replicas: &[Replica], ckpt: CkptId) -> Option<usize>
     for i in 0..replicas.len() {
         if replicas[i].ckpt == ckpt {
             return Some(i);
+        }
+    }
+    None
+}
+
+fn find_at(replicas: &[Replica], ckpt: CkptId) -> Option<&Replica>
+    ensures { MatchOption result (find_key replica_key ckpt replicas.now ≡ None) (λ replica. find_key replica_key ckpt replicas.now ≡ Some replica.now) }
+{
+    for replica in replicas {
+        if replica.ckpt == ckpt {
+            return Some(replica);
         }
     }
     None

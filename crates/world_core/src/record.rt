@@ -3,9 +3,9 @@ ghost use Rattle.std.specs.List.{list_any};
 ghost use Rattle.moment_rules.specs.Times.{sum_until_end, is_reached};
 ghost use Rattle.world_core.specs.Places.{find_key, change_key, place_key};
 ghost use Rattle.world_core.specs.Calls.{number_of};
-ghost use Rattle.world_core.specs.RecordState.{empty_record, no_nodes, identity_of, entry_of, is_name, named, complete_of, client_key, is_live_client, is_up, is_live_from, is_live, stays, swept, first_nodes, brought_up, entered, created, referred, made_with, finished, opened, undone};
+ghost use Rattle.world_core.specs.RecordState.{empty_record, no_nodes, identity_of, entry_of, is_name, named, complete_of, client_key, is_live_client, is_up, is_live_from, is_live, stays, swept, first_nodes, brought_up, entered, created, referred, moved, made_with, finished, opened, undone};
 ghost use Rattle.world_core.specs.RecordReady.{CanEnter, CanCreate, CanRefer, CanReferAt, IsOpenReady, IsRecordReady};
-ghost use Rattle.world_core.specs.Steps.{node_of_client, creation_flags_of};
+ghost use Rattle.world_core.specs.Steps.{node_of_client, creation_flags_of, sections_declared};
 ghost use Rattle.world_core.specs.Driving.{identity_in, at_ckpt, event_change, event_after, takes_memory};
 ghost use Rattle.world_core.specs.declared.drivers.Driver.TheVariants.{Open};
 
@@ -25,6 +25,16 @@ pub const CLIENTS_MAX: usize = 64;
 
 /// How many checkpoints there are at most.
 pub const CHECKPOINTS_MAX: usize = 16;
+
+// What a checkpoint declares that is gone.
+const DECLARES_NOTHING: CreationAttributes = CreationAttributes {
+    creation_flags: 0,
+    checkpoint_size: 0,
+    retention_duration: 0,
+    max_sections: 0,
+    max_section_size: 0,
+    max_section_id_size: 0,
+};
 
 /// A client that is live.
 #[derive(Clone, Copy, Debug)]
@@ -229,6 +239,19 @@ impl Record {
         }
     }
 
+    /// What a checkpoint declares; nothing where it is gone.
+    pub fn declared(&self, identity: Option<CkptId>) -> CreationAttributes
+        ensures { result.max_sections ≡ sections_declared self.now identity }
+    {
+        let Some(identity) = identity else {
+            return DECLARES_NOTHING;
+        };
+        match self.entry(identity) {
+            None => DECLARES_NOTHING,
+            Some(entry) => entry.attributes,
+        }
+    }
+
     /// Whether a client is live.
     pub fn is_live_client(&self, client: u8) -> bool
         ensures { result ≡ is_live_client client self.now }
@@ -327,6 +350,15 @@ impl Record {
         ensures { self.new ≡ swept self.old }
     {
         sweep(&mut self.entries, self.moment);
+    }
+
+    /// The moment is set, and what is over then is swept away.
+    pub fn set_moment(&mut self, t: Moment)
+        requires { self.old.moment ≤ℤ t }
+        ensures { self.new ≡ moved t self.old }
+    {
+        self.moment = t;
+        self.sweep();
     }
 
     /// A step of a call that drives so, and the sweep behind it.

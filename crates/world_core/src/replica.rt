@@ -4,18 +4,22 @@ ghost use Rattle.std.specs.Result.{result_ok};
 ghost use Rattle.ckpt_types.specs.declared.answers.Answer.TheVariants as answers;
 ghost use Rattle.ckpt_types.specs.declared.identities.CallId.{CallId};
 ghost use Rattle.ckpt_types.specs.Updates.{outcome};
-ghost use Rattle.ckpt_types.specs.Reads.{read};
+ghost use Rattle.ckpt_types.specs.Reads.{read, chosen, given};
+ghost use Rattle.ckpt_types.specs.declared.section_id.TheConstants.{SECTION_ID_MAX};
+ghost use Rattle.section_iter.specs.Next.{kept_after};
 ghost use Rattle.node_msgs.specs.declared.replies.Reply.TheVariants as replies;
 ghost use Rattle.update_rules.specs.Told.{told};
-ghost use Rattle.world_core.specs.Serving.{update_of, elements_of, stage_reply, stage_slot, committed, done_or_refused, reply_of, replica_after, pieces_of, IsStaged, IsReady, opened_replica};
-ghost use Rattle.world_core.specs.Lending.{bytes_asked, IsLentRead, IsLent, pieces_told};
+ghost use Rattle.world_core.specs.Serving.{update_of, elements_of, stage_reply, stage_slot, committed, update_answer, told_id, slot_id, done_or_refused, reply_of, replica_after, pieces_of, next_reply, next_id, IsStaged, IsReady, opened_replica};
+ghost use Rattle.world_core.specs.Lending.{bytes_asked, IsLentRead, IsLentFor, IsLent, pieces_told};
 
+use crate::hands::update_in;
 use crate::nodes::Lent;
 use ckpt_types::{
-    Answer, CallId, CkptId, CreationAttributes, Moment, Op, ReadBuf, ReadElement, SharedUpdate,
-    Update,
+    AisError, Answer, CallId, Choice, CkptId, CreationAttributes, Moment, NewId, Op, ReadBuf,
+    ReadElement, SharedUpdate, Update,
 };
 use node_msgs::{Reply, Request};
+use section_iter::Iteration;
 use section_store::Store;
 use std::alloc::{AllocError, Global};
 use update_rules::Refused;
@@ -76,12 +80,41 @@ impl Replica {
     {
         match request {
             Request::Stage(call, _, moment) => self.stage_lent(*call, op, *moment, lent),
-            Request::Commit(_, _) => {
-                self.commit();
-                Reply::Done(Answer::Nothing)
-            }
+            Request::Commit(_, _) => self.commit_lent(op, lent),
             Request::Read(_) => self.read_lent(op, now, lent),
+            Request::Status(_) => Reply::Done(Answer::Status(self.store.descriptor(now))),
+            Request::Iterate(_, _, _) => Reply::Done(Answer::Nothing),
             _ => Reply::NoReplica,
+        }
+    }
+
+    /// Gives what is chosen now to an iteration with room for it. It takes no memory.
+    pub fn start(&self, iteration: &mut Iteration, choice: Choice, now: Moment)
+        requires { self.now.store.attributes.max_sections ≤ iteration.old.room }
+        ensures { iteration.new ≡ record iteration.old { ids = chosen choice now self.now.store.sections } }
+    {
+        // No more sections stand than were declared.
+        let declared = self.store.attributes().max_sections;
+        prove!(declared <= iteration.room());
+        iteration.start(&self.store, choice, now);
+    }
+
+    /// The next section that it gives to an iteration; its identifier is put into the empty buffer. It takes no
+    /// memory.
+    pub fn next(&self, iteration: &mut Iteration, now: Moment, out: &mut ReadBuf) -> Reply
+        requires empty { out.old.pieces ≡ [] }
+        requires places { 1 ≤ out.old.spare_pieces }
+        requires bytes { SECTION_ID_MAX ≤ out.old.spare_bytes }
+        ensures reply { result ≡ next_reply (given iteration.old.ids now self.now.store.sections) }
+        ensures pieces { pieces_told result out.new.pieces ≡ next_id (given iteration.old.ids now self.now.store.sections) }
+        ensures new { iteration.new ≡ kept_after iteration.old (given iteration.old.ids now self.now.store.sections) }
+    {
+        match iteration.next(&self.store, now) {
+            Err(_) => Reply::Refused(AisError::NoSections, 0),
+            Ok(section) => {
+                out.push(section.id.as_slice());
+                Reply::Done(Answer::Section(section.facts()))
+            }
         }
     }
 
@@ -114,6 +147,26 @@ impl Replica {
         Reply::Done(Answer::Nothing)
     }
 
+    // A creation tells the identifier of its section, which is made over the sections before it.
+    fn commit_lent(&mut self, op: &Op, lent: &mut Lent) -> Reply
+        requires staged { IsSomeAnd self.old.slot (λ slot. (call : CallId) × IsStaged call self.old slot) }
+        requires room { self.old.count < 2 ^ 64 - 1 }
+        requires lent { IsLentFor (update_of op.now) lent.old.read }
+        ensures reply { result ≡ replies.Done (update_answer (update_of op.now)) }
+        ensures new { self.new ≡ committed self.old self.old.slot }
+        ensures pieces { pieces_told result lent.new.read.pieces ≡ slot_id (update_of op.now) self.old.store.sections self.old.slot }
+    {
+        let Some(slot) = &self.slot else {
+            unreachable!()
+        };
+        let answer = match update_in(op) {
+            Some(update) => tell_id(&self.store, update, slot.moment, &mut lent.read),
+            None => Answer::Nothing,
+        };
+        self.commit();
+        Reply::Done(answer)
+    }
+
     // The sections become the outcome of the staged update. It takes no memory.
     fn commit(&mut self)
         requires staged { IsSomeAnd self.old.slot (λ slot. (call : CallId) × IsStaged call self.old slot) }
@@ -137,6 +190,25 @@ impl Replica {
             unreachable!()
         };
         read(&self.store, vector.value().as_slice(), now, &mut lent.read)
+    }
+}
+
+// What an update answers that is done; a creation puts the identifier of its section into the empty buffer.
+fn tell_id(store: &Store, update: &Update, moment: Moment, out: &mut ReadBuf) -> Answer
+    requires { IsLentFor update.now out.old }
+    ensures answer { result ≡ update_answer update.now }
+    ensures pieces { pieces_told (replies.Done result) out.new.pieces ≡ told_id update.now moment store.now.sections }
+{
+    match update {
+        Update::Create(NewId::Given(id), _, _) => {
+            out.push(id.as_slice());
+            Answer::Created
+        }
+        Update::Create(NewId::Generated, _, _) => {
+            out.push(store.generated(moment).as_slice());
+            Answer::Created
+        }
+        _ => Answer::Nothing,
     }
 }
 

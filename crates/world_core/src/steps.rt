@@ -14,10 +14,12 @@ ghost use Rattle.world_core.specs.TableState.{TableState, with_handle};
 ghost use Rattle.world_core.specs.Reserving.{IsReserved};
 ghost use Rattle.world_core.specs.Runs.{step_word};
 ghost use Rattle.world_core.specs.Shows.{IsShown, IsRoomy, IsReservable, handles_in, last_in};
-ghost use Rattle.world_core.specs.Happenings.{IsNext, IsStep, IsIdle};
+ghost use Rattle.world_core.specs.Happenings.{rooms_in, IsNext, IsStep, IsIdle};
+ghost use Rattle.ckpt_types.specs.declared.identities.CallId.{CallId};
+ghost use Rattle.ckpt_types.specs.declared.sections.Choice.{Choice};
 
 use crate::beginning::{opened_for, opened_place};
-use crate::drivers::{event_ckpt, event_end, event_node};
+use crate::drivers::{Rooms, event_ckpt, event_end, event_node};
 use crate::messages::{ckpt_of, event_verb, look_word, verb_of, word_of};
 use crate::nodes::told_pieces;
 use crate::record::Record;
@@ -40,13 +42,28 @@ impl World {
     {
         let next = match self.hands.find(c) {
             None => return Ok(idle(c, finish)),
-            Some(hand) => hand.driver.next(&self.cluster, self.tables.has_room(c)),
+            Some(hand) => hand.driver.next(&self.cluster, self.rooms(c)),
         };
         match next {
             Next::Serve(r, Request::Reserve(ckpt)) => self.reserve_step(alloc, c, r, ckpt),
+            Next::Serve(r, Request::Iterate(call, ckpt, choice)) => {
+                Ok(self.iterate_step(c, r, call, ckpt, choice))
+            }
+            Next::Serve(r, Request::Next(call, ckpt)) => self.next_step(alloc, c, r, call, ckpt),
             Next::Serve(r, request) => self.serve_step(alloc, c, r, &request),
             Next::Event(step) => Ok(self.record_step(c, step)),
             Next::End(end) => Ok(self.look_step(c, end)),
+        }
+    }
+
+    // What the client's tables have a free place for.
+    fn rooms(&self, c: u8) -> Rooms
+        requires { c < 100 }
+        ensures { result ≡ rooms_in self.now c }
+    {
+        Rooms {
+            handles: self.tables.has_room(c),
+            iterations: self.tables.has_iteration_room(c),
         }
     }
 
@@ -93,7 +110,9 @@ impl World {
         request: &Request,
     ) -> Result<Label, AllocError>
         requires next { IsNext self.old c (nexts.Serve r request.now) }
-        requires other { (k : ℕ) → request.now ≢ requests.Reserve k }
+        requires reserves_none { (k : ℕ) → request.now ≢ requests.Reserve k }
+        requires starts_none { (call : CallId) (k : ℕ) (choice : Choice) → request.now ≢ requests.Iterate call k choice }
+        requires goes_on_with_none { (call : CallId) (k : ℕ) → request.now ≢ requests.Next call k }
         requires client { c < 100 }
         requires shown { IsShown self.old }
         requires roomy { IsRoomy self.old }
@@ -109,6 +128,7 @@ impl World {
         let now = self.cluster.moment();
         let reply = self.nodes.serve(r, request, &hand.op, now, &mut lent);
         let end = self.hands.take(c, &self.cluster, r, request, &reply);
+        let pieces = told_pieces(&end, &reply, lent.read);
         Ok(Label::Stepped {
             call,
             op,
@@ -117,7 +137,7 @@ impl World {
             node: Some(r),
             reply: word_of(&reply),
             end,
-            pieces: told_pieces(&reply, lent.read),
+            pieces,
         })
     }
 

@@ -1,12 +1,20 @@
-ghost use Rattle.std.specs.Prelude.{◌≡◌, ◌-◌, ◌^◌, ◌<◌, true, IfOk, IsSomeAnd, length, nat_lt, slice_get, slice_set, replicate};
-ghost use Rattle.client_handles.specs.ClientState.{handle_at, has_handle_room};
+ghost use Rattle.std.specs.Prelude.{◌≡◌, ◌-◌, ◌^◌, ◌<◌, ◌≤◌, [], true, IfOk, IfSome, IsSome, IsSomeAnd, length, nat_lt, slice_get, slice_set, replicate};
+ghost use Rattle.client_handles.specs.ClientState.{handle_at, handle_numbered, has_handle_room, has_iteration_room, iteration_at};
+ghost use Rattle.ckpt_types.specs.declared.section_id.TheConstants.{SECTION_ID_MAX};
+ghost use Rattle.client_handles.specs.declared.begun.TheConstants.{ITERATIONS_MAX};
+ghost use Rattle.world_core.specs.Serving.{replica_in, given_at, next_id, next_reply_at};
+ghost use Rattle.world_core.specs.Lending.{pieces_told};
+ghost use Rattle.world_core.specs.Steps.{handle_over, ids_of};
 ghost use Rattle.client_handles.specs.declared.client.TheConstants.{HANDLES_MAX};
-ghost use Rattle.world_core.specs.TableState.{with_handle, advanced};
+ghost use Rattle.world_core.specs.TableState.{with_handle, with_started_iteration, gone_on, kept_at, begun_with};
 ghost use Rattle.world_core.specs.NewTable.{new_table};
-ghost use Rattle.world_core.specs.Shows.{next_in, handles_in, last_in, handle_in_place};
+ghost use Rattle.world_core.specs.Shows.{next_in, handles_in, iterations_in, last_in, handle_in_place, handle_over_place};
 
-use ckpt_types::{CallbackSet, CkptId, OpenFlags};
+use crate::nodes::Nodes;
+use ckpt_types::{CallbackSet, CkptId, Moment, NodeId, OpenFlags, ReadBuf};
 use client_handles::{Client, HandleView};
+use node_msgs::Reply;
+use section_iter::Iteration;
 use std::alloc::{AllocError, Global};
 use std::marker::Model;
 
@@ -83,10 +91,72 @@ impl Table {
         self.client.handle(place).ok()
     }
 
-    fn advance(&mut self)
-        requires { self.old.next < 2 ^ 32 - 1 }
-        ensures { self.new ≡ advanced self.old }
+    fn has_iteration_room(&self) -> bool
+        ensures { result ≡ has_iteration_room self.now.client }
     {
+        self.client.iteration_room()
+    }
+
+    // The handle over which the iteration goes for which a place stands.
+    fn iteration_handle(&self, place: u8) -> Option<HandleView>
+        requires { place < 100 }
+        ensures { result ≡ handle_over self.now.client.handles (iteration_at place self.now.client) }
+    {
+        self.client.iteration_handle(place).ok()
+    }
+
+    // An iteration more over the handle of that number.
+    fn start(&mut self, place: u8, handle: u32, iteration: Iteration)
+        requires place { place < 100 }
+        requires room { has_iteration_room self.old.client ≡ true }
+        requires opened { IsSome (handle_numbered handle self.old.client.handles) }
+        requires number { self.old.client.last_iteration < 2 ^ 32 - 1 }
+        ensures { self.new ≡ with_started_iteration place handle iteration self.old }
+    {
+        let Ok(()) = self.client.add_iteration(place, handle, iteration) else {
+            unreachable!()
+        };
+    }
+
+    // The place's iteration goes on at the replica that a node has of a checkpoint.
+    fn go_on(
+        &mut self,
+        place: u8,
+        nodes: &Nodes,
+        r: NodeId,
+        ckpt: CkptId,
+        now: Moment,
+        out: &mut ReadBuf,
+    ) -> Reply
+        requires place { place < 100 }
+        requires node { r < 8 }
+        requires there { IsSome (iteration_at place self.old.client) }
+        requires empty { out.old.pieces ≡ [] }
+        requires places { 1 ≤ out.old.spare_pieces }
+        requires bytes { SECTION_ID_MAX ≤ out.old.spare_bytes }
+        ensures reply { result ≡ next_reply_at (ids_of (kept_at place self.old)) now (replica_in nodes.now ckpt r) }
+        ensures pieces { pieces_told result out.new.pieces ≡ next_id (given_at (ids_of (kept_at place self.old)) now (replica_in nodes.now ckpt r)) }
+        ensures new { self.new ≡ gone_on place (given_at (ids_of (kept_at place self.old)) now (replica_in nodes.now ckpt r)) self.old }
+    {
+        let Ok(mut iteration) = self.client.lend_iteration(place) else {
+            unreachable!()
+        };
+        let reply = nodes.next(r, ckpt, &mut iteration, now, out);
+        self.client.return_iteration(place, iteration);
+        reply
+    }
+
+    // One call more, which has ended the iteration of this place at once.
+    fn begin(&mut self, ended: Option<u8>)
+        requires number { self.old.next < 2 ^ 32 - 1 }
+        requires place { IfSome ended (λ p. (p < 100) × IsSome (iteration_at p self.old.client)) }
+        ensures { self.new ≡ begun_with ended self.old }
+    {
+        if let Some(place) = ended {
+            let Ok(()) = self.client.end_iteration(place) else {
+                unreachable!()
+            };
+        }
         self.next += 1;
     }
 
@@ -140,13 +210,84 @@ impl Tables {
         self.list[c as usize].has_room()
     }
 
-    /// A client begins one call more.
-    pub fn advance(&mut self, c: u8)
+    /// Whether a client has a free place for an iteration.
+    pub fn has_iteration_room(&self, c: u8) -> bool
+        requires { c < 100 }
+        ensures { result ≡ nat_lt (length (iterations_in (slice_get self.now c)).begun) ITERATIONS_MAX }
+    {
+        self.list[c as usize].has_iteration_room()
+    }
+
+    /// The handle over which the iteration goes for which a place of a client stands.
+    pub fn iteration_handle(&self, c: u8, place: u8) -> Option<HandleView>
+        requires client { c < 100 }
+        requires place { place < 100 }
+        ensures { result ≡ handle_over_place (slice_get self.now c) place }
+    {
+        self.list[c as usize].iteration_handle(place)
+    }
+
+    /// A client starts an iteration over one of its handles, and the place stands for it. It takes no memory.
+    pub fn start(&mut self, c: u8, place: u8, handle: u32, iteration: Iteration)
+        requires client { c < 100 }
+        requires place { place < 100 }
+        requires room { nat_lt (length (iterations_in (slice_get self.old c)).begun) ITERATIONS_MAX ≡ true }
+        requires opened { IsSome (handle_numbered handle (handles_in (slice_get self.old c))) }
+        requires number { (iterations_in (slice_get self.old c)).last < 2 ^ 32 - 1 }
+        ensures { IsSomeAnd (slice_get self.old c) (λ table. self.new ≡ slice_set self.old c (with_started_iteration place handle iteration table)) }
+    {
+        start_at(
+            self.list.as_mut_slice(),
+            c as usize,
+            place,
+            handle,
+            iteration,
+        );
+    }
+
+    /// The iteration of a client's place goes on at the replica that a node has of a checkpoint: the next
+    /// section is told, and its identifier is put into the empty buffer. It takes no memory.
+    pub fn go_on(
+        &mut self,
+        c: u8,
+        place: u8,
+        nodes: &Nodes,
+        r: NodeId,
+        ckpt: CkptId,
+        now: Moment,
+        out: &mut ReadBuf,
+    ) -> Reply
+        requires client { c < 100 }
+        requires place { place < 100 }
+        requires node { r < 8 }
+        requires there { IsSomeAnd (slice_get self.old c) (λ table. IsSome (iteration_at place table.client)) }
+        requires empty { out.old.pieces ≡ [] }
+        requires places { 1 ≤ out.old.spare_pieces }
+        requires bytes { SECTION_ID_MAX ≤ out.old.spare_bytes }
+        ensures reply { IsSomeAnd (slice_get self.old c) (λ table. result ≡ next_reply_at (ids_of (kept_at place table)) now (replica_in nodes.now ckpt r)) }
+        ensures pieces { IsSomeAnd (slice_get self.old c) (λ table. pieces_told result out.new.pieces ≡ next_id (given_at (ids_of (kept_at place table)) now (replica_in nodes.now ckpt r))) }
+        ensures new { IsSomeAnd (slice_get self.old c) (λ table. self.new ≡ slice_set self.old c (gone_on place (given_at (ids_of (kept_at place table)) now (replica_in nodes.now ckpt r)) table)) }
+    {
+        go_on_at(
+            self.list.as_mut_slice(),
+            c as usize,
+            place,
+            nodes,
+            r,
+            ckpt,
+            now,
+            out,
+        )
+    }
+
+    /// A client begins one call more, which has ended the iteration of this place at once, if it names one.
+    pub fn begin(&mut self, c: u8, ended: Option<u8>)
         requires client { c < 100 }
         requires number { next_in (slice_get self.old c) < 2 ^ 32 - 1 }
-        ensures { IsSomeAnd (slice_get self.old c) (λ table. self.new ≡ slice_set self.old c (advanced table)) }
+        requires place { IfSome ended (λ p. (p < 100) × IsSomeAnd (slice_get self.old c) (λ table. IsSome (iteration_at p table.client))) }
+        ensures { IsSomeAnd (slice_get self.old c) (λ table. self.new ≡ slice_set self.old c (begun_with ended table)) }
     {
-        advance_at(self.list.as_mut_slice(), c as usize);
+        begin_at(self.list.as_mut_slice(), c as usize, ended);
     }
 
     /// A client gets a handle of a checkpoint, of the number after its last one, and the place stands for
@@ -180,13 +321,51 @@ fn new_tables(alloc: Global) -> Result<Vec<Table>, AllocError>
     Ok(tables)
 }
 
-fn advance_at(tables: &mut [Table], c: usize)
+fn begin_at(tables: &mut [Table], c: usize, ended: Option<u8>)
     requires client { c < length tables.old }
     requires number { next_in (slice_get tables.old c) < 2 ^ 32 - 1 }
-    ensures { IsSomeAnd (slice_get tables.old c) (λ table. tables.new ≡ slice_set tables.old c (advanced table)) }
+    requires place { IfSome ended (λ p. (p < 100) × IsSomeAnd (slice_get tables.old c) (λ table. IsSome (iteration_at p table.client))) }
+    ensures { IsSomeAnd (slice_get tables.old c) (λ table. tables.new ≡ slice_set tables.old c (begun_with ended table)) }
 {
     let table = &mut tables[c];
-    table.advance();
+    table.begin(ended);
+}
+
+fn start_at(tables: &mut [Table], c: usize, place: u8, handle: u32, iteration: Iteration)
+    requires client { c < length tables.old }
+    requires place { place < 100 }
+    requires room { nat_lt (length (iterations_in (slice_get tables.old c)).begun) ITERATIONS_MAX ≡ true }
+    requires opened { IsSome (handle_numbered handle (handles_in (slice_get tables.old c))) }
+    requires number { (iterations_in (slice_get tables.old c)).last < 2 ^ 32 - 1 }
+    ensures { IsSomeAnd (slice_get tables.old c) (λ table. tables.new ≡ slice_set tables.old c (with_started_iteration place handle iteration table)) }
+{
+    let table = &mut tables[c];
+    table.start(place, handle, iteration);
+}
+
+fn go_on_at(
+    tables: &mut [Table],
+    c: usize,
+    place: u8,
+    nodes: &Nodes,
+    r: NodeId,
+    ckpt: CkptId,
+    now: Moment,
+    out: &mut ReadBuf,
+) -> Reply
+    requires client { c < length tables.old }
+    requires place { place < 100 }
+    requires node { r < 8 }
+    requires there { IsSomeAnd (slice_get tables.old c) (λ table. IsSome (iteration_at place table.client)) }
+    requires empty { out.old.pieces ≡ [] }
+    requires places { 1 ≤ out.old.spare_pieces }
+    requires bytes { SECTION_ID_MAX ≤ out.old.spare_bytes }
+    ensures reply { IsSomeAnd (slice_get tables.old c) (λ table. result ≡ next_reply_at (ids_of (kept_at place table)) now (replica_in nodes.now ckpt r)) }
+    ensures pieces { IsSomeAnd (slice_get tables.old c) (λ table. pieces_told result out.new.pieces ≡ next_id (given_at (ids_of (kept_at place table)) now (replica_in nodes.now ckpt r))) }
+    ensures new { IsSomeAnd (slice_get tables.old c) (λ table. tables.new ≡ slice_set tables.old c (gone_on place (given_at (ids_of (kept_at place table)) now (replica_in nodes.now ckpt r)) table)) }
+{
+    let table = &mut tables[c];
+    table.go_on(place, nodes, r, ckpt, now, out)
 }
 
 fn add_at(

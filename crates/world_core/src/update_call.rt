@@ -1,4 +1,5 @@
 ghost use Rattle.std.specs.Prelude.{◌≡◌, ◌<◌, Some};
+ghost use Rattle.run_labels.specs.declared.labels.StepReply.TheVariants as words;
 ghost use Rattle.world_core.specs.Serving.{ckpt_of};
 ghost use Rattle.world_core.specs.Driving.{commit_at, stage_at, by_phase, update_next, update_taken, commit_end, done_end_by, done_of, kept_moment, last_having, verb_of};
 
@@ -110,24 +111,24 @@ impl UpdateCall {
         cluster: &Record,
         r: NodeId,
         request: &Request,
-        word: StepReply,
+        answer: &Answer,
     ) -> Option<Outcome>
-        ensures { result ≡ done_end_by (done_of cluster.now (verb_of request.now) (Some (ckpt_of request.now)) (Some r) word) self.now (verb_of request.now) }
+        ensures { result ≡ done_end_by (done_of cluster.now (verb_of request.now) (Some (ckpt_of request.now)) (Some r) words.Ok) answer.now self.now (verb_of request.now) }
     {
         match request {
             Request::Commit(_, ckpt) => {
                 let complete = cluster.complete(*ckpt);
-                self.commit_end(last_having(&complete, &self.owned))
+                self.commit_end(*answer, last_having(&complete, &self.owned))
             }
             _ => None,
         }
     }
 
-    fn commit_end(&self, last: Option<NodeId>) -> Option<Outcome>
-        ensures { result ≡ commit_end self.now.phase last }
+    fn commit_end(&self, answer: Answer, last: Option<NodeId>) -> Option<Outcome>
+        ensures { result ≡ commit_end self.now.phase answer last }
     {
         match (self.phase, last) {
-            (UpdatePhase::Committing, None) => Some(Outcome::Done(Answer::Nothing)),
+            (UpdatePhase::Committing, None) => Some(Outcome::Done(answer)),
             _ => None,
         }
     }

@@ -8,7 +8,7 @@ use crate::hands::Hands;
 use crate::nodes::Nodes;
 use crate::record::Record;
 use crate::tables::Tables;
-use ckpt_types::{ActorName, Op, Who};
+use ckpt_types::{ActorName, Moment, Op, Who};
 use run_labels::{Label, RunLog};
 use std::alloc::{AllocError, Global};
 
@@ -24,6 +24,8 @@ pub enum Event {
     Begin(ActorName, Op),
     /// A call takes its next step; the bool tells that a `finish` line asks for it.
     Step(Who, bool),
+    /// The moment is set, and what is over then is swept away.
+    At(Moment),
 }
 
 /// The cluster.
@@ -91,8 +93,9 @@ impl World {
     {
         match event {
             Event::Nodes(n) => Ok(self.bring_up(*n)),
-            Event::Begin(ActorName::Client(c), op) => self.begin(*c, op),
+            Event::Begin(ActorName::Client(c), op) => self.begin(alloc, *c, op),
             Event::Step(Who::Actor(ActorName::Client(c)), finish) => self.step(alloc, *c, *finish),
+            Event::At(t) => Ok(self.at(*t)),
             _ => unreachable!(),
         }
     }

@@ -1,9 +1,14 @@
 use Rattle.std.proofs.Common.{List, arith, subst}
 use Rattle.std.specs.Io.KnownBytes.{Appends}
 use Rattle.run_labels.specs.declared.labels.Label.{Label}
+use Rattle.session_run.proofs.Playable.{playable}
 use Rattle.ckptsim.specs.Headline.{printed}
 use Rattle.ckptsim.proofs.Written.{part_of_all}
 use Rattle.ckptsim.proofs.running.attempt.Goals as goal
+
+-- a script that was read is of what is built, which can be played
+pub session-requires-clause-form : goal.session-requires-clause-form
+session-requires-clause-form g c κs within = playable _ c.in-Ok-parse.ensures.built.0
 
 -- a script that was read has few lines
 pub session-requires-clause-lines : goal.session-requires-clause-lines

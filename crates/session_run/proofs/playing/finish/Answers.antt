@@ -23,6 +23,7 @@ stepping-preserved c =
       run = c.step.ensures.run;
       alone = λ d apart. h.others d apart ∙ c.stepping.invariant.alone d apart;
       few = omega (arith, c.stepping.invariant.few, nearer);
+      moment = h.moment ∙ c.stepping.invariant.moment;
       steps = λ more f. GrowsBy-label c.args.log.now.labels c.stepping.log.labels c.step.new.log.labels h.label more h.grows (c.stepping.invariant.steps (h.label ∷ more) (grows.1 more f));
     }
 

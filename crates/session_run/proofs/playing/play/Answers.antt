@@ -1,6 +1,7 @@
 use Rattle.std.proofs.Common.{◌+◌, List, ◌++◌, length, drop, sym, ap, subst, arith}
 use Rattle.std.proofs.lemmas.List.{drop_all}
 use Rattle.run_labels.specs.declared.labels.Label.{Label}
+use Rattle.world_core.specs.RecordState.{RecordState}
 use Rattle.world_core.specs.Runs.{IsRunTo, last}
 use Rattle.session_run.specs.Follows.{FollowsFrom, Follows}
 use Rattle.session_run.proofs.Following.{follows_line, follows_end, drop_item}
@@ -15,6 +16,7 @@ loop-line-init c = record {
   few = omega (arith, ap length c.requires.log);
   idle = c.requires.world.hands;
   form = c.requires.form;
+  start = λ e. ap (λ (R : RecordState). R.moment) c.requires.world.cluster;
   first = λ e. c.requires.log;
   follows = λ more. subst (λ (xs : List Label). FollowsFrom (last xs) c.args.lines.now more → Follows c.args.lines.now (xs ++ more)) (sym c.requires.log) (λ f. f);
 }
@@ -23,8 +25,8 @@ pub play_line-requires-clause-comes : goal.play_line-requires-clause-comes
 play_line-requires-clause-comes c =
     let i = c.loop-line.line-index in
     let next = drop_item c.args.lines.now i c.line-item.result c.loop-line-test.true c.line-item.is in
-    let left = subst (AreLeft i) next c.loop-line.invariant.form in
-    CanPlay-next i c.line-item.result (drop (i + 1) c.args.lines.now) c.loop-line.log.labels left c.loop-line.invariant.first
+    let left = subst (AreLeft i c.loop-line.world.cluster.moment) next c.loop-line.invariant.form in
+    CanPlay-next i c.loop-line.world.cluster.moment c.line-item.result (drop (i + 1) c.args.lines.now) c.loop-line.log.labels left c.loop-line.invariant.first
 
 pub play_line-requires-clause-room : goal.play_line-requires-clause-room
 play_line-requires-clause-room c = omega (arith, c.loop-line.invariant.few, c.loop-line-test.true, c.requires.lines)
@@ -33,13 +35,14 @@ pub loop-line-preserved : goal.loop-line-preserved
 loop-line-preserved c =
     let i = c.loop-line.line-index in
     let next = drop_item c.args.lines.now i c.line-item.result c.loop-line-test.true c.line-item.is in
-    let left = subst (AreLeft i) next c.loop-line.invariant.form in
+    let left = subst (AreLeft i c.loop-line.world.cluster.moment) next c.loop-line.invariant.form in
     let done = c.in_ok-play_line.ensures in
     record {
       run = c.play_line.ensures.run;
       few = omega (arith, c.play_line.ensures.few, c.loop-line.invariant.few);
       idle = done.idle;
-      form = AreLeft-next i c.line-item.result (drop (i + 1) c.args.lines.now) left;
+      form = AreLeft-next i c.loop-line.world.cluster.moment c.play_line.new.world.cluster.moment c.line-item.result (drop (i + 1) c.args.lines.now) left c.loop-line.invariant.start done.moment;
+      start = λ e. absurd (omega (arith, e));
       first = λ e. absurd (omega (arith, e));
       follows = follows_line c.args.lines.now (drop i c.args.lines.now) c.line-item.result (drop (i + 1) c.args.lines.now) c.loop-line.log.labels c.play_line.new.log.labels next done.answers c.loop-line.invariant.follows;
     }

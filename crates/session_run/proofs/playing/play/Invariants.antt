@@ -1,8 +1,8 @@
-use Rattle.std.proofs.Common.{◌≡◌, ◌*◌, ◌≤◌, List, [], ◌++◌, length, drop}
+use Rattle.std.proofs.Common.{◌≡◌, ◌*◌, ◌≤◌, List, [], ◌++◌, length, drop, pos}
 use Rattle.run_labels.specs.declared.labels.Label.{Label}
-use Rattle.world_core.specs.Runs.{IsRunTo, last}
+use Rattle.world_core.specs.Runs.{IsRunTo, NoneInHand, last}
 use Rattle.session_run.specs.Follows.{FollowsFrom, Follows}
-use Rattle.session_run.specs.Growing.{AreLeft, NoneInHand}
+use Rattle.session_run.specs.Growing.{AreLeft}
 use Rattle.session_run.proofs.playing.play.Given as goal
 
 abbrev pub invariant-loop-line : goal.invariant-loop-line
@@ -10,7 +10,8 @@ invariant-loop-line l = record {
   run : IsRunTo l.world l.log.labels;
   few : length l.log.labels ≤ 41 * l.line-index;
   idle : NoneInHand l.world;
-  form : AreLeft l.line-index (drop l.line-index l.lines);
+  form : AreLeft l.line-index l.world.cluster.moment (drop l.line-index l.lines);
+  start : l.line-index ≡ 0 → l.world.cluster.moment ≡ pos 0;
   first : l.line-index ≡ 0 → l.log.labels ≡ [];
   follows : (more : List Label) → FollowsFrom (last l.log.labels) (drop l.line-index l.lines) more → Follows l.lines (l.log.labels ++ more);
 }

@@ -1,8 +1,9 @@
 use Rattle.std.proofs.Common.{◌≡◌, refl, ap, ◌∙◌}
+use Rattle.world_core.specs.Steps.{sections_declared}
 use Rattle.std.specs.Prelude.{slice_get, slice_set}
 use Rattle.world_core.specs.declared.hands.InHand.{InHand}
-use Rattle.world_core.specs.Beginning.{handle_place}
-use Rattle.world_core.specs.TableState.{advanced}
+use Rattle.world_core.specs.Beginning.{handle_place, iteration_place}
+use Rattle.world_core.specs.TableState.{begun_with}
 use Rattle.world_core.specs.Shows.{next_in}
 use Rattle.ckpt_types.specs.declared.identities.ActorName.TheVariants.{Client}
 use Rattle.world_core.proofs.Begin.{begin_done}
@@ -13,16 +14,16 @@ use Rattle.world_core.proofs.world.World.begin_call.Goals as goal
 pub returns-clause-ok : goal.returns-clause-ok
 returns-clause-ok c =
     let w = c.args.self.now in
-    let hand : InHand = record { call = record { actor = Client c.args.c; number = c.number.result }; op = c.in_ok-copy.field-0; driver = c.in_ok-driver.driver } in
+    let hand : InHand = record { call = record { actor = Client c.args.c; number = c.number.result }; op = c.in_ok-own.own; driver = c.in_ok-driver.driver; iteration = c.take_room-end.result.1 } in
     record {
-      begins = record { actor = refl; op_is = c.in_ok-begun.ensures; hand = hand; same_call = refl; same_op = c.in_ok-copy.ensures; within = c.begin.ensures.within; hands = c.begin.ensures.new };
-      does = begin_done w c.args.c c.args.op.now c.in_ok-copy.field-0 c.in_ok-begun.begun c.number.result c.named_handle-handle.result c.is_live_client.result c.begin_end-end.result c.advance.new.self c.in_ok-driver.driver c.begin.new.self
-          c.requires.client c.number.ensures.within c.begin.ensures.within c.requires.none c.requires.built c.requires.may
+      begins = record { actor = refl; op_is = c.in_ok-begun.ensures; hand = hand; same_call = refl; same_op = c.in_ok-own.ensures; within = c.begin-2.ensures.within; hands = c.begin-2.ensures.new };
+      does = begin_done w c.args.c c.args.op.now c.in_ok-own.own c.in_ok-begun.begun c.number.result c.named_handle-handle.result c.is_live_client.result c.begin_end-due.result c.take_room-end.result.0 c.declared-declared.result.max_sections c.take_room-end.result.1 c.ended_place.result c.begin.new.self c.in_ok-driver.driver c.begin-2.new.self
+          c.requires.client c.number.ensures.within c.begin-2.ensures.within c.requires.none c.requires.built c.requires.may
           (λ t table. table_has_no_zero w c.args.c t c.requires.shown table)
-          c.in_ok-copy.ensures c.in_ok-begun.ensures
+          c.in_ok-own.ensures c.in_ok-begun.ensures
           (λ t table. c.number.ensures.value ∙ ap next_in table)
-          (λ t table. c.named_handle-handle.ensures ∙ handle_named_is w c.args.c (handle_place c.args.op.now) t table)
-          c.is_live_client.ensures c.begin_end-end.ensures
-          (λ t table. at_table (λ t. c.advance.new.self ≡ slice_set w.tables c.args.c (advanced t)) (slice_get w.tables c.args.c) t table c.advance.ensures)
-          c.in_ok-driver.ensures c.begin.ensures.new;
+          (λ t table. c.named_handle-handle.ensures ∙ handle_named_is w c.args.c (handle_place c.args.op.now) (iteration_place c.args.op.now) t table)
+          c.is_live_client.ensures c.begin_end-due.ensures c.take_room-end.ensures.end (c.declared-declared.ensures ∙ ap (sections_declared w.cluster) c.ckpt_of_handle.ensures) c.take_room-end.ensures.room c.ended_place.ensures
+          (λ t table. at_table (λ t. c.begin.new.self ≡ slice_set w.tables c.args.c (begun_with c.ended_place.result t)) (slice_get w.tables c.args.c) t table c.begin.ensures)
+          c.in_ok-driver.ensures c.begin-2.ensures.new;
     }

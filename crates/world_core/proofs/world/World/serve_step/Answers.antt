@@ -1,19 +1,20 @@
-use Rattle.std.proofs.Common.{◌∙◌, w64, to_z, of_z}
+use Rattle.std.proofs.Common.{ap, ◌∙◌, w64, to_z, of_z}
 use Rattle.std.proofs.lemmas.Int.{to_z-of_z}
+use Rattle.world_core.specs.Steps.{ended_pieces}
 use Rattle.world_core.proofs.Stepping.{node_there, node_ready, serve_is}
 use Rattle.world_core.proofs.world.World.serve_step.Goals as goal
 
 -- src/steps.rt:105:21
 pub serve-reply-requires-clause-node : goal.serve-reply-requires-clause-node
-serve-reply-requires-clause-node c = node_there c.args.self.now c.args.c c.args.r c.args.request.now c.in-Some.hand.now c.in-Some.ensures c.requires.next c.requires.other c.requires.shown
+serve-reply-requires-clause-node c = node_there c.args.self.now c.args.c c.args.r c.args.request.now c.in-Some.hand.now c.in-Some.ensures c.requires.next (record { reserves_none = c.requires.reserves_none; starts_none = c.requires.starts_none; goes_on_with_none = c.requires.goes_on_with_none }) c.requires.shown
 
 -- src/steps.rt:105:21
 pub serve-reply-requires-clause-ready : goal.serve-reply-requires-clause-ready
-serve-reply-requires-clause-ready c = node_ready c.args.self.now c.args.c c.args.r c.args.request.now c.in-Some.hand.now c.in-Some.ensures c.requires.next c.requires.other c.requires.shown c.requires.roomy
+serve-reply-requires-clause-ready c = node_ready c.args.self.now c.args.c c.args.r c.args.request.now c.in-Some.hand.now c.in-Some.ensures c.requires.next (record { reserves_none = c.requires.reserves_none; starts_none = c.requires.starts_none; goes_on_with_none = c.requires.goes_on_with_none }) c.requires.shown c.requires.roomy
 
 -- src/steps.rt:106:13
 pub take-end-requires-clause-node : goal.take-end-requires-clause-node
-take-end-requires-clause-node c = node_there c.args.self.now c.args.c c.args.r c.args.request.now c.in-Some.hand.now c.in-Some.ensures c.requires.next c.requires.other c.requires.shown
+take-end-requires-clause-node c = node_there c.args.self.now c.args.c c.args.r c.args.request.now c.in-Some.hand.now c.in-Some.ensures c.requires.next (record { reserves_none = c.requires.reserves_none; starts_none = c.requires.starts_none; goes_on_with_none = c.requires.goes_on_with_none }) c.requires.shown
 
 -- src/steps.rt:83:5
 pub returns-clause-ok : goal.returns-clause-ok
@@ -23,5 +24,5 @@ returns-clause-ok c =
     let held = c.in-Some.ensures in
     let now = to_z w64 (of_z w64 c.moment-now.result) in
     let now_is = to_z-of_z w64 c.moment-now.result (record { sfits = c.moment-now.type_inv }) ∙ c.moment-now.ensures in
-    serve_is w c.args.c c.args.r c.args.request.now hand held c.requires.next c.requires.other now c.serve-reply.new.self c.take-end.new.self c.word-op.result c.verb_of.result c.ckpt_of.result c.word_of.result c.serve-reply.result c.take-end.result c.told_pieces.result
-    now_is c.serve-reply.ensures.reply (c.told_pieces.ensures ∙ c.serve-reply.ensures.pieces) c.serve-reply.ensures.new (c.take-end.ensures.end hand held) (c.take-end.ensures.new hand held) c.word-op.ensures c.verb_of.ensures c.ckpt_of.ensures c.word_of.ensures
+    serve_is w c.args.c c.args.r c.args.request.now hand held c.requires.next (record { reserves_none = c.requires.reserves_none; starts_none = c.requires.starts_none; goes_on_with_none = c.requires.goes_on_with_none }) now c.serve-reply.new.self c.take-end.new.self c.word-op.result c.verb_of.result c.ckpt_of.result c.word_of.result c.serve-reply.result c.take-end.result c.told_pieces-pieces.result
+    now_is c.serve-reply.ensures.reply (c.told_pieces-pieces.ensures ∙ ap (ended_pieces c.take-end.result) c.serve-reply.ensures.pieces) c.serve-reply.ensures.new (c.take-end.ensures.end hand held) (c.take-end.ensures.new hand held) c.word-op.ensures c.verb_of.ensures c.ckpt_of.ensures c.word_of.ensures

@@ -1,0 +1,160 @@
+-- The moment: how the world shows that it is set, and that nothing else changes it.
+use Rattle.ckpt_types.specs.Reads.{NextGiven}
+use Rattle.section_iter.specs.KeptIds.{KeptIds}
+use Rattle.world_core.specs.Calls.{number_of, client_of}
+use Rattle.std.proofs.Common.{◌≡◌, ℕ, Option, Some, None, Bool, ℤ, refl, sym, ap, subst, ◌∙◌, arith}
+use Rattle.std.specs.Prelude.{filter}
+use Rattle.ckpt_types.specs.declared.answers.Outcome.{Outcome}
+use Rattle.ckpt_types.specs.declared.identities.ActorName.{ActorName}
+use Rattle.ckpt_types.specs.declared.identities.Who.TheVariants as whos
+use Rattle.ckpt_types.specs.declared.operation.Op.{Op}
+use Rattle.node_msgs.specs.declared.next.RecordStep.{RecordStep}
+use Rattle.client_handles.specs.declared.handle_view.HandleView.{HandleView}
+use Rattle.run_labels.specs.declared.words.Verb.{Verb}
+use Rattle.run_labels.specs.declared.words.Verb.TheVariants as verbs
+use Rattle.run_labels.specs.declared.labels.StepReply.{StepReply}
+use Rattle.run_labels.specs.declared.labels.StepReply.TheVariants as words
+use Rattle.run_labels.specs.declared.labels.Label.{Label}
+use Rattle.run_labels.specs.declared.labels.Label.TheVariants as labels
+use Rattle.world_core.specs.declared.hands.InHand.{InHand}
+use Rattle.world_core.specs.declared.world.Event.{Event}
+use Rattle.world_core.specs.declared.world.Event.TheVariants as happenings
+use Rattle.world_core.specs.declared.world.World.{World}
+use Rattle.world_core.specs.RecordState.{RecordState, entry_of, stays, IsMomentFrom, moved}
+use Rattle.world_core.specs.Serving.{replica_in, given_at}
+use Rattle.world_core.specs.Beginning.{opened_place, started_place, iteration_place, ended_place}
+use Rattle.world_core.specs.Machine.{Machine, ReplicaState, CallState}
+use Rattle.world_core.specs.Steps.{on_ok, at_some, change_replica, with_handle_at, with_opened, event_done, changed, step_of, after, driver_of, with_iteration, with_next, with_ended, begun_call, named_handle, kept_in, ids_asked, seen_at}
+use Rattle.world_core.specs.Shows.{Does, Shows, Facts, History, machine_of}
+use Rattle.world_core.specs.Happenings.{SetsMoment}
+use Rattle.world_core.specs.Runs.{Answers, AnswersBegin, AnswersStep, hand_of_actor, moment_of}
+use Rattle.world_core.proofs.Entries.{filter_leaves}
+use Rattle.world_core.proofs.Going.{goes_same, goes_left, event_keeps}
+use Rattle.world_core.proofs.Recording.{GoesAt, with_effects, record_is, record_fits}
+
+-- ---- the moment is set
+
+-- each entry is left as it was, or swept away
+moved_goes : (w : World) (h : History) (t : ℤ) → Facts (machine_of w h) → (k r : ℕ) → GoesAt k (entry_of k w.cluster.entries) (entry_of k (moved t w.cluster).entries) r (replica_in w.nodes k r)
+moved_goes w h t facts k r =
+    let entries = w.cluster.entries in
+    goes_left k (entry_of k entries) (entry_of k entries) (entry_of k (filter (stays t) entries)) r (replica_in w.nodes k r) (goes_same k (entry_of k entries) r (replica_in w.nodes k r)) (filter_leaves (stays t) entries facts.rises k)
+
+-- a world whose record is at another moment, and swept
+moved_done : (w : World) (t : ℤ) (R : RecordState) → IsMomentFrom w.cluster.moment t → R ≡ moved t w.cluster → Does w (record w { cluster = R }) (labels.Moved t)
+moved_done w t R may R_is = subst (λ (R : RecordState). Does w (record w { cluster = R }) (labels.Moved t)) (sym R_is) (record {
+  due_is = λ m s f. subst (λ (m : Machine). IsMomentFrom m.cluster.moment t) (sym s.same) may;
+  shows = λ m s f. let facts = subst Facts s.same f in record {
+    history = with_effects w s.history;
+    same = ap (λ m. after m (labels.Moved t)) s.same ∙ record_is w s.history (moved t w.cluster) (moved_goes w s.history t facts) refl;
+    fits = record_fits w s.history (moved t w.cluster) (moved_goes w s.history t facts) refl (omega arith) s.fits;
+  };
+})
+
+-- the moment is set, with its label as the code names it
+pub sets_moment : (w : World) (t u : ℤ) (R : RecordState) → u ≡ t → IsMomentFrom w.cluster.moment t → R ≡ moved u w.cluster → SetsMoment t w (record w { cluster = R }) (labels.Moved u)
+sets_moment w t u R same may R_is = record {
+  label_is = ap labels.Moved same;
+  hands = refl;
+  does = moved_done w u R (subst (IsMomentFrom w.cluster.moment) (sym same) may) R_is;
+}
+
+-- ---- the moment after a label
+
+-- only one label sets it
+abbrev pub moment_after : Label → ℤ → ℤ
+moment_after (labels.Moved t) before = t
+moment_after label before = before
+
+-- the record is at the moment at which it was
+abbrev SameMoment : Machine → Machine → Type 0
+SameMoment m n = n.cluster.moment ≡ m.cluster.moment
+
+on_ok-moment : (m n : Machine) (reply : StepReply) → SameMoment m n → SameMoment m (on_ok reply m n)
+on_ok-moment m n words.Ok same = same
+on_ok-moment m n reply same = refl
+
+at_some-moment : (m : Machine) (o : Option ℕ) (change : ℕ → Machine) → ((n : ℕ) → SameMoment m (change n)) → SameMoment m (at_some o m change)
+at_some-moment m None change same = refl
+at_some-moment m (Some n) change same = same n
+
+change_replica-moment : (m : Machine) (k r : ℕ) (x : Option ReplicaState) (change : ReplicaState → ReplicaState) → SameMoment m (change_replica m k r x change)
+change_replica-moment m k r None change = refl
+change_replica-moment m k r (Some x) change = refl
+
+with_handle_at-moment : (m : Machine) (c : ℕ) (h : HandleView) (place : Option ℕ) → SameMoment m (with_handle_at m c h place)
+with_handle_at-moment m c h None = refl
+with_handle_at-moment m c h (Some place) = refl
+
+with_opened-moment : (m : Machine) (s : CallState) (k : Option ℕ) → SameMoment m (with_opened s k m)
+with_opened-moment m s None = refl
+with_opened-moment m s (Some k) = with_handle_at-moment m _ _ (opened_place s.op)
+
+with_iteration-moment : (m : Machine) (c : ℕ) (h : Option HandleView) (place : Option ℕ) (kept : KeptIds) → SameMoment m (with_iteration m c h place kept)
+with_iteration-moment m c (Some h) (Some place) kept = refl
+with_iteration-moment m c (Some h) None kept = refl
+with_iteration-moment m c None place kept = refl
+
+with_next-moment : (m : Machine) (c : ℕ) (place : Option ℕ) (kept : Option KeptIds) (next : Option NextGiven) → SameMoment m (with_next m c place kept next)
+with_next-moment m c (Some place) (Some kept) (Some next) = refl
+with_next-moment m c (Some place) (Some kept) None = refl
+with_next-moment m c (Some place) None next = refl
+with_next-moment m c None kept next = refl
+
+with_ended-moment : (m : Machine) (c : ℕ) (place : Option ℕ) → SameMoment m (with_ended c place m)
+with_ended-moment m c None = refl
+with_ended-moment m c (Some place) = refl
+
+event_done-moment : (m : Machine) (s : CallState) (step : RecordStep) → SameMoment m (event_done m s step)
+event_done-moment m s step = (event_keeps s.call (driver_of s) step m.cluster).moment
+
+changed-moment : (m : Machine) (s : CallState) (verb : Verb) (k r : Option ℕ) (reply : StepReply) → SameMoment m (changed m s verb k r reply)
+changed-moment m s verbs.Enter k r reply = on_ok-moment m _ reply (event_done-moment m s _)
+changed-moment m s verbs.Open k r reply = on_ok-moment m _ reply (with_opened-moment (event_done m s _) s k ∙ event_done-moment m s _)
+changed-moment m s verbs.Create k r reply = on_ok-moment m _ reply (event_done-moment m s _)
+changed-moment m s verbs.Reserve k r reply = on_ok-moment m _ reply (at_some-moment m k _ (λ k. at_some-moment m r _ (λ r. refl)))
+changed-moment m s verbs.Finish k r reply = on_ok-moment m _ reply (with_opened-moment (event_done m s _) s k ∙ event_done-moment m s _)
+changed-moment m s verbs.Undo k r reply = on_ok-moment m _ reply (event_done-moment m s _)
+changed-moment m s verbs.Stage k r reply = on_ok-moment m _ reply (at_some-moment m k _ (λ k. at_some-moment m r _ (λ r. change_replica-moment m k r (m.replicas k r) _)))
+changed-moment m s verbs.Commit k r reply = on_ok-moment m _ reply (at_some-moment m k _ (λ k. at_some-moment m r _ (λ r. change_replica-moment m k r (m.replicas k r) _)))
+changed-moment m s verbs.Iter k r reply = on_ok-moment m _ reply (at_some-moment m k _ (λ k. at_some-moment m r _ (λ r. with_iteration-moment m _ (named_handle m s.call.actor s.op) (started_place s.op) _)))
+changed-moment m s verbs.Next k r reply = on_ok-moment m _ reply (at_some-moment m k _ (λ k. at_some-moment m r _ (λ r. with_next-moment m _ (iteration_place s.op) (kept_in (m.iterations (client_of s.call)) (iteration_place s.op)) (given_at (ids_asked m s) m.cluster.moment (seen_at m k r)))))
+changed-moment m s verb k r reply = refl
+
+step_of-moment : (m : Machine) (o : Option CallState) (verb : Verb) (k r : Option ℕ) (reply : StepReply) (end : Option Outcome) → SameMoment m (step_of m o verb k r reply end)
+step_of-moment m None verb k r reply end = refl
+step_of-moment m (Some s) verb k r reply end = changed-moment m s verb k r reply
+
+-- THE LAW: in the state after a label the moment is the one that the label set, or the one before it
+pub after-moment : (m : Machine) (l : Label) → (after m l).cluster.moment ≡ moment_after l m.cluster.moment
+after-moment m (labels.Stepped call op verb k r reply end pieces) = step_of-moment m (m.in_hand call.actor) verb k r reply end
+after-moment m (labels.Moved t) = refl
+after-moment m (labels.Began call op end) = with_ended-moment (begun_call m call op end) (number_of call.actor) (ended_place end op)
+after-moment m l = refl
+
+-- ---- the moment after an event
+
+begin-moment : (a : ActorName) (op : Op) (old new : World) (label : Label) (before : ℤ) → AnswersBegin a op old new label → moment_after label before ≡ before
+begin-moment a op old new (labels.Moved t) before answers = absurd answers
+begin-moment a op old new label before answers = refl
+
+step-moment : (a : ActorName) (finish : Bool) (hand : Option InHand) (old new : World) (label : Label) (before : ℤ) → AnswersStep a finish hand old new label → moment_after label before ≡ before
+step-moment a finish None old new (labels.Moved t) before answers = absurd answers
+step-moment a finish (Some h) old new (labels.Moved t) before answers = absurd answers
+step-moment a finish None old new label before answers = refl
+step-moment a finish (Some h) old new label before answers = refl
+
+-- a label that answers an event sets the moment as the event does
+pub answers-moment : (event : Event) (old new : World) (label : Label) (before : ℤ) → Answers event old new label → moment_after label before ≡ moment_of event before
+answers-moment (happenings.Nodes n) old new label before answers = ap (λ l. moment_after l before) answers.0
+answers-moment (happenings.Begin a op) old new label before answers = begin-moment a op old new label before answers
+answers-moment (happenings.Step (whos.Actor a) finish) old new label before answers = step-moment a finish (hand_of_actor old a) old new label before answers
+answers-moment (happenings.Step (whos.Call call) finish) old new label before answers = absurd answers
+answers-moment (happenings.At t) old new label before answers = ap (λ l. moment_after l before) answers.0
+
+-- and so the world shows it
+pub shown-moment : (event : Event) (old new : World) (label : Label) (m : Machine) → Shows old m → Facts m → Does old new label → Answers event old new label → new.cluster.moment ≡ moment_of event old.cluster.moment
+shown-moment event old new label m shows facts does answers =
+    let now : (after m label).cluster.moment ≡ new.cluster.moment = ap (λ (x : Machine). x.cluster.moment) (does.shows m shows facts).same in
+    let before : m.cluster.moment ≡ old.cluster.moment = ap (λ (x : Machine). x.cluster.moment) shows.same in
+    sym now ∙ after-moment m label ∙ ap (moment_after label) before ∙ answers-moment event old new label old.cluster.moment answers

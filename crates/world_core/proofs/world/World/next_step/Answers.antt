@@ -1,0 +1,42 @@
+use Rattle.std.proofs.Common.{◌≡◌, ◌<◌, Some, None, sym, subst, ◌∙◌, w64, to_z, of_z}
+use Rattle.std.specs.Prelude.{IsSome, IsSomeAnd, slice_get}
+use Rattle.std.proofs.lemmas.Int.{to_z-of_z}
+use Rattle.std.proofs.lemmas.Option.{same_Some}
+use Rattle.client_handles.specs.ClientState.{iteration_at}
+use Rattle.world_core.proofs.IterationSteps.{going, going_node, iteration_there, next_is}
+use Rattle.world_core.proofs.world.World.next_step.Goals as goal
+
+pub unreachable-requires-in_default-iteration_place :
+    goal.unreachable-requires-in_default-iteration_place
+unreachable-requires-in_default-iteration_place c =
+    let g = going c.args.self.now c.args.c c.args.r c.args.asked c.args.ckpt c.in-Some.hand.now c.in-Some.ensures c.requires.next c.requires.shown in
+    absurd (let e : None ≡ Some g.place = sym c.in_default-iteration_place.is ∙ c.iteration_place.ensures ∙ g.goes_on in cc)
+
+pub go_on-reply-requires-clause-place : goal.go_on-reply-requires-clause-place
+go_on-reply-requires-clause-place c =
+    let g = going c.args.self.now c.args.c c.args.r c.args.asked c.args.ckpt c.in-Some.hand.now c.in-Some.ensures c.requires.next c.requires.shown in
+    let place : g.place ≡ c.in-Some-iteration_place.place = same_Some g.place c.in-Some-iteration_place.place (sym g.goes_on ∙ sym c.iteration_place.ensures ∙ c.in-Some-iteration_place.is) in
+    subst (λ n. n < 100) place g.within
+
+pub go_on-reply-requires-clause-node : goal.go_on-reply-requires-clause-node
+go_on-reply-requires-clause-node c = going_node c.args.self.now c.args.c c.args.r c.args.asked c.args.ckpt c.in-Some.hand.now c.in-Some.ensures c.requires.next c.requires.shown
+
+pub go_on-reply-requires-clause-there : goal.go_on-reply-requires-clause-there
+go_on-reply-requires-clause-there c =
+    let g = going c.args.self.now c.args.c c.args.r c.args.asked c.args.ckpt c.in-Some.hand.now c.in-Some.ensures c.requires.next c.requires.shown in
+    let place : g.place ≡ c.in-Some-iteration_place.place = same_Some g.place c.in-Some-iteration_place.place (sym g.goes_on ∙ sym c.iteration_place.ensures ∙ c.in-Some-iteration_place.is) in
+    subst (λ n. IsSomeAnd (slice_get c.args.self.now.tables c.args.c) (λ table. IsSome (iteration_at n table.client))) place
+    (iteration_there c.args.self.now c.args.c c.args.r c.args.asked c.args.ckpt c.in-Some.hand.now c.in-Some.ensures c.requires.next c.requires.shown)
+
+pub take-end-requires-clause-node : goal.take-end-requires-clause-node
+take-end-requires-clause-node c = going_node c.args.self.now c.args.c c.args.r c.args.asked c.args.ckpt c.in-Some.hand.now c.in-Some.ensures c.requires.next c.requires.shown
+
+pub returns-clause-ok : goal.returns-clause-ok
+returns-clause-ok c =
+    let hand = c.in-Some.hand.now in
+    let held = c.in-Some.ensures in
+    let now = to_z w64 (of_z w64 c.moment-now.result) in
+    let now_is = to_z-of_z w64 c.moment-now.result (record { sfits = c.moment-now.type_inv }) ∙ c.moment-now.ensures in
+    next_is c.args.self.now c.args.c c.args.r c.args.asked c.args.ckpt hand held c.requires.next c.requires.shown
+    c.in-Some-iteration_place.place now c.go_on-reply.new.self c.take-end.new.self c.word-op.result c.word_of.result c.go_on-reply.result c.take-end.result _ c.told_pieces-pieces.result
+    (sym c.in-Some-iteration_place.is ∙ c.iteration_place.ensures) now_is c.go_on-reply.ensures.reply c.go_on-reply.ensures.pieces c.go_on-reply.ensures.new (c.take-end.ensures.end hand held) (c.take-end.ensures.new hand held) c.word-op.ensures c.word_of.ensures c.told_pieces-pieces.ensures

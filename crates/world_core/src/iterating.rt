@@ -1,0 +1,113 @@
+ghost use Rattle.std.specs.Prelude.{◌≡◌, ◌<◌, IfOk, OnErr};
+ghost use Rattle.node_msgs.specs.declared.next.Next.TheVariants as nexts;
+ghost use Rattle.node_msgs.specs.declared.requests.Request.TheVariants as requests;
+ghost use Rattle.world_core.specs.Shows.{IsShown, IsRoomy};
+ghost use Rattle.world_core.specs.Happenings.{IsNext, IsStep};
+
+use crate::beginning::{handle_place, iteration_place, started_place};
+use crate::hands::InHand;
+use crate::messages::word_of;
+use crate::nodes::told_pieces;
+use crate::world::World;
+use ckpt_types::{Answer, CallId, Choice, CkptId, NodeId, Outcome, ReadBuf, SECTION_ID_MAX};
+use node_msgs::Request;
+use run_labels::{Label, OpWord, StepReply, Verb};
+use std::alloc::{AllocError, Global};
+
+impl World {
+    /// The call of a client starts an iteration, in the room that it took when it began. It takes no memory.
+    pub fn iterate_step(
+        &mut self,
+        c: u8,
+        r: NodeId,
+        asked: CallId,
+        ckpt: CkptId,
+        choice: Choice,
+    ) -> Label
+        requires next { IsNext self.old c (nexts.Serve r (requests.Iterate asked ckpt choice)) }
+        requires client { c < 100 }
+        requires shown { IsShown self.old }
+        requires roomy { IsRoomy self.old }
+        ensures { IsStep c self.old self.new result }
+    {
+        let Some(hand) = self.hands.remove(c) else {
+            unreachable!()
+        };
+        let InHand {
+            call,
+            op,
+            driver: _,
+            iteration,
+        } = hand;
+        let word = OpWord::of(&op);
+        let Some(place) = started_place(&op) else {
+            unreachable!()
+        };
+        let Some(over) = handle_place(&op) else {
+            unreachable!()
+        };
+        let Some(handle) = self.tables.handle(c, over) else {
+            unreachable!()
+        };
+        let Some(mut iteration) = iteration else {
+            unreachable!()
+        };
+        let now = self.cluster.moment();
+        self.nodes.start(r, ckpt, &mut iteration, choice, now);
+        self.tables.start(c, place, handle.handle, iteration);
+        Label::Stepped {
+            call,
+            op: word,
+            verb: Verb::Iter,
+            ckpt: Some(ckpt),
+            node: Some(r),
+            reply: StepReply::Ok,
+            end: Some(Outcome::Done(Answer::Nothing)),
+            pieces: None,
+        }
+    }
+
+    /// The call of a client goes on with an iteration. Want of memory for the identifier that its label tells
+    /// leaves the world as it was.
+    pub fn next_step(
+        &mut self,
+        alloc: Global,
+        c: u8,
+        r: NodeId,
+        asked: CallId,
+        ckpt: CkptId,
+    ) -> Result<Label, AllocError>
+        requires next { IsNext self.old c (nexts.Serve r (requests.Next asked ckpt)) }
+        requires client { c < 100 }
+        requires shown { IsShown self.old }
+        ensures ok { IfOk result (IsStep c self.old self.new) }
+        ensures err { OnErr result (self.new ≡ self.old) }
+    {
+        let request = Request::Next(asked, ckpt);
+        let Some(hand) = self.hands.find(c) else {
+            unreachable!()
+        };
+        let call = hand.call;
+        let op = hand.word();
+        let Some(place) = iteration_place(&hand.op) else {
+            unreachable!()
+        };
+        let mut read = ReadBuf::reserve(alloc, 1, SECTION_ID_MAX)?;
+        let now = self.cluster.moment();
+        let reply = self
+            .tables
+            .go_on(c, place, &self.nodes, r, ckpt, now, &mut read);
+        let end = self.hands.take(c, &self.cluster, r, &request, &reply);
+        let pieces = told_pieces(&end, &reply, read);
+        Ok(Label::Stepped {
+            call,
+            op,
+            verb: Verb::Next,
+            ckpt: Some(ckpt),
+            node: Some(r),
+            reply: word_of(&reply),
+            end,
+            pieces,
+        })
+    }
+}
