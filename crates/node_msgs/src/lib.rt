@@ -5,8 +5,10 @@ mod changes;
 mod next;
 mod replies;
 mod requests;
+mod steps;
 
 pub use changes::NodeChange;
 pub use next::{Next, RecordStep};
 pub use replies::Reply;
 pub use requests::Request;
+pub use steps::{StepReply, Verb};

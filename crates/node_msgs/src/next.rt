@@ -1,4 +1,7 @@
+ghost use Rattle.std.specs.Prelude.{◌≡◌};
+
 use crate::requests::Request;
+use crate::steps::Verb;
 use ckpt_types::{CkptId, Moment, NodeId, Outcome};
 
 /// A step of the record of the cluster.
@@ -28,6 +31,30 @@ pub enum RecordStep {
     Activate(NodeId),
     /// The node becomes complete; the moment is that of the slots of its copying, where there are any.
     Complete(CkptId, NodeId, Option<Moment>),
+}
+
+impl RecordStep {
+    ghost use Rattle.node_msgs.specs.Steps.{event_verb};
+
+    /// What the step does.
+    pub fn verb(&self) -> Verb
+        ensures { result ≡ event_verb self.now }
+    {
+        match self {
+            RecordStep::Enter => Verb::Enter,
+            RecordStep::Leave => Verb::Leave,
+            RecordStep::Open => Verb::Open,
+            RecordStep::Create => Verb::Create,
+            RecordStep::Finish => Verb::Finish,
+            RecordStep::Undo => Verb::Undo,
+            RecordStep::Close => Verb::Close,
+            RecordStep::Unlink => Verb::Unlink,
+            RecordStep::Retain => Verb::Retain,
+            RecordStep::Hold(_) => Verb::Hold,
+            RecordStep::Activate(_) => Verb::Activate,
+            RecordStep::Complete(_, _, _) => Verb::Complete,
+        }
+    }
 }
 
 /// What a call does next.

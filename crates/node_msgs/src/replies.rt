@@ -1,3 +1,6 @@
+ghost use Rattle.std.specs.Prelude.{◌≡◌};
+
+use crate::steps::StepReply;
 use ckpt_types::{AisError, Answer, CallId};
 
 /// What a node answers to a request.
@@ -21,4 +24,22 @@ pub enum Reply {
     Stale(u64, u64),
     /// The memory of a reservation was refused.
     NoMemory,
+}
+
+impl Reply {
+    ghost use Rattle.node_msgs.specs.Steps.{word_of};
+
+    /// How a step tells it.
+    pub fn word(&self) -> StepReply
+        ensures { result ≡ word_of self.now }
+    {
+        match self {
+            Reply::Done(_) | Reply::Claimed(_) => StepReply::Ok,
+            Reply::Held(by) => StepReply::Held(*by),
+            Reply::Free(count) => StepReply::Free(*count),
+            Reply::Refused(_, _) | Reply::NoReplica | Reply::Stale(_, _) => StepReply::Refused,
+            Reply::Older(_, _) => StepReply::Older,
+            Reply::NoMemory => StepReply::Memory,
+        }
+    }
 }

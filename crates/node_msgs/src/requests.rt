@@ -1,5 +1,6 @@
 ghost use Rattle.std.specs.Prelude.{◌≡◌};
 
+use crate::steps::Verb;
 use ckpt_types::{CallId, Choice, CkptId, Moment};
 
 /// What a call asks of one replica. The update of `Stage`, `Apply` and `Mark`, the elements of `Read`, the
@@ -40,6 +41,7 @@ pub enum Request {
 
 impl Request {
     ghost use Rattle.node_msgs.specs.Requests.{ckpt_of};
+    ghost use Rattle.node_msgs.specs.Steps.{verb_of};
 
     /// The checkpoint whose replica is asked.
     pub fn ckpt(&self) -> CkptId
@@ -61,6 +63,29 @@ impl Request {
             Request::Next(_, ckpt) => ckpt,
             Request::Pull(_, ckpt) => ckpt,
             Request::Install(_, ckpt) => ckpt,
+        }
+    }
+
+    /// What the step that asks it does.
+    pub fn verb(&self) -> Verb
+        ensures { result ≡ verb_of self.now }
+    {
+        match self {
+            Request::Reserve(_) => Verb::Reserve,
+            Request::Stage(_, _, _) => Verb::Stage,
+            Request::Claim(_, _, _) => Verb::Claim,
+            Request::Commit(_, _) => Verb::Commit,
+            Request::Withdraw(_, _) => Verb::Withdraw,
+            Request::Apply(_, _) => Verb::Apply,
+            Request::Mark(_, _) => Verb::Mark,
+            Request::Element(_, _) => Verb::Element,
+            Request::Unmark(_, _) => Verb::Unmark,
+            Request::Read(_) => Verb::Read,
+            Request::Status(_) => Verb::Status,
+            Request::Iterate(_, _, _) => Verb::Iter,
+            Request::Next(_, _) => Verb::Next,
+            Request::Pull(_, _) => Verb::Pull,
+            Request::Install(_, _) => Verb::Install,
         }
     }
 }

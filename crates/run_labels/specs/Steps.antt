@@ -1,10 +1,10 @@
 -- The lines of steps, which are printed only where they are asked for.
 use Rattle.std.specs.Prelude.{ℕ, ℤ, List, [], ◌++◌, Option, Some, None, Bool, if◌then◌else◌, codes, decimal}
 use Rattle.ckpt_types.specs.declared.identities.CallId.{CallId}
-use Rattle.run_labels.specs.declared.labels.StepReply.{StepReply}
-use Rattle.run_labels.specs.declared.labels.StepReply.TheVariants as replies
+use Rattle.node_msgs.specs.declared.steps.StepReply.{StepReply}
+use Rattle.node_msgs.specs.declared.steps.StepReply.TheVariants as replies
 use Rattle.run_labels.specs.declared.words.OpWord.{OpWord}
-use Rattle.run_labels.specs.declared.words.Verb.{Verb}
+use Rattle.node_msgs.specs.declared.steps.Verb.{Verb}
 use Rattle.run_labels.specs.OpWord.{op_text}
 use Rattle.run_labels.specs.Texts.{node_text, ckpt_text, call_text, time_text}
 use Rattle.run_labels.specs.Words.{verb_text}

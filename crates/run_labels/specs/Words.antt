@@ -4,8 +4,8 @@ use Rattle.run_labels.specs.declared.words.LineWord.{LineWord}
 use Rattle.run_labels.specs.declared.words.LineWord.TheVariants as lines
 use Rattle.run_labels.specs.declared.words.Said.{Said}
 use Rattle.run_labels.specs.declared.words.Said.TheVariants as said
-use Rattle.run_labels.specs.declared.words.Verb.{Verb}
-use Rattle.run_labels.specs.declared.words.Verb.TheVariants as verbs
+use Rattle.node_msgs.specs.declared.steps.Verb.{Verb}
+use Rattle.node_msgs.specs.declared.steps.Verb.TheVariants as verbs
 use Rattle.run_labels.specs.OpWord.{op_text}
 
 -- what a step does

@@ -1,25 +1,7 @@
 use crate::shown::ShownReplicas;
-use crate::words::{LineWord, OpWord, Said, Verb};
+use crate::words::{LineWord, OpWord, Said};
 use ckpt_types::{CallId, CkptId, Incarnation, Moment, NodeId, Op, Outcome, Pieces, Who};
-
-/// How a step was answered.
-#[derive(Clone, Copy, Debug, PartialEq, Eq)]
-pub enum StepReply {
-    /// It was done.
-    Ok,
-    /// Nothing was left to do.
-    Done,
-    /// This call holds what the step needs.
-    Held(CallId),
-    /// No slot stands on the replica, which has so many updates.
-    Free(u64),
-    /// It was refused.
-    Refused,
-    /// The replica is not older than the snapshot.
-    Older,
-    /// Memory was refused.
-    Memory,
-}
+use node_msgs::{StepReply, Verb};
 
 /// How a `pull` line was answered.
 #[derive(Clone, Copy, Debug, PartialEq, Eq)]

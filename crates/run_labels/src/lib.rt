@@ -14,8 +14,8 @@ mod tests;
 mod texts;
 mod words;
 
-pub use labels::{Label, PullReply, PutReply, StepReply};
+pub use labels::{Label, PullReply, PutReply};
 pub use lines::{append_line, render_line};
 pub use log::RunLog;
 pub use shown::{ShownReplica, ShownReplicas, ShownSection, ShownSections, ShownSlot};
-pub use words::{LineWord, OpWord, Said, Verb};
+pub use words::{LineWord, OpWord, Said, verb_word};

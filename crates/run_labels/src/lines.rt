@@ -5,12 +5,13 @@ ghost use Rattle.run_labels.specs.Steps.{where_asked, begin_line, step_line, mom
 ghost use Rattle.run_labels.specs.Lines.{line_of};
 
 use crate::events::{append_fail, append_join, append_pull, append_put, append_word};
-use crate::labels::{Label, StepReply};
+use crate::labels::Label;
 use crate::outcomes::{append_end, append_stepped_end};
 use crate::shows::append_shown;
 use crate::steps::{append_begin, append_moment, append_step};
-use crate::words::{OpWord, Verb};
+use crate::words::OpWord;
 use ckpt_types::{Bytes, CallId, CkptId, Moment, NodeId, Op, Outcome};
+use node_msgs::{StepReply, Verb};
 use std::alloc::{AllocError, Global};
 
 /// What a label prints, with the lines of steps or without them.

@@ -1,12 +1,12 @@
 ghost use Rattle.std.specs.Prelude.{◌≡◌, ◌++◌, OnOk};
 ghost use Rattle.run_labels.specs.Steps.{reply_text, step_ckpt_text, step_node_text, step_place_text, step_front, step_line, begin_line, moment_line};
 
-use crate::labels::StepReply;
 use crate::texts::{
     append_call, append_ckpt, append_node, append_number, append_text, append_time,
 };
-use crate::words::{OpWord, Verb};
+use crate::words::{OpWord, verb_word};
 use ckpt_types::{CallId, CkptId, Moment, NodeId};
+use node_msgs::{StepReply, Verb};
 use std::alloc::AllocError;
 
 /// The line of a call that begins.
@@ -45,7 +45,7 @@ fn append_step_front(out: &mut Vec<u8>, call: CallId, verb: Verb) -> Result<(), 
     append_text(out, "+ ")?;
     append_call(out, call)?;
     append_text(out, " ")?;
-    append_text(out, verb.word())
+    append_text(out, verb_word(verb))
 }
 
 /// The checkpoint and the node of a step, where it has them.

@@ -1,12 +1,13 @@
 use crate::{
     Label, LineWord, OpWord, PullReply, PutReply, RunLog, Said, ShownReplica, ShownSection,
-    ShownSlot, StepReply, Verb, append_line, render_line,
+    ShownSlot, append_line, render_line,
 };
 use ckpt_types::{
     ActorName, AisError, Answer, Bytes, CallId, Cause, CheckpointDescriptor, CreationAttributes,
     Given, NEVER, Op, Outcome, Pieces, ReadBuf, SectionDescriptor, SectionId, SectionState, Vector,
     Who,
 };
+use node_msgs::{StepReply, Verb};
 use std::alloc::{AllocError, Global};
 use std::process::Abort;
 use std::test::Fail;

@@ -1,6 +1,8 @@
 ghost use Rattle.std.specs.Prelude.{◌≡◌};
+ghost use Rattle.run_labels.specs.Words.{verb_text};
 
 use ckpt_types::Op;
+use node_msgs::Verb;
 
 /// The first word of a call line.
 #[derive(Clone, Copy, Debug, PartialEq, Eq)]
@@ -115,104 +117,39 @@ impl OpWord {
     }
 }
 
-/// What a step of a call does.
-#[derive(Clone, Copy, Debug, PartialEq, Eq)]
-pub enum Verb {
-    /// The client becomes live.
-    Enter,
-    /// The client is live no more.
-    Leave,
-    /// A checkpoint that is there is opened.
-    Open,
-    /// A checkpoint is in the making.
-    Create,
-    /// A node takes the storage of a replica.
-    Reserve,
-    /// The making is finished.
-    Finish,
-    /// The making is undone.
-    Undo,
-    /// A reference goes.
-    Close,
-    /// The name goes.
-    Unlink,
-    /// The retention is set.
-    Retain,
-    /// The active reads.
-    Read,
-    /// The active tells the status.
-    Status,
-    /// The active starts an iteration.
-    Iter,
-    /// The active gives an iteration's next section.
-    Next,
-    /// A replica stages an update.
-    Stage,
-    /// A replica commits its staged update.
-    Commit,
-    /// A slot of a call that is not live is taken over.
-    Claim,
-    /// A replica drops its staged update.
-    Withdraw,
-    /// The active applies an update at once.
-    Apply,
-    /// The active marks the sections of a weak write.
-    Mark,
-    /// The active writes an element of a weak write.
-    Element,
-    /// The active ends the marks of a weak write.
-    Unmark,
-    /// A snapshot is taken.
-    Pull,
-    /// A snapshot is installed.
-    Install,
-    /// A hold is put on a checkpoint.
-    Hold,
-    /// A node becomes the active.
-    Activate,
-    /// A node becomes complete.
-    Complete,
-    /// The record alone decides.
-    Look,
-}
-
-impl Verb {
-    ghost use Rattle.run_labels.specs.Words.{verb_text};
-
-    /// How it is spelled.
-    pub fn word(self) -> &'static str
-        ensures { result.now ≡ verb_text self }
-    {
-        match self {
-            Verb::Enter => "enter",
-            Verb::Leave => "leave",
-            Verb::Open => "open",
-            Verb::Create => "create",
-            Verb::Reserve => "reserve",
-            Verb::Finish => "finish",
-            Verb::Undo => "undo",
-            Verb::Close => "close",
-            Verb::Unlink => "unlink",
-            Verb::Retain => "retain",
-            Verb::Read => "read",
-            Verb::Status => "status",
-            Verb::Iter => "iter",
-            Verb::Next => "next",
-            Verb::Stage => "stage",
-            Verb::Commit => "commit",
-            Verb::Claim => "claim",
-            Verb::Withdraw => "withdraw",
-            Verb::Apply => "apply",
-            Verb::Mark => "mark",
-            Verb::Element => "element",
-            Verb::Unmark => "unmark",
-            Verb::Pull => "pull",
-            Verb::Install => "install",
-            Verb::Hold => "hold",
-            Verb::Activate => "activate",
-            Verb::Complete => "complete",
-            Verb::Look => "look",
-        }
+/// How the verb of a step is spelled.
+pub fn verb_word(verb: Verb) -> &'static str
+    ensures { result.now ≡ verb_text verb }
+{
+    match verb {
+        Verb::Enter => "enter",
+        Verb::Leave => "leave",
+        Verb::Open => "open",
+        Verb::Create => "create",
+        Verb::Reserve => "reserve",
+        Verb::Finish => "finish",
+        Verb::Undo => "undo",
+        Verb::Close => "close",
+        Verb::Unlink => "unlink",
+        Verb::Retain => "retain",
+        Verb::Read => "read",
+        Verb::Status => "status",
+        Verb::Iter => "iter",
+        Verb::Next => "next",
+        Verb::Stage => "stage",
+        Verb::Commit => "commit",
+        Verb::Claim => "claim",
+        Verb::Withdraw => "withdraw",
+        Verb::Apply => "apply",
+        Verb::Mark => "mark",
+        Verb::Element => "element",
+        Verb::Unmark => "unmark",
+        Verb::Pull => "pull",
+        Verb::Install => "install",
+        Verb::Hold => "hold",
+        Verb::Activate => "activate",
+        Verb::Complete => "complete",
+        Verb::Look => "look",
     }
 }
 

@@ -1,5 +1,5 @@
 -- A log that follows a script grows: step by step to the end of a call, and line by line.
-use Rattle.std.proofs.Common.{◌≡◌, ℕ, ◌+◌, ◌<◌, List, [], ◌∷◌, ◌++◌, length, drop, get_or, refl, sym, ap, subst, ◌∙◌, append_assoc, append-nil, add-one, eqb, eqb-true, suc}
+use Rattle.std.proofs.Common.{◌≡◌, ℕ, ◌+◌, ◌<◌, ◌≤◌, List, [], ◌∷◌, ◌++◌, length, drop, get_or, refl, sym, ap, subst, ◌∙◌, append_assoc, append-nil, length-append, arith, add-one, eqb, eqb-true, suc}
 use Rattle.std.proofs.Math.Seq.{drop-cons}
 use Rattle.std.proofs.lemmas.Bool.{eqb-false}
 use Rattle.std.specs.Prelude.{Option, Some, None, is_some, Bool, true, false, Result, Ok, Err, OnOk}
@@ -15,7 +15,7 @@ use Rattle.run_labels.specs.declared.words.Said.TheVariants.{Down}
 use Rattle.script_lang.specs.declared.lines.Line.{Line}
 use Rattle.world_core.specs.declared.hands.InHand.{InHand}
 use Rattle.world_core.specs.declared.world.World.{World}
-use Rattle.world_core.specs.RecordState.{is_up}
+use Rattle.cluster_record.specs.RecordState.{is_up}
 use Rattle.world_core.specs.Machine.{Machine, empty_cluster}
 use Rattle.world_core.specs.Steps.{after}
 use Rattle.world_core.specs.Runs.{GoesOn, IsRunTo, SaysTrue, AnswersBegin, AnswersStep, NoneInHand, last, last_from, left_of}
@@ -87,11 +87,12 @@ last_from-append m (x ∷ xs) ys = last_from-append (after m x) xs ys
 
 -- one line more
 pub follows_line : (script rest : List Line) (line : Line) (others : List Line) (old new : List Label) → rest ≡ line ∷ others → GrowsBy old new (AnswersLine (last old) line) →
-    ((more : List Label) → FollowsFrom (last old) rest more → Follows script (old ++ more)) → (more : List Label) → FollowsFrom (last new) others more → Follows script (new ++ more)
-follows_line script rest line others old new e f goes more h =
+    length new ≤ length old + 40 → ((more : List Label) → FollowsFrom (last old) rest more → Follows script (old ++ more)) → (more : List Label) → FollowsFrom (last new) others more → Follows script (new ++ more)
+follows_line script rest line others old new e f few goes more h =
     let then : last new ≡ last_from (last old) f.0 = ap last f.1 ∙ last_from-append empty_cluster old f.0 in
     let later : FollowsFrom (last_from (last old) f.0) others more = subst (λ (m : Machine). FollowsFrom m others more) then h in
-    let all : FollowsFrom (last old) rest (f.0 ++ more) = subst (λ r. FollowsFrom (last old) r (f.0 ++ more)) (sym e) (f.0, more, refl, f.2, later) in
+    let grown : length new ≡ length old + length f.0 = ap length f.1 ∙ length-append old f.0 in
+    let all : FollowsFrom (last old) rest (f.0 ++ more) = subst (λ r. FollowsFrom (last old) r (f.0 ++ more)) (sym e) (f.0, more, refl, f.2, omega (arith, few, grown), later) in
     subst (Follows script) (sym (ap (λ xs. xs ++ more) f.1 ∙ append_assoc old f.0 more)) (goes (f.0 ++ more) all)
 
 -- from an item on, a list is the item and what comes behind it

@@ -1,5 +1,5 @@
 -- A log follows a script: the lines in order, each with its labels.
-use Rattle.std.specs.Prelude.{◌≡◌, List, [], ◌∷◌, ◌++◌, Option, Some, None, false}
+use Rattle.std.specs.Prelude.{◌≡◌, ◌≤◌, List, [], ◌∷◌, ◌++◌, length, Option, Some, None, false}
 use Rattle.ckpt_types.specs.declared.answers.Outcome.{Outcome}
 use Rattle.ckpt_types.specs.declared.identities.ActorName.{ActorName}
 use Rattle.ckpt_types.specs.declared.identities.ActorName.TheVariants.{Client}
@@ -15,7 +15,7 @@ use Rattle.run_labels.specs.declared.words.Said.TheVariants.{Down}
 use Rattle.run_labels.specs.OpWord.{word_of_op}
 use Rattle.script_lang.specs.declared.lines.Line.{Line}
 use Rattle.script_lang.specs.declared.lines.Line.TheVariants as lines
-use Rattle.world_core.specs.RecordState.{is_up}
+use Rattle.cluster_record.specs.RecordState.{is_up}
 use Rattle.world_core.specs.Machine.{Machine, empty_cluster}
 use Rattle.world_core.specs.Runs.{last_from}
 
@@ -46,10 +46,11 @@ AnswersLine m (lines.Call c op) log = IsWholeCall m (Client c) op log
 AnswersLine m (lines.At t) log = log ≡ labels.Moved t ∷ []
 AnswersLine m line log = ⊥
 
--- from this state the lines come in order, each with its labels, and each in the state after the labels before it
+-- from this state the lines come in order, each with its labels, at most 1,000 of them, and each in the state after the
+-- labels before it
 abbrev pub FollowsFrom : Machine → List Line → List Label → Type 0
 FollowsFrom m [] log = log ≡ []
-FollowsFrom m (line ∷ lines) log = (front : List Label) × (back : List Label) × (log ≡ front ++ back) × AnswersLine m line front × FollowsFrom (last_from m front) lines back
+FollowsFrom m (line ∷ lines) log = (front : List Label) × (back : List Label) × (log ≡ front ++ back) × AnswersLine m line front × (length front ≤ 1000) × FollowsFrom (last_from m front) lines back
 
 -- the log has the lines in order, from the empty cluster
 abbrev pub Follows : List Line → List Label → Type 0

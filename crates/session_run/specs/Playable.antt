@@ -4,7 +4,7 @@ use Rattle.script_lang.specs.declared.lines.Line.{Line}
 use Rattle.script_lang.specs.declared.lines.Line.TheVariants as lines
 use Rattle.script_lang.specs.BuiltScripts.{IsOneNode, moment_behind}
 use Rattle.world_core.specs.Beginning.{IsBuilt}
-use Rattle.world_core.specs.RecordState.{IsMomentFrom}
+use Rattle.cluster_record.specs.RecordState.{IsMomentFrom}
 
 -- at this moment the line can be played with the node up: a call of a client, or a moment that does not go back
 abbrev pub IsPlayableLine : ℤ → Line → Type 0

@@ -16,15 +16,17 @@ use Rattle.client_handles.specs.declared.handle_view.HandleView.{HandleView}
 use Rattle.world_core.specs.declared.drivers.Driver.{Driver}
 use Rattle.world_core.specs.declared.hands.InHand.{InHand}
 use Rattle.world_core.specs.declared.world.World.{World}
-use Rattle.world_core.specs.Calls.{put_actor, left}
-use Rattle.world_core.specs.Places.{put, or_none}
-use Rattle.world_core.specs.RecordState.{is_live_client}
+use Rattle.cluster_record.specs.Calls.{put_actor, left}
+use Rattle.cluster_record.specs.Places.{put, or_none}
+use Rattle.cluster_record.specs.RecordState.{is_live_client}
 use Rattle.world_core.specs.TableState.{TableState, advanced, begun_with}
-use Rattle.world_core.specs.Driving.{StepDone, Kept, driver_start}
+use Rattle.cluster_record.specs.StepDone.{StepDone}
+use Rattle.world_core.specs.Driving.{Kept, driver_start}
 use Rattle.world_core.specs.Beginning.{IsBuilt, begin_end, handle_place, iteration_place, ended_place}
-use Rattle.world_core.specs.Steps.{IsDue, MayBegin, after, handle_of_number, kept_at, handle_by, handle_over, iteration_in, with_ended, without_iteration, begun_call, IsBeginEnd, sections_declared, ckpt_of_handle}
+use Rattle.world_core.specs.Steps.{IsDue, MayBegin, after, handle_of_number, kept_at, handle_by, handle_over, iteration_in, with_ended, without_iteration, begun_call, IsBeginEnd, ckpt_of_handle}
+use Rattle.cluster_record.specs.LookUps.{sections_declared}
 use Rattle.world_core.specs.Shows.{Does, Fits, FitsHand, History, machine_of, next_in, next_of, handles_in, place_in, numbered, last_in, hand_at, hand_of, shown_hand, iterations_in, room_for}
-use Rattle.world_core.proofs.Places.{get_set, there_is}
+use Rattle.cluster_record.proofs.Places.{get_set, there_is}
 
 -- the handle of the place of a handle, or else of the place of an iteration
 abbrev pub named_in : Option ℕ → Option ℕ → TableState → Option HandleView

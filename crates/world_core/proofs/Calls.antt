@@ -1,6 +1,6 @@
 -- A due request is of the call itself: a law of the definitions.
-use Rattle.world_core.specs.declared.reading.ActiveKind.{ActiveKind}
-use Rattle.world_core.specs.declared.reading.ActiveKind.TheVariants as kinds
+use Rattle.cluster_record.specs.declared.calls.ActiveKind.{ActiveKind}
+use Rattle.cluster_record.specs.declared.calls.ActiveKind.TheVariants as kinds
 use Rattle.world_core.specs.declared.drivers.Rooms.{Rooms}
 use Rattle.std.proofs.Common.{◌≡◌, ℕ, Bool, true, false, ℤ, List, [], ◌∷◌, refl, subst, ◌∙◌, cond}
 use Rattle.std.specs.Prelude.{Option, Some, None, not, ◌&&◌, nat_le, length}
@@ -15,21 +15,25 @@ use Rattle.node_msgs.specs.declared.next.RecordStep.{RecordStep}
 use Rattle.node_msgs.specs.declared.next.RecordStep.TheVariants.{Undo}
 use Rattle.node_msgs.specs.declared.next.Next.{Next}
 use Rattle.node_msgs.specs.declared.next.Next.TheVariants.{Serve, Event, End}
-use Rattle.run_labels.specs.declared.words.Verb.{Verb}
-use Rattle.run_labels.specs.declared.words.Verb.TheVariants as verbs
-use Rattle.run_labels.specs.declared.labels.StepReply.{StepReply}
-use Rattle.run_labels.specs.declared.labels.StepReply.TheVariants as words
+use Rattle.node_msgs.specs.declared.steps.Verb.{Verb}
+use Rattle.node_msgs.specs.declared.steps.Verb.TheVariants as verbs
+use Rattle.node_msgs.specs.declared.steps.StepReply.{StepReply}
+use Rattle.node_msgs.specs.declared.steps.StepReply.TheVariants as words
 use Rattle.world_core.specs.declared.drivers.Driver.{Driver}
 use Rattle.world_core.specs.declared.drivers.Driver.TheVariants as drivers
-use Rattle.world_core.specs.declared.open_call.Making.{Making}
-use Rattle.world_core.specs.declared.open_call.OpenCall.{OpenCall}
-use Rattle.world_core.specs.declared.reading.ActiveCall.{ActiveCall}
-use Rattle.world_core.specs.declared.record.Entry.{Entry}
-use Rattle.world_core.specs.declared.update_call.UpdateCall.{UpdateCall}
-use Rattle.world_core.specs.declared.update_call.UpdatePhase.{UpdatePhase}
-use Rattle.world_core.specs.declared.update_call.UpdatePhase.TheVariants.{Staging, Committing}
-use Rattle.world_core.specs.RecordState.{RecordState, entry_of, named}
-use Rattle.world_core.specs.Driving.{StepDone, Kept, first_lacking, last_having, accepts, create_next, entry_next, on_named, reserve_or_finish, on_making, by_making, commit_at, stage_at, by_phase, update_on, update_taken_by, on_active, active_on, active_request, request_by, starts_iteration, on_kept, driver_start, driver_state, driver_taken, driver_next}
+use Rattle.cluster_record.specs.declared.calls.Making.{Making}
+use Rattle.cluster_record.specs.DueOpen.{OpenState}
+use Rattle.cluster_record.specs.DueActive.{ActiveState}
+use Rattle.cluster_record.specs.declared.entries.Entry.{Entry}
+use Rattle.cluster_record.specs.DueUpdate.{UpdateState}
+use Rattle.cluster_record.specs.declared.calls.UpdatePhase.{UpdatePhase}
+use Rattle.cluster_record.specs.declared.calls.UpdatePhase.TheVariants.{Staging, Committing}
+use Rattle.cluster_record.specs.RecordState.{RecordState, entry_of, named}
+use Rattle.cluster_record.specs.StepDone.{StepDone, first_lacking, last_having}
+use Rattle.world_core.specs.Driving.{Kept, on_kept, driver_start, driver_state, driver_taken, driver_next}
+use Rattle.cluster_record.specs.DueOpen.{accepts, create_next, entry_next, on_named, reserve_or_finish, on_making, by_making}
+use Rattle.cluster_record.specs.DueUpdate.{commit_at, stage_at, by_phase, update_on, update_taken_by}
+use Rattle.cluster_record.specs.DueActive.{on_active, active_on, active_request, request_by, starts_iteration}
 use Rattle.world_core.specs.Machine.{CallState}
 use Rattle.world_core.specs.Steps.{driver_of}
 use Rattle.world_core.proofs.Deadlines.{in_time-either}
@@ -71,25 +75,25 @@ asks_making c R m = by_test m.refused where
   by_test true = tt
   by_test false = asks_reserve c m.ckpt (first_lacking 0 R.up m.reserved)
 
-asks_open : (c : CallId) (R : RecordState) (room : Bool) (o : OpenCall) (m : Option Making) → Asks c (by_making R room o m)
+asks_open : (c : CallId) (R : RecordState) (room : Bool) (o : OpenState) (m : Option Making) → Asks c (by_making R room o m)
 asks_open c R room o None = asks_named c R room o.deadline o.ask.attrs (named o.ask.name R.entries)
 asks_open c R room o (Some m) = asks_making c R m
 
 -- ---- an update
 
-asks_commit : (u : UpdateCall) (last : Option ℕ) → Asks u.call (commit_at u last)
+asks_commit : (u : UpdateState) (last : Option ℕ) → Asks u.call (commit_at u last)
 asks_commit u None = tt
 asks_commit u (Some r) = refl
 
-asks_stage : (u : UpdateCall) (now : ℤ) (first last : Option ℕ) → Asks u.call (stage_at u now first last)
+asks_stage : (u : UpdateState) (now : ℤ) (first last : Option ℕ) → Asks u.call (stage_at u now first last)
 asks_stage u now (Some r) last = refl
 asks_stage u now None last = asks_commit u last
 
-asks_phase : (u : UpdateCall) (now : ℤ) (first last : Option ℕ) (phase : UpdatePhase) → Asks u.call (by_phase u now first last phase)
+asks_phase : (u : UpdateState) (now : ℤ) (first last : Option ℕ) (phase : UpdatePhase) → Asks u.call (by_phase u now first last phase)
 asks_phase u now first last Staging = asks_stage u now first last
 asks_phase u now first last Committing = asks_commit u last
 
-asks_update : (u : UpdateCall) (now : ℤ) (e : Option Entry) → Asks u.call (update_on u now e)
+asks_update : (u : UpdateState) (now : ℤ) (e : Option Entry) → Asks u.call (update_on u now e)
 asks_update u now None = tt
 asks_update u now (Some e) = asks_phase u now (first_lacking 0 e.complete u.owned) (last_having 0 e.complete u.owned) u.phase
 
@@ -103,7 +107,7 @@ asks_kind c call k r kinds.Status = tt
 asks_kind c call k r (kinds.Iterate choice) = tt
 asks_kind c call k r kinds.Next = tt
 
-asks_active : (c : CallId) (room : Bool) (a : ActiveCall) (e : Option Entry) → Asks c (active_on room a e)
+asks_active : (c : CallId) (room : Bool) (a : ActiveState) (e : Option Entry) → Asks c (active_on room a e)
 asks_active c room a None = tt
 asks_active c room a (Some e) = at e.active where
   by_test : (b : Bool) (x : Outcome) (r : ℕ) → Asks c (cond b (End x) (Serve r (active_request a)))
@@ -121,7 +125,7 @@ abbrev Of : CallId → Driver → Type 0
 Of c (drivers.Update u) = u.call ≡ c
 Of c driver = Unit {0}
 
-taken_call : (d : StepDone) (u : UpdateCall) (verb : Verb) (reply : StepReply) → (update_taken_by (record d { reply = reply }) u verb).call ≡ u.call
+taken_call : (d : StepDone) (u : UpdateState) (verb : Verb) (reply : StepReply) → (update_taken_by (record d { reply = reply }) u verb).call ≡ u.call
 taken_call d u verbs.Stage words.Ok = refl
 taken_call d u verbs.Stage reply = refl
 taken_call d u verbs.Commit words.Ok = refl

@@ -7,7 +7,7 @@ use Rattle.ckpt_types.specs.declared.answers.Outcome.{Outcome}
 use Rattle.ckpt_types.specs.declared.answers.Outcome.TheVariants.{Refused}
 use Rattle.node_msgs.specs.declared.next.Next.{Next}
 use Rattle.node_msgs.specs.declared.next.Next.TheVariants.{End}
-use Rattle.world_core.specs.Driving.{in_time, IsBefore}
+use Rattle.cluster_record.specs.DueOpen.{in_time, IsBefore}
 
 -- it is too late, or what is next is so before the deadline
 pub in_time-cases : (P : Next → Type 0) (deadline : Option ℤ) (moment : ℤ) (next : Next) → ((d : ℤ) → deadline ≡ Some d → is_reached d moment ≡ true → P (End (Refused Timeout (Deadline d moment)))) → (IsBefore moment deadline → P next) → P (in_time deadline moment next)

@@ -13,15 +13,15 @@ use Rattle.world_core.specs.declared.hands.InHand.{InHand}
 use Rattle.world_core.specs.declared.world.Event.{Event}
 use Rattle.world_core.specs.declared.world.Event.TheVariants as happenings
 use Rattle.world_core.specs.declared.world.World.{World}
-use Rattle.world_core.specs.Calls.{left}
-use Rattle.world_core.specs.Places.{or_none}
+use Rattle.cluster_record.specs.Calls.{left}
+use Rattle.cluster_record.specs.Places.{or_none}
 use Rattle.world_core.specs.Machine.{Machine}
 use Rattle.world_core.specs.Shows.{Does, History, hand_at, shown_hand}
 use Rattle.world_core.specs.Invariant.{Alone}
 use Rattle.world_core.specs.Runs.{IsRunTo, MayHappen, Happens, Answers, AnswersBegin, AnswersStep, IsStepOf, IsIdleWord, GoesOn, KeepsOthers, NoneInHand, last}
 use Rattle.world_core.specs.Happenings.{ComesNow, IsAnswered, IsStep, BeginsOrSays}
 use Rattle.std.proofs.lemmas.Bool.{eq-eqb}
-use Rattle.world_core.proofs.Places.{get_set, there_is, tests_differ}
+use Rattle.cluster_record.proofs.Places.{get_set, there_is, tests_differ}
 use Rattle.world_core.proofs.LawFacts.{facts}
 use Rattle.world_core.proofs.Moving.{shown-moment}
 use Rattle.world_core.proofs.Running.{goes_on, nearer}

@@ -7,12 +7,13 @@ use Rattle.node_msgs.specs.declared.requests.Request.{Request}
 use Rattle.node_msgs.specs.declared.requests.Request.TheVariants.{Reserve}
 use Rattle.node_msgs.specs.declared.next.Next.TheVariants.{Serve}
 use Rattle.world_core.specs.declared.hands.InHand.{InHand}
-use Rattle.world_core.specs.declared.record.Entry.{Entry}
+use Rattle.cluster_record.specs.declared.entries.Entry.{Entry}
 use Rattle.world_core.specs.declared.replica.Replica.{Replica}
 use Rattle.world_core.specs.declared.replica.Slot.{Slot}
 use Rattle.world_core.specs.declared.world.World.{World}
-use Rattle.world_core.specs.RecordState.{entry_of, complete_of}
-use Rattle.world_core.specs.Serving.{ckpt_of, replica_in, IsReadyFor}
+use Rattle.cluster_record.specs.RecordState.{entry_of, complete_of}
+use Rattle.node_msgs.specs.Requests.{ckpt_of}
+use Rattle.world_core.specs.Serving.{replica_in, IsReadyFor}
 use Rattle.world_core.specs.Driving.{driver_next}
 use Rattle.world_core.specs.Machine.{Machine, Effect}
 use Rattle.world_core.specs.Steps.{seen_by, seen_at, seen_slot, due}

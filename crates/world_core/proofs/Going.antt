@@ -8,18 +8,21 @@ use Rattle.node_msgs.specs.declared.next.RecordStep.{RecordStep}
 use Rattle.node_msgs.specs.declared.next.RecordStep.TheVariants as events
 use Rattle.world_core.specs.declared.drivers.Driver.{Driver}
 use Rattle.world_core.specs.declared.drivers.Driver.TheVariants as drivers
-use Rattle.world_core.specs.declared.open_call.Making.{Making}
-use Rattle.world_core.specs.declared.record.Entry.{Entry}
+use Rattle.cluster_record.specs.declared.calls.Making.{Making}
+use Rattle.cluster_record.specs.declared.entries.Entry.{Entry}
 use Rattle.world_core.specs.declared.replica.Replica.{Replica}
 use Rattle.world_core.specs.declared.world.World.{World}
-use Rattle.world_core.specs.Places.{change_key}
-use Rattle.world_core.specs.RecordState.{RecordState, identity_of, entry_of, named, stays, referred, made_with, new_entry, created_as, opened, finished, undone}
+use Rattle.cluster_record.specs.Places.{change_key}
+use Rattle.cluster_record.specs.RecordState.{RecordState, identity_of, entry_of, named, stays, referred, made_with, new_entry, created_as, opened, finished, undone}
 use Rattle.world_core.specs.Serving.{replica_in, opened_replica}
-use Rattle.world_core.specs.Driving.{event_change, event_after, at_ckpt, making_ckpt, identity_in}
+use Rattle.world_core.specs.Driving.{event_change, event_after}
+use Rattle.cluster_record.specs.DueOpen.{making_ckpt}
+use Rattle.cluster_record.specs.LookUps.{at_ckpt, identity_in}
 use Rattle.world_core.specs.Machine.{Machine, CallState}
-use Rattle.world_core.specs.Shows.{History, Fits, FitsReserved, Facts, IsEventReady, IsFinishable, AllUpTo, IdentitiesRise, machine_of, where_not_complete, shown_reservation}
-use Rattle.world_core.proofs.Entries.{IsLeft, KeepsIdentity, none_above, rises_filtered, rises_changed, rises_pushed, filter_leaves}
-use Rattle.world_core.proofs.Places.{find_changed, find_pushed, not_changed}
+use Rattle.cluster_record.specs.Identities.{AllUpTo, IdentitiesRise}
+use Rattle.world_core.specs.Shows.{History, Fits, FitsReserved, Facts, IsEventReady, IsFinishable, machine_of, where_not_complete, shown_reservation}
+use Rattle.cluster_record.proofs.IdentityLaws.{IsLeft, KeepsIdentity, entry_of-beyond, IdentitiesRise-filter, IdentitiesRise-change_key, IdentitiesRise-push, filter_leaves}
+use Rattle.cluster_record.proofs.Places.{find_changed, find_pushed, not_changed}
 use Rattle.world_core.proofs.Recording.{GoesAt, NodeGoes, zero_there}
 
 pub goes_same : (k : ℕ) (o : Option Entry) (r : ℕ) (y : Option Replica) → GoesAt k o o r y
@@ -75,12 +78,12 @@ made_goes up c k r e y zero has = (refl, refl, by_test (slice_index up r == 0) r
 -- ---- a making that begins
 
 pushed_goes : (n : ℕ) (xs : List Entry) (new : Entry) (j r : ℕ) (y : ℕ → Option Replica) → AllUpTo n xs → new.identity ≡ n + 1 → slice_index new.complete r ≡ 0 → y (n + 1) ≡ None → GoesAt j (entry_of j xs) (entry_of j (xs ++ new ∷ [])) r (y j)
-pushed_goes n xs new j r y upto is zero none = subst (λ (o : Option Entry). GoesAt j (entry_of j xs) o r (y j)) (sym (find_pushed identity_of (n + 1) xs new j is (none_above n (n + 1) xs upto (omega arith)))) (by_test (j == (n + 1)) refl) where
+pushed_goes n xs new j r y upto is zero none = subst (λ (o : Option Entry). GoesAt j (entry_of j xs) o r (y j)) (sym (find_pushed identity_of (n + 1) xs new j is (entry_of-beyond n (n + 1) xs upto (omega arith)))) (by_test (j == (n + 1)) refl) where
   by_test : (b : Bool) → (j == (n + 1)) ≡ b → GoesAt j (entry_of j xs) (cond b (Some new) (entry_of j xs)) r (y j)
   by_test false t = goes_same j (entry_of j xs) r (y j)
   by_test true t =
       let s : j ≡ n + 1 = eqb-true j (n + 1) t in
-      subst (λ (o : Option Entry). GoesAt j o (Some new) r (y j)) (sym (none_above n j xs upto (omega (arith, s)))) (zero, ap y s ∙ none)
+      subst (λ (o : Option Entry). GoesAt j o (Some new) r (y j)) (sym (entry_of-beyond n j xs upto (omega (arith, s)))) (zero, ap y s ∙ none)
 
 -- ---- every step
 
@@ -135,18 +138,18 @@ module _ (w : World) (h : History) (facts : Facts (machine_of w h)) (fits : Fits
   created_go call name None = all_go
   created_go call name (Some a) = (
     λ j r. pushed_goes R.last_identity R.entries (new_entry call name a R) j r (λ j. replica_in w.nodes j r) facts.up_to refl (zero_there r) (fits.fresh (R.last_identity + 1) r (omega arith)),
-    rises_pushed R.last_identity R.entries (new_entry call name a R) (omega arith) facts.up_to facts.rises,
+    IdentitiesRise-push R.last_identity R.entries (new_entry call name a R) facts.rises facts.up_to (omega arith),
   )
 
   opened_go : (c : ℕ) (k : Option ℕ) → Goes (at_ckpt k R (λ k. opened k c R))
   opened_go c None = all_go
-  opened_go c (Some k) = (λ j r. quiet_goes (referred c) (quiet_referred c) k j r R.entries (replica_in w.nodes j r), rises_changed (referred c) (λ e. refl) k R.entries facts.rises)
+  opened_go c (Some k) = (λ j r. quiet_goes (referred c) (quiet_referred c) k j r R.entries (replica_in w.nodes j r), IdentitiesRise-change_key (referred c) (λ e. refl) k R.entries facts.rises)
 
   undone_go : (k : Option ℕ) → Goes (at_ckpt k R (λ k. undone k R))
   undone_go None = all_go
   undone_go (Some k) =
       let p = λ (e : Entry). not (e.identity == k) in
-      (λ j r. goes_left j (entry_of j R.entries) (entry_of j R.entries) (entry_of j (filter p R.entries)) r (replica_in w.nodes j r) (goes_same j (entry_of j R.entries) r (replica_in w.nodes j r)) (filter_leaves p R.entries facts.rises j), rises_filtered p R.entries facts.rises)
+      (λ j r. goes_left j (entry_of j R.entries) (entry_of j R.entries) (entry_of j (filter p R.entries)) r (replica_in w.nodes j r) (goes_same j (entry_of j R.entries) r (replica_in w.nodes j r)) (filter_leaves p R.entries facts.rises j), IdentitiesRise-filter p R.entries facts.rises)
 
   finished_go : (c : ℕ) (s : CallState) (making : Option Making) → IsFinishable m making → Goes (at_ckpt (making_ckpt making) R (λ k. finished k c R))
   finished_go c s None ready = absurd ready
@@ -158,14 +161,14 @@ module _ (w : World) (h : History) (facts : Facts (machine_of w h)) (fits : Fits
       let has = λ (r : ℕ) (up : (slice_index R.up r == 0) ≡ false). reserved_there k r (slice_index R.up r) (entry_of k R.entries) e (replica_in w.nodes k r) is (there.2.1 r) (ready.0 r up) (fits.reserved k r) in (
         λ j r. changed_goes (made_with R.up c) (λ e. refl) k j r R.entries e (replica_in w.nodes j r) is
             (λ s. subst (λ (j : ℕ). GoesAt j (Some e) (Some (made_with R.up c e)) r (replica_in w.nodes j r)) (sym s) (made_goes R.up c k r e (replica_in w.nodes k r) (there.2.1 r) (has r))),
-        rises_changed (made_with R.up c) (λ e. refl) k R.entries facts.rises,
+        IdentitiesRise-change_key (made_with R.up c) (λ e. refl) k R.entries facts.rises,
       )
 
   change_go : (call : CallId) (s : CallState) (x : Driver) (step : RecordStep) → IsEventReady m s x step → Goes (event_change call x step R)
   change_go call s (drivers.Enter r) step ready = all_go
   change_go call s (drivers.Open o) events.Create ready = created_go call o.ask.name o.ask.attrs
   change_go call s (drivers.Open o) events.Open ready = opened_go o.ask.client (identity_in (named o.ask.name R.entries))
-  change_go call s (drivers.Open o) events.Finish ready = finished_go o.ask.client s o.making ready
+  change_go call s (drivers.Open o) events.Finish ready = finished_go o.ask.client s o.making ready.0
   change_go call s (drivers.Open o) events.Undo ready = undone_go (making_ckpt o.making)
   change_go call s (drivers.Open o) step ready = absurd ready
   change_go call s x step ready = absurd ready

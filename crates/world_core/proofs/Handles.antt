@@ -12,7 +12,7 @@ use Rattle.world_core.specs.TableState.{TableState, with_handle}
 use Rattle.world_core.specs.Machine.{Machine}
 use Rattle.world_core.specs.Steps.{with_handle_at}
 use Rattle.world_core.specs.Shows.{History, machine_of, next_in, next_of, handles_in, iterations_in, numbered, place_in, last_in}
-use Rattle.world_core.proofs.Places.{get_set, tests_differ}
+use Rattle.cluster_record.proofs.Places.{get_set, tests_differ}
 
 set_case : (xs : List ℕ) (place n p : ℕ) → place < length xs → slice_index (slice_set xs place n) p ≡ cond (p == place) n (slice_index xs p)
 set_case xs place n p within = by_test (p == place) refl where

@@ -10,9 +10,10 @@ use Rattle.node_msgs.specs.declared.next.Next.{Next}
 use Rattle.client_handles.specs.declared.handle_view.HandleView.{HandleView}
 use Rattle.world_core.specs.declared.hands.InHand.{InHand}
 use Rattle.world_core.specs.declared.world.World.{World}
-use Rattle.world_core.specs.Calls.{number_of, left}
+use Rattle.cluster_record.specs.Calls.{number_of, left}
 use Rattle.world_core.specs.TableState.{TableState}
-use Rattle.world_core.specs.Driving.{StepDone, driver_next, driver_taken}
+use Rattle.cluster_record.specs.StepDone.{StepDone}
+use Rattle.world_core.specs.Driving.{driver_next, driver_taken}
 use Rattle.world_core.specs.HandSteps.{hand_taken}
 use Rattle.world_core.specs.Happenings.{rooms_in, IsNext}
 use Rattle.world_core.specs.Machine.{Machine, CallState}

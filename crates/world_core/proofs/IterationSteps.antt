@@ -24,9 +24,9 @@ use Rattle.node_msgs.specs.declared.requests.Request.TheVariants as requests
 use Rattle.node_msgs.specs.declared.next.Next.{Next}
 use Rattle.node_msgs.specs.declared.next.Next.TheVariants.{Serve}
 use Rattle.run_labels.specs.declared.words.OpWord.{OpWord}
-use Rattle.run_labels.specs.declared.words.Verb.TheVariants as verbs
-use Rattle.run_labels.specs.declared.labels.StepReply.{StepReply}
-use Rattle.run_labels.specs.declared.labels.StepReply.TheVariants as words
+use Rattle.node_msgs.specs.declared.steps.Verb.TheVariants as verbs
+use Rattle.node_msgs.specs.declared.steps.StepReply.{StepReply}
+use Rattle.node_msgs.specs.declared.steps.StepReply.TheVariants as words
 use Rattle.run_labels.specs.declared.labels.Label.{Label}
 use Rattle.run_labels.specs.declared.labels.Label.TheVariants.{Stepped}
 use Rattle.run_labels.specs.OpWord.{word_of_op}
@@ -40,23 +40,26 @@ use Rattle.world_core.specs.declared.drivers.Driver.TheVariants as drivers
 use Rattle.world_core.specs.declared.hands.InHand.{InHand}
 use Rattle.world_core.specs.declared.replica.Replica.{Replica}
 use Rattle.world_core.specs.declared.world.World.{World}
-use Rattle.world_core.specs.Calls.{number_of, left}
-use Rattle.world_core.specs.Places.{put}
+use Rattle.cluster_record.specs.Calls.{number_of, left}
+use Rattle.cluster_record.specs.Places.{put}
 use Rattle.world_core.specs.TableState.{TableState, with_started_iteration, kept_at, gone_on_with, gone_on}
 use Rattle.world_core.specs.Beginning.{handle_place, iteration_place, started_place, chosen_choice, IsIterOf, IsNextOf}
 use Rattle.world_core.specs.Serving.{replica_in, reply_at, pieces_at, next_reply, next_reply_at, next_id, given_at, chosen_at}
-use Rattle.world_core.specs.Driving.{StepDone, driver_next, driver_taken, driver_end, done_of, word_of}
+use Rattle.node_msgs.specs.Steps.{word_of}
+use Rattle.cluster_record.specs.StepDone.{StepDone, done_of}
+use Rattle.world_core.specs.Driving.{driver_next, driver_taken, driver_end}
 use Rattle.world_core.specs.HandSteps.{hand_taken, hand_end}
 use Rattle.world_core.specs.Happenings.{rooms_in, IsNext, IsStep}
 use Rattle.world_core.specs.Machine.{IterationTable, Machine, CallState}
-use Rattle.world_core.specs.Steps.{due, iteration_in, sections_in, sections_declared, IsDue, IsDone, after, changed, stepped, step_of, driver_of, seen_at, ended_pieces, ids_of, ids_asked, kept_in, handle_by, handle_over, named_handle, with_started, with_iteration, start_done, with_kept_at, with_next, handle_of_number}
+use Rattle.world_core.specs.Steps.{due, iteration_in, IsDue, IsDone, after, changed, stepped, step_of, driver_of, seen_at, ended_pieces, ids_of, ids_asked, kept_in, handle_by, handle_over, named_handle, with_started, with_iteration, start_done, with_kept_at, with_next, handle_of_number}
+use Rattle.cluster_record.specs.LookUps.{sections_in, sections_declared}
 use Rattle.world_core.specs.Shows.{Does, IsShown, IsActive, Fits, Facts, History, machine_of, next_in, next_of, handles_in, place_in, last_in, iterations_of, iterations_in, handle_in_place, room_for, hand_at}
 use Rattle.world_core.proofs.Begin.{handle_same}
 use Rattle.world_core.proofs.Beginnings.{table_has_no_zero, at_table}
 use Rattle.world_core.proofs.Finding as finding
 use Rattle.world_core.proofs.Held.{state_in, in_hand_is, in_hand_at, actor_is, driver_is, iteration_is, due_is, next_for}
 use Rattle.world_core.proofs.LawMoves.{IsSomeAnd-at}
-use Rattle.world_core.proofs.Places.{get_set}
+use Rattle.cluster_record.proofs.Places.{get_set}
 use Rattle.world_core.proofs.Told.{with_step, told_is, told_fits}
 
 -- ---- a client's table with other iterations

@@ -6,17 +6,18 @@ use Rattle.std.proofs.lemmas.Option.{same_Some}
 use Rattle.ckpt_types.specs.declared.calls.OpenAsk.{OpenAsk}
 use Rattle.ckpt_types.specs.declared.identities.CallId.{CallId}
 use Rattle.run_labels.specs.declared.words.OpWord.{OpWord}
-use Rattle.run_labels.specs.declared.words.Verb.{Verb}
-use Rattle.run_labels.specs.declared.labels.StepReply.{StepReply}
+use Rattle.node_msgs.specs.declared.steps.Verb.{Verb}
+use Rattle.node_msgs.specs.declared.steps.StepReply.{StepReply}
 use Rattle.run_labels.specs.declared.labels.Label.{Label}
 use Rattle.run_labels.specs.declared.labels.Label.TheVariants as labels
 use Rattle.run_labels.specs.OpWord.{word_of_op}
 use Rattle.world_core.specs.declared.drivers.Driver.{Driver}
 use Rattle.world_core.specs.declared.drivers.Driver.TheVariants as drivers
-use Rattle.world_core.specs.declared.open_call.Making.{Making}
-use Rattle.world_core.specs.Calls.{client_of}
-use Rattle.world_core.specs.RecordState.{first_nodes, no_nodes, brought_up}
-use Rattle.world_core.specs.Driving.{driver_next, driver_taken, done_of}
+use Rattle.cluster_record.specs.declared.calls.Making.{Making}
+use Rattle.cluster_record.specs.Calls.{client_of}
+use Rattle.cluster_record.specs.RecordState.{first_nodes, no_nodes, brought_up}
+use Rattle.world_core.specs.Driving.{driver_next, driver_taken}
+use Rattle.cluster_record.specs.StepDone.{done_of}
 use Rattle.world_core.specs.Machine.{Machine, CallState, empty_cluster}
 use Rattle.world_core.specs.Steps.{Told, IsDone, IsDueStep, IsDue, driver_of, rooms_of, due, step_of, after}
 use Rattle.world_core.specs.Guards.{IsAllowedStep, Allowed}

@@ -17,19 +17,20 @@ use Rattle.node_msgs.specs.declared.requests.Request.TheVariants as requests
 use Rattle.node_msgs.specs.declared.replies.Reply.{Reply}
 use Rattle.node_msgs.specs.declared.replies.Reply.TheVariants as replies
 use Rattle.node_msgs.specs.declared.next.Next.TheVariants.{Serve, End}
-use Rattle.run_labels.specs.declared.labels.StepReply.TheVariants as words
+use Rattle.node_msgs.specs.declared.steps.StepReply.TheVariants as words
 use Rattle.client_handles.specs.declared.handle_view.HandleView.{HandleView}
 use Rattle.section_iter.specs.KeptIds.{KeptIds}
 use Rattle.world_core.specs.declared.drivers.Driver.{Driver}
 use Rattle.world_core.specs.declared.drivers.Driver.TheVariants as drivers
 use Rattle.world_core.specs.declared.drivers.Rooms.{Rooms}
-use Rattle.world_core.specs.declared.reading.ActiveKind.{ActiveKind}
-use Rattle.world_core.specs.declared.reading.ActiveKind.TheVariants as kinds
-use Rattle.world_core.specs.Calls.{client_of, put_actor}
-use Rattle.world_core.specs.Places.{put}
-use Rattle.world_core.specs.RecordState.{entry_of}
+use Rattle.cluster_record.specs.declared.calls.ActiveKind.{ActiveKind}
+use Rattle.cluster_record.specs.declared.calls.ActiveKind.TheVariants as kinds
+use Rattle.cluster_record.specs.Calls.{client_of, put_actor}
+use Rattle.cluster_record.specs.Places.{put}
+use Rattle.cluster_record.specs.RecordState.{entry_of}
 use Rattle.world_core.specs.Serving.{elements_of, reply_at, pieces_at, done_or_refused, next_reply, next_reply_at, next_id, given_at}
-use Rattle.world_core.specs.Driving.{driver_next, active_on, on_active, request_by, starts_iteration, refused_cause}
+use Rattle.world_core.specs.Driving.{driver_next, refused_cause}
+use Rattle.cluster_record.specs.DueActive.{active_on, on_active, request_by, starts_iteration}
 use Rattle.world_core.specs.Beginning.{IsIterOf, IsNextOf, started_place, iteration_place}
 use Rattle.world_core.specs.Machine.{IterationTable, Machine, CallState}
 use Rattle.world_core.specs.Steps.{Told, IsDone, IsServed, seen_at, rooms_of, ids_asked, pieces_due, named_handle, kept_in, with_iteration, with_next}

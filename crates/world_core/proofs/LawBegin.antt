@@ -1,6 +1,6 @@
 -- A call begins.
-use Rattle.world_core.specs.declared.reading.ActiveKind.{ActiveKind}
-use Rattle.world_core.specs.declared.reading.ActiveKind.TheVariants as kinds
+use Rattle.cluster_record.specs.declared.calls.ActiveKind.{ActiveKind}
+use Rattle.cluster_record.specs.declared.calls.ActiveKind.TheVariants as kinds
 use Rattle.client_handles.specs.declared.begun.BegunIteration.{BegunIteration}
 use Rattle.std.proofs.Common.{◌≡◌, ℕ, ◌+◌, ◌<◌, ◌≤◌, inl, inr, List, [], ◌∷◌, Option, Some, None, is_some, Bool, true, false, cond, ◌==◌, ◌||◌, ℤ, refl, sym, ap, subst, ◌∙◌, arith}
 use Rattle.std.specs.Prelude.{IsSome, Contains, int_lt, pos}
@@ -22,10 +22,10 @@ use Rattle.client_handles.specs.ClientState.{handle_numbered}
 use Rattle.client_handles.specs.declared.handle_view.HandleView.{HandleView}
 use Rattle.world_core.specs.declared.drivers.Driver.{Driver}
 use Rattle.world_core.specs.declared.drivers.Driver.TheVariants as drivers
-use Rattle.world_core.specs.declared.open_call.Making.{Making}
-use Rattle.world_core.specs.Calls.{same_actor, number_of, IsClient}
-use Rattle.world_core.specs.Places.{find_key}
-use Rattle.world_core.specs.RecordState.{client_key, is_live_client, first_nodes}
+use Rattle.cluster_record.specs.declared.calls.Making.{Making}
+use Rattle.cluster_record.specs.Calls.{same_actor, number_of, IsClient}
+use Rattle.cluster_record.specs.Places.{find_key}
+use Rattle.cluster_record.specs.RecordState.{client_key, is_live_client, first_nodes}
 use Rattle.world_core.specs.Driving.{update_start, driver_start, active_start}
 use Rattle.world_core.specs.Beginning.{begin_end, if_live, on_handle, open_begin, attributes_are_bad, name_is_bad, IsBuilt, handle_place, iteration_place, ended_place, choice_of, end_iteration}
 use Rattle.world_core.specs.Machine.{Machine, CallState}

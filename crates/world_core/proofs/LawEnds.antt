@@ -9,13 +9,13 @@ use Rattle.ckpt_types.specs.declared.identities.CallId.{CallId}
 use Rattle.ckpt_types.specs.declared.operation.Op.{Op}
 use Rattle.ckpt_types.specs.declared.operation.Op.TheVariants as ops
 use Rattle.ckpt_types.specs.declared.update.ReadElement.{ReadElement}
-use Rattle.run_labels.specs.declared.words.Verb.TheVariants as verbs
-use Rattle.run_labels.specs.declared.labels.StepReply.TheVariants as words
+use Rattle.node_msgs.specs.declared.steps.Verb.TheVariants as verbs
+use Rattle.node_msgs.specs.declared.steps.StepReply.TheVariants as words
 use Rattle.world_core.specs.declared.drivers.Driver.{Driver}
-use Rattle.world_core.specs.declared.reading.ActiveKind.TheVariants as kinds
-use Rattle.world_core.specs.declared.record.Entry.{Entry}
-use Rattle.world_core.specs.Calls.{put_actor}
-use Rattle.world_core.specs.RecordState.{RecordState, is_up, no_nodes, first_nodes, swept}
+use Rattle.cluster_record.specs.declared.calls.ActiveKind.TheVariants as kinds
+use Rattle.cluster_record.specs.declared.entries.Entry.{Entry}
+use Rattle.cluster_record.specs.Calls.{put_actor}
+use Rattle.cluster_record.specs.RecordState.{RecordState, is_up, no_nodes, first_nodes, swept}
 use Rattle.world_core.specs.Serving.{elements_of}
 use Rattle.world_core.specs.Machine.{Machine, Staged, ReplicaState, CallState}
 use Rattle.world_core.specs.Steps.{Told, look_word}

@@ -8,13 +8,13 @@ use Rattle.ckpt_types.specs.declared.answers.Cause.TheVariants.{Count}
 use Rattle.ckpt_types.specs.declared.answers.Outcome.TheVariants.{Done, Refused, NoMemory}
 use Rattle.node_msgs.specs.declared.next.RecordStep.TheVariants as events
 use Rattle.node_msgs.specs.declared.next.Next.TheVariants.{Event, End}
-use Rattle.run_labels.specs.declared.words.Verb.TheVariants as verbs
-use Rattle.run_labels.specs.declared.labels.StepReply.TheVariants as words
+use Rattle.node_msgs.specs.declared.steps.Verb.TheVariants as verbs
+use Rattle.node_msgs.specs.declared.steps.StepReply.TheVariants as words
 use Rattle.ckpt_types.specs.declared.operation.Op.{Op}
 use Rattle.ckpt_types.specs.declared.operation.Op.TheVariants as ops
 use Rattle.world_core.specs.declared.drivers.Driver.TheVariants as drivers
-use Rattle.world_core.specs.Calls.{client_of}
-use Rattle.world_core.specs.RecordState.{entered}
+use Rattle.cluster_record.specs.Calls.{client_of}
+use Rattle.cluster_record.specs.RecordState.{entered}
 use Rattle.world_core.specs.Driving.{driver_next, event_after, event_ckpt, event_node}
 use Rattle.world_core.specs.Machine.{Machine, CallState}
 use Rattle.world_core.specs.Steps.{Told, IsDone, IsEvent, with_record, stepped}

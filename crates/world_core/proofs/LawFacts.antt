@@ -17,26 +17,33 @@ use Rattle.node_msgs.specs.declared.next.Next.TheVariants.{Serve, Event, End}
 use Rattle.node_msgs.specs.declared.next.RecordStep.TheVariants as events
 use Rattle.world_core.specs.declared.drivers.Driver.{Driver}
 use Rattle.world_core.specs.declared.drivers.Driver.TheVariants as drivers
-use Rattle.world_core.specs.declared.open_call.Making.{Making}
-use Rattle.world_core.specs.declared.open_call.OpenCall.{OpenCall}
-use Rattle.world_core.specs.declared.reading.ActiveKind.{ActiveKind}
-use Rattle.world_core.specs.declared.reading.ActiveKind.TheVariants as kinds
-use Rattle.world_core.specs.declared.record.Entry.{Entry}
-use Rattle.world_core.specs.declared.update_call.UpdateCall.{UpdateCall}
-use Rattle.world_core.specs.Calls.{client_of}
-use Rattle.world_core.specs.RecordState.{RecordState, entry_of, named, is_up, first_nodes, no_nodes}
-use Rattle.world_core.specs.Serving.{ckpt_of, IsReadyFor, IsStaged}
-use Rattle.world_core.specs.Driving.{driver_next, create_next, entry_next, on_named, on_free_name, accepts, reserve_or_finish, first_lacking, request_by, starts_iteration}
+use Rattle.cluster_record.specs.declared.calls.Making.{Making}
+use Rattle.cluster_record.specs.DueOpen.{OpenState}
+use Rattle.cluster_record.specs.declared.calls.ActiveKind.{ActiveKind}
+use Rattle.cluster_record.specs.declared.calls.ActiveKind.TheVariants as kinds
+use Rattle.cluster_record.specs.declared.entries.Entry.{Entry}
+use Rattle.cluster_record.specs.DueUpdate.{UpdateState}
+use Rattle.cluster_record.specs.Calls.{client_of}
+use Rattle.cluster_record.specs.RecordState.{RecordState, entry_of, named, is_up, first_nodes, no_nodes}
+use Rattle.node_msgs.specs.Requests.{ckpt_of}
+use Rattle.world_core.specs.Serving.{IsReadyFor, IsStaged}
+use Rattle.world_core.specs.Driving.{driver_next}
+use Rattle.cluster_record.specs.DueOpen.{create_next, entry_next, on_named, on_free_name, accepts, reserve_or_finish}
+use Rattle.cluster_record.specs.StepDone.{first_lacking}
+use Rattle.cluster_record.specs.DueActive.{request_by, starts_iteration}
 use Rattle.world_core.specs.Beginning.{IsIterOf, IsNextOf, IsBuilt}
 use Rattle.world_core.specs.Machine.{Machine, CallState}
-use Rattle.world_core.specs.Steps.{due, driver_of, room_of, rooms_of, named_handle, sections_declared, seen_at, seen, seen_slot, staged_moment}
+use Rattle.world_core.specs.Steps.{due, driver_of, room_of, rooms_of, named_handle, seen_at, seen, seen_slot, staged_moment}
+use Rattle.cluster_record.specs.LookUps.{sections_declared}
 use Rattle.world_core.specs.Shows.{IsActive, IsServable, IsReservable, AllReserved, IsEventReady, Facts}
 use Rattle.world_core.specs.Invariant.{Working, IsKindOf, IsMakingEntry, IsAt, InvariantWith, Invariant}
+use Rattle.cluster_record.specs.Makings.{IsMakingOf}
+use Rattle.cluster_record.proofs.MakingLaws.{making-own}
 use Rattle.world_core.proofs.Deadlines.{in_time-either}
 use Rattle.world_core.proofs.LawMoves.{in_hand_of-Some, IsSomeAnd-from, IsSomeAnd-more}
 use Rattle.world_core.proofs.LawEnds.{slice_index-replicate, slice_index-first}
 use Rattle.world_core.proofs.LawMade.{MadeAt, made_seen}
-use Rattle.world_core.proofs.LawMaking.{making_entry, making_is, open_next-unreserved, open_next-reserved}
+use Rattle.world_core.proofs.LawMaking.{making_entry, making_by, making_is, open_next-unreserved, open_next-reserved}
 use Rattle.world_core.proofs.LawUpdate.{update_is, unstaged, staged_there, update_next-unstaged, update_next-staged, staged_moment-unstaged, unstaged_at, staged_at, own_slot}
 use Rattle.world_core.proofs.LawActive.{active_next-made, active_at}
 
@@ -74,7 +81,7 @@ enter_ready m s r inv room =
 -- ---- an open
 
 module _ (m : Machine) (s : CallState) (call : CallId) (ask : OpenAsk) (deadline : Option ℤ) where
-  abbrev asking : OpenCall
+  abbrev asking : OpenState
   asking = record { call = call; ask = ask; deadline = deadline; making = None }
 
   -- a checkpoint that is asked for is made where there is room
@@ -126,6 +133,10 @@ module _ (m : Machine) (s : CallState) (call : CallId) (ask : OpenAsk) (deadline
   abbrev IsHere : Making → Type 0
   IsHere making = InvariantWith (Some (record { state = s; driver = making_at making })) m
 
+  -- the checkpoint is in the making by a call of the client
+  own : (making : Making) → IsHere making → IsMakingOf m.cluster ask.client (Some making.ckpt)
+  own making inv = making-own (entry_of making.ckpt m.cluster.entries) s.call ask.client inv.working.1.client (making_by m s call ask deadline making inv)
+
   -- it reserves
   unreserved_ready : (k : ℕ) → IsHere (record { ckpt = k; reserved = no_nodes; refused = false }) → (room : Rooms) → IsDueReady m s (making_at (record { ckpt = k; reserved = no_nodes; refused = false })) (driver_next m.cluster room (making_at (record { ckpt = k; reserved = no_nodes; refused = false })))
   unreserved_ready k inv room = subst (IsDueReady m s (making_at (record { ckpt = k; reserved = no_nodes; refused = false }))) (sym (open_next-unreserved m s call ask deadline k inv room))
@@ -134,13 +145,13 @@ module _ (m : Machine) (s : CallState) (call : CallId) (ask : OpenAsk) (deadline
   -- it is finished
   reserved_ready : (k : ℕ) → IsHere (record { ckpt = k; reserved = first_nodes 1; refused = false }) → m.reserved k 0 ≡ Some 1 → (room : Rooms) → IsDueReady m s (making_at (record { ckpt = k; reserved = first_nodes 1; refused = false })) (driver_next m.cluster room (making_at (record { ckpt = k; reserved = first_nodes 1; refused = false })))
   reserved_ready k inv reserved room = subst (IsDueReady m s (making_at (record { ckpt = k; reserved = first_nodes 1; refused = false }))) (sym (open_next-reserved m s call ask deadline k room inv.working.1.up))
-      (all_reserved m k inv.working.1.up reserved, IsSomeAnd-more (entry_of k m.cluster.entries) IsMakingEntry _ finishable (making_entry m s call ask deadline (record { ckpt = k; reserved = first_nodes 1; refused = false }) inv))
+      ((all_reserved m k inv.working.1.up reserved, IsSomeAnd-more (entry_of k m.cluster.entries) IsMakingEntry _ finishable (making_entry m s call ask deadline (record { ckpt = k; reserved = first_nodes 1; refused = false }) inv)), own (record { ckpt = k; reserved = first_nodes 1; refused = false }) inv)
 
   -- or undone
   making_ready : (making : Making) → IsHere making → (room : Rooms) → IsDueReady m s (making_at making) (driver_next m.cluster room (making_at making))
   making_ready making inv room =
       elim making.refused as (λ b. making.refused ≡ b → IsDueReady m s (making_at making) (cond b (Event events.Undo) (reserve_or_finish making.ckpt (first_lacking 0 m.cluster.up making.reserved)))) [
-        | true ↦ λ is. tt
+        | true ↦ λ is. (tt, own making inv)
         | false ↦ λ is. elim inv.working.1.making.reserved [
           | inl none ↦
               let P : Making → Type 0 = λ at. IsHere at → IsDueReady m s (making_at at) (driver_next m.cluster room (making_at at)) in
@@ -158,9 +169,9 @@ module _ (m : Machine) (s : CallState) (call : CallId) (ask : OpenAsk) (deadline
 -- ---- an update
 
 -- an update stages, or commits a slot of its own
-update_ready : (m : Machine) (s : CallState) (u : UpdateCall) → InvariantWith (Some (record { state = s; driver = drivers.Update u })) m → (room : Rooms) → IsDueReady m s (drivers.Update u) (driver_next m.cluster room (drivers.Update u))
+update_ready : (m : Machine) (s : CallState) (u : UpdateState) → InvariantWith (Some (record { state = s; driver = drivers.Update u })) m → (room : Rooms) → IsDueReady m s (drivers.Update u) (driver_next m.cluster room (drivers.Update u))
 update_ready m s u inv room =
-    let P : UpdateCall → Type 0 = λ v. InvariantWith (Some (record { state = s; driver = drivers.Update v })) m → IsDueReady m s (drivers.Update v) (driver_next m.cluster room (drivers.Update v)) in
+    let P : UpdateState → Type 0 = λ v. InvariantWith (Some (record { state = s; driver = drivers.Update v })) m → IsDueReady m s (drivers.Update v) (driver_next m.cluster room (drivers.Update v)) in
     elim inv.working.1.owned [
       | inl none ↦ subst P (sym (update_is u s.call no_nodes inv.working.1.call none inv.working.1.phase)) (λ inv. unstaged_ready inv) inv
       | inr first ↦ subst P (sym (update_is u s.call (first_nodes 1) inv.working.1.call first inv.working.1.phase)) (λ inv. staged_ready inv) inv
@@ -241,7 +252,7 @@ pub is_at : (m : Machine) (a : ActorName) (s : CallState) → Invariant m → m.
 is_at m a s inv here = hand_at_its_place inv.hand m a s inv.holds here
 
 -- an open has a place for its handle, and with a checkpoint in the making room for the handle
-open_fits : (m : Machine) (a : ActorName) (s : CallState) (o : OpenCall) → Invariant m → m.in_hand a ≡ Some s → driver_of s ≡ drivers.Open o → IsBuilt s.op × (IsSome o.making → room_of m (client_of s.call) ≡ true)
+open_fits : (m : Machine) (a : ActorName) (s : CallState) (o : OpenState) → Invariant m → m.in_hand a ≡ Some s → driver_of s ≡ drivers.Open o → IsBuilt s.op × (IsSome o.making → room_of m (client_of s.call) ≡ true)
 open_fits m a s o inv here is =
     let at = subst (IsAt m s) is (is_at m a s inv here) in
     (at.built, λ some. ap (room_of m) (sym at.client) ∙ at.room some)

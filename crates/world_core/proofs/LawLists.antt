@@ -1,13 +1,12 @@
 -- Entries looked up by their identities, after one is added, changed or taken away, and after a sweep that takes none.
-use Rattle.std.proofs.Common.{◌≡◌, ℕ, zero, suc, ◌+◌, ◌<◌, ◌≤◌, List, [], ◌∷◌, ◌++◌, length, filter, Option, Some, None, is_some, Bool, true, false, cond, not, ◌||◌, ◌==◌, ℤ, refl, sym, ap, subst, ◌∙◌, arith}
-use Rattle.std.specs.Prelude.{find, slice_index, slice_set}
+use Rattle.std.proofs.Common.{◌≡◌, ℕ, zero, suc, ◌+◌, ◌<◌, List, [], ◌∷◌, ◌++◌, length, filter, Option, Some, None, is_some, Bool, true, false, cond, not, ◌||◌, ◌==◌, ℤ, refl, sym, ap, subst, ◌∙◌, arith}
+use Rattle.std.specs.Prelude.{slice_index, slice_set}
 use Rattle.std.specs.List.{list_any}
 use Rattle.std.proofs.lemmas.Bool.{eqb-true, eqb-false, eq-eqb, ne_eqb, or_right}
 use Rattle.std.proofs.lemmas.Option.{same_Some}
-use Rattle.world_core.specs.declared.record.Entry.{Entry}
-use Rattle.world_core.specs.RecordState.{identity_of, entry_of, stays, has_references, referred}
-use Rattle.world_core.specs.Places.{find_key, change_key}
-use Rattle.world_core.specs.Shows.{AllAbove, IdentitiesRise, AllUpTo}
+use Rattle.cluster_record.specs.declared.entries.Entry.{Entry}
+use Rattle.cluster_record.specs.RecordState.{identity_of, entry_of, stays, has_references, referred}
+use Rattle.cluster_record.specs.Places.{find_key, change_key}
 use Rattle.world_core.specs.Invariant.{is_in_use, AllInUse}
 
 -- ---- tests
@@ -97,99 +96,12 @@ find_key-change_key key j k f same (y ∷ xs) x e =
     over true a c z = refl
     over false a c z = refl
 
--- ---- entries in rising order
+-- ---- entries in use
 
--- an entry found among those above n has an identity above n
-pub AllAbove-entry_of : (n k : ℕ) (entries : List Entry) (e : Entry) → AllAbove n entries → entry_of k entries ≡ Some e → n < k
-AllAbove-entry_of n k [] e above found = absurd (cc found)
-AllAbove-entry_of n k (x ∷ xs) e above found =
-    elim (x.identity == k) as (λ b. (x.identity == k) ≡ b → cond b (Some x) (entry_of k xs) ≡ Some e → n < k) [
-      | true ↦ λ is here. subst (λ j. n < j) (eqb-true x.identity k is) above.0
-      | false ↦ λ is there. AllAbove-entry_of n k xs e above.1 there
-    ] refl found
-
--- beyond the identity last given no entry is found
-pub entry_of-beyond : (n k : ℕ) (entries : List Entry) → AllUpTo n entries → n < k → entry_of k entries ≡ None
-entry_of-beyond n k [] up_to beyond = refl
-entry_of-beyond n k (x ∷ xs) up_to beyond =
-    let le : x.identity ≤ n = up_to.0 in
-    ap (λ b. cond b (Some x) (entry_of k xs)) (ne_eqb x.identity k (λ same. omega (arith, same, le, beyond))) ∙ entry_of-beyond n k xs up_to.1 beyond
-
--- the entry that passes a test is the one of its identity
-pub entry_of-find : (p : Entry → Bool) (entries : List Entry) (e : Entry) → IdentitiesRise entries → find p entries ≡ Some e → entry_of e.identity entries ≡ Some e
-entry_of-find p [] e rises found = absurd (cc found)
-entry_of-find p (x ∷ xs) e rises found =
-    elim (p x) as (λ b. cond b (Some x) (find p xs) ≡ Some e → entry_of e.identity (x ∷ xs) ≡ Some e) [
-      | true ↦ λ here. subst (λ y. entry_of y.identity (x ∷ xs) ≡ Some y) (same_Some x e here) (ap (λ b. cond b (Some x) (entry_of x.identity xs)) (eq-eqb x.identity x.identity refl))
-      | false ↦ λ there.
-          let found = entry_of-find p xs e rises.1 there in
-          let beyond = AllAbove-entry_of x.identity e.identity xs e rises.0 found in
-          ap (λ b. cond b (Some x) (entry_of e.identity xs)) (ne_eqb x.identity e.identity (λ same. omega (arith, same, beyond))) ∙ found
-    ] found
-
--- a change that keeps the identities leaves all above n
-pub AllAbove-change_key : (f : Entry → Entry) → ((e : Entry) → (f e).identity ≡ e.identity) → (n k : ℕ) (entries : List Entry) → AllAbove n entries → AllAbove n (change_key identity_of k f entries)
-AllAbove-change_key f same n k [] above = tt
-AllAbove-change_key f same n k (x ∷ xs) above =
-    elim (x.identity == k) as (λ b. AllAbove n (cond b (f x ∷ xs) (x ∷ change_key identity_of k f xs))) [
-      | true ↦ (subst (λ j. n < j) (sym (same x)) above.0, above.1)
-      | false ↦ (above.0, AllAbove-change_key f same n k xs above.1)
-    ]
-
--- and all up to n
-pub AllUpTo-change_key : (f : Entry → Entry) → ((e : Entry) → (f e).identity ≡ e.identity) → (n k : ℕ) (entries : List Entry) → AllUpTo n entries → AllUpTo n (change_key identity_of k f entries)
-AllUpTo-change_key f same n k [] up_to = tt
-AllUpTo-change_key f same n k (x ∷ xs) up_to =
-    elim (x.identity == k) as (λ b. AllUpTo n (cond b (f x ∷ xs) (x ∷ change_key identity_of k f xs))) [
-      | true ↦ (subst (λ j. j ≤ n) (sym (same x)) up_to.0, up_to.1)
-      | false ↦ (up_to.0, AllUpTo-change_key f same n k xs up_to.1)
-    ]
-
--- and the identities rising
-pub IdentitiesRise-change_key : (f : Entry → Entry) → ((e : Entry) → (f e).identity ≡ e.identity) → (k : ℕ) (entries : List Entry) → IdentitiesRise entries → IdentitiesRise (change_key identity_of k f entries)
-IdentitiesRise-change_key f same k [] rises = tt
-IdentitiesRise-change_key f same k (x ∷ xs) rises =
-    elim (x.identity == k) as (λ b. IdentitiesRise (cond b (f x ∷ xs) (x ∷ change_key identity_of k f xs))) [
-      | true ↦ (subst (λ j. AllAbove j xs) (sym (same x)) rises.0, rises.1)
-      | false ↦ (AllAbove-change_key f same x.identity k xs rises.0, IdentitiesRise-change_key f same k xs rises.1)
-    ]
-
--- some taken away leave all above n
-pub AllAbove-filter : (p : Entry → Bool) (n : ℕ) (entries : List Entry) → AllAbove n entries → AllAbove n (filter p entries)
-AllAbove-filter p n [] above = tt
-AllAbove-filter p n (x ∷ xs) above = elim (p x) as (λ b. AllAbove n (cond b (x ∷ filter p xs) (filter p xs))) [ true ↦ (above.0, AllAbove-filter p n xs above.1) | false ↦ AllAbove-filter p n xs above.1 ]
-
--- and all up to n
-pub AllUpTo-filter : (p : Entry → Bool) (n : ℕ) (entries : List Entry) → AllUpTo n entries → AllUpTo n (filter p entries)
-AllUpTo-filter p n [] up_to = tt
-AllUpTo-filter p n (x ∷ xs) up_to = elim (p x) as (λ b. AllUpTo n (cond b (x ∷ filter p xs) (filter p xs))) [ true ↦ (up_to.0, AllUpTo-filter p n xs up_to.1) | false ↦ AllUpTo-filter p n xs up_to.1 ]
-
--- and the identities rising
-pub IdentitiesRise-filter : (p : Entry → Bool) (entries : List Entry) → IdentitiesRise entries → IdentitiesRise (filter p entries)
-IdentitiesRise-filter p [] rises = tt
-IdentitiesRise-filter p (x ∷ xs) rises =
-    elim (p x) as (λ b. IdentitiesRise (cond b (x ∷ filter p xs) (filter p xs))) [ true ↦ (AllAbove-filter p x.identity xs rises.0, IdentitiesRise-filter p xs rises.1) | false ↦ IdentitiesRise-filter p xs rises.1 ]
-
--- and all in use
+-- some taken away leave all in use
 pub AllInUse-filter : (p : Entry → Bool) (entries : List Entry) → AllInUse entries → AllInUse (filter p entries)
 AllInUse-filter p [] used = tt
 AllInUse-filter p (x ∷ xs) used = elim (p x) as (λ b. AllInUse (cond b (x ∷ filter p xs) (filter p xs))) [ true ↦ (used.0, AllInUse-filter p xs used.1) | false ↦ AllInUse-filter p xs used.1 ]
-
--- one more above n leaves all above n
-pub AllAbove-push : (n : ℕ) (entries : List Entry) (new : Entry) → AllAbove n entries → n < new.identity → AllAbove n (entries ++ new ∷ [])
-AllAbove-push n [] new above beyond = (beyond, tt)
-AllAbove-push n (x ∷ xs) new above beyond = (above.0, AllAbove-push n xs new above.1 beyond)
-
--- the next one leaves all up to the next
-pub AllUpTo-push : (n : ℕ) (entries : List Entry) (new : Entry) → AllUpTo n entries → new.identity ≡ n + 1 → AllUpTo (n + 1) (entries ++ new ∷ [])
-AllUpTo-push n [] new up_to next = (omega (arith, next), tt)
-AllUpTo-push n (x ∷ xs) new up_to next = (let le : x.identity ≤ n = up_to.0 in omega (arith, le), AllUpTo-push n xs new up_to.1 next)
-
--- and the identities rising
-pub IdentitiesRise-push : (n : ℕ) (entries : List Entry) (new : Entry) → IdentitiesRise entries → AllUpTo n entries → n < new.identity → IdentitiesRise (entries ++ new ∷ [])
-IdentitiesRise-push n [] new rises up_to beyond = (tt, tt)
-IdentitiesRise-push n (x ∷ xs) new rises up_to beyond =
-    (AllAbove-push x.identity xs new rises.0 (let le : x.identity ≤ n = up_to.0 in omega (arith, le, beyond)), IdentitiesRise-push n xs new rises.1 up_to.1 beyond)
 
 -- one more in use leaves all in use
 pub AllInUse-push : (entries : List Entry) (new : Entry) → AllInUse entries → is_in_use new ≡ true → AllInUse (entries ++ new ∷ [])

@@ -8,13 +8,15 @@ use Rattle.ckpt_types.specs.declared.identities.CallId.{CallId}
 use Rattle.node_msgs.specs.declared.requests.Request.{Request}
 use Rattle.node_msgs.specs.declared.replies.Reply.{Reply}
 use Rattle.node_msgs.specs.declared.next.RecordStep.{RecordStep}
-use Rattle.run_labels.specs.declared.labels.StepReply.TheVariants as words
+use Rattle.node_msgs.specs.declared.steps.StepReply.TheVariants as words
 use Rattle.world_core.specs.declared.drivers.Driver.{Driver}
-use Rattle.world_core.specs.declared.record.Entry.{Entry}
-use Rattle.world_core.specs.RecordState.{entry_of, complete_of, first_nodes}
-use Rattle.world_core.specs.Places.{put2}
-use Rattle.world_core.specs.Serving.{ckpt_of}
-use Rattle.world_core.specs.Driving.{driver_end, driver_taken, done_of, verb_of, word_of, event_verb, event_ckpt, event_node, event_end, takes_memory}
+use Rattle.cluster_record.specs.declared.entries.Entry.{Entry}
+use Rattle.cluster_record.specs.RecordState.{entry_of, complete_of, first_nodes}
+use Rattle.cluster_record.specs.Places.{put2}
+use Rattle.node_msgs.specs.Requests.{ckpt_of}
+use Rattle.node_msgs.specs.Steps.{verb_of, word_of, event_verb}
+use Rattle.world_core.specs.Driving.{driver_end, driver_taken, event_ckpt, event_node, event_end, takes_memory}
+use Rattle.cluster_record.specs.StepDone.{done_of}
 use Rattle.world_core.specs.Machine.{Machine, Staged, ReplicaState, CallState}
 use Rattle.world_core.specs.Steps.{Told, ended_pieces, pieces_due, IsServed, IsEvent, driver_of, seen, seen_by, seen_at, moment_from, moment_of_slot, moment_or, staged_moment}
 use Rattle.world_core.specs.Guards.{complete_replicas, replicas_from, with_replica, OnReplica}

@@ -12,24 +12,27 @@ use Rattle.node_msgs.specs.declared.requests.Request.TheVariants as requests
 use Rattle.node_msgs.specs.declared.replies.Reply.TheVariants as replies
 use Rattle.node_msgs.specs.declared.next.RecordStep.TheVariants as events
 use Rattle.node_msgs.specs.declared.next.Next.TheVariants.{Serve, Event}
-use Rattle.run_labels.specs.declared.words.Verb.TheVariants as verbs
-use Rattle.run_labels.specs.declared.labels.StepReply.TheVariants as words
+use Rattle.node_msgs.specs.declared.steps.Verb.TheVariants as verbs
+use Rattle.node_msgs.specs.declared.steps.StepReply.TheVariants as words
 use Rattle.client_handles.specs.declared.handle_view.HandleView.{HandleView}
 use Rattle.world_core.specs.declared.drivers.Driver.{Driver}
 use Rattle.world_core.specs.declared.drivers.Driver.TheVariants as drivers
-use Rattle.world_core.specs.declared.open_call.Making.{Making}
-use Rattle.world_core.specs.declared.open_call.OpenCall.{OpenCall}
-use Rattle.world_core.specs.declared.record.Entry.{Entry}
-use Rattle.world_core.specs.Calls.{client_of}
-use Rattle.world_core.specs.Places.{put2}
-use Rattle.world_core.specs.RecordState.{RecordState, identity_of, entry_of, complete_of, is_up, first_nodes, no_nodes, first_complete, made_with, finished, undone}
-use Rattle.world_core.specs.Driving.{StepDone, IsBefore, driver_next, driver_taken, done_of, event_after, first_lacking, reserve_or_finish}
+use Rattle.cluster_record.specs.declared.calls.Making.{Making}
+use Rattle.cluster_record.specs.DueOpen.{OpenState}
+use Rattle.cluster_record.specs.declared.entries.Entry.{Entry}
+use Rattle.cluster_record.specs.Calls.{client_of}
+use Rattle.cluster_record.specs.Places.{put2}
+use Rattle.cluster_record.specs.RecordState.{RecordState, identity_of, entry_of, complete_of, is_up, first_nodes, no_nodes, first_complete, made_with, finished, undone}
+use Rattle.cluster_record.specs.StepDone.{StepDone, done_of, first_lacking}
+use Rattle.cluster_record.specs.DueOpen.{IsBefore, reserve_or_finish}
+use Rattle.world_core.specs.Driving.{driver_next, driver_taken, event_after}
 use Rattle.world_core.specs.Machine.{Machine, CallState}
 use Rattle.world_core.specs.Steps.{Told, IsDone, IsServed, IsEvent, opened_state, replica_under, replicas_under, with_record, with_opened, with_handle_at, new_handle, stepped}
 use Rattle.world_core.specs.Guards.{IsMadeBy, IsInTime}
 use Rattle.world_core.specs.Runs.{lacking}
 use Rattle.world_core.specs.Invariant.{maker_by, IsMakingEntry, IsGoodEntry, IsMade, is_in_use, AllInUse, InvariantWith}
-use Rattle.world_core.proofs.LawLists.{find_key-without, find_key-change_key, AllUpTo-change_key, IdentitiesRise-change_key, AllInUse-change_key, AllUpTo-filter, IdentitiesRise-filter, AllInUse-filter, list_any-first}
+use Rattle.cluster_record.proofs.IdentityLaws.{AllUpTo-change_key, IdentitiesRise-change_key, AllUpTo-filter, IdentitiesRise-filter}
+use Rattle.world_core.proofs.LawLists.{find_key-without, find_key-change_key, AllInUse-change_key, AllInUse-filter, list_any-first}
 use Rattle.world_core.proofs.LawMoves.{Leads, Goes, in_hand_of-going, in_hand_of-ended, Changed, Changed-found, Changed-kept, replicas_under-kept, IsGoodEntry-replica, IsSomeAnd-from, slice_index-one_more, Counts-hands, Counts-record, references-changed, last_handles-put}
 use Rattle.world_core.proofs.LawEnds.{slice_index-first, swept-in_use, IsGoodEntry-as}
 use Rattle.world_core.proofs.LawMade.{IsServed-told, IsEvent-told}
@@ -49,7 +52,7 @@ first_up (suc r) R first up =
     let f : (nat_lt (suc r) 8 && not (0 == 0)) ≡ false = and_right (nat_lt (suc r) 8) false refl in cc)
 
 module _ (m : Machine) (s : CallState) (call : CallId) (ask : OpenAsk) (deadline : Option ℤ) (making : Making) (inv : InvariantWith (Some (record { state = s; driver = drivers.Open (record { call = call; ask = ask; deadline = deadline; making = Some making }) })) m) where
-  abbrev at_making : OpenCall
+  abbrev at_making : OpenState
   at_making = record { call = call; ask = ask; deadline = deadline; making = Some making }
 
   abbrev k : ℕ
@@ -246,7 +249,7 @@ module _ (m : Machine) (s : CallState) (call : CallId) (ask : OpenAsk) (deadline
 -- ---- reserved
 
 module _ (m : Machine) (s : CallState) (call : CallId) (ask : OpenAsk) (deadline : Option ℤ) (k : ℕ) (inv : InvariantWith (Some (record { state = s; driver = drivers.Open (record { call = call; ask = ask; deadline = deadline; making = Some (record { ckpt = k; reserved = no_nodes; refused = false }) }) })) m) where
-  abbrev making_of : Making → OpenCall
+  abbrev making_of : Making → OpenState
   making_of making = record { call = call; ask = ask; deadline = deadline; making = Some making }
 
   abbrev unreserved : Making

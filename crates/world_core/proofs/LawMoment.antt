@@ -1,7 +1,7 @@
 -- The moment is set with no call in hand: the sweep takes nothing that is in use.
 use Rattle.std.proofs.Common.{◌≡◌, ℕ, ◌+◌, Option, None, ℤ, sym, subst, arith}
 use Rattle.ckpt_types.specs.declared.identities.ActorName.{ActorName}
-use Rattle.world_core.specs.RecordState.{RecordState, moved}
+use Rattle.cluster_record.specs.RecordState.{RecordState, moved}
 use Rattle.world_core.specs.Machine.{Machine}
 use Rattle.world_core.specs.Steps.{with_record}
 use Rattle.world_core.specs.Runs.{Counts}

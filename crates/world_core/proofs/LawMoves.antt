@@ -7,11 +7,12 @@ use Rattle.ckpt_types.specs.declared.identities.ActorName.{ActorName}
 use Rattle.ckpt_types.specs.declared.identities.ActorName.TheVariants.{Client, Node}
 use Rattle.ckpt_types.specs.declared.identities.CallId.{CallId}
 use Rattle.world_core.specs.declared.drivers.Driver.{Driver}
-use Rattle.world_core.specs.declared.record.Entry.{Entry}
-use Rattle.world_core.specs.Calls.{same_actor, put_actor}
-use Rattle.world_core.specs.Places.{put}
-use Rattle.world_core.specs.RecordState.{RecordState, entry_of, complete_of, first_nodes}
-use Rattle.world_core.specs.Driving.{StepDone, driver_taken, done_of}
+use Rattle.cluster_record.specs.declared.entries.Entry.{Entry}
+use Rattle.cluster_record.specs.Calls.{same_actor, put_actor}
+use Rattle.cluster_record.specs.Places.{put}
+use Rattle.cluster_record.specs.RecordState.{RecordState, entry_of, complete_of, first_nodes}
+use Rattle.cluster_record.specs.StepDone.{StepDone, done_of}
+use Rattle.world_core.specs.Driving.{driver_taken}
 use Rattle.world_core.specs.Machine.{Machine, Staged, ReplicaState, CallState}
 use Rattle.world_core.specs.Steps.{Told, opened_state, replica_under, replicas_under, with_record, step_of}
 use Rattle.world_core.specs.Guards.{Row}

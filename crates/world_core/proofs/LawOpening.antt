@@ -20,24 +20,28 @@ use Rattle.ckpt_types.specs.declared.operation.Op.{Op}
 use Rattle.ckpt_types.specs.declared.operation.Op.TheVariants as ops
 use Rattle.node_msgs.specs.declared.next.RecordStep.TheVariants as events
 use Rattle.node_msgs.specs.declared.next.Next.TheVariants.{Event, End}
-use Rattle.run_labels.specs.declared.words.Verb.TheVariants as verbs
-use Rattle.run_labels.specs.declared.labels.StepReply.TheVariants as words
+use Rattle.node_msgs.specs.declared.steps.Verb.TheVariants as verbs
+use Rattle.node_msgs.specs.declared.steps.StepReply.TheVariants as words
 use Rattle.client_handles.specs.declared.handle_view.HandleView.{HandleView}
 use Rattle.world_core.specs.declared.drivers.Driver.TheVariants as drivers
-use Rattle.world_core.specs.declared.open_call.OpenCall.{OpenCall}
-use Rattle.world_core.specs.declared.record.Entry.{Entry}
+use Rattle.cluster_record.specs.DueOpen.{OpenState}
+use Rattle.cluster_record.specs.declared.entries.Entry.{Entry}
 use Rattle.world_core.specs.Beginning.{opened_place}
-use Rattle.world_core.specs.Calls.{client_of}
-use Rattle.world_core.specs.Places.{put}
-use Rattle.world_core.specs.RecordState.{RecordState, identity_of, entry_of, named, no_nodes, new_entry, created_as, referred, opened, swept}
-use Rattle.world_core.specs.Driving.{StepDone, driver_next, driver_taken, done_of, event_after, at_ckpt, identity_in, opened_end, IsBefore, accepts, create_next, entry_next, on_named, on_free_name}
+use Rattle.cluster_record.specs.Calls.{client_of}
+use Rattle.cluster_record.specs.Places.{put}
+use Rattle.cluster_record.specs.RecordState.{RecordState, identity_of, entry_of, named, no_nodes, new_entry, created_as, referred, opened, swept}
+use Rattle.cluster_record.specs.StepDone.{StepDone, done_of}
+use Rattle.world_core.specs.Driving.{driver_next, driver_taken, event_after, opened_end}
+use Rattle.cluster_record.specs.DueOpen.{IsBefore, accepts, create_next, entry_next, on_named, on_free_name}
+use Rattle.cluster_record.specs.LookUps.{at_ckpt, identity_in}
 use Rattle.world_core.specs.Machine.{Machine, CallState}
 use Rattle.world_core.specs.Steps.{Told, IsDone, IsEvent, driver_of, room_of, with_record, with_opened, with_handle_at, new_handle, replicas_under, stepped}
 use Rattle.world_core.specs.Guards.{IsInTime, MayCreate, CreateRow, CanOpen, MayOpen, OpenRow, MayExist, IsAccepted, OpenLook, LookRefused}
 use Rattle.world_core.specs.Runs.{steps_left, lacking}
 use Rattle.world_core.specs.Invariant.{maker_by, IsGoodEntry, IsMade, OpensAs, AreGoodAttributes, AllInUse, InvariantWith}
 use Rattle.world_core.proofs.Deadlines.{in_time-cases}
-use Rattle.world_core.proofs.LawLists.{find_key-push, find_key-change_key, entry_of-beyond, entry_of-find, AllUpTo-change_key, IdentitiesRise-change_key, AllUpTo-push, IdentitiesRise-push, AllInUse-push, AllInUse-change_key, is_in_use-referred}
+use Rattle.cluster_record.proofs.IdentityLaws.{entry_of-beyond, entry_of-find, AllUpTo-change_key, IdentitiesRise-change_key, AllUpTo-push, IdentitiesRise-push}
+use Rattle.world_core.proofs.LawLists.{find_key-push, find_key-change_key, AllInUse-push, AllInUse-change_key, is_in_use-referred}
 use Rattle.world_core.proofs.LawMoves.{Leads, Goes, in_hand_of-going, in_hand_of-ended, Changed, Changed-found, Changed-kept, replicas_under-kept, IsGoodEntry-replica, IsSomeAnd-from, slice_index-one_more, Counts-record, references-changed, last_handles-put}
 use Rattle.world_core.proofs.LawEnds.{OfOpen-is, slice_index-replicate, swept-in_use, IsGoodEntry-as, Leads-ended, look_goes}
 use Rattle.world_core.proofs.LawMade.{IsEvent-told}
@@ -65,7 +69,7 @@ LookRefused-open m s (ops.Open place name flags timeout a) ask error cause is lo
 LookRefused-open m s op ask error cause is look = absurd is
 
 module _ (m : Machine) (s : CallState) (call : CallId) (ask : OpenAsk) (deadline : Option ℤ) (inv : InvariantWith (Some (record { state = s; driver = drivers.Open (record { call = call; ask = ask; deadline = deadline; making = None }) })) m) where
-  abbrev asking : OpenCall
+  abbrev asking : OpenState
   asking = record { call = call; ask = ask; deadline = deadline; making = None }
 
   -- it is refused
@@ -95,7 +99,7 @@ module _ (m : Machine) (s : CallState) (call : CallId) (ask : OpenAsk) (deadline
     abbrev create_done : StepDone
     create_done = done_of after_it verbs.Create (Some next) None words.Ok
 
-    abbrev making : OpenCall
+    abbrev making : OpenState
     making = record { call = call; ask = ask; deadline = deadline; making = Some (record { ckpt = next; reserved = no_nodes; refused = false }) }
 
     -- no checkpoint has it

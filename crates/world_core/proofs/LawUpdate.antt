@@ -13,16 +13,18 @@ use Rattle.ckpt_types.specs.Updates.{Refusal, outcome}
 use Rattle.node_msgs.specs.declared.requests.Request.TheVariants as requests
 use Rattle.node_msgs.specs.declared.replies.Reply.TheVariants as replies
 use Rattle.node_msgs.specs.declared.next.Next.TheVariants.{Serve}
-use Rattle.run_labels.specs.declared.words.Verb.TheVariants as verbs
-use Rattle.run_labels.specs.declared.labels.StepReply.TheVariants as words
+use Rattle.node_msgs.specs.declared.steps.Verb.TheVariants as verbs
+use Rattle.node_msgs.specs.declared.steps.StepReply.TheVariants as words
 use Rattle.world_core.specs.declared.drivers.Driver.TheVariants as drivers
-use Rattle.world_core.specs.declared.record.Entry.{Entry}
-use Rattle.world_core.specs.declared.update_call.UpdateCall.{UpdateCall}
-use Rattle.world_core.specs.declared.update_call.UpdatePhase.TheVariants.{Staging, Committing}
-use Rattle.world_core.specs.Places.{put2}
-use Rattle.world_core.specs.RecordState.{entry_of, complete_of, first_nodes, no_nodes}
+use Rattle.cluster_record.specs.declared.entries.Entry.{Entry}
+use Rattle.cluster_record.specs.DueUpdate.{UpdateState}
+use Rattle.cluster_record.specs.declared.calls.UpdatePhase.TheVariants.{Staging, Committing}
+use Rattle.cluster_record.specs.Places.{put2}
+use Rattle.cluster_record.specs.RecordState.{entry_of, complete_of, first_nodes, no_nodes}
 use Rattle.world_core.specs.Serving.{update_of, update_answer, told_id, slot_id, reply_at, pieces_at, stage_reply, done_or_refused}
-use Rattle.world_core.specs.Driving.{StepDone, driver_next, driver_taken, commit_end, refused_cause, done_of, update_on, by_phase, first_lacking, last_having, kept_moment}
+use Rattle.cluster_record.specs.StepDone.{StepDone, done_of, first_lacking, last_having}
+use Rattle.world_core.specs.Driving.{driver_next, driver_taken, refused_cause}
+use Rattle.cluster_record.specs.DueUpdate.{commit_end, update_on, by_phase, kept_moment}
 use Rattle.world_core.specs.Machine.{Machine, Staged, ReplicaState, CallState}
 use Rattle.world_core.specs.Steps.{Told, ended_pieces, IsDone, IsServed, seen_slot, seen_at, staged_moment, with_slot, with_committed, effect_of, committed_slot, change_replica, stepped}
 use Rattle.world_core.specs.Guards.{OnEach, StageOk, StageRefused, StageRow, CommitOk, CommitRow, IfSlot, HasSlotOrEffect, owns_slot, owned_elsewhere}
@@ -33,10 +35,10 @@ use Rattle.world_core.proofs.LawEnds.{OfUpdate-is, no_slot, IsGoodEntry-as, Lead
 use Rattle.world_core.proofs.LawMade.{MadeAt, made_at, made_complete, made_seen, made_replicas, made_moment, made_OnReplica, IsServed-told, Counts-replica}
 
 -- an update that has staged nowhere, and one that has staged on n0
-abbrev pub unstaged : CallId → ℕ → ℤ → UpdateCall
+abbrev pub unstaged : CallId → ℕ → ℤ → UpdateState
 unstaged call k t = record { call = call; ckpt = k; owned = no_nodes; moment = t; phase = Staging }
 
-abbrev pub staged_there : CallId → ℕ → ℤ → UpdateCall
+abbrev pub staged_there : CallId → ℕ → ℤ → UpdateState
 staged_there call k t = record { call = call; ckpt = k; owned = first_nodes 1; moment = t; phase = Staging }
 
 -- the slot of the call's update
@@ -278,13 +280,13 @@ module _ (m : Machine) (s : CallState) (k : ℕ) (t : ℤ) (inv : InvariantWith 
 -- ---- any update
 
 -- an update as it is
-pub update_is : (u : UpdateCall) (call : CallId) (owned : List ℕ) → u.call ≡ call → u.owned ≡ owned → u.phase ≡ Staging → u ≡ record { call = call; ckpt = u.ckpt; owned = owned; moment = u.moment; phase = Staging }
+pub update_is : (u : UpdateState) (call : CallId) (owned : List ℕ) → u.call ≡ call → u.owned ≡ owned → u.phase ≡ Staging → u ≡ record { call = call; ckpt = u.ckpt; owned = owned; moment = u.moment; phase = Staging }
 update_is u call owned is owns phase = λ i. record { call = is i; ckpt = u.ckpt; owned = owns i; moment = u.moment; phase = phase i }
 
 -- the next step of an update
-pub update_goes : (m : Machine) (s : CallState) (u : UpdateCall) → InvariantWith (Some (record { state = s; driver = drivers.Update u })) m → (room : Rooms) (t : Told) → IsDone m s (driver_next m.cluster room (drivers.Update u)) t → Goes m s (drivers.Update u) t
+pub update_goes : (m : Machine) (s : CallState) (u : UpdateState) → InvariantWith (Some (record { state = s; driver = drivers.Update u })) m → (room : Rooms) (t : Told) → IsDone m s (driver_next m.cluster room (drivers.Update u)) t → Goes m s (drivers.Update u) t
 update_goes m s u inv room t done =
-    let P : UpdateCall → Type 0 = λ v. InvariantWith (Some (record { state = s; driver = drivers.Update v })) m → IsDone m s (driver_next m.cluster room (drivers.Update v)) t → Goes m s (drivers.Update v) t in
+    let P : UpdateState → Type 0 = λ v. InvariantWith (Some (record { state = s; driver = drivers.Update v })) m → IsDone m s (driver_next m.cluster room (drivers.Update v)) t → Goes m s (drivers.Update v) t in
     elim inv.working.1.owned [
       | inl none ↦ subst P (sym (update_is u s.call no_nodes inv.working.1.call none inv.working.1.phase)) (λ inv done. unstaged_goes m s u.ckpt u.moment inv room t done) inv done
       | inr first ↦ subst P (sym (update_is u s.call (first_nodes 1) inv.working.1.call first inv.working.1.phase)) (λ inv done. staged_goes m s u.ckpt u.moment inv room t done) inv done

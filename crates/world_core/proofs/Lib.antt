@@ -1,9 +1,7 @@
-pub mod AtKeys
 pub mod Begin
 pub mod Beginnings
 pub mod Calls
 pub mod Deadlines
-pub mod Entries
 pub mod Events
 pub mod Finding
 pub mod Going
@@ -32,14 +30,12 @@ pub mod New
 pub mod Openers
 pub mod Openings
 pub mod Pieces
-pub mod Places
 pub mod Readiness
 pub mod RecordEvent
 pub mod RecordSteps
 pub mod Recording
 pub mod Refusing
 pub mod Reserve
-pub mod Retention
 pub mod Rows
 pub mod Running
 pub mod Serve

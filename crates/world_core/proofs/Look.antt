@@ -6,15 +6,15 @@ use Rattle.ckpt_types.specs.declared.identities.ActorName.{ActorName}
 use Rattle.node_msgs.specs.declared.next.Next.{Next}
 use Rattle.node_msgs.specs.declared.next.Next.TheVariants.{End}
 use Rattle.run_labels.specs.declared.words.OpWord.{OpWord}
-use Rattle.run_labels.specs.declared.words.Verb.TheVariants as verbs
-use Rattle.run_labels.specs.declared.labels.StepReply.{StepReply}
+use Rattle.node_msgs.specs.declared.steps.Verb.TheVariants as verbs
+use Rattle.node_msgs.specs.declared.steps.StepReply.{StepReply}
 use Rattle.run_labels.specs.declared.labels.Label.{Label}
 use Rattle.run_labels.specs.declared.labels.Label.TheVariants.{Stepped}
 use Rattle.run_labels.specs.OpWord.{word_of_op}
 use Rattle.world_core.specs.declared.hands.InHand.{InHand}
 use Rattle.world_core.specs.declared.world.World.{World}
-use Rattle.world_core.specs.Calls.{put_actor}
-use Rattle.world_core.specs.Places.{put}
+use Rattle.cluster_record.specs.Calls.{put_actor}
+use Rattle.cluster_record.specs.Places.{put}
 use Rattle.world_core.specs.Driving.{driver_next}
 use Rattle.world_core.specs.Machine.{Machine, CallState}
 use Rattle.world_core.specs.Steps.{IsDue, IsDone, after, step_of, look_word}

@@ -1,7 +1,7 @@
 -- The moment: how the world shows that it is set, and that nothing else changes it.
 use Rattle.ckpt_types.specs.Reads.{NextGiven}
 use Rattle.section_iter.specs.KeptIds.{KeptIds}
-use Rattle.world_core.specs.Calls.{number_of, client_of}
+use Rattle.cluster_record.specs.Calls.{number_of, client_of}
 use Rattle.std.proofs.Common.{◌≡◌, ℕ, Option, Some, None, Bool, ℤ, refl, sym, ap, subst, ◌∙◌, arith}
 use Rattle.std.specs.Prelude.{filter}
 use Rattle.ckpt_types.specs.declared.answers.Outcome.{Outcome}
@@ -10,17 +10,17 @@ use Rattle.ckpt_types.specs.declared.identities.Who.TheVariants as whos
 use Rattle.ckpt_types.specs.declared.operation.Op.{Op}
 use Rattle.node_msgs.specs.declared.next.RecordStep.{RecordStep}
 use Rattle.client_handles.specs.declared.handle_view.HandleView.{HandleView}
-use Rattle.run_labels.specs.declared.words.Verb.{Verb}
-use Rattle.run_labels.specs.declared.words.Verb.TheVariants as verbs
-use Rattle.run_labels.specs.declared.labels.StepReply.{StepReply}
-use Rattle.run_labels.specs.declared.labels.StepReply.TheVariants as words
+use Rattle.node_msgs.specs.declared.steps.Verb.{Verb}
+use Rattle.node_msgs.specs.declared.steps.Verb.TheVariants as verbs
+use Rattle.node_msgs.specs.declared.steps.StepReply.{StepReply}
+use Rattle.node_msgs.specs.declared.steps.StepReply.TheVariants as words
 use Rattle.run_labels.specs.declared.labels.Label.{Label}
 use Rattle.run_labels.specs.declared.labels.Label.TheVariants as labels
 use Rattle.world_core.specs.declared.hands.InHand.{InHand}
 use Rattle.world_core.specs.declared.world.Event.{Event}
 use Rattle.world_core.specs.declared.world.Event.TheVariants as happenings
 use Rattle.world_core.specs.declared.world.World.{World}
-use Rattle.world_core.specs.RecordState.{RecordState, entry_of, stays, IsMomentFrom, moved}
+use Rattle.cluster_record.specs.RecordState.{RecordState, entry_of, stays, IsMomentFrom, moved}
 use Rattle.world_core.specs.Serving.{replica_in, given_at}
 use Rattle.world_core.specs.Beginning.{opened_place, started_place, iteration_place, ended_place}
 use Rattle.world_core.specs.Machine.{Machine, ReplicaState, CallState}
@@ -28,7 +28,7 @@ use Rattle.world_core.specs.Steps.{on_ok, at_some, change_replica, with_handle_a
 use Rattle.world_core.specs.Shows.{Does, Shows, Facts, History, machine_of}
 use Rattle.world_core.specs.Happenings.{SetsMoment}
 use Rattle.world_core.specs.Runs.{Answers, AnswersBegin, AnswersStep, hand_of_actor, moment_of}
-use Rattle.world_core.proofs.Entries.{filter_leaves}
+use Rattle.cluster_record.proofs.IdentityLaws.{filter_leaves}
 use Rattle.world_core.proofs.Going.{goes_same, goes_left, event_keeps}
 use Rattle.world_core.proofs.Recording.{GoesAt, with_effects, record_is, record_fits}
 

@@ -12,24 +12,29 @@ use Rattle.node_msgs.specs.declared.next.RecordStep.{RecordStep}
 use Rattle.node_msgs.specs.declared.next.RecordStep.TheVariants as events
 use Rattle.node_msgs.specs.declared.next.Next.{Next}
 use Rattle.node_msgs.specs.declared.next.Next.TheVariants.{Event, End, Serve}
-use Rattle.run_labels.specs.declared.words.Verb.{Verb}
-use Rattle.run_labels.specs.declared.words.Verb.TheVariants as verbs
-use Rattle.run_labels.specs.declared.labels.StepReply.{StepReply}
-use Rattle.run_labels.specs.declared.labels.StepReply.TheVariants as words
+use Rattle.node_msgs.specs.declared.steps.Verb.{Verb}
+use Rattle.node_msgs.specs.declared.steps.Verb.TheVariants as verbs
+use Rattle.node_msgs.specs.declared.steps.StepReply.{StepReply}
+use Rattle.node_msgs.specs.declared.steps.StepReply.TheVariants as words
 use Rattle.world_core.specs.declared.drivers.Driver.{Driver}
 use Rattle.world_core.specs.declared.drivers.Driver.TheVariants as drivers
 use Rattle.world_core.specs.declared.hands.InHand.{InHand}
-use Rattle.world_core.specs.declared.open_call.Making.{Making}
-use Rattle.world_core.specs.declared.open_call.OpenCall.{OpenCall}
-use Rattle.world_core.specs.declared.reading.ActiveCall.{ActiveCall}
-use Rattle.world_core.specs.declared.record.Entry.{Entry}
-use Rattle.world_core.specs.declared.update_call.UpdateCall.{UpdateCall}
-use Rattle.world_core.specs.declared.update_call.UpdatePhase.{UpdatePhase}
-use Rattle.world_core.specs.declared.update_call.UpdatePhase.TheVariants.{Staging, Committing}
+use Rattle.cluster_record.specs.declared.calls.Making.{Making}
+use Rattle.cluster_record.specs.DueOpen.{OpenState}
+use Rattle.cluster_record.specs.DueActive.{ActiveState}
+use Rattle.cluster_record.specs.declared.entries.Entry.{Entry}
+use Rattle.cluster_record.specs.DueUpdate.{UpdateState}
+use Rattle.cluster_record.specs.declared.calls.UpdatePhase.{UpdatePhase}
+use Rattle.cluster_record.specs.declared.calls.UpdatePhase.TheVariants.{Staging, Committing}
 use Rattle.world_core.specs.declared.world.World.{World}
-use Rattle.world_core.specs.Calls.{number_of, client_of}
-use Rattle.world_core.specs.RecordState.{RecordState, entry_of, named}
-use Rattle.world_core.specs.Driving.{StepDone, Kept, first_lacking, last_having, accepts, create_next, entry_next, on_named, reserve_or_finish, by_making, create_taken, reserve_taken, with_making, open_taken_by, commit_at, by_phase, update_on, on_active, active_on, on_kept, driver_start, driver_state, driver_taken, driver_next, event_ckpt, identity_in, making_ckpt, active_request, starts_iteration}
+use Rattle.cluster_record.specs.Calls.{number_of, client_of}
+use Rattle.cluster_record.specs.RecordState.{RecordState, entry_of, named}
+use Rattle.cluster_record.specs.StepDone.{StepDone, first_lacking, last_having}
+use Rattle.world_core.specs.Driving.{Kept, on_kept, driver_start, driver_state, driver_taken, driver_next, event_ckpt}
+use Rattle.cluster_record.specs.DueOpen.{accepts, create_next, entry_next, on_named, reserve_or_finish, by_making, create_taken, reserve_taken, with_making, open_taken_by, making_ckpt}
+use Rattle.cluster_record.specs.DueUpdate.{commit_at, by_phase, update_on}
+use Rattle.cluster_record.specs.DueActive.{on_active, active_on, active_request, starts_iteration}
+use Rattle.cluster_record.specs.LookUps.{identity_in}
 use Rattle.world_core.specs.Beginning.{opened_place, IsBuilt}
 use Rattle.world_core.specs.Shows.{IsShown, Facts, hand_at}
 use Rattle.world_core.proofs.Deadlines.{in_time-either}
@@ -39,7 +44,7 @@ use Rattle.world_core.proofs.RecordEvent.{EventNeeds, GivesHandle}
 -- ---- whose an open is
 
 -- the driver of an open is of the call's client, and the operation names a place
-pub record IsOpener (call : CallId) (op : Op) (o : OpenCall) : Type 0 where
+pub record IsOpener (call : CallId) (op : Op) (o : OpenState) : Type 0 where
   pub call_is : o.call ≡ call
   pub client : o.ask.client ≡ client_of call
   pub place : IsSomeAnd (opened_place op) (λ p. Unit {0})
@@ -48,24 +53,24 @@ abbrev Opens : CallId → Op → Driver → Type 0
 Opens call op (drivers.Open o) = IsOpener call op o
 Opens call op driver = Unit {0}
 
-record Same (o p : OpenCall) : Type 0 where
+record Same (o p : OpenState) : Type 0 where
   call : p.call ≡ o.call
   ask : p.ask ≡ o.ask
 
-making_same : (o : OpenCall) (m : Option Making) (change : Making → Making) → Same o (with_making o m change)
+making_same : (o : OpenState) (m : Option Making) (change : Making → Making) → Same o (with_making o m change)
 making_same o None change = record { call = refl; ask = refl }
 making_same o (Some m) change = record { call = refl; ask = refl }
 
-create_same : (d : StepDone) (o : OpenCall) (reply : StepReply) → Same o (create_taken d o reply)
+create_same : (d : StepDone) (o : OpenState) (reply : StepReply) → Same o (create_taken d o reply)
 create_same d o words.Ok = record { call = refl; ask = refl }
 create_same d o reply = record { call = refl; ask = refl }
 
-reserve_same : (d : StepDone) (o : OpenCall) (reply : StepReply) → Same o (reserve_taken d o reply)
+reserve_same : (d : StepDone) (o : OpenState) (reply : StepReply) → Same o (reserve_taken d o reply)
 reserve_same d o words.Ok = making_same o o.making _
 reserve_same d o words.Memory = making_same o o.making _
 reserve_same d o reply = record { call = refl; ask = refl }
 
-taken_same : (d : StepDone) (o : OpenCall) (verb : Verb) → Same o (open_taken_by d o verb)
+taken_same : (d : StepDone) (o : OpenState) (verb : Verb) → Same o (open_taken_by d o verb)
 taken_same d o verbs.Create = create_same d o d.reply
 taken_same d o verbs.Reserve = reserve_same d o d.reply
 taken_same d o verb = record { call = refl; ask = refl }
@@ -100,11 +105,11 @@ module _ (w : World) (c : ℕ) (hand : InHand) (held : hand_at w.hands c ≡ Som
   opens_hand = let h = shown.shows.history in subst (Opens hand.call hand.op) (sym (driver_is w h c hand held shown.shows.fits)) (opens_steps hand.call hand.op (h.kept c) (h.steps c))
 
   -- the driver of an open in hand is of that open
-  pub opener_is : (o : OpenCall) → hand.driver ≡ drivers.Open o → IsOpener hand.call hand.op o
+  pub opener_is : (o : OpenState) → hand.driver ≡ drivers.Open o → IsOpener hand.call hand.op o
   opener_is o is = subst (Opens hand.call hand.op) is opens_hand
 
   -- and asks for its client
-  pub asks_for : (o : OpenCall) → hand.driver ≡ drivers.Open o → o.ask.client ≡ c
+  pub asks_for : (o : OpenState) → hand.driver ≡ drivers.Open o → o.ask.client ≡ c
   asks_for o is = (opener_is o is).client ∙ ap number_of (actor_is w shown.shows.history c hand held (subst Facts shown.shows.same shown.facts))
 
   place_of : (step : RecordStep) (x : Driver) → GivesHandle step → EventNeeds w.cluster x step → Opens hand.call hand.op x → IsSomeAnd (opened_place hand.op) (λ p. Unit {0})
@@ -124,7 +129,7 @@ ckpt_there R events.Open (drivers.Open o) gives needs = by_name (named o.ask.nam
   by_name : (e : Option Entry) → IsSomeAnd e (λ e. Unit {0}) → IsSomeAnd (identity_in e) (λ k. Unit {0})
   by_name None h = absurd h
   by_name (Some e) h = tt
-ckpt_there R events.Finish (drivers.Open o) gives needs = by_making o.making needs where
+ckpt_there R events.Finish (drivers.Open o) gives needs = by_making o.making needs.0 where
   by_making : (m : Option Making) → IsSomeAnd m (λ making. IsSomeAnd (entry_of making.ckpt R.entries) (λ e. Unit {0})) → IsSomeAnd (making_ckpt m) (λ k. Unit {0})
   by_making None h = absurd h
   by_making (Some m) h = tt
@@ -160,7 +165,7 @@ room_named R room deadline None None = tt
 room_named R room deadline (Some a) None = in_time-either (HasRoomFor room) deadline R.moment (create_next R room) (λ o. tt) (room_create room (nat_le 16 (length R.entries)) _ _)
 room_named R room deadline a (Some e) = in_time-either (HasRoomFor room) deadline R.moment (entry_next room a e) (λ o. tt) (room_open (not (accepts a e)) room _ _)
 
-room_making : (R : RecordState) (room : Bool) (o : OpenCall) (m : Option Making) → HasRoomFor room (by_making R room o m)
+room_making : (R : RecordState) (room : Bool) (o : OpenState) (m : Option Making) → HasRoomFor room (by_making R room o m)
 room_making R room o None = room_named R room o.deadline o.ask.attrs (named o.ask.name R.entries)
 room_making R room o (Some m) = by_test m.refused (first_lacking 0 R.up m.reserved) where
   by_test : (b : Bool) (r : Option ℕ) → HasRoomFor room (cond b (Event events.Undo) (reserve_or_finish m.ckpt r))
@@ -168,20 +173,20 @@ room_making R room o (Some m) = by_test m.refused (first_lacking 0 R.up m.reserv
   by_test false None = tt
   by_test false (Some r) = tt
 
-room_commit : (room : Bool) (u : UpdateCall) (last : Option ℕ) → HasRoomFor room (commit_at u last)
+room_commit : (room : Bool) (u : UpdateState) (last : Option ℕ) → HasRoomFor room (commit_at u last)
 room_commit room u None = tt
 room_commit room u (Some r) = tt
 
-room_phase : (room : Bool) (u : UpdateCall) (now : ℤ) (first last : Option ℕ) (phase : UpdatePhase) → HasRoomFor room (by_phase u now first last phase)
+room_phase : (room : Bool) (u : UpdateState) (now : ℤ) (first last : Option ℕ) (phase : UpdatePhase) → HasRoomFor room (by_phase u now first last phase)
 room_phase room u now (Some r) last Staging = tt
 room_phase room u now None last Staging = room_commit room u last
 room_phase room u now first last Committing = room_commit room u last
 
-room_update : (room : Bool) (u : UpdateCall) (now : ℤ) (e : Option Entry) → HasRoomFor room (update_on u now e)
+room_update : (room : Bool) (u : UpdateState) (now : ℤ) (e : Option Entry) → HasRoomFor room (update_on u now e)
 room_update room u now None = tt
 room_update room u now (Some e) = room_phase room u now (first_lacking 0 e.complete u.owned) (last_having 0 e.complete u.owned) u.phase
 
-room_active : (room place : Bool) (a : ActiveCall) (e : Option Entry) → HasRoomFor room (active_on place a e)
+room_active : (room place : Bool) (a : ActiveState) (e : Option Entry) → HasRoomFor room (active_on place a e)
 room_active room place a None = tt
 room_active room place a (Some e) = at e.active where
   by_test : (b : Bool) (x : Outcome) (r : ℕ) → HasRoomFor room (cond b (End x) (Serve r (active_request a)))

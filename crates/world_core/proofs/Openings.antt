@@ -4,8 +4,8 @@ use Rattle.std.specs.Prelude.{Option, Some, None, replicate, slice_get, slice_in
 use Rattle.client_handles.specs.ClientState.{new_client}
 use Rattle.world_core.specs.declared.hands.InHand.{InHand}
 use Rattle.world_core.specs.declared.world.World.{World}
-use Rattle.world_core.specs.Places.{or_none}
-use Rattle.world_core.specs.RecordState.{empty_record}
+use Rattle.cluster_record.specs.Places.{or_none}
+use Rattle.cluster_record.specs.RecordState.{empty_record}
 use Rattle.world_core.specs.TableState.{TableState}
 use Rattle.world_core.specs.NewTable.{no_callbacks, new_table}
 use Rattle.world_core.specs.Shows.{next_in}

@@ -5,10 +5,12 @@ use Rattle.node_msgs.specs.declared.next.RecordStep.{RecordStep}
 use Rattle.node_msgs.specs.declared.next.RecordStep.TheVariants as events
 use Rattle.world_core.specs.declared.drivers.Driver.{Driver}
 use Rattle.world_core.specs.declared.drivers.Driver.TheVariants as drivers
-use Rattle.world_core.specs.declared.record.Entry.{Entry}
-use Rattle.world_core.specs.RecordState.{RecordState, entry_of, named}
-use Rattle.world_core.specs.RecordReady.{CanRefer, CanReferAt, IsRecordReady}
-use Rattle.world_core.specs.Driving.{making_ckpt, identity_in}
+use Rattle.cluster_record.specs.declared.entries.Entry.{Entry}
+use Rattle.cluster_record.specs.RecordState.{RecordState, entry_of, named}
+use Rattle.world_core.specs.RecordReady.{IsRecordReady}
+use Rattle.cluster_record.specs.RecordReady.{CanRefer, CanReferAt}
+use Rattle.cluster_record.specs.DueOpen.{making_ckpt}
+use Rattle.cluster_record.specs.LookUps.{identity_in}
 use Rattle.world_core.proofs.RecordEvent.{EventNeeds}
 
 -- no count of references is at its end
@@ -29,8 +31,8 @@ pub record_ready : (R : RecordState) (x : Driver) (step : RecordStep) → R.last
 record_ready R (drivers.Enter r) events.Enter identity few needs = record { node = needs.0; room = needs.1 }
 record_ready R (drivers.Open o) events.Create identity few needs = record { room = needs.0; identity = identity }
 record_ready R (drivers.Open o) events.Open identity few needs = can_refer_at R few o.ask.client (identity_in (named o.ask.name R.entries))
-record_ready R (drivers.Open o) events.Finish identity few needs = can_refer_at R few o.ask.client (making_ckpt o.making)
-record_ready R (drivers.Open o) events.Undo identity few needs = tt
+record_ready R (drivers.Open o) events.Finish identity few needs = (can_refer_at R few o.ask.client (making_ckpt o.making), needs.1)
+record_ready R (drivers.Open o) events.Undo identity few needs = needs.1
 record_ready R (drivers.Enter r) step identity few needs = absurd needs
 record_ready R (drivers.Open o) step identity few needs = absurd needs
 record_ready R x step identity few needs = absurd needs

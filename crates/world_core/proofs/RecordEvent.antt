@@ -10,31 +10,36 @@ use Rattle.node_msgs.specs.declared.next.RecordStep.TheVariants as events
 use Rattle.node_msgs.specs.declared.next.Next.{Next}
 use Rattle.node_msgs.specs.declared.next.Next.TheVariants.{Event}
 use Rattle.run_labels.specs.declared.words.OpWord.{OpWord}
-use Rattle.run_labels.specs.declared.words.Verb.{Verb}
-use Rattle.run_labels.specs.declared.labels.StepReply.TheVariants as words
+use Rattle.node_msgs.specs.declared.steps.Verb.{Verb}
+use Rattle.node_msgs.specs.declared.steps.StepReply.TheVariants as words
 use Rattle.run_labels.specs.declared.labels.Label.{Label}
 use Rattle.run_labels.specs.declared.labels.Label.TheVariants.{Stepped}
 use Rattle.run_labels.specs.OpWord.{word_of_op}
+use Rattle.cluster_record.specs.Makings.{IsMakingOf}
+use Rattle.cluster_record.specs.DueOpen.{making_ckpt}
 use Rattle.world_core.specs.declared.drivers.Driver.{Driver}
 use Rattle.world_core.specs.declared.drivers.Driver.TheVariants as drivers
 use Rattle.world_core.specs.declared.hands.InHand.{InHand}
-use Rattle.world_core.specs.declared.open_call.Making.{Making}
-use Rattle.world_core.specs.declared.record.Entry.{Entry}
+use Rattle.cluster_record.specs.declared.calls.Making.{Making}
+use Rattle.cluster_record.specs.declared.entries.Entry.{Entry}
 use Rattle.world_core.specs.declared.world.World.{World}
-use Rattle.world_core.specs.Calls.{number_of, left}
-use Rattle.world_core.specs.RecordState.{RecordState, entry_of, named}
+use Rattle.cluster_record.specs.Calls.{number_of, left}
+use Rattle.cluster_record.specs.RecordState.{RecordState, entry_of, named}
 use Rattle.world_core.specs.TableState.{TableState, with_handle}
-use Rattle.world_core.specs.Driving.{StepDone, driver_next, done_of, event_verb, event_ckpt, event_node, event_end, event_after, takes_memory}
+use Rattle.node_msgs.specs.Steps.{event_verb}
+use Rattle.cluster_record.specs.StepDone.{StepDone, done_of}
+use Rattle.world_core.specs.Driving.{driver_next, event_ckpt, event_node, event_end, event_after, takes_memory}
 use Rattle.world_core.specs.Beginning.{opened_place, opened_for}
 use Rattle.world_core.specs.Machine.{Machine, CallState}
-use Rattle.world_core.specs.Steps.{IsDue, IsDone, after, changed, creation_flags_of, driver_of, event_done, new_handle, step_of, stepped, with_handle_at, with_opened, with_record}
+use Rattle.world_core.specs.Steps.{IsDue, IsDone, after, changed, driver_of, event_done, new_handle, step_of, stepped, with_handle_at, with_opened, with_record}
+use Rattle.cluster_record.specs.LookUps.{creation_flags_of}
 use Rattle.world_core.specs.HandSteps.{hand_taken}
 use Rattle.world_core.specs.Happenings.{rooms_in}
 use Rattle.world_core.specs.Shows.{Does, IsShown, Fits, Facts, IsEventReady, IsFinishable, History, machine_of, last_in, hand_at}
 use Rattle.world_core.proofs.Going.{event_goes, event_keeps}
 use Rattle.world_core.proofs.Handles.{handle_is}
 use Rattle.world_core.proofs.Held.{state_in, in_hand_is, in_hand_at, driver_is, actor_is, due_is}
-use Rattle.world_core.proofs.Places.{there_is}
+use Rattle.cluster_record.proofs.Places.{there_is}
 use Rattle.world_core.proofs.Recording.{with_effects, record_is, record_fits}
 use Rattle.world_core.proofs.Told.{with_step, told_world, told_is, told_fits}
 
@@ -74,15 +79,15 @@ abbrev pub EventNeeds : RecordState → Driver → RecordStep → Type 0
 EventNeeds R (drivers.Enter r) events.Enter = (r < 8) × (length R.clients < 64)
 EventNeeds R (drivers.Open o) events.Create = (length R.entries < 16) × IsSomeAnd o.ask.attrs (λ a. Unit {0})
 EventNeeds R (drivers.Open o) events.Open = IsSomeAnd (named o.ask.name R.entries) (λ e. Unit {0})
-EventNeeds R (drivers.Open o) events.Finish = IsSomeAnd o.making (λ making. IsSomeAnd (entry_of making.ckpt R.entries) (λ e. Unit {0}))
-EventNeeds R (drivers.Open o) events.Undo = IsSomeAnd o.making (λ making. Unit {0})
+EventNeeds R (drivers.Open o) events.Finish = IsSomeAnd o.making (λ making. IsSomeAnd (entry_of making.ckpt R.entries) (λ e. Unit {0})) × IsMakingOf R o.ask.client (making_ckpt o.making)
+EventNeeds R (drivers.Open o) events.Undo = IsSomeAnd o.making (λ making. Unit {0}) × IsMakingOf R o.ask.client (making_ckpt o.making)
 EventNeeds R driver step = ⊥
 
 needs : (m : Machine) (s : CallState) (x : Driver) (step : RecordStep) → IsEventReady m s x step → EventNeeds m.cluster x step
 needs m s (drivers.Enter r) events.Enter ready = ready
 needs m s (drivers.Open o) events.Create ready = ready
 needs m s (drivers.Open o) events.Open ready = ready
-needs m s (drivers.Open o) events.Finish ready = by_making o.making ready where
+needs m s (drivers.Open o) events.Finish ready = (by_making o.making ready.0, ready.1) where
   there : (P : Entry → Type 0) (e : Option Entry) → IsSomeAnd e P → IsSomeAnd e (λ e. Unit {0})
   there P None h = absurd h
   there P (Some e) h = tt

@@ -9,26 +9,29 @@ use Rattle.node_msgs.specs.declared.next.RecordStep.{RecordStep}
 use Rattle.node_msgs.specs.declared.next.RecordStep.TheVariants as events
 use Rattle.node_msgs.specs.declared.next.Next.TheVariants.{Event}
 use Rattle.run_labels.specs.declared.words.OpWord.{OpWord}
-use Rattle.run_labels.specs.declared.words.Verb.{Verb}
-use Rattle.run_labels.specs.declared.labels.StepReply.TheVariants as words
+use Rattle.node_msgs.specs.declared.steps.Verb.{Verb}
+use Rattle.node_msgs.specs.declared.steps.StepReply.TheVariants as words
 use Rattle.run_labels.specs.declared.labels.Label.TheVariants.{Stepped}
 use Rattle.run_labels.specs.OpWord.{word_of_op}
 use Rattle.world_core.specs.declared.drivers.Driver.{Driver}
 use Rattle.world_core.specs.declared.drivers.Driver.TheVariants as drivers
 use Rattle.world_core.specs.declared.hands.InHand.{InHand}
-use Rattle.world_core.specs.declared.open_call.Making.{Making}
-use Rattle.world_core.specs.declared.open_call.OpenCall.{OpenCall}
+use Rattle.cluster_record.specs.declared.calls.Making.{Making}
+use Rattle.cluster_record.specs.DueOpen.{OpenState}
 use Rattle.world_core.specs.declared.world.World.{World}
-use Rattle.world_core.specs.Calls.{number_of, left}
-use Rattle.world_core.specs.RecordState.{RecordState, entry_of}
+use Rattle.cluster_record.specs.Calls.{number_of, left}
+use Rattle.cluster_record.specs.RecordState.{RecordState, entry_of}
 use Rattle.world_core.specs.RecordReady.{IsRecordReady}
-use Rattle.world_core.specs.Driving.{driver_next, done_of, event_ckpt, event_verb, event_node, event_end, event_after, takes_memory}
+use Rattle.node_msgs.specs.Steps.{event_verb}
+use Rattle.world_core.specs.Driving.{driver_next, event_ckpt, event_node, event_end, event_after, takes_memory}
+use Rattle.cluster_record.specs.StepDone.{done_of}
 use Rattle.world_core.specs.Beginning.{opened_place, opened_for, IsBuilt}
 use Rattle.world_core.specs.Giving.{gives_handle}
 use Rattle.world_core.specs.Happenings.{IsStep, rooms_in}
 use Rattle.world_core.specs.HandSteps.{hand_taken}
 use Rattle.world_core.specs.TableState.{TableState, with_handle}
-use Rattle.world_core.specs.Steps.{room_of, creation_flags_of}
+use Rattle.world_core.specs.Steps.{room_of}
+use Rattle.cluster_record.specs.LookUps.{creation_flags_of}
 use Rattle.world_core.specs.Shows.{Does, IsShown, IsRoomy, Facts, machine_of, hand_at}
 use Rattle.world_core.proofs.Held.{state_in, in_hand_is, driver_is, actor_is}
 use Rattle.world_core.proofs.Openers.{place_there, place_within, ckpt_there, open_room}
@@ -83,11 +86,11 @@ pub record CanGive (w : World) (c : ℕ) (hand : InHand) : Type 0 where
   pub room : (rooms_in w c).handles ≡ true
 
 module _ (w : World) (c : ℕ) (step : RecordStep) (hand : InHand) (held : hand_at w.hands c ≡ Some hand) (next : driver_next w.cluster (rooms_in w c) hand.driver ≡ Event step) (shown : IsShown w) where
-  abbrev OpensSo : OpenCall → Type 0
+  abbrev OpensSo : OpenState → Type 0
   OpensSo o = IsBuilt hand.op × (IsSome o.making → (rooms_in w c).handles ≡ true)
 
   -- what the facts say of an open in hand
-  opens_fact : (o : OpenCall) → hand.driver ≡ drivers.Open o → OpensSo o
+  opens_fact : (o : OpenState) → hand.driver ≡ drivers.Open o → OpensSo o
   opens_fact o is =
       let h = shown.shows.history in
       let facts : Facts (machine_of w h) = subst Facts shown.shows.same shown.facts in
@@ -96,7 +99,7 @@ module _ (w : World) (c : ℕ) (step : RecordStep) (hand : InHand) (held : hand_
 
   can_give_by : (step : RecordStep) (x : Driver) → hand.driver ≡ x → driver_next w.cluster (rooms_in w c) x ≡ Event step → EventNeeds w.cluster x step → GivesHandle step → CanGive w c hand
   can_give_by events.Open (drivers.Open o) is next needs gives = let f = opens_fact o is in record { built = f.0; room = open_room w.cluster (rooms_in w c) (drivers.Open o) next }
-  can_give_by events.Finish (drivers.Open o) is next needs gives = let f = opens_fact o is in record { built = f.0; room = f.1 (making_there o.making needs) } where
+  can_give_by events.Finish (drivers.Open o) is next needs gives = let f = opens_fact o is in record { built = f.0; room = f.1 (making_there o.making needs.0) } where
     making_there : (m : Option Making) → IsSomeAnd m (λ making. IsSomeAnd (entry_of making.ckpt w.cluster.entries) (λ e. Unit {0})) → IsSome m
     making_there None h = absurd h
     making_there (Some m) h = refl

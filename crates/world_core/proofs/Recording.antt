@@ -2,10 +2,10 @@
 use Rattle.std.proofs.Common.{◌≡◌, ◌⊎◌, inl, inr, ℕ, zero, suc, ◌≤◌, Bool, true, false, List, [], refl, sym, ap, subst, ◌∙◌, cond, arith}
 use Rattle.std.specs.Prelude.{Option, Some, None, ◌==◌, slice_index, if◌then◌else◌}
 use Rattle.ckpt_types.specs.declared.identities.CallId.{CallId}
-use Rattle.world_core.specs.declared.record.Entry.{Entry}
+use Rattle.cluster_record.specs.declared.entries.Entry.{Entry}
 use Rattle.world_core.specs.declared.replica.Replica.{Replica}
 use Rattle.world_core.specs.declared.world.World.{World}
-use Rattle.world_core.specs.RecordState.{RecordState, entry_of, complete_of, no_nodes}
+use Rattle.cluster_record.specs.RecordState.{RecordState, entry_of, complete_of, no_nodes}
 use Rattle.world_core.specs.Serving.{replica_in, opened_replica}
 use Rattle.world_core.specs.Machine.{Effect}
 use Rattle.world_core.specs.Steps.{opened_state, replica_under, reservation_under, with_record}

@@ -1,6 +1,6 @@
 -- A refusal leaves the record, the replicas, and the handles as they were.
 use Rattle.ckpt_types.specs.Reads.{NextGiven, given, description, facts_of}
-use Rattle.world_core.specs.Calls.{number_of}
+use Rattle.cluster_record.specs.Calls.{number_of}
 use Rattle.world_core.specs.Beginning.{ended_place}
 use Rattle.std.proofs.Common.{◌≡◌, ℕ, List, [], ◌∷◌, ◌++◌, Option, Some, None, Bool, true, false, cond, refl, sym, ap, subst, ◌∙◌, IsSomeAnd}
 use Rattle.ckpt_types.specs.declared.answers.Answer.{Answer}
@@ -10,14 +10,14 @@ use Rattle.ckpt_types.specs.declared.answers.Outcome.TheVariants.{Done, Refused}
 use Rattle.ckpt_types.specs.declared.attributes.CreationAttributes.{CreationAttributes}
 use Rattle.ckpt_types.specs.declared.operation.Op.{Op}
 use Rattle.ckpt_types.specs.declared.operation.Op.TheVariants as ops
-use Rattle.run_labels.specs.declared.words.Verb.{Verb}
-use Rattle.run_labels.specs.declared.words.Verb.TheVariants as verbs
-use Rattle.run_labels.specs.declared.labels.StepReply.{StepReply}
-use Rattle.run_labels.specs.declared.labels.StepReply.TheVariants as words
+use Rattle.node_msgs.specs.declared.steps.Verb.{Verb}
+use Rattle.node_msgs.specs.declared.steps.Verb.TheVariants as verbs
+use Rattle.node_msgs.specs.declared.steps.StepReply.{StepReply}
+use Rattle.node_msgs.specs.declared.steps.StepReply.TheVariants as words
 use Rattle.run_labels.specs.declared.labels.Label.{Label}
 use Rattle.run_labels.specs.declared.labels.Label.TheVariants as labels
-use Rattle.world_core.specs.declared.record.Entry.{Entry}
-use Rattle.world_core.specs.RecordState.{entry_of}
+use Rattle.cluster_record.specs.declared.entries.Entry.{Entry}
+use Rattle.cluster_record.specs.RecordState.{entry_of}
 use Rattle.world_core.specs.Serving.{update_of, update_answer}
 use Rattle.world_core.specs.Machine.{Machine, ReplicaState, CallState}
 use Rattle.world_core.specs.Steps.{changed, stepped, step_of, after, with_ended, begun_call, ids_asked, Told}

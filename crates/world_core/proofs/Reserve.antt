@@ -12,29 +12,31 @@ use Rattle.node_msgs.specs.declared.replies.Reply.TheVariants.{Done, NoMemory}
 use Rattle.node_msgs.specs.declared.next.Next.{Next}
 use Rattle.node_msgs.specs.declared.next.Next.TheVariants.{Serve}
 use Rattle.run_labels.specs.declared.words.OpWord.{OpWord}
-use Rattle.run_labels.specs.declared.words.Verb.TheVariants as verbs
-use Rattle.run_labels.specs.declared.labels.StepReply.TheVariants as words
+use Rattle.node_msgs.specs.declared.steps.Verb.TheVariants as verbs
+use Rattle.node_msgs.specs.declared.steps.StepReply.TheVariants as words
 use Rattle.run_labels.specs.declared.labels.Label.{Label}
 use Rattle.run_labels.specs.declared.labels.Label.TheVariants.{Stepped}
 use Rattle.run_labels.specs.OpWord.{word_of_op}
 use Rattle.world_core.specs.declared.hands.InHand.{InHand}
-use Rattle.world_core.specs.declared.record.Entry.{Entry}
+use Rattle.cluster_record.specs.declared.entries.Entry.{Entry}
 use Rattle.world_core.specs.declared.replica.Replica.{Replica}
 use Rattle.world_core.specs.declared.world.World.{World}
-use Rattle.world_core.specs.Calls.{put_actor, left}
-use Rattle.world_core.specs.Places.{find_key, put2, list_or}
-use Rattle.world_core.specs.RecordState.{RecordState, entry_of, complete_of}
+use Rattle.cluster_record.specs.Calls.{put_actor, left}
+use Rattle.cluster_record.specs.Places.{find_key, put2, list_or}
+use Rattle.cluster_record.specs.RecordState.{RecordState, entry_of, complete_of}
 use Rattle.world_core.specs.Serving.{replica_key, replica_in, pieces_at, opened_replica, added, reserved_at}
-use Rattle.world_core.specs.Driving.{StepDone, driver_next, driver_taken, driver_end, word_of}
+use Rattle.node_msgs.specs.Steps.{word_of}
+use Rattle.cluster_record.specs.StepDone.{StepDone}
+use Rattle.world_core.specs.Driving.{driver_next, driver_taken, driver_end}
 use Rattle.world_core.specs.Machine.{Machine, CallState}
 use Rattle.world_core.specs.Steps.{ended_pieces, IsDue, IsDone, MayAnswer, after, step_of, seen_at}
 use Rattle.world_core.specs.HandSteps.{hand_taken}
 use Rattle.world_core.specs.Happenings.{rooms_in}
 use Rattle.world_core.specs.Shows.{Does, IsShown, Fits, FitsReplica, FitsReserved, IsOpening, Facts, IsReservable, History, machine_of, shown_replica, where_complete, complete_replica, where_not_complete, shown_reservation, reserved_in, hand_at}
-use Rattle.world_core.proofs.Entries.{none_above}
+use Rattle.cluster_record.proofs.IdentityLaws.{entry_of-beyond}
 use Rattle.world_core.proofs.Held.{state_in, in_hand_is, in_hand_at, driver_is, actor_is, due_is, left_shown, left_fits, hand_fits}
 use Rattle.world_core.proofs.Maps.{both_true, same_there, node_case, fits_reserved_case, fits_fresh, put_hand, fits_hand}
-use Rattle.world_core.proofs.Places.{find_pushed, get_set, there_is}
+use Rattle.cluster_record.proofs.Places.{find_pushed, get_set, there_is}
 use Rattle.world_core.proofs.Serve.{served_step}
 use Rattle.world_core.proofs.Told.{with_step, told_world, told_is, told_fits}
 
@@ -200,7 +202,7 @@ module _ (w : World) (h : History) (c r k : ℕ) (hand : InHand) (facts : Facts 
     fits_later = record {
       replicas = λ j q. subst (FitsReplica j (entry_of j w.cluster.entries) (h.effects j q)) (sym (same j q)) (fits.replicas j q);
       reserved = fits_more w.cluster w.nodes w'.nodes k r new e at there free refl fits.reserved;
-      fresh = fits_fresh w.cluster.last_identity w.nodes w'.nodes k r new at (λ above. let z : None ≡ Some e = sym (none_above w.cluster.last_identity k w.cluster.entries facts.up_to above) ∙ there in absurd (cc z)) fits.fresh;
+      fresh = fits_fresh w.cluster.last_identity w.nodes w'.nodes k r new at (λ above. let z : None ≡ Some e = sym (entry_of-beyond w.cluster.last_identity k w.cluster.entries facts.up_to above) ∙ there in absurd (cc z)) fits.fresh;
       hands = fits_hand h w.hands c hand (left its_end (hand_taken done hand)) (done ∷ h.steps c) held (left_fits h c hand done its_end (hand_fits w h c hand held fits)) fits.hands;
     }
 

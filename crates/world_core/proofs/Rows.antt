@@ -8,14 +8,15 @@ use Rattle.ckpt_types.specs.Sections.{Section}
 use Rattle.ckpt_types.specs.Updates.{Refusal, outcome}
 use Rattle.node_msgs.specs.declared.requests.Request.{Request}
 use Rattle.node_msgs.specs.declared.requests.Request.TheVariants.{Reserve, Iterate, Next, Stage, Commit}
-use Rattle.run_labels.specs.declared.words.Verb.TheVariants as verbs
-use Rattle.world_core.specs.declared.record.Entry.{Entry}
+use Rattle.node_msgs.specs.declared.steps.Verb.TheVariants as verbs
+use Rattle.cluster_record.specs.declared.entries.Entry.{Entry}
 use Rattle.world_core.specs.declared.replica.Replica.{Replica}
 use Rattle.world_core.specs.declared.replica.Slot.{Slot}
-use Rattle.world_core.specs.Places.{put2}
-use Rattle.world_core.specs.RecordState.{entry_of}
-use Rattle.world_core.specs.Serving.{update_of, ckpt_of, reply_of, replica_after, stage_reply, stage_slot, committed, IsReadyFor, IsStaged}
-use Rattle.world_core.specs.Driving.{verb_of, word_of}
+use Rattle.cluster_record.specs.Places.{put2}
+use Rattle.cluster_record.specs.RecordState.{entry_of}
+use Rattle.node_msgs.specs.Requests.{ckpt_of}
+use Rattle.world_core.specs.Serving.{update_of, reply_of, replica_after, stage_reply, stage_slot, committed, IsReadyFor, IsStaged}
+use Rattle.node_msgs.specs.Steps.{verb_of, word_of}
 use Rattle.world_core.specs.Machine.{Machine, Effect, Applied, ReplicaState, CallState}
 use Rattle.world_core.specs.Steps.{changed, change_replica, with_slot, with_committed, staged_moment}
 use Rattle.world_core.specs.Shows.{shown_replica, FitsReplica}

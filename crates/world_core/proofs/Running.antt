@@ -7,19 +7,20 @@ use Rattle.ckpt_types.specs.declared.answers.Outcome.{Outcome}
 use Rattle.ckpt_types.specs.declared.identities.ActorName.TheVariants.{Client}
 use Rattle.ckpt_types.specs.declared.identities.CallId.{CallId}
 use Rattle.run_labels.specs.declared.words.OpWord.{OpWord}
-use Rattle.run_labels.specs.declared.words.Verb.{Verb}
-use Rattle.run_labels.specs.declared.labels.StepReply.{StepReply}
+use Rattle.node_msgs.specs.declared.steps.Verb.{Verb}
+use Rattle.node_msgs.specs.declared.steps.StepReply.{StepReply}
 use Rattle.run_labels.specs.declared.labels.Label.{Label}
 use Rattle.run_labels.specs.declared.labels.Label.TheVariants.{Stepped}
 use Rattle.world_core.specs.declared.drivers.Driver.{Driver}
 use Rattle.world_core.specs.declared.drivers.Driver.TheVariants as drivers
 use Rattle.world_core.specs.declared.hands.InHand.{InHand}
-use Rattle.world_core.specs.declared.open_call.Making.{Making}
-use Rattle.world_core.specs.declared.record.Entry.{Entry}
+use Rattle.cluster_record.specs.declared.calls.Making.{Making}
+use Rattle.cluster_record.specs.declared.entries.Entry.{Entry}
 use Rattle.world_core.specs.declared.world.World.{World}
-use Rattle.world_core.specs.Calls.{same_actor, left}
-use Rattle.world_core.specs.RecordState.{RecordState, entry_of, complete_of}
-use Rattle.world_core.specs.Driving.{driver_taken, done_of}
+use Rattle.cluster_record.specs.Calls.{same_actor, left}
+use Rattle.cluster_record.specs.RecordState.{RecordState, entry_of, complete_of}
+use Rattle.world_core.specs.Driving.{driver_taken}
+use Rattle.cluster_record.specs.StepDone.{done_of}
 use Rattle.world_core.specs.Machine.{Machine, Staged, ReplicaState, CallState}
 use Rattle.world_core.specs.Steps.{driver_of, changed, step_of, after}
 use Rattle.world_core.specs.Shows.{Does, Shows, FitsReplica, Facts, IsShown, IsRoomy, machine_of, shown_replica, hand_at}

@@ -12,19 +12,22 @@ use Rattle.node_msgs.specs.declared.replies.Reply.{Reply}
 use Rattle.node_msgs.specs.declared.next.Next.{Next}
 use Rattle.node_msgs.specs.declared.next.Next.TheVariants.{Serve}
 use Rattle.run_labels.specs.declared.words.OpWord.{OpWord}
-use Rattle.run_labels.specs.declared.words.Verb.{Verb}
-use Rattle.run_labels.specs.declared.labels.StepReply.{StepReply}
+use Rattle.node_msgs.specs.declared.steps.Verb.{Verb}
+use Rattle.node_msgs.specs.declared.steps.StepReply.{StepReply}
 use Rattle.run_labels.specs.declared.labels.Label.{Label}
 use Rattle.run_labels.specs.declared.labels.Label.TheVariants.{Stepped}
 use Rattle.run_labels.specs.OpWord.{word_of_op}
 use Rattle.world_core.specs.declared.hands.InHand.{InHand}
 use Rattle.world_core.specs.declared.replica.Replica.{Replica}
 use Rattle.world_core.specs.declared.world.World.{World}
-use Rattle.world_core.specs.Calls.{put_actor, left}
-use Rattle.world_core.specs.Places.{put, put2}
-use Rattle.world_core.specs.RecordState.{entry_of, complete_of}
-use Rattle.world_core.specs.Serving.{ckpt_of, replica_in, reply_at, pieces_at, replica_after, served, IsReadyFor, IsReadyAt}
-use Rattle.world_core.specs.Driving.{StepDone, driver_next, driver_taken, driver_end, done_of, verb_of, word_of}
+use Rattle.cluster_record.specs.Calls.{put_actor, left}
+use Rattle.cluster_record.specs.Places.{put, put2}
+use Rattle.cluster_record.specs.RecordState.{entry_of, complete_of}
+use Rattle.node_msgs.specs.Requests.{ckpt_of}
+use Rattle.world_core.specs.Serving.{replica_in, reply_at, pieces_at, replica_after, served, IsReadyFor, IsReadyAt}
+use Rattle.node_msgs.specs.Steps.{verb_of, word_of}
+use Rattle.cluster_record.specs.StepDone.{StepDone, done_of}
+use Rattle.world_core.specs.Driving.{driver_next, driver_taken, driver_end}
 use Rattle.world_core.specs.Machine.{Machine, Effect, ReplicaState, CallState}
 use Rattle.world_core.specs.Steps.{ended_pieces, pieces_due, IsDue, IsDone, MayAnswer, after, changed, stepped, step_of, seen_at, staged_moment}
 use Rattle.world_core.specs.HandSteps.{hand_taken}

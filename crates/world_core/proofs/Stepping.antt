@@ -9,21 +9,22 @@ use Rattle.node_msgs.specs.declared.replies.Reply.{Reply}
 use Rattle.node_msgs.specs.declared.replies.Reply.TheVariants as replies
 use Rattle.node_msgs.specs.declared.next.Next.TheVariants.{Serve, End}
 use Rattle.run_labels.specs.declared.words.OpWord.{OpWord}
-use Rattle.run_labels.specs.declared.words.Verb.{Verb}
-use Rattle.run_labels.specs.declared.words.Verb.TheVariants as verbs
-use Rattle.run_labels.specs.declared.labels.StepReply.{StepReply}
-use Rattle.run_labels.specs.declared.labels.StepReply.TheVariants as words
+use Rattle.node_msgs.specs.declared.steps.Verb.{Verb}
+use Rattle.node_msgs.specs.declared.steps.Verb.TheVariants as verbs
+use Rattle.node_msgs.specs.declared.steps.StepReply.{StepReply}
+use Rattle.node_msgs.specs.declared.steps.StepReply.TheVariants as words
 use Rattle.run_labels.specs.declared.labels.Label.TheVariants.{Stepped}
 use Rattle.run_labels.specs.OpWord.{word_of_op}
 use Rattle.world_core.specs.declared.hands.InHand.{InHand}
-use Rattle.world_core.specs.declared.record.Entry.{Entry}
+use Rattle.cluster_record.specs.declared.entries.Entry.{Entry}
 use Rattle.world_core.specs.declared.replica.Replica.{Replica}
 use Rattle.world_core.specs.declared.world.World.{World}
-use Rattle.world_core.specs.Calls.{left}
-use Rattle.world_core.specs.RecordState.{entry_of}
-use Rattle.world_core.specs.Serving.{ckpt_of, replica_in, reply_at, pieces_at, served, IsReadyAt, opened_replica, reserved_at}
+use Rattle.cluster_record.specs.Calls.{left}
+use Rattle.cluster_record.specs.RecordState.{entry_of}
+use Rattle.node_msgs.specs.Requests.{ckpt_of}
+use Rattle.world_core.specs.Serving.{replica_in, reply_at, pieces_at, served, IsReadyAt, opened_replica, reserved_at}
 use Rattle.world_core.specs.Reserving.{IsReserved}
-use Rattle.world_core.specs.Driving.{verb_of, word_of}
+use Rattle.node_msgs.specs.Steps.{verb_of, word_of}
 use Rattle.world_core.specs.HandSteps.{hand_taken, hand_end}
 use Rattle.world_core.specs.Steps.{ended_pieces, look_word}
 use Rattle.world_core.specs.Shows.{IsShown, IsRoomy, IsReservable, hand_at}

@@ -5,9 +5,9 @@ use Rattle.ckpt_types.specs.declared.answers.Outcome.{Outcome}
 use Rattle.ckpt_types.specs.declared.identities.ActorName.TheVariants.{Client}
 use Rattle.world_core.specs.declared.hands.InHand.{InHand}
 use Rattle.world_core.specs.declared.world.World.{World}
-use Rattle.world_core.specs.Calls.{put_actor, left}
-use Rattle.world_core.specs.Places.{put}
-use Rattle.world_core.specs.Driving.{StepDone}
+use Rattle.cluster_record.specs.Calls.{put_actor, left}
+use Rattle.cluster_record.specs.Places.{put}
+use Rattle.cluster_record.specs.StepDone.{StepDone}
 use Rattle.world_core.specs.Machine.{Machine}
 use Rattle.world_core.specs.HandSteps.{hand_taken}
 use Rattle.world_core.specs.Shows.{Fits, History, machine_of, hand_at}

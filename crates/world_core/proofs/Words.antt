@@ -11,9 +11,9 @@ use Rattle.run_labels.specs.declared.words.Said.{Said}
 use Rattle.run_labels.specs.declared.words.Said.TheVariants.{Busy, Idle, Live, Down}
 use Rattle.run_labels.specs.declared.labels.Label.TheVariants.{Word, Nodes}
 use Rattle.world_core.specs.declared.hands.InHand.{InHand}
-use Rattle.world_core.specs.declared.record.Entry.{Entry}
+use Rattle.cluster_record.specs.declared.entries.Entry.{Entry}
 use Rattle.world_core.specs.declared.world.World.{World}
-use Rattle.world_core.specs.RecordState.{RecordState, entry_of, is_live_client, is_up, brought_up, empty_record}
+use Rattle.cluster_record.specs.RecordState.{RecordState, entry_of, is_live_client, is_up, brought_up, empty_record}
 use Rattle.world_core.specs.Machine.{Machine}
 use Rattle.world_core.specs.Steps.{IsSaid, after}
 use Rattle.world_core.specs.Shows.{Does, History, machine_of, hand_at, shown_hand, where_not_complete, reserved_in}

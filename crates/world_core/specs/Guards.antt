@@ -17,17 +17,18 @@ use Rattle.ckpt_types.specs.declared.update.Update.{Update}
 use Rattle.ckpt_types.specs.Updates.{Refusal, outcome}
 use Rattle.ckpt_types.specs.Reads.{read, status, NextGiven, given, description, facts_of}
 use Rattle.run_labels.specs.declared.words.OpWord.{OpWord}
-use Rattle.run_labels.specs.declared.words.Verb.{Verb}
-use Rattle.run_labels.specs.declared.words.Verb.TheVariants as verbs
-use Rattle.run_labels.specs.declared.labels.StepReply.{StepReply}
-use Rattle.run_labels.specs.declared.labels.StepReply.TheVariants as words
+use Rattle.node_msgs.specs.declared.steps.Verb.{Verb}
+use Rattle.node_msgs.specs.declared.steps.Verb.TheVariants as verbs
+use Rattle.node_msgs.specs.declared.steps.StepReply.{StepReply}
+use Rattle.node_msgs.specs.declared.steps.StepReply.TheVariants as words
 use Rattle.run_labels.specs.declared.labels.Label.{Label}
 use Rattle.run_labels.specs.declared.labels.Label.TheVariants as labels
 use Rattle.run_labels.specs.OpWord.{word_of_op}
-use Rattle.world_core.specs.declared.record.Entry.{Entry}
-use Rattle.world_core.specs.Calls.{same_call, client_of}
-use Rattle.world_core.specs.RecordState.{entry_of, complete_of, named, is_live, is_live_client, is_up, IsMomentFrom}
-use Rattle.world_core.specs.Driving.{IsBefore, accepts, deadline_from, refused_cause}
+use Rattle.cluster_record.specs.declared.entries.Entry.{Entry}
+use Rattle.cluster_record.specs.Calls.{same_call, client_of}
+use Rattle.cluster_record.specs.RecordState.{entry_of, complete_of, named, is_live, is_live_client, is_up, IsMomentFrom}
+use Rattle.cluster_record.specs.DueOpen.{IsBefore, accepts}
+use Rattle.world_core.specs.Driving.{deadline_from, refused_cause}
 use Rattle.world_core.specs.Serving.{update_of, update_answer, told_id}
 use Rattle.world_core.specs.Machine.{Machine, Staged, ReplicaState, CallState}
 use Rattle.world_core.specs.Steps.{Told, IsBegun, IsWord, room_of, rooms_of, ids_asked, staged_moment, effect_of}

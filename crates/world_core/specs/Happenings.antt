@@ -8,9 +8,9 @@ use Rattle.ckpt_types.specs.declared.operation.Op.{Op}
 use Rattle.node_msgs.specs.declared.next.Next.{Next}
 use Rattle.run_labels.specs.declared.labels.Label.{Label}
 use Rattle.run_labels.specs.declared.labels.Label.TheVariants as labels
-use Rattle.run_labels.specs.declared.labels.StepReply.{StepReply}
+use Rattle.node_msgs.specs.declared.steps.StepReply.{StepReply}
 use Rattle.run_labels.specs.declared.words.OpWord.{OpWord}
-use Rattle.run_labels.specs.declared.words.Verb.{Verb}
+use Rattle.node_msgs.specs.declared.steps.Verb.{Verb}
 use Rattle.client_handles.specs.declared.client.TheConstants.{HANDLES_MAX}
 use Rattle.client_handles.specs.declared.begun.TheConstants.{ITERATIONS_MAX}
 use Rattle.client_handles.specs.declared.handle_view.HandleView.{HandleView}
@@ -19,8 +19,8 @@ use Rattle.world_core.specs.declared.hands.InHand.{InHand}
 use Rattle.world_core.specs.declared.world.Event.{Event}
 use Rattle.world_core.specs.declared.world.Event.TheVariants as happenings
 use Rattle.world_core.specs.declared.world.World.{World}
-use Rattle.world_core.specs.Calls.{left}
-use Rattle.world_core.specs.RecordState.{empty_record, IsMomentFrom}
+use Rattle.cluster_record.specs.Calls.{left}
+use Rattle.cluster_record.specs.RecordState.{empty_record, IsMomentFrom}
 use Rattle.world_core.specs.Driving.{driver_next}
 use Rattle.world_core.specs.Beginning.{IsBuilt}
 use Rattle.world_core.specs.Shows.{Does, handles_in, iterations_in, handle_in_place, handle_over_place, hand_at}

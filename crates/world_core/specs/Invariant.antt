@@ -13,22 +13,24 @@ use Rattle.run_labels.specs.declared.labels.Label.TheVariants as labels
 use Rattle.client_handles.specs.declared.handle_view.HandleView.{HandleView}
 use Rattle.world_core.specs.declared.drivers.Driver.{Driver}
 use Rattle.world_core.specs.declared.drivers.Driver.TheVariants as drivers
-use Rattle.world_core.specs.declared.open_call.Making.{Making}
-use Rattle.world_core.specs.declared.open_call.OpenCall.{OpenCall}
-use Rattle.world_core.specs.declared.reading.ActiveCall.{ActiveCall}
-use Rattle.world_core.specs.declared.reading.ActiveKind.{ActiveKind}
-use Rattle.world_core.specs.declared.reading.ActiveKind.TheVariants as kinds
-use Rattle.world_core.specs.declared.record.Entry.{Entry}
-use Rattle.world_core.specs.declared.update_call.UpdateCall.{UpdateCall}
-use Rattle.world_core.specs.declared.update_call.UpdatePhase.TheVariants.{Staging}
-use Rattle.world_core.specs.Calls.{same_actor, client_of}
-use Rattle.world_core.specs.RecordState.{entry_of, first_nodes, no_nodes, has_references, is_live_client, is_up}
+use Rattle.cluster_record.specs.declared.calls.Making.{Making}
+use Rattle.cluster_record.specs.DueOpen.{OpenState}
+use Rattle.cluster_record.specs.DueActive.{ActiveState}
+use Rattle.cluster_record.specs.declared.calls.ActiveKind.{ActiveKind}
+use Rattle.cluster_record.specs.declared.calls.ActiveKind.TheVariants as kinds
+use Rattle.cluster_record.specs.declared.entries.Entry.{Entry}
+use Rattle.cluster_record.specs.DueUpdate.{UpdateState}
+use Rattle.cluster_record.specs.declared.calls.UpdatePhase.TheVariants.{Staging}
+use Rattle.cluster_record.specs.Calls.{same_actor, client_of}
+use Rattle.cluster_record.specs.RecordState.{entry_of, first_nodes, no_nodes, has_references, is_live_client, is_up}
 use Rattle.world_core.specs.Serving.{update_of}
-use Rattle.world_core.specs.Driving.{IsBefore, deadline_from}
+use Rattle.cluster_record.specs.DueOpen.{IsBefore}
+use Rattle.world_core.specs.Driving.{deadline_from}
 use Rattle.world_core.specs.Beginning.{IsIterOf, IsNextOf, IsBuilt}
 use Rattle.world_core.specs.Machine.{Machine, Staged, ReplicaState, CallState}
-use Rattle.world_core.specs.Steps.{driver_of, room_of, sections_declared, named_handle}
-use Rattle.world_core.specs.Shows.{IdentitiesRise, AllUpTo}
+use Rattle.world_core.specs.Steps.{driver_of, room_of, named_handle}
+use Rattle.cluster_record.specs.LookUps.{sections_declared}
+use Rattle.cluster_record.specs.Identities.{IdentitiesRise, AllUpTo}
 
 -- ---- the call in hand
 
@@ -162,7 +164,7 @@ pub record IsEnterAt (m : Machine) (s : CallState) (r : ℕ) : Type 0 where
   pub up : is_up r m.cluster ≡ true
   pub not_live : is_live_client (client_of s.call) m.cluster ≡ false
 
-pub record IsOpenAt (m : Machine) (s : CallState) (o : OpenCall) : Type 0 where
+pub record IsOpenAt (m : Machine) (s : CallState) (o : OpenState) : Type 0 where
   pub client : o.ask.client ≡ client_of s.call
   pub within : o.ask.client < 100
   pub built : IsBuilt s.op
@@ -176,14 +178,14 @@ pub record IsOpenAt (m : Machine) (s : CallState) (o : OpenCall) : Type 0 where
   pub in_time : IsSome o.making → IsBefore m.cluster.moment o.deadline
 
 -- an update has staged nowhere, or on n0
-pub record IsUpdateAt (m : Machine) (s : CallState) (u : UpdateCall) : Type 0 where
+pub record IsUpdateAt (m : Machine) (s : CallState) (u : UpdateState) : Type 0 where
   pub call : u.call ≡ s.call
   pub update : IsUpdateOf s.op
   pub phase : u.phase ≡ Staging
   pub made : IsMade m u.ckpt
   pub owned : (u.owned ≡ no_nodes) ⊎ (u.owned ≡ first_nodes 1)
 
-pub record IsActiveAt (m : Machine) (s : CallState) (a : ActiveCall) : Type 0 where
+pub record IsActiveAt (m : Machine) (s : CallState) (a : ActiveState) : Type 0 where
   pub call : a.call ≡ s.call
   pub kind : IsKindOf a.kind s.op
   pub made : IsMade m a.ckpt

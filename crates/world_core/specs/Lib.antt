@@ -1,13 +1,10 @@
-pub mod Calls
-pub mod Places
-pub mod RecordState
-pub mod RecordView
 pub mod RecordReady
 pub mod TableState
 pub mod TableView
 pub mod NewTable
 pub mod Serving
 pub mod Reserving
+pub mod CallStates
 pub mod Driving
 pub mod Lending
 pub mod Machine

@@ -9,8 +9,9 @@ use Rattle.ckpt_types.specs.declared.update.Update.{Update}
 use Rattle.ckpt_types.specs.Sections.{Section}
 use Rattle.client_handles.specs.declared.begun.BegunIteration.{BegunIteration}
 use Rattle.client_handles.specs.declared.handle_view.HandleView.{HandleView}
-use Rattle.world_core.specs.RecordState.{RecordState, empty_record}
-use Rattle.world_core.specs.Driving.{StepDone, Kept}
+use Rattle.cluster_record.specs.RecordState.{RecordState, empty_record}
+use Rattle.cluster_record.specs.StepDone.{StepDone}
+use Rattle.world_core.specs.Driving.{Kept}
 
 -- an update that a replica has taken: whose it is, and at which moment; or a weak write that was cut short after so many elements
 pub data Effect : Type 0 where

@@ -4,7 +4,7 @@ use Rattle.ckpt_types.specs.declared.answers.Answer.TheVariants as answers
 use Rattle.node_msgs.specs.declared.replies.Reply.{Reply}
 use Rattle.node_msgs.specs.declared.replies.Reply.TheVariants as replies
 use Rattle.world_core.specs.declared.world.World.{World}
-use Rattle.world_core.specs.RecordState.{entry_of}
+use Rattle.cluster_record.specs.RecordState.{entry_of}
 use Rattle.world_core.specs.Serving.{opened_replica, reserved_at}
 
 -- the node has the checkpoint's replica, as it was made, or is refused the memory

@@ -19,15 +19,15 @@ use Rattle.client_handles.specs.ClientState.{new_client}
 use Rattle.world_core.specs.declared.drivers.Driver.{Driver}
 use Rattle.world_core.specs.declared.drivers.Driver.TheVariants as drivers
 use Rattle.world_core.specs.declared.hands.InHand.{InHand}
-use Rattle.world_core.specs.declared.open_call.Making.{Making}
-use Rattle.world_core.specs.declared.record.Entry.{Entry}
+use Rattle.cluster_record.specs.declared.calls.Making.{Making}
+use Rattle.cluster_record.specs.declared.entries.Entry.{Entry}
 use Rattle.world_core.specs.declared.world.Event.{Event}
 use Rattle.world_core.specs.declared.world.Event.TheVariants as happenings
 use Rattle.world_core.specs.declared.world.World.{World}
-use Rattle.world_core.specs.RecordState.{RecordState, entry_of, complete_of, empty_record, is_up, IsMomentFrom}
+use Rattle.cluster_record.specs.RecordState.{RecordState, entry_of, complete_of, empty_record, is_up, IsMomentFrom}
 use Rattle.world_core.specs.TableState.{TableState}
 use Rattle.world_core.specs.NewTable.{no_callbacks}
-use Rattle.world_core.specs.Driving.{lacks, has}
+use Rattle.cluster_record.specs.StepDone.{lacks, has}
 use Rattle.world_core.specs.Beginning.{IsBuilt}
 use Rattle.world_core.specs.Machine.{Machine, ReplicaState, empty_cluster}
 use Rattle.world_core.specs.Steps.{IsDue, after}

@@ -17,12 +17,12 @@ use Rattle.ckpt_types.specs.Updates.{Refusal, outcome, new_id}
 use Rattle.ckpt_types.specs.Reads.{read, status, NextGiven, given, chosen, description, facts_of}
 use Rattle.node_msgs.specs.declared.requests.Request.{Request}
 use Rattle.node_msgs.specs.declared.requests.Request.TheVariants as requests
-pub use Rattle.node_msgs.specs.Requests.{ckpt_of}
+use Rattle.node_msgs.specs.Requests.{ckpt_of}
 use Rattle.node_msgs.specs.declared.replies.Reply.{Reply}
 use Rattle.node_msgs.specs.declared.replies.Reply.TheVariants as replies
 use Rattle.world_core.specs.declared.replica.Replica.{Replica}
 use Rattle.world_core.specs.declared.replica.Slot.{Slot}
-use Rattle.world_core.specs.Places.{find_key, change_key, list_or}
+use Rattle.cluster_record.specs.Places.{find_key, change_key, list_or}
 
 -- ---- what travels beside a request
 

@@ -1,5 +1,5 @@
 -- How the world shows the machine's state.
-use Rattle.std.specs.Prelude.{◌≡◌, ℕ, ◌-◌, ◌^◌, ◌<◌, ◌≤◌, List, [], ◌∷◌, length, Option, Some, None, IsSome, IsSomeAnd, Contains, true, false, ◌==◌, if◌then◌else◌, ℤ, slice_get, slice_index}
+use Rattle.std.specs.Prelude.{◌≡◌, ℕ, ◌-◌, ◌^◌, ◌<◌, ◌≤◌, List, [], length, Option, Some, None, IsSome, IsSomeAnd, Contains, true, false, ◌==◌, if◌then◌else◌, ℤ, slice_get, slice_index}
 use Rattle.ckpt_types.specs.declared.identities.ActorName.{ActorName}
 use Rattle.ckpt_types.specs.declared.identities.ActorName.TheVariants.{Client, Node}
 use Rattle.ckpt_types.specs.declared.identities.CallId.{CallId}
@@ -16,24 +16,30 @@ use Rattle.node_msgs.specs.declared.next.Next.TheVariants.{Serve, Event}
 use Rattle.run_labels.specs.declared.labels.Label.{Label}
 use Rattle.client_handles.specs.ClientState.{ClientState, handle_at, iteration_at}
 use Rattle.client_handles.specs.declared.handle_view.HandleView.{HandleView}
+use Rattle.cluster_record.specs.Makings.{IsMakingOf}
+use Rattle.cluster_record.specs.DueOpen.{making_ckpt}
 use Rattle.world_core.specs.declared.drivers.Driver.{Driver}
 use Rattle.world_core.specs.declared.drivers.Driver.TheVariants as drivers
 use Rattle.world_core.specs.declared.hands.InHand.{InHand}
-use Rattle.world_core.specs.declared.open_call.Making.{Making}
-use Rattle.world_core.specs.declared.open_call.OpenCall.{OpenCall}
-use Rattle.world_core.specs.declared.record.Entry.{Entry}
+use Rattle.cluster_record.specs.declared.calls.Making.{Making}
+use Rattle.cluster_record.specs.DueOpen.{OpenState}
+use Rattle.cluster_record.specs.declared.entries.Entry.{Entry}
 use Rattle.world_core.specs.declared.replica.Replica.{Replica}
 use Rattle.world_core.specs.declared.replica.Slot.{Slot}
 use Rattle.world_core.specs.declared.world.World.{World}
-use Rattle.world_core.specs.Calls.{client_of}
-use Rattle.world_core.specs.Places.{or_none}
-use Rattle.world_core.specs.RecordState.{RecordState, entry_of, complete_of, named}
+use Rattle.cluster_record.specs.Calls.{client_of}
+use Rattle.cluster_record.specs.Identities.{IdentitiesRise, AllUpTo}
+use Rattle.cluster_record.specs.Places.{or_none}
+use Rattle.cluster_record.specs.RecordState.{RecordState, entry_of, complete_of, named}
 use Rattle.world_core.specs.TableState.{TableState}
-use Rattle.world_core.specs.Serving.{ckpt_of, replica_in, opened_replica, IsReadyFor}
-use Rattle.world_core.specs.Driving.{StepDone, Kept, driver_state}
+use Rattle.node_msgs.specs.Requests.{ckpt_of}
+use Rattle.world_core.specs.Serving.{replica_in, opened_replica, IsReadyFor}
+use Rattle.cluster_record.specs.StepDone.{StepDone}
+use Rattle.world_core.specs.Driving.{Kept, driver_state}
 use Rattle.world_core.specs.Beginning.{IsIterOf, IsNextOf, IsBuilt}
 use Rattle.world_core.specs.Machine.{IterationTable, no_iterations, Machine, Effect, Staged, ReplicaState, CallState}
-use Rattle.world_core.specs.Steps.{IsDue, after, due, driver_of, room_of, seen_at, staged_moment, sections_declared, named_handle, handle_over}
+use Rattle.world_core.specs.Steps.{IsDue, after, due, driver_of, room_of, seen_at, staged_moment, named_handle, handle_over}
+use Rattle.cluster_record.specs.LookUps.{sections_declared}
 
 -- ---- what the machine keeps and the code does not
 
@@ -194,19 +200,6 @@ pub record Shows (w : World) (m : Machine) : Type 0 where
 
 -- ---- what the code may rely on in every state of a run
 
--- the identities rise, up to the one last given
-abbrev pub AllAbove : ℕ → List Entry → Type 0
-AllAbove n [] = Unit {0}
-AllAbove n (e ∷ es) = (n < e.identity) × AllAbove n es
-
-abbrev pub IdentitiesRise : List Entry → Type 0
-IdentitiesRise [] = Unit {0}
-IdentitiesRise (e ∷ es) = AllAbove e.identity es × IdentitiesRise es
-
-abbrev pub AllUpTo : ℕ → List Entry → Type 0
-AllUpTo n [] = Unit {0}
-AllUpTo n (e ∷ es) = (e.identity ≤ n) × AllUpTo n es
-
 -- a replica can be reserved: the checkpoint is there, the node is not complete, and the attributes passed their check
 pub record IsReservable (e : Entry) (r : ℕ) : Type 0 where
   pub not_complete : slice_index e.complete r ≡ 0
@@ -233,8 +226,8 @@ abbrev pub IsEventReady : Machine → CallState → Driver → RecordStep → Ty
 IsEventReady m s (drivers.Enter r) events.Enter = (r < 8) × (length m.cluster.clients < 64)
 IsEventReady m s (drivers.Open o) events.Create = (length m.cluster.entries < 16) × IsSomeAnd o.ask.attrs (λ a. Unit {0})
 IsEventReady m s (drivers.Open o) events.Open = IsSomeAnd (named o.ask.name m.cluster.entries) (λ e. Unit {0})
-IsEventReady m s (drivers.Open o) events.Finish = IsFinishable m o.making
-IsEventReady m s (drivers.Open o) events.Undo = IsSomeAnd o.making (λ making. Unit {0})
+IsEventReady m s (drivers.Open o) events.Finish = IsFinishable m o.making × IsMakingOf m.cluster o.ask.client (making_ckpt o.making)
+IsEventReady m s (drivers.Open o) events.Undo = IsSomeAnd o.making (λ making. Unit {0}) × IsMakingOf m.cluster o.ask.client (making_ckpt o.making)
 IsEventReady m s driver step = ⊥
 
 -- a call to the active alone
@@ -252,7 +245,7 @@ pub record Facts (m : Machine) : Type 0 where
   pub moments : (a : ActorName) (s : CallState) (r : ℕ) (call : CallId) (k : ℕ) (t : ℤ) → m.in_hand a ≡ Some s → due m s ≡ Serve r (requests.Stage call k t) → IsSomeAnd (m.replicas k r) IsFree → staged_moment m k ≡ t
   pub events : (a : ActorName) (s : CallState) (step : RecordStep) → m.in_hand a ≡ Some s → due m s ≡ Event step → IsEventReady m s (driver_of s) step
   -- an open has a place for its handle, and with a checkpoint in the making room for the handle
-  pub opens : (a : ActorName) (s : CallState) (o : OpenCall) → m.in_hand a ≡ Some s → driver_of s ≡ drivers.Open o → IsBuilt s.op × (IsSome o.making → room_of m (client_of s.call) ≡ true)
+  pub opens : (a : ActorName) (s : CallState) (o : OpenState) → m.in_hand a ≡ Some s → driver_of s ≡ drivers.Open o → IsBuilt s.op × (IsSome o.making → room_of m (client_of s.call) ≡ true)
   -- an iteration that is started has room for all sections that are declared, and one that goes on is there
   pub starts : (a : ActorName) (s : CallState) (r : ℕ) (call : CallId) (k : ℕ) (choice : Choice) → m.in_hand a ≡ Some s → due m s ≡ Serve r (requests.Iterate call k choice) → (s.kept.sections ≡ sections_declared m.cluster (Some k)) × IsIterOf choice s.op × IsSome (named_handle m a s.op) × IsActive (driver_of s)
   pub goes_on : (a : ActorName) (s : CallState) (r : ℕ) (call : CallId) (k : ℕ) → m.in_hand a ≡ Some s → due m s ≡ Serve r (requests.Next call k) → IsNextOf s.op × IsSome (named_handle m a s.op)

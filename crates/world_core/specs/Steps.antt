@@ -27,14 +27,14 @@ use Rattle.node_msgs.specs.declared.next.Next.{Next}
 use Rattle.node_msgs.specs.declared.next.Next.TheVariants.{Serve, Event, End}
 use Rattle.run_labels.specs.declared.words.OpWord.{OpWord}
 use Rattle.run_labels.specs.declared.words.OpWord.TheVariants as opwords
-use Rattle.run_labels.specs.declared.words.Verb.{Verb}
-use Rattle.run_labels.specs.declared.words.Verb.TheVariants as verbs
+use Rattle.node_msgs.specs.declared.steps.Verb.{Verb}
+use Rattle.node_msgs.specs.declared.steps.Verb.TheVariants as verbs
 use Rattle.run_labels.specs.declared.words.LineWord.{LineWord}
 use Rattle.run_labels.specs.declared.words.LineWord.TheVariants as linewords
 use Rattle.run_labels.specs.declared.words.Said.{Said}
 use Rattle.run_labels.specs.declared.words.Said.TheVariants.{Busy, Idle, Live, Down}
-use Rattle.run_labels.specs.declared.labels.StepReply.{StepReply}
-use Rattle.run_labels.specs.declared.labels.StepReply.TheVariants as words
+use Rattle.node_msgs.specs.declared.steps.StepReply.{StepReply}
+use Rattle.node_msgs.specs.declared.steps.StepReply.TheVariants as words
 use Rattle.run_labels.specs.declared.labels.Label.{Label}
 use Rattle.run_labels.specs.declared.labels.Label.TheVariants as labels
 use Rattle.run_labels.specs.OpWord.{word_of_op}
@@ -46,15 +46,18 @@ use Rattle.client_handles.specs.declared.client.TheConstants.{HANDLES_MAX}
 use Rattle.client_handles.specs.declared.handle_view.HandleView.{HandleView}
 use Rattle.world_core.specs.declared.drivers.Driver.{Driver}
 use Rattle.world_core.specs.declared.drivers.Rooms.{Rooms}
-use Rattle.world_core.specs.declared.record.Entry.{Entry}
-use Rattle.world_core.specs.declared.record.LiveClient.{LiveClient}
+use Rattle.cluster_record.specs.declared.entries.Entry.{Entry}
 use Rattle.world_core.specs.declared.replica.Replica.{Replica}
 use Rattle.world_core.specs.declared.replica.Slot.{Slot}
-use Rattle.world_core.specs.Calls.{number_of, client_of, IsClient, put_actor, left}
-use Rattle.world_core.specs.Places.{find_key, put, put2}
-use Rattle.world_core.specs.RecordState.{RecordState, entry_of, complete_of, client_key, is_live_client, is_up, no_nodes, brought_up, IsMomentFrom, moved}
-use Rattle.world_core.specs.Serving.{update_of, ckpt_of, reply_at, pieces_at, or_same, next_reply_at, next_id, given_at, chosen_at}
-use Rattle.world_core.specs.Driving.{Kept, driver_state, driver_next, driver_taken, driver_end, done_of, word_of, verb_of, event_verb, event_ckpt, event_node, event_end, event_after, takes_memory}
+use Rattle.cluster_record.specs.Calls.{number_of, client_of, IsClient, put_actor, left}
+use Rattle.cluster_record.specs.Places.{find_key, put, put2}
+use Rattle.cluster_record.specs.LookUps.{node_of_client, sections_declared, creation_flags_of}
+use Rattle.cluster_record.specs.RecordState.{RecordState, entry_of, complete_of, client_key, is_live_client, is_up, no_nodes, brought_up, IsMomentFrom, moved}
+use Rattle.node_msgs.specs.Requests.{ckpt_of}
+use Rattle.world_core.specs.Serving.{update_of, reply_at, pieces_at, or_same, next_reply_at, next_id, given_at, chosen_at}
+use Rattle.node_msgs.specs.Steps.{word_of, verb_of, event_verb}
+use Rattle.world_core.specs.Driving.{Kept, driver_state, driver_next, driver_taken, driver_end, event_ckpt, event_node, event_end, event_after, takes_memory}
+use Rattle.cluster_record.specs.StepDone.{done_of}
 use Rattle.world_core.specs.Beginning.{begin_end, handle_place, iteration_place, started_place, ended_place, chosen_choice, opened_place, opened_for, takes_room, IsBuilt}
 use Rattle.world_core.specs.Machine.{IterationTable, Machine, Effect, Applied, Staged, ReplicaState, CallState}
 
@@ -198,19 +201,6 @@ abbrev pub ckpt_of_handle : Option HandleView → Option ℕ
 ckpt_of_handle None = None
 ckpt_of_handle (Some h) = Some h.id
 
-abbrev pub node_of_client : Option LiveClient → ℕ
-node_of_client None = 0
-node_of_client (Some live) = live.node
-
--- how many sections a checkpoint declares; 0 where it is gone
-abbrev pub sections_in : Option Entry → ℕ
-sections_in None = 0
-sections_in (Some e) = e.attributes.max_sections
-
-abbrev pub sections_declared : RecordState → Option ℕ → ℕ
-sections_declared R None = 0
-sections_declared R (Some k) = sections_in (entry_of k R.entries)
-
 -- what a call keeps at its beginning
 abbrev pub kept_at : RecordState → ℕ → Option HandleView → Kept
 kept_at R c h = record { ckpt = ckpt_of_handle h; sections = sections_declared R (ckpt_of_handle h); node = node_of_client (find_key client_key c R.clients); moment = R.moment }
@@ -330,10 +320,6 @@ at_some None m change = m
 at_some (Some n) m change = change n
 
 -- the handle that an open gives, of the number after the client's last one, and the place that stands for it
-abbrev pub creation_flags_of : Option Entry → ℕ
-creation_flags_of None = 0
-creation_flags_of (Some e) = e.attributes.creation_flags
-
 abbrev pub new_handle : RecordState → ℕ → Op → ℕ → HandleView
 new_handle R last op k = record { id = k; flags = opened_for op; creation_flags = creation_flags_of (entry_of k R.entries); handle = last + 1 }
 

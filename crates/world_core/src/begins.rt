@@ -3,7 +3,7 @@ ghost use Rattle.ckpt_types.specs.declared.identities.ActorName.TheVariants.{Cli
 ghost use Rattle.ckpt_types.specs.declared.identities.Who.TheVariants.{Actor};
 ghost use Rattle.run_labels.specs.declared.words.LineWord.TheVariants as linewords;
 ghost use Rattle.run_labels.specs.declared.labels.Label.TheVariants as labels;
-ghost use Rattle.world_core.specs.RecordState.{empty_record};
+ghost use Rattle.cluster_record.specs.RecordState.{empty_record};
 ghost use Rattle.world_core.specs.Beginning.{IsBuilt, handle_place, iteration_place};
 ghost use Rattle.world_core.specs.Steps.{MayBegin, IsBeginEnd};
 ghost use Rattle.world_core.specs.Shows.{IsShown, IsRoomy, hand_at, room_for};

@@ -1,20 +1,21 @@
 ghost use Rattle.std.specs.Prelude.{◌≡◌, ◌-◌, ◌^◌, ◌<◌, Some, IfOk};
-ghost use Rattle.world_core.specs.Serving.{ckpt_of};
-ghost use Rattle.world_core.specs.Driving.{driver_next, driver_taken, driver_end, driver_start, update_start, active_start, done_end, done_of, verb_of, word_of, event_verb, event_ckpt, event_node, event_end, opened_end, making_ckpt, takes_memory, refused_cause};
-ghost use Rattle.world_core.specs.Calls.{client_of};
+ghost use Rattle.node_msgs.specs.Requests.{ckpt_of};
+ghost use Rattle.node_msgs.specs.Steps.{verb_of, word_of, event_verb};
+ghost use Rattle.world_core.specs.Driving.{driver_next, driver_taken, driver_end, driver_start, update_start, active_start, done_end, event_ckpt, event_node, event_end, opened_end, takes_memory, refused_cause};
+ghost use Rattle.cluster_record.specs.StepDone.{done_of};
+ghost use Rattle.cluster_record.specs.DueOpen.{making_ckpt};
+ghost use Rattle.cluster_record.specs.Calls.{client_of};
 ghost use Rattle.world_core.specs.Steps.{kept_at};
-ghost use Rattle.run_labels.specs.declared.labels.StepReply.TheVariants as words;
+ghost use Rattle.node_msgs.specs.declared.steps.StepReply.TheVariants as words;
 
 use crate::beginning::{choice_of, ckpt_of_handle};
-use crate::messages::word_of;
-use crate::open_call::{Making, OpenCall};
-use crate::reading::{ActiveCall, ActiveKind};
-use crate::record::{CLIENTS_MAX, Record, number_of};
-use crate::update_call::{UpdateCall, UpdatePhase};
+use crate::open_call::OpenCall;
+use crate::reading::ActiveCall;
+use crate::update_call::UpdateCall;
 use ckpt_types::{AisError, Answer, CallId, Cause, CkptId, NodeId, Op, OpenAsk, Outcome};
 use client_handles::HandleView;
-use node_msgs::{Next, RecordStep, Reply, Request};
-use run_labels::StepReply;
+use cluster_record::{ActiveKind, CLIENTS_MAX, Record, number_of};
+use node_msgs::{Next, RecordStep, Reply, Request, StepReply};
 use std::alloc::AllocError;
 
 /// What the tables of a client have a free place for.
@@ -54,17 +55,14 @@ impl Driver {
             Op::Open(_, name, _, timeout, attributes) => {
                 let name = name.clone()?;
                 let client = number_of(&call.actor);
-                Ok(Driver::Open(OpenCall {
-                    call,
-                    ask: OpenAsk {
-                        name,
-                        attrs: *attributes,
-                        client,
-                        node: cluster.node_of(client),
-                    },
-                    deadline: Some(cluster.moment_after(*timeout)),
-                    making: None,
-                }))
+                let ask = OpenAsk {
+                    name,
+                    attrs: *attributes,
+                    client,
+                    node: cluster.node_of(client),
+                };
+                let deadline = cluster.moment_after(*timeout);
+                Ok(Driver::Open(OpenCall::begin(call, ask, Some(deadline))))
             }
             Op::Create(_, _)
             | Op::Delete(_, _)
@@ -117,7 +115,7 @@ impl Driver {
         ensures new { self.new ≡ driver_taken (done_of cluster.now (verb_of request.now) (Some (ckpt_of request.now)) (Some r) (word_of reply.now)) self.old }
         ensures end { result ≡ driver_end op.now (done_of cluster.now (verb_of request.now) (Some (ckpt_of request.now)) (Some r) (word_of reply.now)) reply.now self.new }
     {
-        self.taken(cluster, r, request, word_of(reply));
+        self.taken(cluster, r, request, reply.word());
         self.end(op, cluster, r, request, reply)
     }
 
@@ -207,13 +205,7 @@ fn update_start(call: CallId, ckpt: Option<CkptId>) -> Driver
 {
     match ckpt {
         None => Driver::Enter(0),
-        Some(ckpt) => Driver::Update(UpdateCall {
-            call,
-            ckpt,
-            owned: [0; 8],
-            moment: 0,
-            phase: UpdatePhase::Staging,
-        }),
+        Some(ckpt) => Driver::Update(UpdateCall::begin(call, ckpt)),
     }
 }
 
@@ -222,7 +214,7 @@ fn active_start(call: CallId, kind: ActiveKind, ckpt: Option<CkptId>) -> Driver
 {
     match ckpt {
         None => Driver::Enter(0),
-        Some(ckpt) => Driver::Active(ActiveCall { call, ckpt, kind }),
+        Some(ckpt) => Driver::Active(ActiveCall::begin(call, ckpt, kind)),
     }
 }
 
@@ -236,18 +228,9 @@ pub fn event_ckpt(cluster: &Record, driver: &Driver, step: &RecordStep) -> Optio
     };
     match step {
         RecordStep::Create => Some(cluster.last_identity() + 1),
-        RecordStep::Open => cluster.identity_named(&open_call.ask.name),
-        RecordStep::Finish | RecordStep::Undo => making_ckpt(&open_call.making),
+        RecordStep::Open => cluster.find(&open_call.ask().name),
+        RecordStep::Finish | RecordStep::Undo => open_call.making(),
         _ => None,
-    }
-}
-
-fn making_ckpt(making: &Option<Making>) -> Option<CkptId>
-    ensures { result ≡ making_ckpt making.now }
-{
-    match making {
-        None => None,
-        Some(making) => Some(making.ckpt),
     }
 }
 

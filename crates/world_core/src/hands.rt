@@ -1,23 +1,25 @@
 ghost use Rattle.std.specs.Prelude.{◌≡◌, ◌≢◌, ◌<◌, [], length, replicate, Some, None, is_some, IfOk, IfSome, MatchOption, slice_set};
 ghost use Rattle.run_labels.specs.OpWord.{word_of_op};
-ghost use Rattle.world_core.specs.Calls.{left};
-ghost use Rattle.world_core.specs.Serving.{update_of, elements_of, ckpt_of};
+ghost use Rattle.cluster_record.specs.Calls.{left};
+ghost use Rattle.node_msgs.specs.Requests.{ckpt_of};
+ghost use Rattle.world_core.specs.Serving.{update_of, elements_of};
 ghost use Rattle.world_core.specs.Lending.{bytes_asked, IsLentRead, IsLentFor, IsLent};
 ghost use Rattle.ckpt_types.specs.declared.update.Update.TheVariants as updates;
-ghost use Rattle.world_core.specs.Driving.{done_of, verb_of, word_of, event_verb};
+ghost use Rattle.node_msgs.specs.Steps.{verb_of, word_of, event_verb};
+ghost use Rattle.cluster_record.specs.StepDone.{done_of};
 ghost use Rattle.world_core.specs.HandSteps.{hand_taken, hand_end};
 ghost use Rattle.world_core.specs.Shows.{hand_at};
 ghost use Rattle.world_core.specs.declared.hands.InHand.{InHand};
 
 use crate::drivers::Driver;
 use crate::nodes::Lent;
-use crate::record::Record;
 use ckpt_types::{
     CallId, CkptId, NewId, NodeId, Op, Outcome, ReadBuf, ReadElement, ReadVector, SharedReads,
     SharedUpdate, Update,
 };
-use node_msgs::{RecordStep, Reply, Request};
-use run_labels::{OpWord, StepReply};
+use cluster_record::Record;
+use node_msgs::{RecordStep, Reply, Request, StepReply};
+use run_labels::OpWord;
 use section_iter::Iteration;
 use std::alloc::{AllocError, Global};
 use std::marker::Model;

@@ -6,12 +6,11 @@ ghost use Rattle.world_core.specs.Happenings.{IsNext, IsStep};
 
 use crate::beginning::{handle_place, iteration_place, started_place};
 use crate::hands::InHand;
-use crate::messages::word_of;
 use crate::nodes::told_pieces;
 use crate::world::World;
 use ckpt_types::{Answer, CallId, Choice, CkptId, NodeId, Outcome, ReadBuf, SECTION_ID_MAX};
-use node_msgs::Request;
-use run_labels::{Label, OpWord, StepReply, Verb};
+use node_msgs::{Request, StepReply, Verb};
+use run_labels::{Label, OpWord};
 use std::alloc::{AllocError, Global};
 
 impl World {
@@ -52,7 +51,7 @@ impl World {
         let Some(mut iteration) = iteration else {
             unreachable!()
         };
-        let now = self.cluster.moment();
+        let now = self.cluster.now();
         self.nodes.start(r, ckpt, &mut iteration, choice, now);
         self.tables.start(c, place, handle.handle, iteration);
         Label::Stepped {
@@ -93,7 +92,7 @@ impl World {
             unreachable!()
         };
         let mut read = ReadBuf::reserve(alloc, 1, SECTION_ID_MAX)?;
-        let now = self.cluster.moment();
+        let now = self.cluster.now();
         let reply = self
             .tables
             .go_on(c, place, &self.nodes, r, ckpt, now, &mut read);
@@ -105,7 +104,7 @@ impl World {
             verb: Verb::Next,
             ckpt: Some(ckpt),
             node: Some(r),
-            reply: word_of(&reply),
+            reply: reply.word(),
             end,
             pieces,
         })

@@ -1,9 +1,9 @@
-//! The cluster: the record, the nodes, the clients' tables and the calls in hand, one event at a time.
+//! The cluster: its record, the nodes, the clients' tables and the calls in hand, one event at a time.
 #![tactic(auto)]
 
+mod applying;
 mod beginning;
 mod begins;
-mod by_node;
 mod drivers;
 mod hands;
 mod iterating;
@@ -12,7 +12,6 @@ mod moments;
 mod nodes;
 mod open_call;
 mod reading;
-mod record;
 mod replica;
 mod steps;
 mod tables;
@@ -22,10 +21,9 @@ mod world;
 pub use drivers::{Driver, Rooms};
 pub use hands::{Hands, InHand};
 pub use nodes::{Lent, Node, Nodes};
-pub use open_call::{Making, OpenCall};
-pub use reading::{ActiveCall, ActiveKind};
-pub use record::{CHECKPOINTS_MAX, CLIENTS_MAX, Entry, LiveClient, Record};
+pub use open_call::OpenCall;
+pub use reading::ActiveCall;
 pub use replica::{Replica, Slot};
 pub use tables::{Table, Tables};
-pub use update_call::{UpdateCall, UpdatePhase};
+pub use update_call::UpdateCall;
 pub use world::{Event, VECTOR_MAX, World};

@@ -1,4 +1,4 @@
-ghost use Rattle.world_core.specs.RecordState.{IsMomentFrom};
+ghost use Rattle.cluster_record.specs.RecordState.{IsMomentFrom};
 ghost use Rattle.world_core.specs.Happenings.{SetsMoment};
 
 use crate::world::World;

@@ -2,12 +2,12 @@ ghost use Rattle.std.specs.Prelude.{◌≡◌, ◌<◌, ◌≤◌, [], ◌++◌,
 ghost use Rattle.ckpt_types.specs.declared.section_id.TheConstants.{SECTION_ID_MAX};
 ghost use Rattle.section_iter.specs.Next.{kept_after};
 ghost use Rattle.ckpt_types.specs.Attributes.{is_malformed};
-ghost use Rattle.world_core.specs.Places.{find_key, change_key, place_key};
-ghost use Rattle.world_core.specs.Serving.{replica_key, ckpt_of, replica_after, replica_in, reply_at, pieces_at, served, IsReadyAt, opened_replica, added, reserved_at, chosen_at, given_at, next_id, next_reply_at};
+ghost use Rattle.cluster_record.specs.Places.{find_key, change_key, place_key};
+ghost use Rattle.node_msgs.specs.Requests.{ckpt_of};
+ghost use Rattle.world_core.specs.Serving.{replica_key, replica_after, replica_in, reply_at, pieces_at, served, IsReadyAt, opened_replica, added, reserved_at, chosen_at, given_at, next_id, next_reply_at};
 ghost use Rattle.world_core.specs.Lending.{IsLent, pieces_told};
 ghost use Rattle.world_core.specs.Steps.{ended_pieces};
 
-use crate::messages::ckpt_of;
 use crate::replica::Replica;
 use ckpt_types::{
     Answer, Choice, CkptId, CreationAttributes, Moment, NodeId, Op, Outcome, Pieces, ReadBuf,
@@ -249,7 +249,7 @@ fn serve_at(
     ensures new { replicas.new ≡ change_key replica_key (ckpt_of request.now) (replica_after request.now op.now) replicas.old }
     ensures pieces { pieces_told result lent.new.read.pieces ≡ pieces_at request.now op.now now (find_key replica_key (ckpt_of request.now) replicas.old) }
 {
-    let Some(i) = place_of(replicas, ckpt_of(request)) else {
+    let Some(i) = place_of(replicas, request.ckpt()) else {
         return Reply::NoReplica;
     };
     let replica = &mut replicas[i];

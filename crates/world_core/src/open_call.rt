@@ -1,64 +1,77 @@
 ghost use Rattle.std.specs.Prelude.{◌≡◌, ◌<◌, Some, None};
-ghost use Rattle.world_core.specs.RecordState.{named};
-ghost use Rattle.world_core.specs.Serving.{ckpt_of};
-ghost use Rattle.world_core.specs.Driving.{accepts, in_time, create_next, entry_next, on_free_name, on_named, on_making, made_of, create_taken, open_next, open_taken, done_of, verb_of, event_verb};
+ghost use Rattle.cluster_record.specs.RecordState.{named};
+ghost use Rattle.node_msgs.specs.Requests.{ckpt_of};
+ghost use Rattle.node_msgs.specs.Steps.{verb_of, event_verb};
+ghost use Rattle.cluster_record.specs.DueOpen.{open_begun, making_ckpt, accepts, in_time, create_next, entry_next, on_free_name, on_named, on_making, made_of, create_taken, open_next, open_taken};
+ghost use Rattle.cluster_record.specs.StepDone.{done_of};
 
-use crate::by_node::first_lacking;
-use crate::record::{CHECKPOINTS_MAX, Entry, Record};
 use ckpt_types::{
     AisError, CallId, Cause, CkptId, CreationAttributes, Moment, NodeId, OpenAsk, Outcome,
 };
 use client_handles::HANDLES_MAX;
+use cluster_record::{CHECKPOINTS_MAX, Entry, Making, Record, first_lacking};
 use moment_rules::reached;
-use node_msgs::{Next, RecordStep, Request};
-use run_labels::StepReply;
-
-/// A checkpoint that an open is making.
-#[derive(Clone, Copy, Debug)]
-pub struct Making {
-    /// The checkpoint.
-    pub ckpt: CkptId,
-    /// By node, the incarnation under which it has reserved, or 0.
-    pub reserved: [u32; 8],
-    /// A reservation was refused for memory.
-    pub refused: bool,
-}
+use node_msgs::{Next, RecordStep, Request, StepReply};
+use std::marker::Model;
 
 /// The driver of an open.
 #[derive(Debug, Drop)]
 pub struct OpenCall {
-    /// The call.
-    pub call: CallId,
-    /// What it asks of the record.
-    pub ask: OpenAsk,
-    /// The moment from which on it is too late, if it has a timeout.
-    pub deadline: Option<Moment>,
-    /// What it is making, if it is.
-    pub making: Option<Making>,
+    call: CallId,
+    ask: OpenAsk,
+    // The moment from which on it is too late, if it has a timeout.
+    deadline: Option<Moment>,
+    // What it is making, if it is.
+    making: Option<Making>,
 }
 
-impl Making {
-    fn next(&self, cluster: &Record) -> Next
-        ensures { result ≡ on_making cluster.now self.now }
-    {
-        if self.refused {
-            return Next::Event(RecordStep::Undo);
-        }
-        match first_lacking(&cluster.up(), &self.reserved) {
-            Some(r) => Next::Serve(r, Request::Reserve(self.ckpt)),
-            None => Next::Event(RecordStep::Finish),
-        }
-    }
+impl Model for OpenCall {
+    ghost use Rattle.cluster_record.specs.DueOpen.{OpenState};
+
+    ghost Value = { OpenState };
+
+    ghost use Rattle.world_core.specs.CallStates.{open_state};
+
+    ghost view = { open_state };
 }
 
 impl OpenCall {
+    /// The open of a call that begins: it is making nothing.
+    pub fn begin(call: CallId, ask: OpenAsk, deadline: Option<Moment>) -> OpenCall
+        ensures { result ≡ open_begun call ask deadline }
+    {
+        OpenCall {
+            call,
+            ask,
+            deadline,
+            making: None,
+        }
+    }
+
+    /// What it asks of the record.
+    pub fn ask(&self) -> &OpenAsk
+        ensures { result.now ≡ self.now.ask }
+    {
+        &self.ask
+    }
+
+    /// The checkpoint that it is making, if it is.
+    pub fn making(&self) -> Option<CkptId>
+        ensures { result ≡ making_ckpt self.now.making }
+    {
+        match &self.making {
+            None => None,
+            Some(making) => Some(making.ckpt),
+        }
+    }
+
     /// What it does next; `room` tells whether the client has a free place for a handle.
     pub fn next(&self, cluster: &Record, room: bool) -> Next
         ensures { result ≡ open_next cluster.now room self.now }
     {
         match &self.making {
             None => self.named_next(cluster, room),
-            Some(making) => making.next(cluster),
+            Some(making) => making_next(making, cluster),
         }
     }
 
@@ -69,7 +82,7 @@ impl OpenCall {
             None => free_next(cluster, room, self.deadline, &self.ask.attrs),
             Some(entry) => {
                 let next = entry_next(room, &self.ask.attrs, entry);
-                in_time(self.deadline, cluster.moment(), next)
+                in_time(self.deadline, cluster.now(), next)
             }
         }
     }
@@ -87,7 +100,7 @@ impl OpenCall {
         };
         match word {
             StepReply::Ok => {
-                let up = cluster.up();
+                let up = cluster.incarnations();
                 making.reserved[r as usize] = up[r as usize];
             }
             StepReply::Memory => making.refused = true,
@@ -109,6 +122,19 @@ impl OpenCall {
         if let (RecordStep::Create, StepReply::Ok) = (step, word) {
             self.making = made_of(ckpt);
         }
+    }
+}
+
+// The next step of a making.
+fn making_next(making: &Making, cluster: &Record) -> Next
+    ensures { result ≡ on_making cluster.now making.now }
+{
+    if making.refused {
+        return Next::Event(RecordStep::Undo);
+    }
+    match first_lacking(&cluster.incarnations(), &making.reserved) {
+        Some(r) => Next::Serve(r, Request::Reserve(making.ckpt)),
+        None => Next::Event(RecordStep::Finish),
     }
 }
 
@@ -160,7 +186,7 @@ fn free_next(
 {
     match attributes {
         None => Next::End(Outcome::Refused(AisError::NotExist, Cause::Plain)),
-        Some(_) => in_time(deadline, cluster.moment(), create_next(cluster, room)),
+        Some(_) => in_time(deadline, cluster.now(), create_next(cluster, room)),
     }
 }
 

@@ -1,40 +1,38 @@
 ghost use Rattle.std.specs.Prelude.{◌≡◌};
-ghost use Rattle.world_core.specs.Driving.{on_active, active_next, active_request, starts_iteration};
+ghost use Rattle.cluster_record.specs.DueActive.{active_begun, on_active, active_next, active_request, starts_iteration};
 
-use crate::record::Record;
-use ckpt_types::{AisError, CallId, Cause, Choice, CkptId, NodeId, Outcome};
+use ckpt_types::{AisError, CallId, Cause, CkptId, NodeId, Outcome};
 use client_handles::ITERATIONS_MAX;
+use cluster_record::{ActiveKind, Record};
 use node_msgs::{Next, Request};
-
-/// What a call asks of the active replica.
-#[derive(Clone, Copy, Debug, PartialEq, Eq)]
-pub enum ActiveKind {
-    /// An update at once.
-    Apply,
-    /// A weak write of so many elements.
-    Weak(u32),
-    /// A read.
-    Read,
-    /// The status.
-    Status,
-    /// The start of an iteration.
-    Iterate(Choice),
-    /// The next section of an iteration.
-    Next,
-}
+use std::marker::Model;
 
 /// The driver of a call that goes to the active replica alone.
-#[derive(Clone, Copy, Debug)]
+#[derive(Debug, Drop)]
 pub struct ActiveCall {
-    /// The call.
-    pub call: CallId,
-    /// The checkpoint.
-    pub ckpt: CkptId,
-    /// What it asks.
-    pub kind: ActiveKind,
+    call: CallId,
+    ckpt: CkptId,
+    kind: ActiveKind,
+}
+
+impl Model for ActiveCall {
+    ghost use Rattle.cluster_record.specs.DueActive.{ActiveState};
+
+    ghost Value = { ActiveState };
+
+    ghost use Rattle.world_core.specs.CallStates.{active_state};
+
+    ghost view = { active_state };
 }
 
 impl ActiveCall {
+    /// A call that begins and asks so much of the active.
+    pub fn begin(call: CallId, ckpt: CkptId, kind: ActiveKind) -> ActiveCall
+        ensures { result ≡ active_begun call ckpt kind }
+    {
+        ActiveCall { call, ckpt, kind }
+    }
+
     /// What it does next; `room` tells whether its client has a free place for an iteration. A step leaves it
     /// as it is.
     pub fn next(&self, cluster: &Record, room: bool) -> Next

@@ -7,9 +7,9 @@ ghost use Rattle.node_msgs.specs.declared.requests.Request.TheVariants as reques
 ghost use Rattle.run_labels.specs.declared.labels.Label.TheVariants as labels;
 ghost use Rattle.run_labels.specs.declared.words.Said.TheVariants.{Idle};
 ghost use Rattle.world_core.specs.Giving.{gives_handle};
-ghost use Rattle.world_core.specs.RecordState.{entry_of};
+ghost use Rattle.cluster_record.specs.RecordState.{entry_of};
 ghost use Rattle.client_handles.specs.declared.client.TheConstants.{HANDLES_MAX};
-ghost use Rattle.world_core.specs.Steps.{creation_flags_of};
+ghost use Rattle.cluster_record.specs.LookUps.{creation_flags_of};
 ghost use Rattle.world_core.specs.TableState.{TableState, with_handle};
 ghost use Rattle.world_core.specs.Reserving.{IsReserved};
 ghost use Rattle.world_core.specs.Runs.{step_word};
@@ -18,16 +18,17 @@ ghost use Rattle.world_core.specs.Happenings.{rooms_in, IsNext, IsStep, IsIdle};
 ghost use Rattle.ckpt_types.specs.declared.identities.CallId.{CallId};
 ghost use Rattle.ckpt_types.specs.declared.sections.Choice.{Choice};
 
+use crate::applying::apply;
 use crate::beginning::{opened_for, opened_place};
 use crate::drivers::{Rooms, event_ckpt, event_end, event_node};
-use crate::messages::{ckpt_of, event_verb, look_word, verb_of, word_of};
+use crate::messages::look_word;
 use crate::nodes::told_pieces;
-use crate::record::Record;
 use crate::tables::Tables;
 use crate::world::World;
 use ckpt_types::{ActorName, Answer, CkptId, NodeId, OpenFlags, Outcome, Who};
-use node_msgs::{Next, RecordStep, Reply, Request};
-use run_labels::{Label, LineWord, Said, StepReply, Verb};
+use cluster_record::Record;
+use node_msgs::{Next, RecordStep, Reply, Request, StepReply, Verb};
+use run_labels::{Label, LineWord, Said};
 use std::alloc::{AllocError, Global};
 
 impl World {
@@ -95,7 +96,7 @@ impl World {
             verb: Verb::Reserve,
             ckpt: Some(ckpt),
             node: Some(r),
-            reply: word_of(&reply),
+            reply: reply.word(),
             end,
             pieces: None,
         })
@@ -125,17 +126,17 @@ impl World {
         let call = hand.call;
         let op = hand.word();
         let mut lent = hand.lend(alloc, request)?;
-        let now = self.cluster.moment();
+        let now = self.cluster.now();
         let reply = self.nodes.serve(r, request, &hand.op, now, &mut lent);
         let end = self.hands.take(c, &self.cluster, r, request, &reply);
         let pieces = told_pieces(&end, &reply, lent.read);
         Ok(Label::Stepped {
             call,
             op,
-            verb: verb_of(request),
-            ckpt: Some(ckpt_of(request)),
+            verb: request.verb(),
+            ckpt: Some(request.ckpt()),
             node: Some(r),
-            reply: word_of(&reply),
+            reply: reply.word(),
             end,
             pieces,
         })
@@ -158,8 +159,8 @@ impl World {
         let flags = opened_for(&hand.op);
         let ckpt = event_ckpt(&self.cluster, &hand.driver, &step);
         let node = event_node(&hand.driver, &step);
-        let verb = event_verb(&step);
-        if self.cluster.apply(call, &hand.driver, step).is_err() {
+        let verb = step.verb();
+        if apply(&mut self.cluster, call, &hand.driver, step).is_err() {
             self.hands.clear(c);
             return Label::Stepped {
                 call,

@@ -1,40 +1,51 @@
 ghost use Rattle.std.specs.Prelude.{◌≡◌, ◌<◌, Some};
-ghost use Rattle.run_labels.specs.declared.labels.StepReply.TheVariants as words;
-ghost use Rattle.world_core.specs.Serving.{ckpt_of};
-ghost use Rattle.world_core.specs.Driving.{commit_at, stage_at, by_phase, update_next, update_taken, commit_end, done_end_by, done_of, kept_moment, last_having, verb_of};
+ghost use Rattle.node_msgs.specs.declared.steps.StepReply.TheVariants as words;
+ghost use Rattle.node_msgs.specs.Requests.{ckpt_of};
+ghost use Rattle.node_msgs.specs.Steps.{verb_of};
+ghost use Rattle.cluster_record.specs.DueUpdate.{update_begun, commit_at, stage_at, by_phase, update_next, update_taken, commit_end, done_end_by, kept_moment};
+ghost use Rattle.cluster_record.specs.StepDone.{done_of, last_having};
 
-use crate::by_node::{first_lacking, last_having};
-use crate::messages::ckpt_of;
-use crate::record::Record;
 use ckpt_types::{AisError, Answer, CallId, Cause, CkptId, Moment, NodeId, Outcome};
-use node_msgs::{Next, Request};
-use run_labels::StepReply;
-
-/// How far an all-replicas update is.
-#[derive(Clone, Copy, Debug, PartialEq, Eq)]
-pub enum UpdatePhase {
-    /// It stages on the complete nodes, in ascending order.
-    Staging,
-    /// It commits on the nodes where it has staged, in descending order.
-    Committing,
-}
+use cluster_record::{Record, UpdatePhase, first_lacking, last_having};
+use node_msgs::{Next, Request, StepReply};
+use std::marker::Model;
 
 /// The driver of an update on a checkpoint whose replicas all have it before it is answered.
-#[derive(Clone, Copy, Debug)]
+#[derive(Debug, Drop)]
 pub struct UpdateCall {
-    /// The call.
-    pub call: CallId,
-    /// The checkpoint.
-    pub ckpt: CkptId,
-    /// By node, the incarnation with which the call owns its slot, or 0.
-    pub owned: [u32; 8],
-    /// The moment of its slots.
-    pub moment: Moment,
-    /// How far it is.
-    pub phase: UpdatePhase,
+    call: CallId,
+    ckpt: CkptId,
+    // By node, the incarnation with which the call owns its slot, or 0.
+    owned: [u32; 8],
+    // The moment of its slots.
+    moment: Moment,
+    phase: UpdatePhase,
+}
+
+impl Model for UpdateCall {
+    ghost use Rattle.cluster_record.specs.DueUpdate.{UpdateState};
+
+    ghost Value = { UpdateState };
+
+    ghost use Rattle.world_core.specs.CallStates.{update_state};
+
+    ghost view = { update_state };
 }
 
 impl UpdateCall {
+    /// The update of a call that begins: it has staged nowhere.
+    pub fn begin(call: CallId, ckpt: CkptId) -> UpdateCall
+        ensures { result ≡ update_begun call ckpt }
+    {
+        UpdateCall {
+            call,
+            ckpt,
+            owned: [0; 8],
+            moment: 0,
+            phase: UpdatePhase::Staging,
+        }
+    }
+
     /// What it does next.
     pub fn next(&self, cluster: &Record) -> Next
         ensures { result ≡ update_next cluster.now self.now }
@@ -44,7 +55,7 @@ impl UpdateCall {
         };
         let first = first_lacking(&entry.complete, &self.owned);
         let last = last_having(&entry.complete, &self.owned);
-        self.phase_next(cluster.moment(), first, last)
+        self.phase_next(cluster.now(), first, last)
     }
 
     fn phase_next(&self, now: Moment, first: Option<NodeId>, last: Option<NodeId>) -> Next
@@ -88,11 +99,11 @@ impl UpdateCall {
         let StepReply::Ok = word else {
             return;
         };
-        let complete = cluster.complete(ckpt_of(request));
+        let complete = cluster.complete(request.ckpt());
         match request {
             Request::Stage(_, _, _) => {
                 if last_having(&complete, &self.owned).is_none() {
-                    self.moment = cluster.moment();
+                    self.moment = cluster.now();
                 }
                 self.owned[r as usize] = complete[r as usize];
                 self.phase = UpdatePhase::Staging;

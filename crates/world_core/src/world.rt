@@ -6,9 +6,9 @@ ghost use Rattle.world_core.specs.Refusals.{RefusalLeaves};
 
 use crate::hands::Hands;
 use crate::nodes::Nodes;
-use crate::record::Record;
 use crate::tables::Tables;
 use ckpt_types::{ActorName, Moment, Op, Who};
+use cluster_record::Record;
 use run_labels::{Label, RunLog};
 use std::alloc::{AllocError, Global};
 
@@ -52,6 +52,13 @@ impl World {
             tables: Tables::new(alloc)?,
             hands: Hands::new(alloc)?,
         })
+    }
+
+    /// What all nodes agree on.
+    pub fn record(&self) -> &Record
+        ensures { result.now ≡ self.now.cluster }
+    {
+        &self.cluster
     }
 
     /// Whether the client has a call in hand.

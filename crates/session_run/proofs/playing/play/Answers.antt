@@ -1,7 +1,7 @@
 use Rattle.std.proofs.Common.{◌+◌, List, ◌++◌, length, drop, sym, ap, subst, arith}
 use Rattle.std.proofs.lemmas.List.{drop_all}
 use Rattle.run_labels.specs.declared.labels.Label.{Label}
-use Rattle.world_core.specs.RecordState.{RecordState}
+use Rattle.cluster_record.specs.RecordState.{RecordState}
 use Rattle.world_core.specs.Runs.{IsRunTo, last}
 use Rattle.session_run.specs.Follows.{FollowsFrom, Follows}
 use Rattle.session_run.proofs.Following.{follows_line, follows_end, drop_item}
@@ -44,7 +44,7 @@ loop-line-preserved c =
       form = AreLeft-next i c.loop-line.world.cluster.moment c.play_line.new.world.cluster.moment c.line-item.result (drop (i + 1) c.args.lines.now) left c.loop-line.invariant.start done.moment;
       start = λ e. absurd (omega (arith, e));
       first = λ e. absurd (omega (arith, e));
-      follows = follows_line c.args.lines.now (drop i c.args.lines.now) c.line-item.result (drop (i + 1) c.args.lines.now) c.loop-line.log.labels c.play_line.new.log.labels next done.answers c.loop-line.invariant.follows;
+      follows = follows_line c.args.lines.now (drop i c.args.lines.now) c.line-item.result (drop (i + 1) c.args.lines.now) c.loop-line.log.labels c.play_line.new.log.labels next done.answers c.play_line.ensures.few c.loop-line.invariant.follows;
     }
 
 pub returns-clause-follows : goal.returns-clause-follows

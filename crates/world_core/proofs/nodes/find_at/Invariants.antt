@@ -1,5 +1,5 @@
 use Rattle.std.proofs.Common.{◌≡◌, drop}
-use Rattle.world_core.specs.Places.{find_key}
+use Rattle.cluster_record.specs.Places.{find_key}
 use Rattle.world_core.specs.Serving.{replica_key}
 use Rattle.world_core.proofs.nodes.find_at.Given as goal
 

@@ -1,5 +1,5 @@
 use Rattle.std.proofs.Common.{◌≡◌, drop}
-use Rattle.world_core.specs.Places.{place_from}
+use Rattle.cluster_record.specs.Places.{place_from}
 use Rattle.world_core.specs.Serving.{replica_key}
 use Rattle.world_core.proofs.nodes.place_of.Given as goal
 

@@ -2,9 +2,9 @@ use Rattle.std.proofs.Common.{sym, ap, ◌∙◌, ◌++◌, ◌∷◌, [], w64}
 use Rattle.std.proofs.lemmas.Int.{to_z-of_z}
 use Rattle.std.specs.Prelude.{Option}
 use Rattle.world_core.specs.declared.replica.Replica.{Replica}
-use Rattle.world_core.specs.Places.{place_key}
+use Rattle.cluster_record.specs.Places.{place_key}
 use Rattle.world_core.specs.Serving.{replica_key, opened_replica, added}
-use Rattle.world_core.proofs.AtKeys.{or_found, or_none_at}
+use Rattle.cluster_record.proofs.AtKeys.{or_found, or_none_at}
 use Rattle.world_core.proofs.nodes.reserve_in.Goals as goal
 
 pub returns-then-is_some-clause-ok : goal.returns-then-is_some-clause-ok

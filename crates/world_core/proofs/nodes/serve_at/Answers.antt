@@ -1,47 +1,48 @@
 use Rattle.std.proofs.Common.{sym, ap, subst, ◌∙◌, w64}
 use Rattle.std.proofs.lemmas.Int.{to_z-of_z}
 use mir.Val.{SFits}
-use Rattle.world_core.specs.Places.{place_key}
-use Rattle.world_core.specs.Serving.{replica_key, ckpt_of, reply_at, pieces_at, replica_after, IsReadyAt}
-use Rattle.world_core.proofs.Places.{changes_at, changes_none}
-use Rattle.world_core.proofs.AtKeys.{element_at, none_at}
+use Rattle.cluster_record.specs.Places.{place_key}
+use Rattle.node_msgs.specs.Requests.{ckpt_of}
+use Rattle.world_core.specs.Serving.{replica_key, reply_at, pieces_at, replica_after, IsReadyAt}
+use Rattle.cluster_record.proofs.Places.{changes_at, changes_none}
+use Rattle.cluster_record.proofs.AtKeys.{element_at, none_at}
 use Rattle.world_core.proofs.nodes.serve_at.Goals as goal
 
 pub returns-in_default-clause-reply : goal.returns-in_default-clause-reply
 returns-in_default-clause-reply c =
-    let from = c.place_of.ensures.place ∙ ap (λ k. place_key replica_key k c.args.replicas.now) c.ckpt_of.ensures in
+    let from = c.place_of.ensures.place ∙ ap (λ k. place_key replica_key k c.args.replicas.now) c.ckpt.ensures in
     ap (reply_at c.args.request.now c.args.op.now c.args.now) (sym (none_at replica_key (ckpt_of c.args.request.now) c.args.replicas.now c.place_of.result from c.in_default.is))
 
 pub returns-in_default-clause-new : goal.returns-in_default-clause-new
 returns-in_default-clause-new c =
-    let from = c.place_of.ensures.place ∙ ap (λ k. place_key replica_key k c.args.replicas.now) c.ckpt_of.ensures in
+    let from = c.place_of.ensures.place ∙ ap (λ k. place_key replica_key k c.args.replicas.now) c.ckpt.ensures in
     changes_none replica_key (ckpt_of c.args.request.now) (replica_after c.args.request.now c.args.op.now) c.args.replicas.now c.place_of.result from c.in_default.is
 
 pub returns-in_default-clause-pieces : goal.returns-in_default-clause-pieces
 returns-in_default-clause-pieces c =
-    let from = c.place_of.ensures.place ∙ ap (λ k. place_key replica_key k c.args.replicas.now) c.ckpt_of.ensures in
+    let from = c.place_of.ensures.place ∙ ap (λ k. place_key replica_key k c.args.replicas.now) c.ckpt.ensures in
     ap (pieces_at c.args.request.now c.args.op.now c.args.now) (sym (none_at replica_key (ckpt_of c.args.request.now) c.args.replicas.now c.place_of.result from c.in_default.is))
 
 pub serve-requires-clause-ready : goal.serve-requires-clause-ready
 serve-requires-clause-ready c =
-    let from = c.place_of.ensures.place ∙ ap (λ k. place_key replica_key k c.args.replicas.now) c.ckpt_of.ensures in
+    let from = c.place_of.ensures.place ∙ ap (λ k. place_key replica_key k c.args.replicas.now) c.ckpt.ensures in
     subst (IsReadyAt c.args.request.now) (element_at replica_key (ckpt_of c.args.request.now) c.args.replicas.now c.place_of.result from c.in-Some.i c.index-replicas-i.result c.in-Some.is) c.requires.ready
 
 pub returns-clause-reply : goal.returns-clause-reply
 returns-clause-reply c =
     let fits : SFits w64 c.args.now = c.ranges.now in
-    let from = c.place_of.ensures.place ∙ ap (λ k. place_key replica_key k c.args.replicas.now) c.ckpt_of.ensures in
+    let from = c.place_of.ensures.place ∙ ap (λ k. place_key replica_key k c.args.replicas.now) c.ckpt.ensures in
     (simp to_z-of_z at c.serve.ensures.reply)
     ∙ ap (reply_at c.args.request.now c.args.op.now c.args.now) (sym (element_at replica_key (ckpt_of c.args.request.now) c.args.replicas.now c.place_of.result from c.in-Some.i c.index-replicas-i.result c.in-Some.is))
 
 pub returns-clause-new : goal.returns-clause-new
 returns-clause-new c =
-    let from = c.place_of.ensures.place ∙ ap (λ k. place_key replica_key k c.args.replicas.now) c.ckpt_of.ensures in
+    let from = c.place_of.ensures.place ∙ ap (λ k. place_key replica_key k c.args.replicas.now) c.ckpt.ensures in
     changes_at replica_key (ckpt_of c.args.request.now) (replica_after c.args.request.now c.args.op.now) c.args.replicas.now c.place_of.result from c.in-Some.i c.index-replicas-i.result c.serve.new.self c.in-Some.is c.serve.ensures.new
 
 pub returns-clause-pieces : goal.returns-clause-pieces
 returns-clause-pieces c =
     let fits : SFits w64 c.args.now = c.ranges.now in
-    let from = c.place_of.ensures.place ∙ ap (λ k. place_key replica_key k c.args.replicas.now) c.ckpt_of.ensures in
+    let from = c.place_of.ensures.place ∙ ap (λ k. place_key replica_key k c.args.replicas.now) c.ckpt.ensures in
     (simp to_z-of_z at c.serve.ensures.pieces)
     ∙ ap (pieces_at c.args.request.now c.args.op.now c.args.now) (sym (element_at replica_key (ckpt_of c.args.request.now) c.args.replicas.now c.place_of.result from c.in-Some.i c.index-replicas-i.result c.in-Some.is))

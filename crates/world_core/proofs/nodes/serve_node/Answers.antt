@@ -3,9 +3,10 @@ use Rattle.std.specs.Prelude.{slice_set}
 use Rattle.std.proofs.lemmas.Int.{to_z-of_z}
 use mir.Val.{SFits}
 use Rattle.world_core.specs.declared.replica.Replica.{Replica}
-use Rattle.world_core.specs.Places.{find_key, change_key}
-use Rattle.world_core.specs.Serving.{replica_key, ckpt_of, reply_at, pieces_at, replica_after}
-use Rattle.world_core.proofs.AtKeys.{list_or-slice_get}
+use Rattle.cluster_record.specs.Places.{find_key, change_key}
+use Rattle.node_msgs.specs.Requests.{ckpt_of}
+use Rattle.world_core.specs.Serving.{replica_key, reply_at, pieces_at, replica_after}
+use Rattle.cluster_record.proofs.AtKeys.{list_or-slice_get}
 use Rattle.world_core.proofs.nodes.serve_node.Goals as goal
 
 pub returns-clause-reply : goal.returns-clause-reply

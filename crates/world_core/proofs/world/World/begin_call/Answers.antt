@@ -1,5 +1,5 @@
 use Rattle.std.proofs.Common.{◌≡◌, refl, ap, ◌∙◌}
-use Rattle.world_core.specs.Steps.{sections_declared}
+use Rattle.cluster_record.specs.LookUps.{sections_declared}
 use Rattle.std.specs.Prelude.{slice_get, slice_set}
 use Rattle.world_core.specs.declared.hands.InHand.{InHand}
 use Rattle.world_core.specs.Beginning.{handle_place, iteration_place}

@@ -23,9 +23,9 @@ returns-then-is_err c =
     let next = next_for w c.args.c (Event c.args.step) hand held c.requires.next in
     let err = sym c.is_err.ensures.value ∙ c.if-is_err.true in
     let takes : IsTrue (takes_memory c.args.step) = when_err (IsTrue (takes_memory c.args.step)) c.apply.result err c.apply.ensures.memory in
-    let same : c.apply.new.self ≡ w.cluster = when_err (c.apply.new.self ≡ w.cluster) c.apply.result err c.apply.ensures.err in
-    refused_step w c.args.c c.args.step hand held next c.requires.shown c.apply.new.self c.clear.new.self c.word-op.result c.event_verb-verb.result c.event_ckpt-ckpt.result c.event_node-node.result takes same c.clear.ensures c.event_ckpt-ckpt.ensures
-    c.event_node-node.ensures c.word-op.ensures c.event_verb-verb.ensures
+    let same : c.apply.new.cluster ≡ w.cluster = when_err (c.apply.new.cluster ≡ w.cluster) c.apply.result err c.apply.ensures.err in
+    refused_step w c.args.c c.args.step hand held next c.requires.shown c.apply.new.cluster c.clear.new.self c.word-op.result c.verb-verb.result c.event_ckpt-ckpt.result c.event_node-node.result takes same c.clear.ensures c.event_ckpt-ckpt.ensures
+    c.event_node-node.ensures c.word-op.ensures c.verb-verb.ensures
 
 pub give-requires-clause-room : goal.give-requires-clause-room
 give-requires-clause-room c =
@@ -63,10 +63,10 @@ returns c =
     let held : hand_at w.hands c.args.c ≡ Some hand = c.in-Some.ensures in
     let next = next_for w c.args.c (Event c.args.step) hand held c.requires.next in
     let ok = sym c.is_err.ensures.value ∙ c.if-is_err.false in
-    let record_is : c.apply.new.self ≡ event_after hand.call hand.driver c.args.step w.cluster = when_ok (c.apply.new.self ≡ event_after hand.call hand.driver c.args.step w.cluster) c.apply.result ok c.apply.ensures.ok in
+    let record_is : c.apply.new.cluster ≡ event_after hand.call hand.driver c.args.step w.cluster = when_ok (c.apply.new.cluster ≡ event_after hand.call hand.driver c.args.step w.cluster) c.apply.result ok c.apply.ensures.ok in
     elim c.if-gives_handle.branch [
-      | then-gives_handle g ↦ opened_step w c.args.c c.args.step hand held next c.requires.shown c.if-gives_handle.self c.apply.new.self g.give.new.tables c.told.new.self c.opened_for-flags.result c.word-op.result c.event_verb-verb.result c.event_ckpt-ckpt.result c.event_node-node.result c.opened_place-place.result c.event_end-end.result
-          (sym c.gives_handle.ensures ∙ g.if-gives_handle.true) g.self-is c.told.ensures g.give.ensures.places g.give.ensures.new record_is c.event_ckpt-ckpt.ensures c.event_node-node.ensures c.event_end-end.ensures c.word-op.ensures c.event_verb-verb.ensures c.opened_place-place.ensures c.opened_for-flags.ensures
-      | else-gives_handle g ↦ quiet_step w c.args.c c.args.step hand held next c.requires.shown c.if-gives_handle.self c.apply.new.self c.told.new.self c.word-op.result c.event_verb-verb.result c.event_ckpt-ckpt.result c.event_node-node.result c.event_end-end.result
-          (sym c.gives_handle.ensures ∙ g.if-gives_handle.false) g.self-is c.told.ensures record_is c.event_ckpt-ckpt.ensures c.event_node-node.ensures c.event_end-end.ensures c.word-op.ensures c.event_verb-verb.ensures
+      | then-gives_handle g ↦ opened_step w c.args.c c.args.step hand held next c.requires.shown c.if-gives_handle.self c.apply.new.cluster g.give.new.tables c.told.new.self c.opened_for-flags.result c.word-op.result c.verb-verb.result c.event_ckpt-ckpt.result c.event_node-node.result c.opened_place-place.result c.event_end-end.result
+          (sym c.gives_handle.ensures ∙ g.if-gives_handle.true) g.self-is c.told.ensures g.give.ensures.places g.give.ensures.new record_is c.event_ckpt-ckpt.ensures c.event_node-node.ensures c.event_end-end.ensures c.word-op.ensures c.verb-verb.ensures c.opened_place-place.ensures c.opened_for-flags.ensures
+      | else-gives_handle g ↦ quiet_step w c.args.c c.args.step hand held next c.requires.shown c.if-gives_handle.self c.apply.new.cluster c.told.new.self c.word-op.result c.verb-verb.result c.event_ckpt-ckpt.result c.event_node-node.result c.event_end-end.result
+          (sym c.gives_handle.ensures ∙ g.if-gives_handle.false) g.self-is c.told.ensures record_is c.event_ckpt-ckpt.ensures c.event_node-node.ensures c.event_end-end.ensures c.word-op.ensures c.verb-verb.ensures
     ]

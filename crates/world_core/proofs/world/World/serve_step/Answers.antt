@@ -22,7 +22,7 @@ returns-clause-ok c =
     let w = c.args.self.now in
     let hand = c.in-Some.hand.now in
     let held = c.in-Some.ensures in
-    let now = to_z w64 (of_z w64 c.moment-now.result) in
-    let now_is = to_z-of_z w64 c.moment-now.result (record { sfits = c.moment-now.type_inv }) ∙ c.moment-now.ensures in
-    serve_is w c.args.c c.args.r c.args.request.now hand held c.requires.next (record { reserves_none = c.requires.reserves_none; starts_none = c.requires.starts_none; goes_on_with_none = c.requires.goes_on_with_none }) now c.serve-reply.new.self c.take-end.new.self c.word-op.result c.verb_of.result c.ckpt_of.result c.word_of.result c.serve-reply.result c.take-end.result c.told_pieces-pieces.result
-    now_is c.serve-reply.ensures.reply (c.told_pieces-pieces.ensures ∙ ap (ended_pieces c.take-end.result) c.serve-reply.ensures.pieces) c.serve-reply.ensures.new (c.take-end.ensures.end hand held) (c.take-end.ensures.new hand held) c.word-op.ensures c.verb_of.ensures c.ckpt_of.ensures c.word_of.ensures
+    let now = to_z w64 (of_z w64 c.now-now.result) in
+    let now_is = to_z-of_z w64 c.now-now.result (record { sfits = c.now-now.type_inv }) ∙ c.now-now.ensures in
+    serve_is w c.args.c c.args.r c.args.request.now hand held c.requires.next (record { reserves_none = c.requires.reserves_none; starts_none = c.requires.starts_none; goes_on_with_none = c.requires.goes_on_with_none }) now c.serve-reply.new.self c.take-end.new.self c.word-op.result c.verb.result c.ckpt.result c.word.result c.serve-reply.result c.take-end.result c.told_pieces-pieces.result
+    now_is c.serve-reply.ensures.reply (c.told_pieces-pieces.ensures ∙ ap (ended_pieces c.take-end.result) c.serve-reply.ensures.pieces) c.serve-reply.ensures.new (c.take-end.ensures.end hand held) (c.take-end.ensures.new hand held) c.word-op.ensures c.verb.ensures c.ckpt.ensures c.word.ensures

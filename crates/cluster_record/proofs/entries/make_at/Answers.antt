@@ -1,0 +1,15 @@
+use Rattle.std.proofs.Common.{subst}
+use Rattle.cluster_record.specs.RecordReady.{CanRefer}
+use Rattle.cluster_record.specs.RecordState.{identity_of, made_with}
+use Rattle.cluster_record.proofs.Places.{changes_at, changes_none}
+use Rattle.cluster_record.proofs.AtKeys.{element_at}
+use Rattle.cluster_record.proofs.entries.make_at.Goals as goal
+
+pub make-requires : goal.make-requires
+make-requires c = subst (CanRefer c.args.client) (element_at identity_of c.args.identity c.args.entries.now c.place_of.result c.place_of.ensures.place c.in-Some.i c.index-entries-i.result c.in-Some.is) c.requires
+
+pub returns-in-Some : goal.returns-in-Some
+returns-in-Some c = changes_at identity_of c.args.identity (made_with c.args.up.now c.args.client) c.args.entries.now c.place_of.result c.place_of.ensures.place c.in-Some.i c.index-entries-i.result c.make.new.self c.in-Some.is c.make.ensures
+
+pub returns-in_default : goal.returns-in_default
+returns-in_default c = changes_none identity_of c.args.identity (made_with c.args.up.now c.args.client) c.args.entries.now c.place_of.result c.place_of.ensures.place c.in_default.is

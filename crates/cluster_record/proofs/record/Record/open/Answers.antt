@@ -1,0 +1,14 @@
+use Rattle.std.proofs.Common.{ℕ, ◌≤◌, refl, sym, subst}
+use Rattle.cluster_record.specs.Identities.{IdentitiesRise, AllUpTo}
+use Rattle.cluster_record.specs.RecordState.{referred}
+use Rattle.cluster_record.proofs.IdentityLaws.{AllUpTo-change_key, IdentitiesRise-change_key}
+use Rattle.cluster_record.proofs.record.Record.open.Goals as goal
+
+pub invariant_of-self : goal.invariant_of-self
+invariant_of-self c = record {
+  clients = c.self.invariant.clients;
+  entries = subst (λ (n : ℕ). 16 ≤ n) (sym c.refer.ensures.capacity) c.self.invariant.entries;
+  moment = c.self.invariant.moment;
+  order = subst IdentitiesRise (sym c.refer.ensures.items) (IdentitiesRise-change_key (referred c.args.client) (λ e. refl) c.args.identity c.self.inside.entries.items c.self.invariant.order);
+  given = subst (AllUpTo c.self.inside.last_identity) (sym c.refer.ensures.items) (AllUpTo-change_key (referred c.args.client) (λ e. refl) c.self.inside.last_identity c.args.identity c.self.inside.entries.items c.self.invariant.given);
+}

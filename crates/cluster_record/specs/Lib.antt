@@ -1,0 +1,14 @@
+pub mod Calls
+pub mod Places
+pub mod RecordState
+pub mod RecordView
+pub mod RecordReady
+pub mod LookUps
+pub mod StepDone
+pub mod DueOpen
+pub mod DueUpdate
+pub mod DueActive
+pub mod Numbers
+pub mod Identities
+pub mod Makings
+pub mod Refusals

@@ -1,0 +1,37 @@
+-- The end of a making, by the call whose it is.
+use Rattle.std.specs.Prelude.{◌≡◌, ℕ, Option, Some, None}
+use Rattle.ckpt_types.specs.declared.identities.CallId.{CallId}
+use Rattle.cluster_record.specs.declared.entries.Entry.{Entry}
+use Rattle.cluster_record.specs.Calls.{client_of}
+use Rattle.cluster_record.specs.RecordState.{RecordState, entry_of, finished, undone}
+
+-- the call that is making a checkpoint, where one is
+abbrev pub making_call : Option Entry → Option CallId
+making_call None = None
+making_call (Some e) = e.making
+
+abbrev pub finished_by : Option CallId → ℕ → RecordState → RecordState
+finished_by None k R = R
+finished_by (Some call) k R = finished k (client_of call) R
+
+-- a making is finished, and the client of its call has the checkpoint open; what is not in the making stays
+abbrev pub making_finished : ℕ → RecordState → RecordState
+making_finished k R = finished_by (making_call (entry_of k R.entries)) k R
+
+abbrev pub undone_by : Option CallId → ℕ → RecordState → RecordState
+undone_by None k R = R
+undone_by (Some call) k R = undone k R
+
+-- a making is undone; what is not in the making stays
+abbrev pub making_undone : ℕ → RecordState → RecordState
+making_undone k R = undone_by (making_call (entry_of k R.entries)) k R
+
+-- a call of this client is making it
+abbrev pub IsOf : ℕ → Option CallId → Type 0
+IsOf c None = ⊥
+IsOf c (Some call) = client_of call ≡ c
+
+-- the checkpoint, where one is meant, is in the making by a call of this client
+abbrev pub IsMakingOf : RecordState → ℕ → Option ℕ → Type 0
+IsMakingOf R c None = Unit {0}
+IsMakingOf R c (Some k) = IsOf c (making_call (entry_of k R.entries))

@@ -1,0 +1,167 @@
+-- The record of the cluster, on which all nodes agree, and its steps.
+use Rattle.std.specs.Prelude.{ℕ, ◌+◌, List, [], ◌∷◌, ◌++◌, map, filter, find, Option, Some, None, is_some, Bool, false, not, ◌&&◌, ◌||◌, ◌==◌, nat_eq, nat_lt, if◌then◌else◌, ℤ, pos, ◌≤ℤ◌, ◌<ℤ◌, replicate, slice_set, slice_index}
+use Rattle.std.specs.List.{list_any}
+use Rattle.std.specs.Cmp.Lexicographic.{pointwise}
+use Rattle.moment_rules.specs.Times.{never, sum_until_end, is_reached}
+use Rattle.ckpt_types.specs.declared.identities.ActorName.{ActorName}
+use Rattle.ckpt_types.specs.declared.identities.ActorName.TheVariants.{Client, Node}
+use Rattle.ckpt_types.specs.declared.identities.CallId.{CallId}
+use Rattle.ckpt_types.specs.declared.attributes.CreationAttributes.{CreationAttributes}
+use Rattle.ckpt_types.specs.declared.calls.OpenAsk.{OpenAsk}
+use Rattle.cluster_record.specs.declared.entries.Entry.{Entry}
+use Rattle.cluster_record.specs.declared.clients.LiveClient.{LiveClient}
+use Rattle.cluster_record.specs.Places.{find_key, change_key}
+
+pub record RecordState : Type 0 where
+  -- by node, the incarnation with which it is up, or 0
+  pub up : List ℕ
+  -- by node, the number of the first call that it may begin in this incarnation
+  pub first_calls : List ℕ
+  -- by node, its last incarnation, or 0
+  pub last_incarnations : List ℕ
+  -- the identity last given, or 0
+  pub last_identity : ℕ
+  pub moment : ℤ
+  pub clients : List LiveClient
+  -- in rising order of identity
+  pub entries : List Entry
+
+abbrev pub no_nodes : List ℕ
+no_nodes = replicate 8 0
+
+-- a cluster in which no node is up
+abbrev pub empty_record : RecordState
+empty_record = record { up = no_nodes; first_calls = no_nodes; last_incarnations = no_nodes; last_identity = 0; moment = pos 0; clients = []; entries = [] }
+
+-- ---- look-ups
+
+abbrev pub identity_of : Entry → ℕ
+identity_of e = e.identity
+
+abbrev pub entry_of : ℕ → List Entry → Option Entry
+entry_of k entries = find_key identity_of k entries
+
+abbrev pub is_name : List ℕ → Option (List ℕ) → Bool
+is_name name None = false
+is_name name (Some other) = pointwise nat_eq other name
+
+-- the checkpoint of that name
+abbrev pub named : List ℕ → List Entry → Option Entry
+named name entries = find (λ e. is_name name e.name) entries
+
+-- by node, the incarnation with which it is complete; of a checkpoint that is gone none is
+abbrev pub complete_of : Option Entry → List ℕ
+complete_of None = no_nodes
+complete_of (Some e) = e.complete
+
+abbrev pub client_key : LiveClient → ℕ
+client_key live = live.client
+
+abbrev pub is_live_client : ℕ → RecordState → Bool
+is_live_client c R = is_some (find_key client_key c R.clients)
+
+abbrev pub is_up : ℕ → RecordState → Bool
+is_up r R = nat_lt r 8 && not (slice_index R.up r == 0)
+
+-- the call is not of an earlier life of its client
+abbrev pub is_live_from : Option LiveClient → ℕ → Bool
+is_live_from None number = false
+is_live_from (Some live) number = not (nat_lt number live.initialize)
+
+-- a call is live where its client is, or for a copying its node is up, and its number is of this life
+abbrev pub is_live : RecordState → CallId → Bool
+is_live R call = of_actor call.actor where
+  of_actor : ActorName → Bool
+  of_actor (Client c) = is_live_from (find_key client_key c R.clients) call.number
+  of_actor (Node r) = is_up r R && not (nat_lt call.number (slice_index R.first_calls r))
+
+-- the lowest complete node, counted from n
+abbrev pub first_complete : ℕ → List ℕ → Option ℕ
+first_complete n [] = None
+first_complete n (c ∷ cs) = if c == 0 then first_complete (n + 1) cs else Some n
+
+-- ---- the sweep
+
+abbrev pub has_references : Entry → Bool
+has_references e = list_any (λ n. not (n == 0)) e.references
+
+-- the end of an entry's retention, counted from its last close
+abbrev pub retained_until : Entry → ℤ
+retained_until e = sum_until_end e.idle e.attributes.retention_duration
+
+-- an entry goes that is not in the making, that nobody has open, and that is unlinked or past its retention
+abbrev pub stays : ℤ → Entry → Bool
+stays t e = is_some e.making || has_references e || (is_some e.name && not (is_reached (retained_until e) t))
+
+abbrev pub swept : RecordState → RecordState
+swept R = record R { entries = filter (stays R.moment) R.entries }
+
+-- ---- the moment
+
+-- a moment that may be set where the first holds: not before it, and before the end of time
+abbrev pub IsMomentFrom : ℤ → ℤ → Type 0
+IsMomentFrom before t = (before ≤ℤ t) × (t <ℤ never)
+
+-- the moment is set, and what is over then is swept away
+abbrev pub moved : ℤ → RecordState → RecordState
+moved t R = swept (record R { moment = t })
+
+-- ---- the steps
+
+abbrev pub eight : List ℕ
+eight = 0 ∷ 1 ∷ 2 ∷ 3 ∷ 4 ∷ 5 ∷ 6 ∷ 7 ∷ []
+
+-- 1 for each of the first nodes
+abbrev pub first_nodes : ℕ → List ℕ
+first_nodes n = map (λ r. if nat_lt r n then 1 else 0) eight
+
+-- the first nodes come up
+abbrev pub brought_up : ℕ → RecordState → RecordState
+brought_up n R = record R { up = first_nodes n; first_calls = first_nodes n; last_incarnations = first_nodes n }
+
+-- a client becomes live
+abbrev pub entered : ℕ → ℕ → ℕ → RecordState → RecordState
+entered c r number R = record R { clients = R.clients ++ record { client = c; node = r; incarnation = slice_index R.up r; initialize = number } ∷ [] }
+
+-- an entry in the making by a call
+abbrev pub new_entry : CallId → List ℕ → CreationAttributes → RecordState → Entry
+new_entry call name a R = record {
+  identity = R.last_identity + 1;
+  name = Some name;
+  attributes = a;
+  made = R.moment;
+  making = Some call;
+  complete = no_nodes;
+  active = None;
+  generation = 1;
+  references = replicate 100 0;
+  idle = R.moment;
+  hold = None;
+}
+
+-- a checkpoint gets the next identity, and is in the making
+abbrev pub created_as : CallId → List ℕ → Option CreationAttributes → RecordState → RecordState
+created_as call name None R = R
+created_as call name (Some a) R = record R { last_identity = R.last_identity + 1; entries = R.entries ++ new_entry call name a R ∷ [] }
+
+abbrev pub created : CallId → OpenAsk → RecordState → RecordState
+created call ask R = created_as call ask.name ask.attrs R
+
+-- one reference of a client more
+abbrev pub referred : ℕ → Entry → Entry
+referred c e = record e { references = slice_set e.references c (slice_index e.references c + 1) }
+
+-- the making is finished: the nodes that are up are complete, the lowest is the active, and the maker has it open
+abbrev pub made_with : List ℕ → ℕ → Entry → Entry
+made_with up c e = referred c (record e { making = None; complete = up; active = first_complete 0 up; generation = 1 })
+
+abbrev pub finished : ℕ → ℕ → RecordState → RecordState
+finished k c R = record R { entries = change_key identity_of k (made_with R.up c) R.entries }
+
+-- the making is undone
+abbrev pub undone : ℕ → RecordState → RecordState
+undone k R = record R { entries = filter (λ e. not (e.identity == k)) R.entries }
+
+-- a client opens a checkpoint that is there
+abbrev pub opened : ℕ → ℕ → RecordState → RecordState
+opened k c R = record R { entries = change_key identity_of k (referred c) R.entries }

@@ -1,0 +1,62 @@
+-- What a call keeps of a step: the step with its reply, and what it read of the record.
+use Rattle.std.specs.Prelude.{ℕ, ◌+◌, List, [], ◌∷◌, Option, Some, None, Bool, false, not, ◌&&◌, ◌==◌, if◌then◌else◌, ℤ, slice_set, slice_index}
+use Rattle.node_msgs.specs.declared.steps.Verb.{Verb}
+use Rattle.node_msgs.specs.declared.steps.StepReply.{StepReply}
+use Rattle.node_msgs.specs.declared.steps.StepReply.TheVariants as words
+use Rattle.cluster_record.specs.RecordState.{RecordState, entry_of, complete_of, is_live, no_nodes}
+
+pub record StepDone : Type 0 where
+  pub verb : Verb
+  pub ckpt : Option ℕ
+  pub node : Option ℕ
+  pub reply : StepReply
+  pub moment : ℤ
+  -- by node, the incarnation with which it was up, and with which it was complete, or 0
+  pub up : List ℕ
+  pub complete : List ℕ
+  -- whether the call that the reply names was live
+  pub live : Bool
+
+abbrev pub complete_at : RecordState → Option ℕ → List ℕ
+complete_at R None = no_nodes
+complete_at R (Some k) = complete_of (entry_of k R.entries)
+
+abbrev pub names_live : RecordState → StepReply → Bool
+names_live R (words.Held by) = is_live R by
+names_live R _ = false
+
+-- a step of which the record tells the rest
+abbrev pub done_of : RecordState → Verb → Option ℕ → Option ℕ → StepReply → StepDone
+done_of R verb k r reply = record { verb = verb; ckpt = k; node = r; reply = reply; moment = R.moment; up = R.up; complete = complete_at R k; live = names_live R reply }
+
+-- the node is among the first, with an incarnation that the second does not have there
+abbrev pub lacks : ℕ → ℕ → Bool
+lacks incarnation own = not (incarnation == 0) && not (incarnation == own)
+
+abbrev pub has : ℕ → ℕ → Bool
+has incarnation own = not (incarnation == 0) && (incarnation == own)
+
+-- the lowest of these nodes that the call lacks, counted from n
+abbrev pub first_lacking : ℕ → List ℕ → List ℕ → Option ℕ
+first_lacking n [] own = None
+first_lacking n (c ∷ cs) [] = None
+first_lacking n (c ∷ cs) (o ∷ os) = if lacks c o then Some n else first_lacking (n + 1) cs os
+
+abbrev pub or_here : Option ℕ → Bool → ℕ → Option ℕ
+or_here (Some r) here n = Some r
+or_here None here n = if here then Some n else None
+
+-- the highest of these nodes that the call has
+abbrev pub last_having : ℕ → List ℕ → List ℕ → Option ℕ
+last_having n [] own = None
+last_having n (c ∷ cs) [] = None
+last_having n (c ∷ cs) (o ∷ os) = or_here (last_having (n + 1) cs os) (has c o) n
+
+-- a list by node with one node's incarnation set
+abbrev pub set_node : Option ℕ → List ℕ → ℕ → List ℕ
+set_node None own incarnation = own
+set_node (Some r) own incarnation = slice_set own r incarnation
+
+abbrev pub incarnation_of : Option ℕ → List ℕ → ℕ
+incarnation_of None nodes = 0
+incarnation_of (Some r) nodes = slice_index nodes r

@@ -1,0 +1,46 @@
+ghost use Rattle.std.specs.Prelude.{◌≡◌, ◌<◌, Some, None, IfSome, if◌then◌else◌};
+ghost use Rattle.cluster_record.specs.StepDone.{lacks, has, first_lacking, last_having};
+
+use ckpt_types::NodeId;
+
+/// The lowest of these nodes that the call lacks: with an incarnation that it does not have there.
+pub fn first_lacking(nodes: &[u32; 8], own: &[u32; 8]) -> Option<NodeId>
+    ensures value { result ≡ first_lacking 0 nodes.now own.now }
+    ensures within { IfSome result (λ r. r < 8) }
+{
+    for r in 0..8u8 {
+        if lacks(nodes[r as usize], own[r as usize]) {
+            return Some(r);
+        }
+    }
+    None
+}
+
+/// The highest of these nodes that the call has: with the incarnation that it has there.
+pub fn last_having(nodes: &[u32; 8], own: &[u32; 8]) -> Option<NodeId>
+    ensures { result ≡ last_having 0 nodes.now own.now }
+{
+    let mut last = None;
+    for r in 0..8u8 {
+        last = later(last, r, has(nodes[r as usize], own[r as usize]));
+    }
+    last
+}
+
+fn lacks(incarnation: u32, own: u32) -> bool
+    ensures { result ≡ lacks incarnation own }
+{
+    incarnation != 0 && incarnation != own
+}
+
+fn has(incarnation: u32, own: u32) -> bool
+    ensures { result ≡ has incarnation own }
+{
+    incarnation != 0 && incarnation == own
+}
+
+fn later(last: Option<NodeId>, r: NodeId, here: bool) -> Option<NodeId>
+    ensures { result ≡ (if here then Some r else last) }
+{
+    if here { Some(r) } else { last }
+}

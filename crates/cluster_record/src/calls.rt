@@ -1,0 +1,38 @@
+use ckpt_types::{Choice, CkptId};
+
+/// How far an all-replicas update is.
+#[derive(Clone, Copy, Debug, PartialEq, Eq)]
+pub enum UpdatePhase {
+    /// It stages on the complete nodes, in ascending order.
+    Staging,
+    /// It commits on the nodes where it has staged, in descending order.
+    Committing,
+}
+
+/// A checkpoint that an open is making.
+#[derive(Clone, Copy, Debug)]
+pub struct Making {
+    /// The checkpoint.
+    pub ckpt: CkptId,
+    /// By node, the incarnation under which it has reserved, or 0.
+    pub reserved: [u32; 8],
+    /// A reservation was refused for memory.
+    pub refused: bool,
+}
+
+/// What a call asks of the active replica.
+#[derive(Clone, Copy, Debug, PartialEq, Eq)]
+pub enum ActiveKind {
+    /// An update at once.
+    Apply,
+    /// A weak write of so many elements.
+    Weak(u32),
+    /// A read.
+    Read,
+    /// The status.
+    Status,
+    /// The start of an iteration.
+    Iterate(Choice),
+    /// The next section of an iteration.
+    Next,
+}

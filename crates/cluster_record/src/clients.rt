@@ -1,0 +1,42 @@
+ghost use Rattle.std.specs.Prelude.{◌≡◌};
+ghost use Rattle.cluster_record.specs.Calls.{number_of};
+ghost use Rattle.cluster_record.specs.Places.{find_key};
+ghost use Rattle.cluster_record.specs.RecordState.{client_key};
+
+use ckpt_types::{ActorName, Incarnation, NodeId};
+
+/// How many clients are live at most.
+pub const CLIENTS_MAX: usize = 64;
+
+/// A client that is live.
+#[derive(Clone, Copy, Debug)]
+pub struct LiveClient {
+    /// The client, 0 to 99.
+    pub client: u8,
+    /// Its node.
+    pub node: NodeId,
+    /// The life of that node in which it became live.
+    pub incarnation: Incarnation,
+    /// The number of its Initialize call.
+    pub initialize: u32,
+}
+
+pub(crate) fn find_client(clients: &[LiveClient], client: u8) -> Option<LiveClient>
+    ensures { result ≡ find_key client_key client clients.now }
+{
+    for live in clients {
+        if live.client == client {
+            return Some(*live);
+        }
+    }
+    None
+}
+
+/// The number of a client or node.
+pub fn number_of(actor: &ActorName) -> u8
+    ensures { result ≡ number_of actor.now }
+{
+    match actor {
+        ActorName::Client(number) | ActorName::Node(number) => *number,
+    }
+}

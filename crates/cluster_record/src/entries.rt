@@ -1,0 +1,254 @@
+ghost use Rattle.std.specs.Prelude.{◌≡◌, ◌+◌, ◌-◌, ◌^◌, ◌<◌, Some, None, IfSome, MatchOption, length, filter, not, ◌==◌, slice_index, slice_set, replicate, vec_capacity};
+ghost use Rattle.std.specs.List.{list_any, list_all};
+ghost use Rattle.moment_rules.specs.Times.{sum_until_end, is_reached};
+ghost use Rattle.cluster_record.specs.Numbers.{may_rise, entry_may_rise};
+ghost use Rattle.cluster_record.specs.Places.{change_key, place_key};
+ghost use Rattle.cluster_record.specs.RecordReady.{CanRefer};
+ghost use Rattle.cluster_record.specs.RecordState.{no_nodes, identity_of, entry_of, is_name, named, first_complete, stays, referred, made_with};
+
+use ckpt_types::{Bytes, CallId, CkptId, CreationAttributes, Moment, NodeId};
+use moment_rules::reached;
+
+/// How many checkpoints there are at most.
+pub const CHECKPOINTS_MAX: usize = 16;
+
+// What a checkpoint declares that is gone.
+pub(crate) const DECLARES_NOTHING: CreationAttributes = CreationAttributes {
+    creation_flags: 0,
+    checkpoint_size: 0,
+    retention_duration: 0,
+    max_sections: 0,
+    max_section_size: 0,
+    max_section_id_size: 0,
+};
+
+/// What the record keeps of a checkpoint.
+#[derive(Debug, Drop)]
+pub struct Entry {
+    /// Its number.
+    pub identity: CkptId,
+    /// Its name, or none once it is unlinked.
+    pub name: Option<Bytes>,
+    /// Its attributes, with the retention as it is now.
+    pub attributes: CreationAttributes,
+    /// The moment of its `create` step.
+    pub made: Moment,
+    /// The call that is making it, if one is.
+    pub making: Option<CallId>,
+    /// By node, the incarnation with which the node is complete, or 0.
+    pub complete: [u32; 8],
+    /// The node that reads go to.
+    pub active: Option<NodeId>,
+    /// It rises whenever the active changes.
+    pub generation: u64,
+    /// By client, how often it has the checkpoint open.
+    pub references: [u32; 100],
+    /// The moment of the last close.
+    pub idle: Moment,
+    /// The call that holds the checkpoint, if one does.
+    pub hold: Option<CallId>,
+}
+
+impl Entry {
+    fn is_named(&self, name: &Bytes) -> bool
+        ensures { result ≡ is_name name.now self.now.name }
+    {
+        match &self.name {
+            None => false,
+            Some(other) => other == name,
+        }
+    }
+
+    // One reference of the client more.
+    fn refer(&mut self, client: u8)
+        requires { slice_index self.old.references client < 2 ^ 32 - 1 }
+        ensures { self.new ≡ referred client self.old }
+    {
+        add_one(&mut self.references, client);
+    }
+
+    // The making is finished.
+    fn make(&mut self, up: &[u32; 8], client: u8)
+        requires { slice_index self.old.references client < 2 ^ 32 - 1 }
+        ensures { self.new ≡ made_with up.now client self.old }
+    {
+        self.making = None;
+        self.complete = *up;
+        self.active = first_complete(up);
+        self.generation = 1;
+        self.refer(client);
+    }
+
+    // Whether its generation and each count of references can rise.
+    pub(crate) fn may_rise(&self) -> bool
+        ensures { result ≡ entry_may_rise self.now }
+    {
+        self.generation < u64::MAX && all_may_rise(&self.references)
+    }
+
+    // Whether the sweep leaves it.
+    fn stays(&self, now: Moment) -> bool
+        ensures { result ≡ stays now self.now }
+    {
+        self.making.is_some()
+            || has_some(&self.references)
+            || (self.name.is_some() && !is_over(self.idle, self.attributes.retention_duration, now))
+    }
+}
+
+pub(crate) fn new_entry(
+    call: CallId,
+    name: Bytes,
+    attributes: CreationAttributes,
+    identity: CkptId,
+    now: Moment,
+) -> Entry
+    ensures { result ≡ record { identity = identity; name = Some name; attributes = attributes; made = now; making = Some call; complete = no_nodes; active = None; generation = 1; references = replicate 100 0; idle = now; hold = None } }
+{
+    Entry {
+        identity,
+        name: Some(name),
+        attributes,
+        made: now,
+        making: Some(call),
+        complete: [0; 8],
+        active: None,
+        generation: 1,
+        references: [0; 100],
+        idle: now,
+        hold: None,
+    }
+}
+
+fn add_one(references: &mut [u32; 100], client: u8)
+    requires { slice_index references.old client < 2 ^ 32 - 1 }
+    ensures { references.new ≡ slice_set references.old client (slice_index references.old client + 1) }
+{
+    let place = client as usize;
+    if place < 100 {
+        references[place] += 1;
+    }
+}
+
+fn has_some(references: &[u32; 100]) -> bool
+    ensures { result ≡ list_any (λ n. not (n == 0)) references.now }
+{
+    references.iter().any(|n| *n != 0)
+}
+
+// Whether none of the numbers is the greatest.
+pub(crate) fn all_may_rise(numbers: &[u32]) -> bool
+    ensures { result ≡ list_all may_rise numbers.now }
+{
+    numbers.iter().all(|n| *n < u32::MAX)
+}
+
+// Whether the numbers of all entries can rise.
+pub(crate) fn entries_may_rise(entries: &[Entry]) -> bool
+    ensures { result ≡ list_all entry_may_rise entries.now }
+{
+    entries.iter().all(|entry| entry.may_rise())
+}
+
+// Whether so long a duration is over since a moment. A sum below what is counted has come like the least that is.
+fn is_over(from: Moment, duration: i64, now: Moment) -> bool
+    ensures { result ≡ is_reached (sum_until_end from duration) now }
+{
+    reached(from.saturating_add(duration), now)
+}
+
+// The lowest node that is complete.
+fn first_complete(nodes: &[u32; 8]) -> Option<NodeId>
+    ensures { result ≡ first_complete 0 nodes.now }
+{
+    for r in 0..8u8 {
+        if nodes[r as usize] != 0 {
+            return Some(r);
+        }
+    }
+    None
+}
+
+pub(crate) fn find_entry(entries: &[Entry], identity: CkptId) -> Option<&Entry>
+    ensures { MatchOption result (entry_of identity entries.now ≡ None) (λ entry. entry_of identity entries.now ≡ Some entry.now) }
+{
+    for entry in entries {
+        if entry.identity == identity {
+            return Some(entry);
+        }
+    }
+    None
+}
+
+pub(crate) fn find_named<'a>(entries: &'a [Entry], name: &Bytes) -> Option<&'a Entry>
+    ensures { MatchOption result (named name.now entries.now ≡ None) (λ entry. named name.now entries.now ≡ Some entry.now) }
+{
+    for entry in entries {
+        if entry.is_named(name) {
+            return Some(entry);
+        }
+    }
+    None
+}
+
+fn place_of(entries: &[Entry], identity: CkptId) -> Option<usize>
+    ensures place { result ≡ place_key identity_of identity entries.now }
+    ensures within { IfSome result (λ i. i < length entries.now) }
+{
+    for i in 0..entries.len() {
+        if entries[i].identity == identity {
+            return Some(i);
+        }
+    }
+    None
+}
+
+/// The making of a checkpoint is finished.
+pub(crate) fn make(entries: &mut Vec<Entry>, identity: CkptId, up: &[u32; 8], client: u8)
+    requires { CanRefer client (entry_of identity entries.old.items) }
+    ensures items { entries.new.items ≡ change_key identity_of identity (made_with up.now client) entries.old.items }
+    ensures capacity { vec_capacity entries.new ≡ vec_capacity entries.old }
+{
+    make_at(entries.as_mut_slice(), identity, up, client);
+}
+
+/// A client has a checkpoint open once more.
+pub(crate) fn refer(entries: &mut Vec<Entry>, identity: CkptId, client: u8)
+    requires { CanRefer client (entry_of identity entries.old.items) }
+    ensures items { entries.new.items ≡ change_key identity_of identity (referred client) entries.old.items }
+    ensures capacity { vec_capacity entries.new ≡ vec_capacity entries.old }
+{
+    refer_at(entries.as_mut_slice(), identity, client);
+}
+
+fn make_at(entries: &mut [Entry], identity: CkptId, up: &[u32; 8], client: u8)
+    requires { CanRefer client (entry_of identity entries.old) }
+    ensures { entries.new ≡ change_key identity_of identity (made_with up.now client) entries.old }
+{
+    if let Some(i) = place_of(entries, identity) {
+        entries[i].make(up, client);
+    }
+}
+
+fn refer_at(entries: &mut [Entry], identity: CkptId, client: u8)
+    requires { CanRefer client (entry_of identity entries.old) }
+    ensures { entries.new ≡ change_key identity_of identity (referred client) entries.old }
+{
+    if let Some(i) = place_of(entries, identity) {
+        entries[i].refer(client);
+    }
+}
+
+pub(crate) fn take_away(entries: &mut Vec<Entry>, identity: CkptId)
+    ensures items { entries.new.items ≡ filter (λ entry. not (entry.identity == identity)) entries.old.items }
+    ensures capacity { vec_capacity entries.new ≡ vec_capacity entries.old }
+{
+    entries.retain(|entry| entry.identity != identity);
+}
+
+pub(crate) fn sweep(entries: &mut Vec<Entry>, now: Moment)
+    ensures items { entries.new.items ≡ filter (stays now) entries.old.items }
+    ensures capacity { vec_capacity entries.new ≡ vec_capacity entries.old }
+{
+    entries.retain(|entry| entry.stays(now));
+}

@@ -1,0 +1,16 @@
+//! The record of the cluster, on which all nodes agree, and its steps.
+#![tactic(auto)]
+
+mod by_node;
+mod calls;
+mod clients;
+mod entries;
+mod record;
+#[cfg(test)]
+mod tests;
+
+pub use by_node::{first_lacking, last_having};
+pub use calls::{ActiveKind, Making, UpdatePhase};
+pub use clients::{CLIENTS_MAX, LiveClient, number_of};
+pub use entries::{CHECKPOINTS_MAX, Entry};
+pub use record::{Record, RecordRefused};

@@ -1,0 +1,401 @@
+ghost use Rattle.std.specs.Prelude.{◌≡◌, ℕ, ◌-◌, ◌^◌, ◌≤◌, ◌<◌, None, Some, true, slice_get, IfOk, OnOk, OnErr, IfErr, MatchOption, length, nat_lt, pos, ◌≤ℤ◌, if◌then◌else◌};
+ghost use Rattle.moment_rules.specs.Times.{sum_until_end};
+ghost use Rattle.cluster_record.specs.LookUps.{node_of_client, life_of, up_as, creation_flags_of, sections_declared, identity_in};
+ghost use Rattle.cluster_record.specs.Identities.{IdentitiesRise, AllUpTo};
+ghost use Rattle.cluster_record.specs.Calls.{client_of};
+ghost use Rattle.cluster_record.specs.Makings.{making_call, making_finished, making_undone};
+ghost use Rattle.cluster_record.specs.Numbers.{numbers_left};
+ghost use Rattle.cluster_record.specs.Refusals.{all_taken};
+ghost use Rattle.ckpt_types.specs.declared.identities.CallId.{CallId};
+ghost use Rattle.cluster_record.specs.Places.{find_key};
+ghost use Rattle.cluster_record.specs.RecordReady.{CanCreate, CanRefer};
+ghost use Rattle.cluster_record.specs.RecordState.{empty_record, entry_of, named, complete_of, client_key, is_live_client, is_up, is_live, is_live_from, swept, first_nodes, brought_up, entered, created, moved, opened};
+
+use crate::clients::{CLIENTS_MAX, LiveClient, find_client, number_of};
+use crate::entries::{
+    CHECKPOINTS_MAX, DECLARES_NOTHING, Entry, all_may_rise, entries_may_rise, find_entry,
+    find_named, make, new_entry, refer, sweep, take_away,
+};
+use ckpt_types::{
+    ActorName, AisError, Bytes, CallId, Cause, CkptId, CreationAttributes, Incarnation, Moment,
+    NodeId, OpenAsk,
+};
+use std::alloc::{AllocError, Global};
+use std::marker::Model;
+
+/// Why the record refuses a step.
+#[derive(Clone, Copy, Debug, PartialEq, Eq)]
+pub struct RecordRefused {
+    /// The code.
+    pub error: AisError,
+    /// What it comes from.
+    pub cause: Cause,
+}
+
+/// What all nodes agree on.
+#[derive(Drop)]
+pub struct Record {
+    up: [u32; 8],
+    first_calls: [u32; 8],
+    last_incarnations: [u32; 8],
+    last_identity: CkptId,
+    moment: Moment,
+    clients: Vec<LiveClient>,
+    entries: Vec<Entry>,
+}
+
+impl Model for Record {
+    ghost use Rattle.cluster_record.specs.RecordState.{RecordState};
+
+    ghost Value = { RecordState };
+
+    ghost use Rattle.cluster_record.specs.RecordView.{record_of, IsKept};
+
+    ghost view = { record_of };
+
+    ghost invariant = { IsKept };
+}
+
+impl Record {
+    /// A record of a cluster in which no node is up. All its room is taken here.
+    pub fn new(alloc: Global) -> Result<Record, AllocError>
+        ensures { IfOk result (λ made. made ≡ empty_record) }
+    {
+        Ok(Record {
+            up: [0; 8],
+            first_calls: [0; 8],
+            last_incarnations: [0; 8],
+            last_identity: 0,
+            moment: 0,
+            clients: Vec::with_capacity(alloc, CLIENTS_MAX)?,
+            entries: Vec::with_capacity(alloc, CHECKPOINTS_MAX)?,
+        })
+    }
+
+    /// The moment.
+    pub fn now(&self) -> Moment
+        ensures { result ≡ self.now.moment }
+    {
+        self.moment
+    }
+
+    /// The moment that is so much later than the present one, or the end of time if that comes first.
+    pub fn moment_after(&self, duration: Moment) -> Moment
+        ensures { result ≡ sum_until_end self.now.moment duration }
+    {
+        sum_until_end(self.moment, duration)
+    }
+
+    /// By node, the incarnation with which it is up, or 0.
+    pub fn incarnations(&self) -> [u32; 8]
+        ensures { result ≡ self.now.up }
+    {
+        self.up
+    }
+
+    /// Whether a node is up.
+    pub fn is_up(&self, node: NodeId) -> bool
+        ensures { result ≡ is_up node self.now }
+    {
+        node < 8 && self.up[node as usize] != 0
+    }
+
+    /// The incarnation with which a node is up, and the number of its first call in it.
+    pub fn up(&self, node: NodeId) -> Option<(Incarnation, u32)>
+        ensures { result ≡ up_as node self.now }
+    {
+        if !self.is_up(node) {
+            return None;
+        }
+        Some((self.up[node as usize], self.first_calls[node as usize]))
+    }
+
+    /// The identity last given, or 0.
+    pub fn last_identity(&self) -> CkptId
+        ensures { result ≡ self.now.last_identity }
+    {
+        self.last_identity
+    }
+
+    /// How many clients are live.
+    pub fn clients_len(&self) -> usize
+        ensures { result ≡ length self.now.clients }
+    {
+        self.clients.len()
+    }
+
+    /// How many checkpoints there are.
+    pub fn entries_len(&self) -> usize
+        ensures { result ≡ length self.now.entries }
+    {
+        self.entries.len()
+    }
+
+    /// The entry at a place, counted from 0, in the order of identities.
+    pub fn entry_at(&self, place: u32) -> Option<&Entry>
+        ensures in_order { IdentitiesRise self.now.entries }
+        ensures given { AllUpTo self.now.last_identity self.now.entries }
+        ensures at { MatchOption result (length self.now.entries ≤ place) (λ entry. slice_get self.now.entries place ≡ Some entry.now) }
+    {
+        self.entries.as_slice().get(place as usize)
+    }
+
+    /// The checkpoint of an identity.
+    pub fn entry(&self, identity: CkptId) -> Option<&Entry>
+        ensures { MatchOption result (entry_of identity self.now.entries ≡ None) (λ entry. entry_of identity self.now.entries ≡ Some entry.now) }
+    {
+        find_entry(self.entries.as_slice(), identity)
+    }
+
+    /// The checkpoint of a name.
+    pub fn named(&self, name: &Bytes) -> Option<&Entry>
+        ensures { MatchOption result (named name.now self.now.entries ≡ None) (λ entry. named name.now self.now.entries ≡ Some entry.now) }
+    {
+        find_named(self.entries.as_slice(), name)
+    }
+
+    /// The identity of the checkpoint of a name.
+    pub fn find(&self, name: &Bytes) -> Option<CkptId>
+        ensures { result ≡ identity_in (named name.now self.now.entries) }
+    {
+        match self.named(name) {
+            None => None,
+            Some(entry) => Some(entry.identity),
+        }
+    }
+
+    /// By node, the incarnation with which it is complete for a checkpoint, or 0.
+    pub fn complete(&self, identity: CkptId) -> [u32; 8]
+        ensures { result ≡ complete_of (entry_of identity self.now.entries) }
+    {
+        match self.entry(identity) {
+            None => [0; 8],
+            Some(entry) => entry.complete,
+        }
+    }
+
+    /// The creation flags of a checkpoint, or 0 where it is not there.
+    pub fn creation_flags(&self, identity: CkptId) -> u32
+        ensures { result ≡ creation_flags_of (entry_of identity self.now.entries) }
+    {
+        match self.entry(identity) {
+            None => 0,
+            Some(entry) => entry.attributes.creation_flags,
+        }
+    }
+
+    /// What a checkpoint declares; nothing where it is gone.
+    pub fn declared(&self, identity: Option<CkptId>) -> CreationAttributes
+        ensures { result.max_sections ≡ sections_declared self.now identity }
+    {
+        let Some(identity) = identity else {
+            return DECLARES_NOTHING;
+        };
+        match self.entry(identity) {
+            None => DECLARES_NOTHING,
+            Some(entry) => entry.attributes,
+        }
+    }
+
+    /// Whether a client is live.
+    pub fn is_live_client(&self, client: u8) -> bool
+        ensures { result ≡ is_live_client client self.now }
+    {
+        find_client(self.clients.as_slice(), client).is_some()
+    }
+
+    /// Of a client that is live its node, the incarnation in which it became so, and the number of its Initialize call.
+    pub fn client(&self, client: u8) -> Option<(NodeId, Incarnation, u32)>
+        ensures { result ≡ life_of (find_key client_key client self.now.clients) }
+    {
+        match find_client(self.clients.as_slice(), client) {
+            None => None,
+            Some(live) => Some((live.node, live.incarnation, live.initialize)),
+        }
+    }
+
+    /// The node of a client, or 0 where it is not live.
+    pub fn node_of(&self, client: u8) -> NodeId
+        ensures { result ≡ node_of_client (find_key client_key client self.now.clients) }
+    {
+        match find_client(self.clients.as_slice(), client) {
+            None => 0,
+            Some(live) => live.node,
+        }
+    }
+
+    /// Whether a call is live: its client is, or for a copying its node is up, in the life in which it began.
+    pub fn live(&self, call: CallId) -> bool
+        ensures { result ≡ is_live self.now call }
+    {
+        match call.actor {
+            ActorName::Client(client) => self.is_live_from(client, call.number),
+            ActorName::Node(node) => {
+                self.is_up(node) && call.number >= self.first_calls[node as usize]
+            }
+        }
+    }
+
+    // Whether a client is live, and the number is not of a call before its Initialize.
+    fn is_live_from(&self, client: u8, number: u32) -> bool
+        ensures { result ≡ is_live_from (find_key client_key client self.now.clients) number }
+    {
+        match find_client(self.clients.as_slice(), client) {
+            None => false,
+            Some(live) => number >= live.initialize,
+        }
+    }
+
+    /// Whether neither the identity last given, nor an entry's generation, nor a client's number of references to
+    /// an entry, nor the last incarnation of a node is the greatest of its type.
+    pub fn numbers_left(&self) -> bool
+        ensures exact { result ≡ numbers_left self.now }
+        ensures identity { result ≡ true → self.now.last_identity < 2 ^ 32 - 1 }
+        ensures references { result ≡ true → (client k : ℕ) → CanRefer client (entry_of k self.now.entries) }
+    {
+        if !entries_may_rise(self.entries.as_slice()) {
+            return false;
+        }
+        self.last_identity < u32::MAX && all_may_rise(&self.last_incarnations)
+    }
+
+    /// The first nodes come up.
+    pub fn bring_up(&mut self, n: u8)
+        requires { n ≤ 8 }
+        ensures { self.new ≡ brought_up n self.old }
+    {
+        let nodes = first_nodes(n);
+        self.up = nodes;
+        self.first_calls = nodes;
+        self.last_incarnations = nodes;
+    }
+
+    /// A client becomes live on a node, by its Initialize call. NO_RESOURCES, with the count 64, exactly where so many
+    /// are; then nothing changes. It takes no memory.
+    pub fn enter(&mut self, call: CallId, node: NodeId) -> Result<(), RecordRefused>
+        requires { node < 8 }
+        ensures ok { OnOk result ((length self.old.clients < 64) × (self.new ≡ entered (client_of call) node call.number self.old)) }
+        ensures err { IfErr result (λ refused. (refused ≡ all_taken 64) × (64 ≤ length self.old.clients) × (self.new ≡ self.old)) }
+    {
+        if self.clients.len() >= CLIENTS_MAX {
+            return Err(RecordRefused {
+                error: AisError::NoResources,
+                cause: Cause::Count(CLIENTS_MAX as u32),
+            });
+        }
+        let live = LiveClient {
+            client: number_of(&call.actor),
+            node,
+            incarnation: self.up[node as usize],
+            initialize: call.number,
+        };
+        self.clients.push_reserved(live);
+        Ok(())
+    }
+
+    /// A checkpoint gets the next identity, and is in the making by the call.
+    pub fn create(&mut self, call: CallId, ask: &OpenAsk) -> Result<(), AllocError>
+        requires { CanCreate self.old }
+        ensures ok { OnOk result (self.new ≡ created call ask.now self.old) }
+        ensures err { OnErr result (self.new ≡ self.old) }
+    {
+        let Some(attributes) = ask.attrs else {
+            return Ok(());
+        };
+        let name = ask.name.clone()?;
+        let identity = self.last_identity + 1;
+        let entry = new_entry(call, name, attributes, identity, self.moment);
+        self.last_identity = identity;
+        self.entries.push_reserved(entry);
+        Ok(())
+    }
+
+    // The call that is making a checkpoint.
+    fn making_call(&self, identity: CkptId) -> Option<CallId>
+        ensures { result ≡ making_call (entry_of identity self.now.entries) }
+    {
+        match self.entry(identity) {
+            None => None,
+            Some(entry) => entry.making,
+        }
+    }
+
+    /// The making is finished: the nodes that are up are complete, and the client whose call is making the checkpoint
+    /// has it open. Nothing changes where it is not in the making.
+    pub fn finish_create(&mut self, identity: CkptId)
+        requires { (call : CallId) → making_call (entry_of identity self.old.entries) ≡ Some call → CanRefer (client_of call) (entry_of identity self.old.entries) }
+        ensures { self.new ≡ making_finished identity self.old }
+    {
+        if let Some(call) = self.making_call(identity) {
+            make(
+                &mut self.entries,
+                identity,
+                &self.up,
+                number_of(&call.actor),
+            );
+        }
+    }
+
+    /// A client opens a checkpoint that is there.
+    pub fn open(&mut self, identity: CkptId, client: u8)
+        requires { CanRefer client (entry_of identity self.old.entries) }
+        ensures { self.new ≡ opened identity client self.old }
+    {
+        refer(&mut self.entries, identity, client);
+    }
+
+    /// The making is undone. Nothing changes where the checkpoint is not in the making.
+    pub fn undo_create(&mut self, identity: CkptId)
+        ensures { self.new ≡ making_undone identity self.old }
+    {
+        if self.making_call(identity).is_some() {
+            take_away(&mut self.entries, identity);
+        }
+    }
+
+    /// What is over is swept away.
+    pub fn sweep(&mut self)
+        ensures { self.new ≡ swept self.old }
+    {
+        sweep(&mut self.entries, self.moment);
+    }
+
+    /// The moment is set, and what is over then is swept away.
+    pub fn set_moment(&mut self, t: Moment)
+        requires { self.old.moment ≤ℤ t }
+        ensures { self.new ≡ moved t self.old }
+    {
+        self.moment = t;
+        self.sweep();
+    }
+}
+
+// The sum of a moment and a duration, or the end of time. One with a negative duration is counted too, since no moment is
+// below 0.
+fn sum_until_end(moment: Moment, duration: Moment) -> Moment
+    requires { pos 0 ≤ℤ moment }
+    ensures { result ≡ sum_until_end moment duration }
+{
+    moment.saturating_add(duration)
+}
+
+fn first_nodes(n: u8) -> [u32; 8]
+    ensures { result ≡ first_nodes n }
+{
+    [
+        one_below(0, n),
+        one_below(1, n),
+        one_below(2, n),
+        one_below(3, n),
+        one_below(4, n),
+        one_below(5, n),
+        one_below(6, n),
+        one_below(7, n),
+    ]
+}
+
+fn one_below(r: u8, n: u8) -> u32
+    ensures { result ≡ (if nat_lt r n then 1 else 0) }
+{
+    if r < n { 1 } else { 0 }
+}

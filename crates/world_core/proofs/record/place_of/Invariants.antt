@@ -1,7 +1,0 @@
-use Rattle.std.proofs.Common.{◌≡◌, drop}
-use Rattle.world_core.specs.Places.{place_from}
-use Rattle.world_core.specs.RecordState.{identity_of}
-use Rattle.world_core.proofs.record.place_of.Given as goal
-
-abbrev pub invariant-loop-i : goal.invariant-loop-i
-invariant-loop-i l = place_from identity_of l.identity l.i (drop l.i l.entries) ≡ place_from identity_of l.identity 0 l.entries
