@@ -107,7 +107,7 @@ IdentitiesRise-push n (x ∷ xs) new rises up_to beyond =
 -- ---- of each entry a filter leaves it, or takes it away
 
 -- where all identities are above n, none is n
-none_at : (n j : ℕ) (xs : List Entry) → AllAbove n xs → n ≡ j → entry_of j xs ≡ None
+pub none_at : (n j : ℕ) (xs : List Entry) → AllAbove n xs → n ≡ j → entry_of j xs ≡ None
 none_at n j [] a e = refl
 none_at n j (y ∷ xs) a e =
     let t : (y.identity == j) ≡ false = tests_differ y.identity j (λ s. let z : n < y.identity = a.0 in omega (arith, z, s, e)) in

@@ -4,3 +4,4 @@ pub mod NumberLaws
 pub mod Places
 pub mod Retention
 pub mod MakingLaws
+pub mod NameLaws

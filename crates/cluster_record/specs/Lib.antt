@@ -12,3 +12,4 @@ pub mod Numbers
 pub mod Identities
 pub mod Makings
 pub mod Refusals
+pub mod NamesOf

@@ -2,12 +2,14 @@ ghost use Rattle.std.specs.Prelude.{◌≡◌, ◌+◌, ◌-◌, ◌^◌, ◌<�
 ghost use Rattle.std.specs.List.{list_any, list_all};
 ghost use Rattle.moment_rules.specs.Times.{sum_until_end, is_reached};
 ghost use Rattle.cluster_record.specs.Numbers.{may_rise, entry_may_rise};
+ghost use Rattle.cluster_record.specs.NamesOf.{stays_by, without_name, without_gone};
 ghost use Rattle.cluster_record.specs.Places.{change_key, place_key};
 ghost use Rattle.cluster_record.specs.RecordReady.{CanRefer};
-ghost use Rattle.cluster_record.specs.RecordState.{no_nodes, identity_of, entry_of, is_name, named, first_complete, stays, referred, made_with};
+ghost use Rattle.cluster_record.specs.RecordState.{no_nodes, identity_of, entry_of, first_complete, stays, referred, made_with};
 
 use ckpt_types::{Bytes, CallId, CkptId, CreationAttributes, Moment, NodeId};
 use moment_rules::reached;
+use name_table::Names;
 
 /// How many checkpoints there are at most.
 pub const CHECKPOINTS_MAX: usize = 16;
@@ -50,15 +52,6 @@ pub struct Entry {
 }
 
 impl Entry {
-    fn is_named(&self, name: &Bytes) -> bool
-        ensures { result ≡ is_name name.now self.now.name }
-    {
-        match &self.name {
-            None => false,
-            Some(other) => other == name,
-        }
-    }
-
     // One reference of the client more.
     fn refer(&mut self, client: u8)
         requires { slice_index self.old.references client < 2 ^ 32 - 1 }
@@ -180,17 +173,6 @@ pub(crate) fn find_entry(entries: &[Entry], identity: CkptId) -> Option<&Entry>
     None
 }
 
-pub(crate) fn find_named<'a>(entries: &'a [Entry], name: &Bytes) -> Option<&'a Entry>
-    ensures { MatchOption result (named name.now entries.now ≡ None) (λ entry. named name.now entries.now ≡ Some entry.now) }
-{
-    for entry in entries {
-        if entry.is_named(name) {
-            return Some(entry);
-        }
-    }
-    None
-}
-
 fn place_of(entries: &[Entry], identity: CkptId) -> Option<usize>
     ensures place { result ≡ place_key identity_of identity entries.now }
     ensures within { IfSome result (λ i. i < length entries.now) }
@@ -239,16 +221,50 @@ fn refer_at(entries: &mut [Entry], identity: CkptId, client: u8)
     }
 }
 
-pub(crate) fn take_away(entries: &mut Vec<Entry>, identity: CkptId)
-    ensures items { entries.new.items ≡ filter (λ entry. not (entry.identity == identity)) entries.old.items }
-    ensures capacity { vec_capacity entries.new ≡ vec_capacity entries.old }
-{
-    entries.retain(|entry| entry.identity != identity);
+/// Which entries stay.
+#[derive(Clone, Copy, Debug)]
+pub(crate) enum Staying {
+    /// Those that a sweep at the moment leaves.
+    Swept(Moment),
+    /// All but one.
+    AllBut(CkptId),
 }
 
-pub(crate) fn sweep(entries: &mut Vec<Entry>, now: Moment)
-    ensures items { entries.new.items ≡ filter (stays now) entries.old.items }
+impl Staying {
+    fn keeps(self, entry: &Entry) -> bool
+        ensures { result ≡ stays_by self entry.now }
+    {
+        match self {
+            Staying::Swept(now) => entry.stays(now),
+            Staying::AllBut(identity) => entry.identity != identity,
+        }
+    }
+}
+
+/// The entries that stay are left, and the names of the others are unlinked.
+pub(crate) fn leave(entries: &mut Vec<Entry>, names: &mut Names, staying: Staying)
+    ensures items { entries.new.items ≡ filter (stays_by staying) entries.old.items }
     ensures capacity { vec_capacity entries.new ≡ vec_capacity entries.old }
+    ensures names { names.new ≡ without_gone (stays_by staying) entries.old.items names.old }
 {
-    entries.retain(|entry| entry.stays(now));
+    unlink_gone(entries.as_slice(), names, staying);
+    entries.retain(|entry| staying.keeps(entry));
+}
+
+fn unlink_gone(entries: &[Entry], names: &mut Names, staying: Staying)
+    ensures { names.new ≡ without_gone (stays_by staying) entries.now names.old }
+{
+    for entry in entries {
+        if !staying.keeps(entry) {
+            unlink_name(names, &entry.name);
+        }
+    }
+}
+
+fn unlink_name(names: &mut Names, name: &Option<Bytes>)
+    ensures { names.new ≡ without_name name.now names.old }
+{
+    if let Some(name) = name {
+        names.unlink(name);
+    }
 }

@@ -13,13 +13,14 @@ ghost use Rattle.cluster_record.specs.RecordState.{empty_record, entry_of, named
 
 use crate::clients::{CLIENTS_MAX, LiveClient, find_client, number_of};
 use crate::entries::{
-    CHECKPOINTS_MAX, DECLARES_NOTHING, Entry, all_may_rise, entries_may_rise, find_entry,
-    find_named, make, new_entry, refer, sweep, take_away,
+    CHECKPOINTS_MAX, DECLARES_NOTHING, Entry, Staying, all_may_rise, entries_may_rise, find_entry,
+    leave, make, new_entry, refer,
 };
 use ckpt_types::{
     ActorName, AisError, Bytes, CallId, Cause, CkptId, CreationAttributes, Incarnation, Moment,
     NodeId, OpenAsk,
 };
+use name_table::Names;
 use std::alloc::{AllocError, Global};
 use std::marker::Model;
 
@@ -42,6 +43,7 @@ pub struct Record {
     moment: Moment,
     clients: Vec<LiveClient>,
     entries: Vec<Entry>,
+    names: Names,
 }
 
 impl Model for Record {
@@ -69,6 +71,7 @@ impl Record {
             moment: 0,
             clients: Vec::with_capacity(alloc, CLIENTS_MAX)?,
             entries: Vec::with_capacity(alloc, CHECKPOINTS_MAX)?,
+            names: Names::new(alloc)?,
         })
     }
 
@@ -151,17 +154,17 @@ impl Record {
     pub fn named(&self, name: &Bytes) -> Option<&Entry>
         ensures { MatchOption result (named name.now self.now.entries ≡ None) (λ entry. named name.now self.now.entries ≡ Some entry.now) }
     {
-        find_named(self.entries.as_slice(), name)
+        match self.find(name) {
+            None => None,
+            Some(identity) => find_entry(self.entries.as_slice(), identity),
+        }
     }
 
     /// The identity of the checkpoint of a name.
     pub fn find(&self, name: &Bytes) -> Option<CkptId>
         ensures { result ≡ identity_in (named name.now self.now.entries) }
     {
-        match self.named(name) {
-            None => None,
-            Some(entry) => Some(entry.identity),
-        }
+        self.names.look_up(name)
     }
 
     /// By node, the incarnation with which it is complete for a checkpoint, or 0.
@@ -295,7 +298,8 @@ impl Record {
 
     /// A checkpoint gets the next identity, and is in the making by the call.
     pub fn create(&mut self, call: CallId, ask: &OpenAsk) -> Result<(), AllocError>
-        requires { CanCreate self.old }
+        requires room { CanCreate self.old }
+        requires absent { named ask.now.name self.old.entries ≡ None }
         ensures ok { OnOk result (self.new ≡ created call ask.now self.old) }
         ensures err { OnErr result (self.new ≡ self.old) }
     {
@@ -303,9 +307,11 @@ impl Record {
             return Ok(());
         };
         let name = ask.name.clone()?;
+        let linked = ask.name.clone()?;
         let identity = self.last_identity + 1;
         let entry = new_entry(call, name, attributes, identity, self.moment);
         self.last_identity = identity;
+        self.names.link(linked, identity);
         self.entries.push_reserved(entry);
         Ok(())
     }
@@ -349,7 +355,11 @@ impl Record {
         ensures { self.new ≡ making_undone identity self.old }
     {
         if self.making_call(identity).is_some() {
-            take_away(&mut self.entries, identity);
+            leave(
+                &mut self.entries,
+                &mut self.names,
+                Staying::AllBut(identity),
+            );
         }
     }
 
@@ -357,7 +367,8 @@ impl Record {
     pub fn sweep(&mut self)
         ensures { self.new ≡ swept self.old }
     {
-        sweep(&mut self.entries, self.moment);
+        let staying = Staying::Swept(self.moment);
+        leave(&mut self.entries, &mut self.names, staying);
     }
 
     /// The moment is set, and what is over then is swept away.

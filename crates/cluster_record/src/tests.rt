@@ -37,7 +37,10 @@ fn create_by(
         client,
         node: 0,
     };
-    if record.entries_len() < CHECKPOINTS_MAX && record.last_identity() < u32::MAX {
+    if record.find(&ask.name).is_none()
+        && record.entries_len() < CHECKPOINTS_MAX
+        && record.last_identity() < u32::MAX
+    {
         record.create(call_of(client, 2), &ask)?;
     }
     Ok(record.find(&ask.name))

@@ -85,18 +85,18 @@ module _ (m : Machine) (s : CallState) (call : CallId) (ask : OpenAsk) (deadline
   asking = record { call = call; ask = ask; deadline = deadline; making = None }
 
   -- a checkpoint that is asked for is made where there is room
-  create_ready : (room : Bool) (a : CreationAttributes) → ask.attrs ≡ Some a → IsDueReady m s (drivers.Open asking) (create_next m.cluster room)
-  create_ready false a given = tt
-  create_ready true a given =
+  create_ready : (room : Bool) (a : CreationAttributes) → ask.attrs ≡ Some a → named ask.name m.cluster.entries ≡ None → IsDueReady m s (drivers.Open asking) (create_next m.cluster room)
+  create_ready false a given free = tt
+  create_ready true a given free =
       elim (nat_le 16 (length m.cluster.entries)) as (λ b. nat_le 16 (length m.cluster.entries) ≡ b → IsDueReady m s (drivers.Open asking) (cond b (End (Refused NoResources (Count 16))) (Event events.Create))) [
         | true ↦ λ full. tt
-        | false ↦ λ few. (leb-false 16 (length m.cluster.entries) few, IsSomeAnd-from ask.attrs (λ a. Unit {0}) a given tt)
+        | false ↦ λ few. (leb-false 16 (length m.cluster.entries) few, IsSomeAnd-from ask.attrs (λ a. Unit {0}) a given tt, free)
       ] refl
 
   -- of a name that is free
-  free_ready : (room : Bool) (a : Option CreationAttributes) → ask.attrs ≡ a → IsDueReady m s (drivers.Open asking) (on_free_name m.cluster room deadline a)
-  free_ready room None given = tt
-  free_ready room (Some a) given = in_time-either (IsDueReady m s (drivers.Open asking)) deadline m.cluster.moment (create_next m.cluster room) (λ o. tt) (create_ready room a given)
+  free_ready : (room : Bool) (a : Option CreationAttributes) → ask.attrs ≡ a → named ask.name m.cluster.entries ≡ None → IsDueReady m s (drivers.Open asking) (on_free_name m.cluster room deadline a)
+  free_ready room None given free = tt
+  free_ready room (Some a) given free = in_time-either (IsDueReady m s (drivers.Open asking)) deadline m.cluster.moment (create_next m.cluster room) (λ o. tt) (create_ready room a given free)
 
   -- of a name that a checkpoint has
   entry_ready : (room accepted : Bool) (e : Entry) → named ask.name m.cluster.entries ≡ Some e → IsDueReady m s (drivers.Open asking) (cond (not accepted) (End (Refused Exist Plain)) (cond (not room) (End (Refused NoResources (Count 32))) (Event events.Open)))
@@ -106,7 +106,7 @@ module _ (m : Machine) (s : CallState) (call : CallId) (ask : OpenAsk) (deadline
 
   -- of any name
   named_ready : (room : Bool) (o : Option Entry) → named ask.name m.cluster.entries ≡ o → IsDueReady m s (drivers.Open asking) (on_named m.cluster room deadline ask.attrs o)
-  named_ready room None found = free_ready room ask.attrs refl
+  named_ready room None found = free_ready room ask.attrs refl found
   named_ready room (Some e) found = in_time-either (IsDueReady m s (drivers.Open asking)) deadline m.cluster.moment (entry_next room ask.attrs e) (λ o. tt) (entry_ready room (accepts ask.attrs e) e found)
 
 -- ---- a making

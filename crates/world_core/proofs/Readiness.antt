@@ -29,7 +29,7 @@ can_refer_at R few c (Some k) = can_refer c (entry_of k R.entries) (λ e. few k 
 -- a step is ready where its world has room for it
 pub record_ready : (R : RecordState) (x : Driver) (step : RecordStep) → R.last_identity < 2 ^ 32 - 1 → FewReferences R → EventNeeds R x step → IsRecordReady R x step
 record_ready R (drivers.Enter r) events.Enter identity few needs = record { node = needs.0; room = needs.1 }
-record_ready R (drivers.Open o) events.Create identity few needs = record { room = needs.0; identity = identity }
+record_ready R (drivers.Open o) events.Create identity few needs = (record { room = needs.0; identity = identity }, needs.2)
 record_ready R (drivers.Open o) events.Open identity few needs = can_refer_at R few o.ask.client (identity_in (named o.ask.name R.entries))
 record_ready R (drivers.Open o) events.Finish identity few needs = (can_refer_at R few o.ask.client (making_ckpt o.making), needs.1)
 record_ready R (drivers.Open o) events.Undo identity few needs = needs.1

@@ -77,7 +77,7 @@ refused_moves m s step k r = refl
 -- what the step asks of the record
 abbrev pub EventNeeds : RecordState → Driver → RecordStep → Type 0
 EventNeeds R (drivers.Enter r) events.Enter = (r < 8) × (length R.clients < 64)
-EventNeeds R (drivers.Open o) events.Create = (length R.entries < 16) × IsSomeAnd o.ask.attrs (λ a. Unit {0})
+EventNeeds R (drivers.Open o) events.Create = (length R.entries < 16) × IsSomeAnd o.ask.attrs (λ a. Unit {0}) × (named o.ask.name R.entries ≡ None)
 EventNeeds R (drivers.Open o) events.Open = IsSomeAnd (named o.ask.name R.entries) (λ e. Unit {0})
 EventNeeds R (drivers.Open o) events.Finish = IsSomeAnd o.making (λ making. IsSomeAnd (entry_of making.ckpt R.entries) (λ e. Unit {0})) × IsMakingOf R o.ask.client (making_ckpt o.making)
 EventNeeds R (drivers.Open o) events.Undo = IsSomeAnd o.making (λ making. Unit {0}) × IsMakingOf R o.ask.client (making_ckpt o.making)

@@ -224,7 +224,7 @@ IsFinishable m (Some making) = AllReserved m making.ckpt × IsSomeAnd (entry_of 
 -- what a due step of the record asks of it
 abbrev pub IsEventReady : Machine → CallState → Driver → RecordStep → Type 0
 IsEventReady m s (drivers.Enter r) events.Enter = (r < 8) × (length m.cluster.clients < 64)
-IsEventReady m s (drivers.Open o) events.Create = (length m.cluster.entries < 16) × IsSomeAnd o.ask.attrs (λ a. Unit {0})
+IsEventReady m s (drivers.Open o) events.Create = (length m.cluster.entries < 16) × IsSomeAnd o.ask.attrs (λ a. Unit {0}) × (named o.ask.name m.cluster.entries ≡ None)
 IsEventReady m s (drivers.Open o) events.Open = IsSomeAnd (named o.ask.name m.cluster.entries) (λ e. Unit {0})
 IsEventReady m s (drivers.Open o) events.Finish = IsFinishable m o.making × IsMakingOf m.cluster o.ask.client (making_ckpt o.making)
 IsEventReady m s (drivers.Open o) events.Undo = IsSomeAnd o.making (λ making. Unit {0}) × IsMakingOf m.cluster o.ask.client (making_ckpt o.making)

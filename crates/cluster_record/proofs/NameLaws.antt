@@ -1,0 +1,155 @@
+-- The table of names has the names of the entries: when one comes, is changed, or goes.
+use Rattle.std.proofs.Common.{◌≡◌, ℕ, ◌≤◌, List, [], ◌∷◌, ◌++◌, length, filter, Option, Some, None, Bool, true, false, cond, not, ◌==◌, nat_eq, refl, sym, ap, subst, ◌∙◌, arith, append_assoc, append-nil, length-append, true≢false, eqb-true, eq-eqb}
+use Rattle.std.specs.Cmp.Lexicographic.{pointwise, bytes_decides}
+use Rattle.std.proofs.lemmas.List.Elements.{filter-append}
+use Rattle.std.proofs.lemmas.Option.{none-some}
+use Rattle.name_table.specs.Table.{NamedCkpt, is_called, found, linked, unlinked, EachOnce}
+use Rattle.name_table.proofs.TableLemmas.{is_called-own, found-cons, unlinked-absent, EachOnce-filter, EachOnce-linked, absent-before}
+use Rattle.cluster_record.specs.declared.entries.Entry.{Entry}
+use Rattle.cluster_record.specs.Identities.{IdentitiesRise}
+use Rattle.cluster_record.specs.LookUps.{identity_in}
+use Rattle.cluster_record.specs.NamesOf.{linked_name, names_of, without_name, without_gone}
+use Rattle.cluster_record.specs.Places.{change_key}
+use Rattle.cluster_record.specs.RecordState.{identity_of, entry_of, is_name, named}
+use Rattle.cluster_record.proofs.IdentityLaws.{none_at}
+
+-- ---- the names of a list that grows or changes
+
+pub names_of-push : (es : List Entry) (e : Entry) → names_of (es ++ e ∷ []) ≡ names_of es ++ linked_name e.name e.identity
+names_of-push [] e = append-nil (linked_name e.name e.identity)
+names_of-push (x ∷ xs) e = ap (λ t. linked_name x.name x.identity ++ t) (names_of-push xs e) ∙ sym (append_assoc (linked_name x.name x.identity) (names_of xs) (linked_name e.name e.identity))
+
+-- a change that keeps names and identities keeps the table
+pub names_of-change_key : (f : Entry → Entry) → ((e : Entry) → (f e).name ≡ e.name) → ((e : Entry) → (f e).identity ≡ e.identity) → (k : ℕ) (es : List Entry) → names_of (change_key identity_of k f es) ≡ names_of es
+names_of-change_key f name identity k [] = refl
+names_of-change_key f name identity k (x ∷ xs) =
+    elim (x.identity == k) as (λ b. names_of (cond b (f x ∷ xs) (x ∷ change_key identity_of k f xs)) ≡ names_of (x ∷ xs)) [
+      | true ↦ rw (name x, identity x) refl
+      | false ↦ ap (λ t. linked_name x.name x.identity ++ t) (names_of-change_key f name identity k xs)
+    ]
+
+one_at_most : (name : Option (List ℕ)) (k : ℕ) → length (linked_name name k) ≤ 1
+one_at_most None k = omega arith
+one_at_most (Some name) k = omega arith
+
+-- there are not more names than entries
+pub length-names_of : (es : List Entry) → length (names_of es) ≤ length es
+length-names_of [] = omega arith
+length-names_of (x ∷ xs) = omega (arith, length-append (linked_name x.name x.identity) (names_of xs), one_at_most x.name x.identity, length-names_of xs)
+
+-- ---- entries that go
+
+-- a name in the midst of a table is taken out
+taken_out : (name : List ℕ) (k : ℕ) (front back : List NamedCkpt) → EachOnce (front ++ record { name = name; identity = k } ∷ back) → unlinked name (front ++ record { name = name; identity = k } ∷ back) ≡ front ++ back
+taken_out name k front back once =
+    let ckpt : NamedCkpt = record { name = name; identity = k } in
+    let before : unlinked name front ≡ front = unlinked-absent name front (absent-before front ckpt back once) in
+    let own : unlinked name (ckpt ∷ back) ≡ unlinked name back = ap (λ b. cond (not b) (ckpt ∷ unlinked name back) (unlinked name back)) (is_called-own name k) in
+    let behind : unlinked name back ≡ back = unlinked-absent name back (later front once) in
+    filter-append (λ c. not (is_called name c)) front (ckpt ∷ back) ∙ ap (λ t. t ++ unlinked name (ckpt ∷ back)) before ∙ ap (λ t. front ++ t) (own ∙ behind)
+  where
+    later : (front : List NamedCkpt) → EachOnce (front ++ record { name = name; identity = k } ∷ back) → found name back ≡ None
+    later [] once = once.0
+    later (x ∷ xs) once = later xs once.1
+
+without_name-once : (name : Option (List ℕ)) (table : List NamedCkpt) → EachOnce table → EachOnce (without_name name table)
+without_name-once None table once = once
+without_name-once (Some name) table once = EachOnce-filter _ table once
+
+without_name-is : (name : Option (List ℕ)) (k : ℕ) (front back : List NamedCkpt) → EachOnce (front ++ (linked_name name k ++ back)) → without_name name (front ++ (linked_name name k ++ back)) ≡ front ++ back
+without_name-is None k front back once = refl
+without_name-is (Some name) k front back once = taken_out name k front back once
+
+pub without_gone-once : (p : Entry → Bool) (es : List Entry) (table : List NamedCkpt) → EachOnce table → EachOnce (without_gone p es table)
+without_gone-once p [] table once = once
+without_gone-once p (x ∷ xs) table once = without_gone-once p xs (cond (p x) table (without_name x.name table)) (elim (p x) as (λ b. EachOnce (cond b table (without_name x.name table))) [ true ↦ once | false ↦ without_name-once x.name table once ])
+
+gone : (p : Entry → Bool) (es : List Entry) (front : List NamedCkpt) → EachOnce (front ++ names_of es) → without_gone p es (front ++ names_of es) ≡ front ++ names_of (filter p es)
+gone p [] front once = refl
+gone p (x ∷ xs) front once =
+    elim (p x) as (λ b. without_gone p xs (cond b (front ++ names_of (x ∷ xs)) (without_name x.name (front ++ names_of (x ∷ xs)))) ≡ front ++ names_of (cond b (x ∷ filter p xs) (filter p xs))) [
+      | true ↦
+          let split : (front ++ linked_name x.name x.identity) ++ names_of xs ≡ front ++ names_of (x ∷ xs) = append_assoc front (linked_name x.name x.identity) (names_of xs) in
+          ap (without_gone p xs) (sym split) ∙ gone p xs (front ++ linked_name x.name x.identity) (subst EachOnce (sym split) once) ∙ append_assoc front (linked_name x.name x.identity) (names_of (filter p xs))
+      | false ↦
+          let out : without_name x.name (front ++ names_of (x ∷ xs)) ≡ front ++ names_of xs = without_name-is x.name x.identity front (names_of xs) once in
+          ap (without_gone p xs) out ∙ gone p xs front (subst EachOnce out (without_name-once x.name (front ++ names_of (x ∷ xs)) once))
+    ]
+
+-- without the names of the entries that go, the table has those of the entries that stay
+pub without_gone-is : (p : Entry → Bool) (es : List Entry) → EachOnce (names_of es) → without_gone p es (names_of es) ≡ names_of (filter p es)
+without_gone-is p es once = gone p es [] once
+
+-- ---- look-ups
+
+some-same : {X : Type 0} (a b : X) → Some a ≡ Some b → a ≡ b
+some-same a b e = cc
+
+-- two names are compared either way round
+same_name : (a b : List ℕ) → pointwise nat_eq a b ≡ pointwise nat_eq b a
+same_name a b = by (pointwise nat_eq a b) (pointwise nat_eq b a) refl refl where
+  by : (x y : Bool) → pointwise nat_eq a b ≡ x → pointwise nat_eq b a ≡ y → x ≡ y
+  by true true e f = refl
+  by false false e f = refl
+  by true false e f = absurd (true≢false (sym ((bytes_decides b a).1 (sym ((bytes_decides a b).0 e))) ∙ f))
+  by false true e f = absurd (true≢false (sym ((bytes_decides a b).1 (sym ((bytes_decides b a).0 f))) ∙ e))
+
+-- a name is found in the table as among the entries
+pub found-named : (name : List ℕ) (es : List Entry) → found name (names_of es) ≡ identity_in (named name es)
+found-named name [] = refl
+found-named name (x ∷ xs) = by x.name (found-named name xs) where
+  by : (o : Option (List ℕ)) → found name (names_of xs) ≡ identity_in (named name xs) → found name (linked_name o x.identity ++ names_of xs) ≡ identity_in (cond (is_name name o) (Some x) (named name xs))
+  by None rest = rest
+  by (Some other) rest =
+      found-cons name (record { name = other; identity = x.identity }) (names_of xs)
+      ∙ ap (λ b. cond b (Some x.identity) (found name (names_of xs))) (same_name name other)
+      ∙ elim (pointwise nat_eq other name) as (λ b. cond b (Some x.identity) (found name (names_of xs)) ≡ identity_in (cond b (Some x) (named name xs))) [ true ↦ refl | false ↦ rest ]
+
+-- what has no identity is not there
+pub none-of-identity : (o : Option Entry) → identity_in o ≡ None → o ≡ None
+none-of-identity None e = refl
+none-of-identity (Some x) e = absurd cc
+
+-- the entry of a name is the one of its identity
+named-own : (name : List ℕ) (es : List Entry) (e : Entry) → IdentitiesRise es → named name es ≡ Some e → entry_of e.identity es ≡ Some e
+named-own name [] e rises is = absurd cc
+named-own name (x ∷ xs) e rises is = by (is_name name x.name) (named-own name xs e rises.1) is where
+  by : (b : Bool) → (named name xs ≡ Some e → entry_of e.identity xs ≡ Some e) → cond b (Some x) (named name xs) ≡ Some e → cond (x.identity == e.identity) (Some x) (entry_of e.identity xs) ≡ Some e
+  by true rest is =
+      let same : x ≡ e = some-same x e is in
+      subst (λ (e : Entry). cond (x.identity == e.identity) (Some x) (entry_of e.identity xs) ≡ Some e) same (ap (λ b. cond b (Some x) (entry_of x.identity xs)) (eq-eqb x.identity x.identity refl))
+  by false rest is =
+      elim (x.identity == e.identity) as (λ b. (x.identity == e.identity) ≡ b → cond b (Some x) (entry_of e.identity xs) ≡ Some e) [
+        | true ↦ λ same. absurd (none-some e (sym (none_at x.identity e.identity xs rises.0 (eqb-true x.identity e.identity same)) ∙ rest is))
+        | false ↦ λ apart. rest is
+      ] refl
+
+pub named-entry : (name : List ℕ) (es : List Entry) (k : ℕ) → IdentitiesRise es → Some k ≡ identity_in (named name es) → entry_of k es ≡ named name es
+named-entry name es k rises is = by (named name es) refl is where
+  by : (o : Option Entry) → named name es ≡ o → Some k ≡ identity_in o → entry_of k es ≡ o
+  by None e is = absurd cc
+  by (Some x) e is = subst (λ j. entry_of j es ≡ Some x) (sym (some-same k x.identity is)) (named-own name es x rises e)
+
+-- a name that no entry has is absent from the table
+pub absent-name : (name : List ℕ) (es : List Entry) → named name es ≡ None → found name (names_of es) ≡ None
+absent-name name es absent = found-named name es ∙ ap identity_in absent
+
+-- ---- the table and the entries together
+
+-- where an entry is changed and keeps its name
+pub changed-is : (f : Entry → Entry) → ((e : Entry) → (f e).name ≡ e.name) → ((e : Entry) → (f e).identity ≡ e.identity) → (k : ℕ) (es new : List Entry) → new ≡ change_key identity_of k f es → names_of es ≡ names_of new
+changed-is f name identity k es new is = sym (ap names_of is ∙ names_of-change_key f name identity k es)
+
+-- where some go
+pub left-is : (p : Entry → Bool) (es new : List Entry) (old table : List NamedCkpt) → new ≡ filter p es → table ≡ without_gone p es old → old ≡ names_of es → EachOnce (names_of es) → table ≡ names_of new
+left-is p es new old table new_is table_is old_is once = table_is ∙ ap (without_gone p es) old_is ∙ without_gone-is p es once ∙ sym (ap names_of new_is)
+
+pub left-once : (p : Entry → Bool) (es new : List Entry) → new ≡ filter p es → EachOnce (names_of es) → EachOnce (names_of new)
+left-once p es new new_is once = subst EachOnce (without_gone-is p es once ∙ sym (ap names_of new_is)) (without_gone-once p es (names_of es) once)
+
+-- where one comes
+pub pushed-is : (es new : List Entry) (e : Entry) (name : List ℕ) (k : ℕ) → new ≡ es ++ e ∷ [] → e.name ≡ Some name → e.identity ≡ k → linked name k (names_of es) ≡ names_of new
+pushed-is es new e name k new_is name_is k_is = sym (ap names_of new_is ∙ names_of-push es e ∙ rw (name_is, k_is) refl)
+
+pub pushed-once : (es new : List Entry) (e : Entry) (name : List ℕ) (k : ℕ) → new ≡ es ++ e ∷ [] → e.name ≡ Some name → e.identity ≡ k → EachOnce (names_of es) → named name es ≡ None → EachOnce (names_of new)
+pushed-once es new e name k new_is name_is k_is once absent = subst EachOnce (pushed-is es new e name k new_is name_is k_is) (EachOnce-linked name k (names_of es) once (absent-name name es absent))

@@ -1,0 +1,30 @@
+-- The names of a record's checkpoints, as its table of names has them.
+use Rattle.std.specs.Prelude.{ℕ, List, [], ◌∷◌, ◌++◌, Option, Some, None, Bool, not, ◌==◌, if◌then◌else◌}
+use Rattle.name_table.specs.Table.{NamedCkpt, unlinked}
+use Rattle.cluster_record.specs.declared.entries.Entry.{Entry}
+use Rattle.cluster_record.specs.declared.entries.Staying.{Staying}
+use Rattle.cluster_record.specs.declared.entries.Staying.TheVariants.{Swept, AllBut}
+use Rattle.cluster_record.specs.RecordState.{stays}
+
+abbrev pub linked_name : Option (List ℕ) → ℕ → List NamedCkpt
+linked_name None k = []
+linked_name (Some name) k = record { name = name; identity = k } ∷ []
+
+-- each name that a checkpoint has, in the order of the entries
+abbrev pub names_of : List Entry → List NamedCkpt
+names_of [] = []
+names_of (e ∷ es) = linked_name e.name e.identity ++ names_of es
+
+-- which entries stay: those that a sweep leaves, or all but one
+abbrev pub stays_by : Staying → Entry → Bool
+stays_by (Swept t) = stays t
+stays_by (AllBut k) = λ e. not (e.identity == k)
+
+abbrev pub without_name : Option (List ℕ) → List NamedCkpt → List NamedCkpt
+without_name None table = table
+without_name (Some name) table = unlinked name table
+
+-- a table without the names of the entries that go
+abbrev pub without_gone : (Entry → Bool) → List Entry → List NamedCkpt → List NamedCkpt
+without_gone p [] table = table
+without_gone p (e ∷ es) table = without_gone p es (if p e then table else without_name e.name table)
