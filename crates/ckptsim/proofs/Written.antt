@@ -4,7 +4,7 @@ use Rattle.std.proofs.Math.Seq.{take-add}
 use Rattle.std.specs.Io.KnownBytes.{Appends}
 use Rattle.std.proofs.KnownBytes.{Appends-nil, Appends-trans}
 use Rattle.std.proofs.lemmas.Grind.{flat_map-append}
-use Rattle.std.specs.Prelude.{Some, slice_get, true, false, Result, Ok, Err, OnOk, OnErr}
+use Rattle.std.specs.Prelude.{Some, slice_get, Bool, true, false, Result, Ok, Err, OnOk, OnErr}
 use Rattle.std.specs.Result.{is_err}
 use Rattle.std.proofs.lemmas.Bool.{true≢false, false≢true}
 use Rattle.run_labels.specs.declared.labels.Label.{Label}
@@ -51,26 +51,26 @@ wrote_whole a b c text all (front, appends, is) more =
     subst (Appends a c) is (Appends-trans a b c front text appends more)
 
 -- the lines of the first labels, of the next one and of all
-pub printed_next : (labels : List Label) (i : ℕ) (label : Label) → slice_get labels i ≡ Some label → printed (take i labels) ++ line_of false label ≡ printed (take (i + 1) labels)
-printed_next labels i label at_i = append-flat_map-take (line_of false) [] labels i label at_i
+pub printed_next : (steps : Bool) (labels : List Label) (i : ℕ) (label : Label) → slice_get labels i ≡ Some label → printed steps (take i labels) ++ line_of steps label ≡ printed steps (take (i + 1) labels)
+printed_next steps labels i label at_i = append-flat_map-take (line_of steps) [] labels i label at_i
 
-pub printed_parts : (labels : List Label) (i : ℕ) → printed (take i labels) ++ printed (drop i labels) ≡ printed labels
-printed_parts labels i = sym (flat_map-append (line_of false) (take i labels) (drop i labels)) ∙ ap printed (take-append-drop i labels)
+pub printed_parts : (steps : Bool) (labels : List Label) (i : ℕ) → printed steps (take i labels) ++ printed steps (drop i labels) ≡ printed steps labels
+printed_parts steps labels i = sym (flat_map-append (line_of steps) (take i labels) (drop i labels)) ∙ ap (printed steps) (take-append-drop i labels)
 
 -- the next label's line stands behind the text
-pub wrote_next : (a b : Option (List ℕ)) (text out : List ℕ) (labels : List Label) (i : ℕ) (label : Label) → slice_get labels i ≡ Some label → out ≡ text ++ line_of false label
-    → Wrote a b text (printed (take i labels)) → Wrote a b out (printed (take (i + 1) labels))
-wrote_next a b text out labels i label at_i grown wrote =
-    subst (λ l. Wrote a b l (printed (take (i + 1) labels))) (sym grown)
-    (subst (Wrote a b (text ++ line_of false label)) (printed_next labels i label at_i) (wrote_line a b text (printed (take i labels)) (line_of false label) wrote))
+pub wrote_next : (steps : Bool) (a b : Option (List ℕ)) (text out : List ℕ) (labels : List Label) (i : ℕ) (label : Label) → slice_get labels i ≡ Some label → out ≡ text ++ line_of steps label
+    → Wrote a b text (printed steps (take i labels)) → Wrote a b out (printed steps (take (i + 1) labels))
+wrote_next steps a b text out labels i label at_i grown wrote =
+    subst (λ l. Wrote a b l (printed steps (take (i + 1) labels))) (sym grown)
+    (subst (Wrote a b (text ++ line_of steps label)) (printed_next steps labels i label at_i) (wrote_line a b text (printed steps (take i labels)) (line_of steps label) wrote))
 
 -- the text is written whole, or a front of it
-pub wrote_front : (a b c : Option (List ℕ)) (text : List ℕ) (labels : List Label) (i : ℕ) → Wrote a b text (printed (take i labels)) → WritesPart b c text → WritesPart a c (printed labels)
-wrote_front a b c text labels i wrote part = wrote_part a b c text _ _ _ wrote (printed_parts labels i) part
+pub wrote_front : (steps : Bool) (a b c : Option (List ℕ)) (text : List ℕ) (labels : List Label) (i : ℕ) → Wrote a b text (printed steps (take i labels)) → WritesPart b c text → WritesPart a c (printed steps labels)
+wrote_front steps a b c text labels i wrote part = wrote_part a b c text _ _ _ wrote (printed_parts steps labels i) part
 
 -- nothing of the text is written
-pub wrote_no_more : (a b : Option (List ℕ)) (text : List ℕ) (labels : List Label) (i : ℕ) → Wrote a b text (printed (take i labels)) → WritesPart a b (printed labels)
-wrote_no_more a b text labels i wrote = wrote_front a b b text labels i wrote ([], text, refl, Appends-nil b)
+pub wrote_no_more : (steps : Bool) (a b : Option (List ℕ)) (text : List ℕ) (labels : List Label) (i : ℕ) → Wrote a b text (printed steps (take i labels)) → WritesPart a b (printed steps labels)
+wrote_no_more steps a b text labels i wrote = wrote_front steps a b b text labels i wrote ([], text, refl, Appends-nil b)
 
 -- a failed call has what it has at a failure
 pub at_error : {T E P : Type 0} (r : Result T E) → true ≡ is_err r → OnErr r P → P

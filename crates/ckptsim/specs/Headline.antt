@@ -1,5 +1,5 @@
 -- What the program's one call promises.
-use Rattle.std.specs.Prelude.{◌≡◌, ◌⊎◌, ℕ, false, List, [], ◌∷◌, ◌++◌, length, codes, Option, Ok, Err}
+use Rattle.std.specs.Prelude.{◌≡◌, ◌⊎◌, ℕ, Bool, false, List, [], ◌∷◌, ◌++◌, length, codes, bytes_eq, Option, Ok, Err}
 use Rattle.std.specs.String.{string_bytes}
 use Rattle.std.specs.declared.string.String.{String}
 use Rattle.std.specs.declared.alloc.Global.{Global}
@@ -17,23 +17,29 @@ use Rattle.world_core.specs.Shows.{Shows}
 use Rattle.ckptsim.specs.declared.running.Status.{Status}
 use Rattle.ckptsim.specs.declared.running.Status.TheVariants.{Ran, Usage, Script, ReadFault, WriteFault, NoMemory}
 
--- the words of the command line that are a command: `run` alone
+-- the words of the command line that are a command: `run`, or `run --steps`
 abbrev pub IsCommand : List (String Global) → Type 0
-IsCommand [] = ⊥
 IsCommand (word ∷ []) = string_bytes word ≡ codes "run"
-IsCommand (word ∷ more ∷ words) = ⊥
+IsCommand (word ∷ option ∷ []) = (string_bytes word ≡ codes "run") × (string_bytes option ≡ codes "--steps")
+IsCommand words = ⊥
 
--- the lines that a log prints, without its steps
-abbrev pub printed : List Label → List ℕ
-printed log = lines_of false log
+-- the steps are asked for: there are two words, and the second is `--steps`
+abbrev pub asks_steps : List (String Global) → Bool
+asks_steps (word ∷ option ∷ []) = bytes_eq (string_bytes option) (codes "--steps")
+asks_steps words = false
+
+-- the lines that a log prints, with its steps or without them
+abbrev pub printed : Bool → List Label → List ℕ
+printed steps log = lines_of steps log
 
 -- a front of the bytes was written
 abbrev pub WritesPart : Option (List ℕ) → Option (List ℕ) → List ℕ → Type 0
 WritesPart old new bytes = (front : List ℕ) × (back : List ℕ) × (front ++ back ≡ bytes) × Appends old new front
 
 -- it ran: the source was read to its end, its bytes are a script, the log follows the script and is a run of
--- the checkpoint machine, the sink got the log's lines and nothing else, and the world shows the machine's last state
-pub record HasRun (left_old left_new held_old held_new : Option (List ℕ)) (log : List Label) (world : World) : Type 0 where
+-- the checkpoint machine, the sink got the log's lines and nothing else, with the steps or without them, and the world
+-- shows the machine's last state
+pub record HasRun (steps : Bool) (left_old left_new held_old held_new : Option (List ℕ)) (log : List Label) (world : World) : Type 0 where
   pub bytes : List ℕ
   pub read : Consumes left_old left_new bytes
   pub whole : IsAtEnd left_new
@@ -41,7 +47,7 @@ pub record HasRun (left_old left_new held_old held_new : Option (List ℕ)) (log
   pub is_script : script_of bytes ≡ Ok script
   pub follows : Follows script log
   pub run : IsRun log
-  pub written : Appends held_old held_new (printed log)
+  pub written : Appends held_old held_new (printed steps log)
   pub shows : Shows world (last log)
 
 -- the bytes read have just this fault: all bytes of the source, or one more than a script may have

@@ -1,5 +1,5 @@
 //! `ckptsim run` reads a cluster script from standard input, plays it on the Checkpoint Service, and prints
-//! every result to standard output.
+//! every result to standard output. `ckptsim run --steps` prints each step of a call and each moment too.
 #![tactic(auto)]
 
 mod reading;

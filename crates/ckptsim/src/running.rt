@@ -1,8 +1,8 @@
-ghost use Rattle.std.specs.Prelude.{◌≡◌, ◌≤◌, [], length, IsTrue, ◌↔◌, codes, IfSome, IsOk};
+ghost use Rattle.std.specs.Prelude.{◌≡◌, ◌≤◌, [], length, IsTrue, ◌↔◌, codes, bytes_eq, IfSome, IsOk};
 ghost use Rattle.outside_io.specs.Causes.{Rose};
 ghost use Rattle.script_lang.specs.Grammar.{script_of};
 ghost use Rattle.world_core.specs.Runs.{IsNew};
-ghost use Rattle.ckptsim.specs.Headline.{IsCommand, HasRun, HasFault, WroteNothing, WritesPart, RanOrNoMemory, printed, status_number};
+ghost use Rattle.ckptsim.specs.Headline.{IsCommand, asks_steps, HasRun, HasFault, WroteNothing, WritesPart, RanOrNoMemory, printed, status_number};
 ghost use Rattle.script_lang.specs.declared.faults.ScriptFault.{ScriptFault};
 
 use crate::reading::{Ended, read_all};
@@ -68,13 +68,31 @@ fn is_run(word: &str) -> bool
     word == "run"
 }
 
+fn is_steps(option: &str) -> bool
+    ensures { result ≡ bytes_eq option.now (codes "--steps") }
+{
+    option == "--steps"
+}
+
+// Whether the words are `run`, or `run --steps`.
 fn is_command(words: &[String]) -> bool
     ensures { IsTrue result ↔ IsCommand words.now }
 {
     match words {
         [word] => is_run(word.as_str()),
+        [word, option] => is_run(word.as_str()) && is_steps(option.as_str()),
         _ => false,
     }
+}
+
+// Whether the steps are to be printed too.
+fn wants_steps(words: &[String]) -> bool
+    ensures { result ≡ asks_steps words.now }
+{
+    let [_, second] = words else {
+        return false;
+    };
+    is_steps(second.as_str())
 }
 
 // The run, by its answers' causes.
@@ -90,14 +108,14 @@ fn attempt<R: Threads + Wait + Sync, S: Source, K: Sink, G: Gate>(
 ) -> Status
     requires log { log.old.labels ≡ [] }
     requires world { IsNew world.old }
-    ensures ran { result ≡ Status.Ran → HasRun (S.left source.old) (S.left source.new) (K.held sink.old) (K.held sink.new) log.new.labels world.new }
+    ensures ran { result ≡ Status.Ran → HasRun (asks_steps words.now) (S.left source.old) (S.left source.new) (K.held sink.old) (K.held sink.new) log.new.labels world.new }
     ensures usage { (result ≡ Status.Usage → IsCommand words.now → ⊥) × ((IsCommand words.now → ⊥) → result ≡ Status.Usage) }
     ensures unread { result ≡ Status.Usage → source.new ≡ source.old }
     ensures script { (fault : ScriptFault) → result ≡ Status.Script fault → HasFault (S.left source.old) (S.left source.new) fault }
     ensures read { result ≡ Status.ReadFault → Rose (S.faults source.old) (S.faults source.new) }
     ensures write { result ≡ Status.WriteFault → Rose (K.faults sink.old) (K.faults sink.new) }
     ensures kept { WroteNothing result → sink.new ≡ sink.old }
-    ensures part { WritesPart (K.held sink.old) (K.held sink.new) (printed log.new.labels) }
+    ensures part { WritesPart (K.held sink.old) (K.held sink.new) (printed (asks_steps words.now) log.new.labels) }
 {
     if !is_command(words) {
         return Status::Usage;
@@ -121,7 +139,7 @@ fn attempt<R: Threads + Wait + Sync, S: Source, K: Sink, G: Gate>(
     if session(rt, alloc, &script, gate, log, world).is_err() {
         return Status::NoMemory;
     }
-    match write_lines(alloc, sink, log.as_slice()) {
+    match write_lines(alloc, sink, log.as_slice(), wants_steps(words)) {
         Ok(()) => Status::Ran,
         Err(Trouble::Failed) => Status::WriteFault,
         Err(Trouble::Memory) => Status::NoMemory,
@@ -143,7 +161,7 @@ pub fn ckpt_run<R: Threads + Wait + Sync, S: Source, K: Sink, G: Gate>(
     requires world { IsNew world.old }
 
     // What was printed, and every replica, is a run of the checkpoint machine that follows the script.
-    ensures ran { result ≡ Status.Ran → HasRun (S.left source.old) (S.left source.new) (K.held sink.old) (K.held sink.new) log.new.labels world.new }
+    ensures ran { result ≡ Status.Ran → HasRun (asks_steps words.now) (S.left source.old) (S.left source.new) (K.held sink.old) (K.held sink.new) log.new.labels world.new }
 
     // Each other answer has its cause.
     ensures usage { (result ≡ Status.Usage → IsCommand words.now → ⊥) × ((IsCommand words.now → ⊥) → result ≡ Status.Usage) }
@@ -154,7 +172,7 @@ pub fn ckpt_run<R: Threads + Wait + Sync, S: Source, K: Sink, G: Gate>(
 
     // What was written.
     ensures kept { WroteNothing result → sink.new ≡ sink.old }
-    ensures part { WritesPart (K.held sink.old) (K.held sink.new) (printed log.new.labels) }
+    ensures part { WritesPart (K.held sink.old) (K.held sink.new) (printed (asks_steps words.now) log.new.labels) }
 
     // A command, a script and no fault: it ran, or memory ran out.
     ensures complete { IsCommand words.now → IfSome (S.left source.old) (λ input. IsOk (script_of input) → length input ≤ 262144 →

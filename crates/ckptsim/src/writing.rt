@@ -26,16 +26,21 @@ fn write_all<K: Sink>(sink: &mut K, bytes: &[u8]) -> Result<(), Failed>
     Ok(())
 }
 
-/// Writes the lines of the labels, some thousand bytes at a time.
-pub fn write_lines<K: Sink>(alloc: Global, sink: &mut K, labels: &[Label]) -> Result<(), Trouble>
+/// Writes the lines of the labels, with their steps or without them, some thousand bytes at a time.
+pub fn write_lines<K: Sink>(
+    alloc: Global,
+    sink: &mut K,
+    labels: &[Label],
+    steps: bool,
+) -> Result<(), Trouble>
     ensures later { K.faults sink.old ≤ K.faults sink.new }
-    ensures written { OnOk result (Appends (K.held sink.old) (K.held sink.new) (printed labels.now)) }
+    ensures written { OnOk result (Appends (K.held sink.old) (K.held sink.new) (printed steps labels.now)) }
     ensures failed { result ≡ Err Trouble.Failed → Rose (K.faults sink.old) (K.faults sink.new) }
-    ensures part { OnErr result (WritesPart (K.held sink.old) (K.held sink.new) (printed labels.now)) }
+    ensures part { OnErr result (WritesPart (K.held sink.old) (K.held sink.new) (printed steps labels.now)) }
 {
     let mut text = Vec::new(alloc);
     for label in labels {
-        if append_line(&mut text, label, false).is_err() {
+        if append_line(&mut text, label, steps).is_err() {
             return Err(Trouble::Memory);
         }
         if text.len() >= PIECE {

@@ -6,12 +6,12 @@ use Rattle.ckpt_types.specs.declared.calls.CallbackSet.{CallbackSet}
 use Rattle.ckpt_types.specs.declared.calls.Count.{Count}
 use Rattle.ckpt_types.specs.declared.open_flags.OpenFlags.{OpenFlags}
 use Rattle.section_iter.specs.KeptIds.{KeptIds}
-use Rattle.client_handles.specs.ClientState.{ClientState, new_client, handle_number, goes_over, handle_numbered, handle_at, has_handle_room, next_handle, taken, taken_number, released, bound, dropped, has_iteration_room, added, added_answer, lent, returned, ended, HasIterations, IsValid}
+use Rattle.client_handles.specs.ClientState.{ClientState, new_client, handle_number, goes_over, handle_numbered, handle_at, has_handle_room, next_handle, taken, taken_number, released, bound, dropped, emptied, has_iteration_room, added, added_answer, lent, returned, ended, HasIterations, IsValid}
 use Rattle.client_handles.specs.Numbered.{without}
 use Rattle.client_handles.specs.declared.begun.BegunIteration.{BegunIteration}
 use Rattle.client_handles.specs.declared.handle_view.HandleView.{HandleView}
 use Rattle.client_handles.proofs.HandleLaws.{handle_at-bound_same, handle_at-bound_other}
-use Rattle.client_handles.proofs.IterationLaws.{HasIterations-new, HasIterations-taken, HasIterations-bound, HasIterations-released, HasIterations-added, HasIterations-keeping, HasIterations-ended, iterations-released_absent}
+use Rattle.client_handles.proofs.IterationLaws.{HasIterations-new, HasIterations-taken, HasIterations-bound, HasIterations-released, HasIterations-emptied, HasIterations-added, HasIterations-keeping, HasIterations-ended, iterations-released_absent}
 use Rattle.client_handles.proofs.NumberedLaws.{slice_index-new, without-absent, numbered-push_same, numbered-push_other, without-push}
 use Rattle.client_handles.proofs.RisingLaws.{RiseWithin-found, RiseWithin-push, RiseWithin-filter, numbered-high, length-without, length-filter_le}
 
@@ -56,6 +56,16 @@ IsValid-released number s is =
 -- without that of a place
 pub IsValid-dropped : (place : ℕ) (s : ClientState) → IsValid s → IsValid (dropped place s)
 IsValid-dropped place s is = IsValid-released (slice_index s.places place) s is
+
+-- without all of them
+pub IsValid-emptied : (s : ClientState) → IsValid s → IsValid (emptied s)
+IsValid-emptied s is = record {
+  few = omega arith;
+  numbers = tt;
+  places = is.places;
+  given = is.given;
+  iterations = HasIterations-emptied s is.iterations;
+}
 
 -- with a place set to a number that was given
 pub IsValid-bound : (place number : ℕ) (s : ClientState) → place < 100 → number ≤ s.last_number → IsValid s → IsValid (bound place number s)

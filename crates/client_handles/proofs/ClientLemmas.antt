@@ -12,7 +12,7 @@ use Rattle.ckpt_types.specs.declared.ais_error.AisError.TheVariants.{BadHandle}
 use Rattle.slab.specs.Slab.{Slab, get, slab_len, Updates}
 use Rattle.ckpt_types.specs.declared.calls.CallbackSet.{CallbackSet}
 use Rattle.client_handles.specs.Client.{number_of, client_of, IsSound}
-use Rattle.client_handles.specs.ClientState.{ClientState, handle_number, iteration_number, goes_over, handle_numbered, handle_at, iteration_at, iterated_handle, kept_iteration, ended_answer, has_iteration_room, IsNotLent, new_client, released, next_iteration, added, with_kept, keeping, ended, IsOver, HasIterations, IsValid}
+use Rattle.client_handles.specs.ClientState.{ClientState, handle_number, iteration_number, goes_over, handle_numbered, handle_at, iteration_at, iterated_handle, kept_iteration, ended_answer, has_iteration_room, IsNotLent, new_client, released, emptied, next_iteration, added, with_kept, keeping, ended, IsOver, HasIterations, IsValid}
 use Rattle.client_handles.specs.Kept.{where_numbered, kept_numbered, handles_up_to, IsKey, HaveKeys}
 use Rattle.client_handles.specs.Numbered.{without}
 use Rattle.client_handles.specs.declared.begun.BegunIteration.{BegunIteration}
@@ -20,11 +20,11 @@ use Rattle.client_handles.specs.declared.client.Client.TheInside.{Inside}
 use Rattle.client_handles.specs.declared.handle_view.HandleView.{HandleView}
 use Rattle.client_handles.specs.declared.kept.Bound.{Bound}
 use Rattle.client_handles.proofs.ClientLaws.{released-none}
-use Rattle.client_handles.proofs.IterationLaws.{HasIterations-new, HasIterations-taken, HasIterations-bound, HasIterations-released, HasIterations-added, HasIterations-keeping, HasIterations-ended}
+use Rattle.client_handles.proofs.IterationLaws.{HasIterations-new, HasIterations-taken, HasIterations-bound, HasIterations-released, HasIterations-emptied, HasIterations-added, HasIterations-keeping, HasIterations-ended}
 use Rattle.client_handles.proofs.RisingLaws.{numbered-at, remove-at, changed-at}
 use Rattle.client_handles.proofs.NumberedLaws.{numbered-All}
 use Rattle.client_handles.proofs.KeptLemmas.{kept_numbered-none, kept_numbered-at, kept_numbered-under, AreNumbered-more, kept_numbered-more, kept_numbered-others, HaveKeys-more, AreNumbered-gone, kept_numbered-gone, kept_numbered-left, HaveKeys-gone}
-use Rattle.client_handles.proofs.ListedLemmas.{handles_up_to-more, handles_up_to-gone, length-handles_up_to-gone, handle_numbered-past, handle_numbered-zero, handle_numbered-kept, RiseWithin-handles_up_to}
+use Rattle.client_handles.proofs.ListedLemmas.{handles_up_to-none, handles_up_to-more, handles_up_to-gone, length-handles_up_to-gone, handle_numbered-past, handle_numbered-zero, handle_numbered-kept, RiseWithin-handles_up_to}
 
 some_and : {A : Type 0} (P : A → Type 0) (o : Option A) → IsSomeAnd o P → (x : A) × (o ≡ Some x) × P x
 some_and P None there = absurd there
@@ -311,6 +311,43 @@ module _ (c : Inside) (sound : IsSound c) where
       IsSound-kept capacity =
           IsSound-iterations c.last_iteration its c.iteration_places (record (client_of c) { iterations = keeping kept (get_or c.iteration_places place 0) c.iterations.items }) capacity client_of-kept
           (HasIterations-keeping kept (get_or c.iteration_places place 0) (client_of c) sound.iterations)
+
+  -- ---- all gone
+
+  module _ (handles : Slab HandleView) (its : Vec BegunIteration Global) (no_handle : handles.slots ≡ []) (no_iteration : its.items ≡ []) where
+    none_listed : handles_up_to c.last_number handles.slots ≡ []
+    none_listed = ap (handles_up_to c.last_number) no_handle ∙ handles_up_to-none c.last_number
+
+    -- none is shown
+    pub client_of-emptied : client_of (record c { handles = handles; iterations = its }) ≡ emptied (client_of c)
+    client_of-emptied = λ i. record (client_of c) { handles = none_listed i; iterations = no_iteration i }
+
+    none_left : (key : ℕ) (h : HandleView) → get handles key ≡ Some h → ⊥
+    none_left key h at = none-some h (sym (ap (λ slots. get_or slots key None) no_handle) ∙ at)
+
+    pub IsSound-emptied : handles.capacity ≡ c.handles.capacity → vec_capacity its ≡ vec_capacity c.iterations → IsSound (record c { handles = handles; iterations = its })
+    IsSound-emptied capacity iteration_capacity =
+        let kept : 32 ≤ c.handles.capacity = sound.room in
+        let begun : 8 ≤ vec_capacity c.iterations = sound.iteration_room in
+        let empty : slab_len handles ≡ 0 = ap (count_by is_some) no_handle in
+        record {
+          room = omega arith;
+          few = omega arith;
+          counted = empty ∙ sym (ap length none_listed);
+          numbers = record {
+            from_one = λ key h at. absurd (none_left key h at);
+            to_last = λ key h at. absurd (none_left key h at);
+            apart = λ key other h o at there same. absurd (none_left key h at);
+          };
+          keys = λ place key is_set. let keyed = sound.keys place key is_set in record {
+            from_one = keyed.from_one;
+            to_last = keyed.to_last;
+            under = λ other h there is. absurd (none_left other h there);
+          };
+          places = sound.places;
+          iteration_room = omega arith;
+          iterations = subst HasIterations (sym client_of-emptied) (HasIterations-emptied (client_of c) sound.iterations);
+        }
 
   -- ---- a copy
 

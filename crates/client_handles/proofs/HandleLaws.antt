@@ -3,7 +3,7 @@ use Rattle.std.proofs.Common.{◌≡◌, ◌≢◌, ℕ, ◌<◌, length, Option
 use Rattle.std.specs.Option.{ok_or}
 use Rattle.ckpt_types.specs.declared.ais_error.AisError.{AisError}
 use Rattle.ckpt_types.specs.declared.ais_error.AisError.TheVariants.{BadHandle}
-use Rattle.client_handles.specs.ClientState.{ClientState, handle_number, handle_numbered, handle_at, named_handle, released, bound, dropped}
+use Rattle.client_handles.specs.ClientState.{ClientState, handle_number, handle_numbered, handle_at, named_handle, released, bound, dropped, emptied}
 use Rattle.client_handles.specs.declared.handle_view.HandleView.{HandleView}
 use Rattle.client_handles.proofs.NumberedLaws.{numbered-is, stands_for-set_same, stands_for-set_other, stands_for-without_same, stands_for-without_other}
 
@@ -52,3 +52,7 @@ handle_at-dropped_same place s = handle_at-released_same place (slice_index s.pl
 -- and a place that was set to another handle for what it did
 pub handle_at-dropped_other : (place other : ℕ) (s : ClientState) → slice_index s.places other ≢ slice_index s.places place → handle_at other (dropped place s) ≡ handle_at other s
 handle_at-dropped_other place other s differs = handle_at-released_other other (slice_index s.places place) s differs
+
+-- where all handles were closed, each place stands for none
+pub handle_at-emptied : (place : ℕ) (s : ClientState) → handle_at place (emptied s) ≡ None
+handle_at-emptied place s = refl

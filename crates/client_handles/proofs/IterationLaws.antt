@@ -9,7 +9,7 @@ use Rattle.ckpt_types.specs.declared.ais_error.AisError.{AisError}
 use Rattle.ckpt_types.specs.declared.ais_error.AisError.TheVariants.{BadHandle}
 use Rattle.ckpt_types.specs.declared.calls.CallbackSet.{CallbackSet}
 use Rattle.section_iter.specs.KeptIds.{KeptIds}
-use Rattle.client_handles.specs.ClientState.{ClientState, new_client, handle_number, iteration_number, goes_over, handle_numbered, iteration_at, iterated_handle, kept_iteration, has_iteration_room, IsLent, released, next_iteration, added, with_kept, keeping, lent, returned, ended, IsOver, HasIterations}
+use Rattle.client_handles.specs.ClientState.{ClientState, new_client, handle_number, iteration_number, goes_over, handle_numbered, iteration_at, iterated_handle, kept_iteration, has_iteration_room, IsLent, released, emptied, next_iteration, added, with_kept, keeping, lent, returned, ended, IsOver, HasIterations}
 use Rattle.client_handles.specs.Numbered.{numbered, without}
 use Rattle.client_handles.specs.declared.begun.BegunIteration.{BegunIteration}
 use Rattle.client_handles.specs.declared.handle_view.HandleView.{HandleView}
@@ -84,6 +84,10 @@ iteration_at-ended_same place s = stands_for-without_same iteration_number s.ite
 -- and a place that was set to another iteration for what it did
 pub iteration_at-ended_other : (place other : ℕ) (s : ClientState) → slice_index s.iteration_places other ≢ slice_index s.iteration_places place → iteration_at other (ended place s) ≡ iteration_at other s
 iteration_at-ended_other place other s differs = stands_for-without_other iteration_number s.iteration_places s.iterations other (slice_index s.iteration_places place) differs
+
+-- where all have ended, each place stands for none
+pub iteration_at-emptied : (place : ℕ) (s : ClientState) → iteration_at place (emptied s) ≡ None
+iteration_at-emptied place s = refl
 
 -- once a handle is closed, no place stands for an iteration over it
 pub iteration_at-released_over : (place number : ℕ) (s : ClientState) (it : BegunIteration) → HasIterations s → iteration_at place s ≡ Some it → it.handle ≡ number → iteration_at place (released number s) ≡ None
@@ -213,6 +217,10 @@ HasIterations-released number s has =
       places = has.places;
       given = has.given;
     }
+
+-- without all handles and iterations
+pub HasIterations-emptied : (s : ClientState) → HasIterations s → HasIterations (emptied s)
+HasIterations-emptied s has = record { few = omega arith; numbers = tt; over_open = All-nil (IsOver []); places = has.places; given = has.given }
 
 -- with an iteration more, where there was room, over an open handle
 pub HasIterations-added : (place handle : ℕ) (kept : KeptIds) (s : ClientState) → place < 100 → IsSome (handle_numbered handle s.handles) → has_iteration_room s ≡ true → HasIterations s → HasIterations (added place handle kept s)

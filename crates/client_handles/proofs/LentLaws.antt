@@ -4,7 +4,7 @@ use Rattle.std.specs.Option.{IfSome}
 use Rattle.std.proofs.lemmas.List.Elements.{All-filter, All-map, All-nil, All-push, All-weaker}
 use Rattle.ckpt_types.specs.declared.calls.CallbackSet.{CallbackSet}
 use Rattle.section_iter.specs.KeptIds.{KeptIds}
-use Rattle.client_handles.specs.ClientState.{ClientState, new_client, iteration_number, iteration_at, next_iteration, released, added, with_kept, keeping, lent, returned, ended, IsNotLent, NoneLent}
+use Rattle.client_handles.specs.ClientState.{ClientState, new_client, iteration_number, iteration_at, next_iteration, released, emptied, added, with_kept, keeping, lent, returned, ended, IsNotLent, NoneLent}
 use Rattle.client_handles.specs.declared.begun.BegunIteration.{BegunIteration}
 use Rattle.client_handles.proofs.NumberedLaws.{numbered-All}
 
@@ -16,6 +16,9 @@ NoneLent-new callbacks = All-nil IsKept
 
 pub NoneLent-released : (number : ℕ) (s : ClientState) → NoneLent s → NoneLent (released number s)
 NoneLent-released number s none = All-filter _ IsKept s.iterations none
+
+pub NoneLent-emptied : (s : ClientState) → NoneLent (emptied s)
+NoneLent-emptied s = All-nil IsKept
 
 pub NoneLent-ended : (place : ℕ) (s : ClientState) → NoneLent s → NoneLent (ended place s)
 NoneLent-ended place s none = All-filter _ IsKept s.iterations none

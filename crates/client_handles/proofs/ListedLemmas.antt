@@ -22,6 +22,11 @@ handles_up_to-same (suc last) old new same =
     ap (λ hs. hs ++ listed (kept_numbered (suc last) new)) rest
     ∙ ap (λ o. handles_up_to last old ++ listed o) (same (suc last) (omega arith))
 
+-- where there is none, none is listed
+pub handles_up_to-none : (last : ℕ) → handles_up_to last [] ≡ []
+handles_up_to-none zero = refl
+handles_up_to-none (suc last) = ap (λ (hs : List HandleView). hs ++ []) (handles_up_to-none last)
+
 -- one of the next number comes last
 pub handles_up_to-more : (last : ℕ) (old new : List (Option HandleView)) (h : HandleView) → kept_numbered (last + 1) new ≡ Some h → ((number : ℕ) → number ≤ last → kept_numbered number new ≡ kept_numbered number old) → handles_up_to (last + 1) new ≡ handles_up_to last old ++ h ∷ []
 handles_up_to-more last old new h found same =

@@ -135,6 +135,10 @@ bound place number s = record s { places = slice_set s.places place number }
 abbrev pub dropped : ℕ → ClientState → ClientState
 dropped place s = released (slice_index s.places place) s
 
+-- without all handles, and without all iterations; the places stay set, and no number is given again
+abbrev pub emptied : ClientState → ClientState
+emptied s = record s { handles = []; iterations = [] }
+
 -- ---- what changes of iterations
 
 -- a new iteration over the handle of that number, of the number after the last one

@@ -1,4 +1,4 @@
-ghost use Rattle.std.specs.Prelude.{◌≡◌, ◌<◌, ◌≤◌, None, Some, IfNone, IfOk, IfSome, IsSomeAnd, length, slice_get, slice_set, vec_capacity};
+ghost use Rattle.std.specs.Prelude.{◌≡◌, ◌<◌, ◌≤◌, [], None, Some, IfNone, IfOk, IfSome, IsSomeAnd, length, slice_get, slice_set, vec_capacity};
 ghost use Rattle.std.specs.Option.{option_map};
 ghost use Rattle.client_handles.specs.ClientState.{iteration_number, goes_over, with_kept};
 ghost use Rattle.client_handles.specs.Numbered.{numbered, without};
@@ -73,6 +73,14 @@ pub(crate) fn end_over(begun: &mut Vec<BegunIteration>, handle: u32)
     ensures capacity { vec_capacity begun.new ≡ vec_capacity begun.old }
 {
     begun.retain(|it| it.handle != handle);
+}
+
+/// Ends them all.
+pub(crate) fn end_all(begun: &mut Vec<BegunIteration>)
+    ensures items { begun.new.items ≡ [] }
+    ensures capacity { vec_capacity begun.new ≡ vec_capacity begun.old }
+{
+    begun.clear();
 }
 
 /// A copy of them, with room for 8.

@@ -1,9 +1,10 @@
 ghost use Rattle.std.specs.Prelude.{◌≡◌, ◌-◌, ◌^◌, ◌<◌, IfOk, OnOk, OnErr, IsSome};
-ghost use Rattle.client_handles.specs.ClientState.{handle_numbered, named_handle, has_handle_room, new_client, taken, taken_number, released, bound, dropped, IsValid};
+ghost use Rattle.client_handles.specs.ClientState.{handle_numbered, named_handle, has_handle_room, new_client, taken, taken_number, released, bound, dropped, emptied, IsValid};
 ghost use Rattle.client_handles.specs.ClientState.{iterated_handle, kept_iteration, IsLent, IsNotLent, has_iteration_room, added, added_answer, lent, returned, ended, ended_answer};
 
 use crate::begun::{
-    BegunIteration, ITERATIONS_MAX, copy_of_begun, end_over, handle_over, keep, place_of, take_kept,
+    BegunIteration, ITERATIONS_MAX, copy_of_begun, end_all, end_over, handle_over, keep, place_of,
+    take_kept,
 };
 use crate::handle_view::HandleView;
 use crate::kept::{Bound, PLACES, copy_of, handle_of, handle_under, key_of, no_places};
@@ -259,6 +260,15 @@ impl Client {
         };
         self.iterations.remove(at);
         Ok(())
+    }
+
+    /// Closes all handles, and ends all iterations, also those that are lent. The places stay set, and so
+    /// stand for none; no number is given again. It takes no memory.
+    pub fn close_all(&mut self)
+        ensures { self.new ≡ emptied self.old }
+    {
+        self.handles.clear();
+        end_all(&mut self.iterations);
     }
 
     /// An equal client, with as much room. An iteration that is lent is lent in the copy, too.

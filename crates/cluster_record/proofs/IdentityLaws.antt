@@ -1,5 +1,5 @@
 -- Identities stay in order where an entry is changed, taken away or added; and what is found under an identity.
-use Rattle.std.proofs.Common.{◌≡◌, ◌⊎◌, inl, inr, ℕ, ◌+◌, ◌<◌, ◌≤◌, List, [], ◌∷◌, ◌++◌, filter, Option, Some, None, Bool, true, false, cond, ◌==◌, refl, sym, ap, subst, ◌∙◌, arith}
+use Rattle.std.proofs.Common.{◌≡◌, ◌⊎◌, inl, inr, ℕ, ◌+◌, ◌<◌, ◌≤◌, List, [], ◌∷◌, ◌++◌, map, filter, Option, Some, None, Bool, true, false, cond, ◌==◌, refl, sym, ap, subst, ◌∙◌, arith}
 use Rattle.std.specs.Prelude.{find}
 use Rattle.std.proofs.lemmas.Bool.{eqb-true, eq-eqb, ne_eqb}
 use Rattle.std.proofs.lemmas.Option.{same_Some}
@@ -71,6 +71,21 @@ IdentitiesRise-change_key f same k (x ∷ xs) rises =
       | true ↦ (subst (λ j. AllAbove j xs) (sym (same x)) rises.0, rises.1)
       | false ↦ (AllAbove-change_key f same x.identity k xs rises.0, IdentitiesRise-change_key f same k xs rises.1)
     ]
+
+-- each changed leaves all above n
+pub AllAbove-map : (f : Entry → Entry) → KeepsIdentity f → (n : ℕ) (entries : List Entry) → AllAbove n entries → AllAbove n (map f entries)
+AllAbove-map f same n [] above = tt
+AllAbove-map f same n (x ∷ xs) above = (subst (λ j. n < j) (sym (same x)) above.0, AllAbove-map f same n xs above.1)
+
+-- and all up to n
+pub AllUpTo-map : (f : Entry → Entry) → KeepsIdentity f → (n : ℕ) (entries : List Entry) → AllUpTo n entries → AllUpTo n (map f entries)
+AllUpTo-map f same n [] up_to = tt
+AllUpTo-map f same n (x ∷ xs) up_to = (subst (λ j. j ≤ n) (sym (same x)) up_to.0, AllUpTo-map f same n xs up_to.1)
+
+-- and the identities rising
+pub IdentitiesRise-map : (f : Entry → Entry) → KeepsIdentity f → (entries : List Entry) → IdentitiesRise entries → IdentitiesRise (map f entries)
+IdentitiesRise-map f same [] rises = tt
+IdentitiesRise-map f same (x ∷ xs) rises = (subst (λ j. AllAbove j (map f xs)) (sym (same x)) (AllAbove-map f same x.identity xs rises.0), IdentitiesRise-map f same xs rises.1)
 
 -- some taken away leave all above n
 pub AllAbove-filter : (p : Entry → Bool) (n : ℕ) (entries : List Entry) → AllAbove n entries → AllAbove n (filter p entries)

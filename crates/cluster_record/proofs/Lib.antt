@@ -5,3 +5,6 @@ pub mod Places
 pub mod Retention
 pub mod MakingLaws
 pub mod NameLaws
+pub mod RefusalLaws
+pub mod KeptLaws
+pub mod EachChanged

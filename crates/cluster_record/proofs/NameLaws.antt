@@ -1,5 +1,5 @@
 -- The table of names has the names of the entries: when one comes, is changed, or goes.
-use Rattle.std.proofs.Common.{◌≡◌, ℕ, ◌≤◌, List, [], ◌∷◌, ◌++◌, length, filter, Option, Some, None, Bool, true, false, cond, not, ◌==◌, nat_eq, refl, sym, ap, subst, ◌∙◌, arith, append_assoc, append-nil, length-append, true≢false, eqb-true, eq-eqb}
+use Rattle.std.proofs.Common.{◌≡◌, ℕ, ◌≤◌, List, [], ◌∷◌, ◌++◌, length, filter, map, Option, Some, None, Bool, true, false, cond, not, ◌==◌, nat_eq, refl, sym, ap, subst, ◌∙◌, arith, append_assoc, append-nil, length-append, true≢false, eqb-true, eq-eqb, ne_eqb, ◌<◌}
 use Rattle.std.specs.Cmp.Lexicographic.{pointwise, bytes_decides}
 use Rattle.std.proofs.lemmas.List.Elements.{filter-append}
 use Rattle.std.proofs.lemmas.Option.{none-some}
@@ -10,8 +10,8 @@ use Rattle.cluster_record.specs.Identities.{IdentitiesRise}
 use Rattle.cluster_record.specs.LookUps.{identity_in}
 use Rattle.cluster_record.specs.NamesOf.{linked_name, names_of, without_name, without_gone}
 use Rattle.cluster_record.specs.Places.{change_key}
-use Rattle.cluster_record.specs.RecordState.{identity_of, entry_of, is_name, named}
-use Rattle.cluster_record.proofs.IdentityLaws.{none_at}
+use Rattle.cluster_record.specs.RecordState.{identity_of, entry_of, is_name, named, unnamed}
+use Rattle.cluster_record.proofs.IdentityLaws.{KeepsIdentity, none_at, AllAbove-entry_of}
 
 -- ---- the names of a list that grows or changes
 
@@ -19,8 +19,12 @@ pub names_of-push : (es : List Entry) (e : Entry) → names_of (es ++ e ∷ []) 
 names_of-push [] e = append-nil (linked_name e.name e.identity)
 names_of-push (x ∷ xs) e = ap (λ t. linked_name x.name x.identity ++ t) (names_of-push xs e) ∙ sym (append_assoc (linked_name x.name x.identity) (names_of xs) (linked_name e.name e.identity))
 
+-- a change that keeps names
+abbrev pub KeepsName : (Entry → Entry) → Type 0
+KeepsName f = (e : Entry) → (f e).name ≡ e.name
+
 -- a change that keeps names and identities keeps the table
-pub names_of-change_key : (f : Entry → Entry) → ((e : Entry) → (f e).name ≡ e.name) → ((e : Entry) → (f e).identity ≡ e.identity) → (k : ℕ) (es : List Entry) → names_of (change_key identity_of k f es) ≡ names_of es
+pub names_of-change_key : (f : Entry → Entry) → KeepsName f → KeepsIdentity f → (k : ℕ) (es : List Entry) → names_of (change_key identity_of k f es) ≡ names_of es
 names_of-change_key f name identity k [] = refl
 names_of-change_key f name identity k (x ∷ xs) =
     elim (x.identity == k) as (λ b. names_of (cond b (f x ∷ xs) (x ∷ change_key identity_of k f xs)) ≡ names_of (x ∷ xs)) [
@@ -137,8 +141,13 @@ absent-name name es absent = found-named name es ∙ ap identity_in absent
 -- ---- the table and the entries together
 
 -- where an entry is changed and keeps its name
-pub changed-is : (f : Entry → Entry) → ((e : Entry) → (f e).name ≡ e.name) → ((e : Entry) → (f e).identity ≡ e.identity) → (k : ℕ) (es new : List Entry) → new ≡ change_key identity_of k f es → names_of es ≡ names_of new
+pub changed-is : (f : Entry → Entry) → KeepsName f → KeepsIdentity f → (k : ℕ) (es new : List Entry) → new ≡ change_key identity_of k f es → names_of es ≡ names_of new
 changed-is f name identity k es new is = sym (ap names_of is ∙ names_of-change_key f name identity k es)
+
+-- where each entry is changed and keeps its name
+pub names_of-map : (f : Entry → Entry) → KeepsName f → KeepsIdentity f → (es : List Entry) → names_of (map f es) ≡ names_of es
+names_of-map f name identity [] = refl
+names_of-map f name identity (x ∷ xs) = rw (name x, identity x) (ap (λ t. linked_name x.name x.identity ++ t) (names_of-map f name identity xs))
 
 -- where some go
 pub left-is : (p : Entry → Bool) (es new : List Entry) (old table : List NamedCkpt) → new ≡ filter p es → table ≡ without_gone p es old → old ≡ names_of es → EachOnce (names_of es) → table ≡ names_of new
@@ -146,6 +155,40 @@ left-is p es new old table new_is table_is old_is once = table_is ∙ ap (withou
 
 pub left-once : (p : Entry → Bool) (es new : List Entry) → new ≡ filter p es → EachOnce (names_of es) → EachOnce (names_of new)
 left-once p es new new_is once = subst EachOnce (without_gone-is p es once ∙ sym (ap names_of new_is)) (without_gone-once p es (names_of es) once)
+
+-- where one has no name any more
+once-behind : (name : Option (List ℕ)) (k : ℕ) (table : List NamedCkpt) → EachOnce (linked_name name k ++ table) → EachOnce table
+once-behind None k table once = once
+once-behind (Some name) k table once = once.1
+
+unlinked-other : (name : List ℕ) (own : Option (List ℕ)) (k : ℕ) (table : List NamedCkpt) → is_name name own ≡ false → unlinked name (linked_name own k ++ table) ≡ linked_name own k ++ unlinked name table
+unlinked-other name None k table apart = refl
+unlinked-other name (Some own) k table apart = rw (same_name name own ∙ apart) refl
+
+unlinked-own : (name : List ℕ) (own : Option (List ℕ)) (k : ℕ) (table : List NamedCkpt) → is_name name own ≡ true → EachOnce (linked_name own k ++ table) → unlinked name (linked_name own k ++ table) ≡ table
+unlinked-own name None k table same once = absurd cc
+unlinked-own name (Some own) k table same once =
+    let is : own ≡ name = (bytes_decides own name).0 same in
+    rw (same_name name own ∙ same) (unlinked-absent name table (subst (λ (n : List ℕ). found n table ≡ None) is once.0))
+
+pub unnamed-is : (name : List ℕ) (k : ℕ) (es : List Entry) → IdentitiesRise es → EachOnce (names_of es) → identity_in (named name es) ≡ Some k → unlinked name (names_of es) ≡ names_of (change_key identity_of k unnamed es)
+unnamed-is name k [] rises once is = absurd cc
+unnamed-is name k (x ∷ xs) rises once is = by (unnamed-is name k xs rises.1 (once-behind x.name x.identity (names_of xs) once)) (is_name name x.name) refl is where
+  by : (identity_in (named name xs) ≡ Some k → unlinked name (names_of xs) ≡ names_of (change_key identity_of k unnamed xs)) → (b : Bool) → is_name name x.name ≡ b → identity_in (cond b (Some x) (named name xs)) ≡ Some k → unlinked name (names_of (x ∷ xs)) ≡ names_of (change_key identity_of k unnamed (x ∷ xs))
+  by rest true own is =
+      let same : x.identity ≡ k = some-same x.identity k is in
+      unlinked-own name x.name x.identity (names_of xs) own once
+      ∙ ap (λ b. names_of (cond b (unnamed x ∷ xs) (x ∷ change_key identity_of k unnamed xs))) (sym (eq-eqb x.identity k same))
+  by rest false other is =
+      let found = named-entry name xs k rises.1 (sym is) in
+      let beyond : x.identity < k = beyond-named (named name xs) found is in
+      unlinked-other name x.name x.identity (names_of xs) other
+      ∙ ap (λ t. linked_name x.name x.identity ++ t) (rest is)
+      ∙ ap (λ b. names_of (cond b (unnamed x ∷ xs) (x ∷ change_key identity_of k unnamed xs))) (sym (ne_eqb x.identity k (λ same. omega (arith, same, beyond))))
+    where
+      beyond-named : (o : Option Entry) → entry_of k xs ≡ o → identity_in o ≡ Some k → x.identity < k
+      beyond-named None there is = absurd cc
+      beyond-named (Some e) there is = AllAbove-entry_of x.identity k xs e rises.0 there
 
 -- where one comes
 pub pushed-is : (es new : List Entry) (e : Entry) (name : List ℕ) (k : ℕ) → new ≡ es ++ e ∷ [] → e.name ≡ Some name → e.identity ≡ k → linked name k (names_of es) ≡ names_of new

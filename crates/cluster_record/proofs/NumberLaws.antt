@@ -6,7 +6,7 @@ use Rattle.std.proofs.lemmas.Bool.{and_parts, ltb-true}
 use Rattle.cluster_record.specs.declared.entries.Entry.{Entry}
 use Rattle.cluster_record.specs.Numbers.{may_rise, entry_may_rise}
 use Rattle.cluster_record.specs.Places.{find_key}
-use Rattle.cluster_record.specs.RecordReady.{CanRefer}
+use Rattle.cluster_record.specs.RecordReady.{CanRefer, CanReferAt}
 use Rattle.cluster_record.specs.RecordState.{identity_of, entry_of}
 
 -- what holds of all holds of the one that is found
@@ -28,3 +28,8 @@ may_refer entries all client k = of_entry (entry_of k entries) (λ e. found_pass
   of_entry : (o : Option Entry) → ((e : Entry) → o ≡ Some e → entry_may_rise e ≡ true) → CanRefer client o
   of_entry None passes = tt
   of_entry (Some e) passes = below_at e.references client (and_parts (nat_lt e.generation (2 ^ 64 - 1)) (list_all may_rise e.references) (passes e refl)).1
+
+-- and the one of a name, where there is one
+pub may_refer_at : (entries : List Entry) (client : ℕ) (o : Option ℕ) → ((client k : ℕ) → CanRefer client (entry_of k entries)) → CanReferAt client entries o
+may_refer_at entries client None can = tt
+may_refer_at entries client (Some k) can = can client k

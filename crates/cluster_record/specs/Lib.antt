@@ -8,8 +8,11 @@ pub mod StepDone
 pub mod DueOpen
 pub mod DueUpdate
 pub mod DueActive
+pub mod DueOnce
 pub mod Numbers
 pub mod Identities
 pub mod Makings
 pub mod Refusals
 pub mod NamesOf
+pub mod Changes
+pub mod Opening

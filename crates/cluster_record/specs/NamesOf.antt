@@ -3,8 +3,8 @@ use Rattle.std.specs.Prelude.{ℕ, List, [], ◌∷◌, ◌++◌, Option, Some, 
 use Rattle.name_table.specs.Table.{NamedCkpt, unlinked}
 use Rattle.cluster_record.specs.declared.entries.Entry.{Entry}
 use Rattle.cluster_record.specs.declared.entries.Staying.{Staying}
-use Rattle.cluster_record.specs.declared.entries.Staying.TheVariants.{Swept, AllBut}
-use Rattle.cluster_record.specs.RecordState.{stays}
+use Rattle.cluster_record.specs.declared.entries.Staying.TheVariants.{Swept, AllBut, NotMadeBy}
+use Rattle.cluster_record.specs.RecordState.{stays, is_call_of}
 
 abbrev pub linked_name : Option (List ℕ) → ℕ → List NamedCkpt
 linked_name None k = []
@@ -15,10 +15,11 @@ abbrev pub names_of : List Entry → List NamedCkpt
 names_of [] = []
 names_of (e ∷ es) = linked_name e.name e.identity ++ names_of es
 
--- which entries stay: those that a sweep leaves, or all but one
+-- which entries stay: those that a sweep leaves, all but one, or those that a client is not making
 abbrev pub stays_by : Staying → Entry → Bool
 stays_by (Swept t) = stays t
 stays_by (AllBut k) = λ e. not (e.identity == k)
+stays_by (NotMadeBy c) = λ e. not (is_call_of c e.making)
 
 abbrev pub without_name : Option (List ℕ) → List NamedCkpt → List NamedCkpt
 without_name None table = table

@@ -1,5 +1,5 @@
 -- The record of the cluster, on which all nodes agree, and its steps.
-use Rattle.std.specs.Prelude.{ℕ, ◌+◌, List, [], ◌∷◌, ◌++◌, map, filter, find, Option, Some, None, is_some, Bool, false, not, ◌&&◌, ◌||◌, ◌==◌, nat_eq, nat_lt, if◌then◌else◌, ℤ, pos, ◌≤ℤ◌, ◌<ℤ◌, replicate, slice_set, slice_index}
+use Rattle.std.specs.Prelude.{ℕ, ◌+◌, ◌-◌, List, [], ◌∷◌, ◌++◌, map, filter, find, Option, Some, None, is_some, Bool, false, not, ◌&&◌, ◌||◌, ◌==◌, nat_eq, nat_lt, if◌then◌else◌, ℤ, pos, ◌≤ℤ◌, ◌<ℤ◌, replicate, slice_set, slice_index}
 use Rattle.std.specs.List.{list_any}
 use Rattle.std.specs.Cmp.Lexicographic.{pointwise}
 use Rattle.moment_rules.specs.Times.{never, sum_until_end, is_reached}
@@ -87,7 +87,7 @@ has_references e = list_any (λ n. not (n == 0)) e.references
 
 -- the end of an entry's retention, counted from its last close
 abbrev pub retained_until : Entry → ℤ
-retained_until e = sum_until_end e.idle e.attributes.retention_duration
+retained_until e = sum_until_end e.idle e.retention
 
 -- an entry goes that is not in the making, that nobody has open, and that is unlinked or past its retention
 abbrev pub stays : ℤ → Entry → Bool
@@ -129,6 +129,7 @@ new_entry call name a R = record {
   identity = R.last_identity + 1;
   name = Some name;
   attributes = a;
+  retention = a.retention_duration;
   made = R.moment;
   making = Some call;
   complete = no_nodes;
@@ -165,3 +166,58 @@ undone k R = record R { entries = filter (λ e. not (e.identity == k)) R.entries
 -- a client opens a checkpoint that is there
 abbrev pub opened : ℕ → ℕ → RecordState → RecordState
 opened k c R = record R { entries = change_key identity_of k (referred c) R.entries }
+
+-- ---- the end of a checkpoint's life
+
+-- an entry from which a reference was taken: where nobody has it open now, this was its last close
+abbrev pub idle_from : ℤ → Entry → Entry
+idle_from t e = if has_references e then e else record e { idle = t }
+
+-- one reference of a client fewer; nothing changes where it has none
+abbrev pub released : ℕ → ℤ → Entry → Entry
+released c t e = if slice_index e.references c == 0 then e else idle_from t (record e { references = slice_set e.references c (slice_index e.references c - 1) })
+
+-- a client closes a checkpoint once
+abbrev pub closed : ℕ → ℕ → RecordState → RecordState
+closed k c R = record R { entries = change_key identity_of k (released c R.moment) R.entries }
+
+-- no name, so that another checkpoint may take it
+abbrev pub unnamed : Entry → Entry
+unnamed e = record e { name = None }
+
+-- a checkpoint's name goes at once
+abbrev pub unlinked : ℕ → RecordState → RecordState
+unlinked k R = record R { entries = change_key identity_of k unnamed R.entries }
+
+-- another retention from its last close on
+abbrev pub retaining : ℤ → Entry → Entry
+retaining duration e = record e { retention = duration }
+
+-- a checkpoint's retention is set
+abbrev pub retained : ℕ → ℤ → RecordState → RecordState
+retained k duration R = record R { entries = change_key identity_of k (retaining duration) R.entries }
+
+-- all references of a client go at once
+abbrev pub released_all : ℕ → ℤ → Entry → Entry
+released_all c t e = if slice_index e.references c == 0 then e else idle_from t (record e { references = slice_set e.references c 0 })
+
+-- a call of this client
+abbrev pub is_call_of : ℕ → Option CallId → Bool
+is_call_of c None = false
+is_call_of c (Some call) = by_actor call.actor where
+  by_actor : ActorName → Bool
+  by_actor (Client d) = d == c
+  by_actor (Node r) = false
+
+-- a client leaves: it is live no more, what it was making is undone, and it has nothing open
+abbrev pub departed : ℕ → RecordState → RecordState
+departed c R = record R {
+  clients = filter (λ live. not (client_key live == c)) R.clients;
+  entries = map (released_all c R.moment) (filter (λ e. not (is_call_of c e.making)) R.entries);
+}
+
+-- ---- what is told of a checkpoint
+
+-- its attributes, with the retention as it is now
+abbrev pub attributes_now : Entry → CreationAttributes
+attributes_now e = record e.attributes { retention_duration = e.retention }

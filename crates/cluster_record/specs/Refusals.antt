@@ -1,9 +1,39 @@
 -- Refusals of the record.
-use Rattle.std.specs.Prelude.{ℕ}
-use Rattle.ckpt_types.specs.declared.ais_error.AisError.TheVariants.{NoResources}
-use Rattle.ckpt_types.specs.declared.answers.Cause.TheVariants.{Count}
+use Rattle.std.specs.Prelude.{ℕ, Option, Some, None, is_some, if◌then◌else◌, Result, Ok, Err}
+use Rattle.ckpt_types.specs.declared.ais_error.AisError.{AisError}
+use Rattle.ckpt_types.specs.declared.ais_error.AisError.TheVariants.{NoResources, NotExist, TryAgain, BadOperation}
+use Rattle.ckpt_types.specs.declared.answers.Cause.TheVariants.{Plain, Count, Holder}
+use Rattle.ckpt_types.specs.declared.identities.CallId.{CallId}
+use Rattle.cluster_record.specs.declared.entries.Entry.{Entry}
 use Rattle.cluster_record.specs.declared.record.RecordRefused.{RecordRefused}
 
 -- all of so many places are taken
 abbrev pub all_taken : ℕ → RecordRefused
 all_taken n = record { error = NoResources; cause = Count n }
+
+-- a refusal that says all
+abbrev pub plainly : AisError → RecordRefused
+plainly error = record { error = error; cause = Plain }
+
+-- another call is making the checkpoint
+abbrev pub held_by : CallId → RecordRefused
+held_by call = record { error = TryAgain; cause = Holder call }
+
+-- what is not in the making
+abbrev pub unless_making : {X : Type 0} → Option CallId → X → Result X RecordRefused
+unless_making None x = Ok x
+unless_making (Some call) x = Err (held_by call)
+
+-- an unlink is for the checkpoint that has the name, unless it is in the making
+abbrev pub unlinkable : Option Entry → Result ℕ RecordRefused
+unlinkable None = Err (plainly NotExist)
+unlinkable (Some e) = unless_making e.making e.identity
+
+abbrev pub unlink_answer : Option Entry → Result (Unit {0}) RecordRefused
+unlink_answer None = Err (plainly NotExist)
+unlink_answer (Some e) = unless_making e.making tt
+
+-- the retention is set of a checkpoint that has a name
+abbrev pub retain_answer : Option Entry → Result (Unit {0}) RecordRefused
+retain_answer None = Err (plainly NotExist)
+retain_answer (Some e) = if is_some e.name then Ok tt else Err (plainly BadOperation)

@@ -1,4 +1,4 @@
-ghost use Rattle.std.specs.Prelude.{◌≡◌};
+ghost use Rattle.std.specs.Prelude.{◌≡◌, filter, not, ◌==◌, vec_capacity};
 ghost use Rattle.cluster_record.specs.Calls.{number_of};
 ghost use Rattle.cluster_record.specs.Places.{find_key};
 ghost use Rattle.cluster_record.specs.RecordState.{client_key};
@@ -30,6 +30,14 @@ pub(crate) fn find_client(clients: &[LiveClient], client: u8) -> Option<LiveClie
         }
     }
     None
+}
+
+/// A client is live no more.
+pub(crate) fn take_out(clients: &mut Vec<LiveClient>, client: u8)
+    ensures items { clients.new.items ≡ filter (λ live. not (client_key live == client)) clients.old.items }
+    ensures capacity { vec_capacity clients.new ≡ vec_capacity clients.old }
+{
+    clients.retain(|live| live.client != client);
 }
 
 /// The number of a client or node.

@@ -1,13 +1,15 @@
-ghost use Rattle.std.specs.Prelude.{◌≡◌, ◌+◌, ◌-◌, ◌^◌, ◌<◌, Some, None, IfSome, MatchOption, length, filter, not, ◌==◌, slice_index, slice_set, replicate, vec_capacity};
+ghost use Rattle.std.specs.Prelude.{◌≡◌, ◌+◌, ◌-◌, ◌^◌, ◌<◌, ◌≤◌, Some, None, IfSome, MatchOption, length, filter, map, not, ◌==◌, slice_index, slice_set, replicate, vec_capacity};
 ghost use Rattle.std.specs.List.{list_any, list_all};
 ghost use Rattle.moment_rules.specs.Times.{sum_until_end, is_reached};
 ghost use Rattle.cluster_record.specs.Numbers.{may_rise, entry_may_rise};
+ghost use Rattle.cluster_record.specs.Changes.{changed_by, CanChange};
 ghost use Rattle.cluster_record.specs.NamesOf.{stays_by, without_name, without_gone};
 ghost use Rattle.cluster_record.specs.Places.{change_key, place_key};
-ghost use Rattle.cluster_record.specs.RecordReady.{CanRefer};
-ghost use Rattle.cluster_record.specs.RecordState.{no_nodes, identity_of, entry_of, first_complete, stays, referred, made_with};
+ghost use Rattle.cluster_record.specs.RecordState.{no_nodes, identity_of, entry_of, first_complete, stays, has_references, referred, made_with, idle_from, released, released_all, is_call_of};
 
-use ckpt_types::{Bytes, CallId, CkptId, CreationAttributes, Moment, NodeId};
+use ckpt_types::{
+    ActorName, Bytes, CallId, CkptId, CreationAttributes, Moment, NAME_MAX, NodeId, SectionId,
+};
 use moment_rules::reached;
 use name_table::Names;
 
@@ -24,15 +26,20 @@ pub(crate) const DECLARES_NOTHING: CreationAttributes = CreationAttributes {
     max_section_id_size: 0,
 };
 
+/// A checkpoint's name, kept in place: it has at most as many bytes as an identifier of a section.
+pub type KeptName = SectionId;
+
 /// What the record keeps of a checkpoint.
 #[derive(Debug, Drop)]
 pub struct Entry {
     /// Its number.
     pub identity: CkptId,
     /// Its name, or none once it is unlinked.
-    pub name: Option<Bytes>,
-    /// Its attributes, with the retention as it is now.
+    pub name: Option<KeptName>,
+    /// The attributes with which it was made.
     pub attributes: CreationAttributes,
+    /// How long it stays after its last close, as it is set now.
+    pub retention: i64,
     /// The moment of its `create` step.
     pub made: Moment,
     /// The call that is making it, if one is.
@@ -72,6 +79,55 @@ impl Entry {
         self.refer(client);
     }
 
+    // Where nobody has it open now, this was its last close.
+    fn idle_from(&mut self, now: Moment)
+        ensures { self.new ≡ idle_from now self.old }
+    {
+        if !self.has_references() {
+            self.idle = now;
+        }
+    }
+
+    // One reference of the client fewer.
+    fn release(&mut self, client: u8, now: Moment)
+        ensures { self.new ≡ released client now self.old }
+    {
+        if count_at(&self.references, client) != 0 {
+            take_one(&mut self.references, client);
+            self.idle_from(now);
+        }
+    }
+
+    // All references of the client go at once.
+    fn release_all(&mut self, client: u8, now: Moment)
+        ensures { self.new ≡ released_all client now self.old }
+    {
+        if count_at(&self.references, client) != 0 {
+            take_all(&mut self.references, client);
+            self.idle_from(now);
+        }
+    }
+
+    fn change(&mut self, change: Change)
+        requires { CanChange change (Some self.old) }
+        ensures { self.new ≡ changed_by change self.old }
+    {
+        match change {
+            Change::Made(up, client) => self.make(&up, client),
+            Change::Referred(client) => self.refer(client),
+            Change::Released(client, now) => self.release(client, now),
+            Change::Unnamed => self.name = None,
+            Change::Retaining(duration) => self.retention = duration,
+        }
+    }
+
+    // Whether a client has it open.
+    fn has_references(&self) -> bool
+        ensures { result ≡ has_references self.now }
+    {
+        has_some(&self.references)
+    }
+
     // Whether its generation and each count of references can rise.
     pub(crate) fn may_rise(&self) -> bool
         ensures { result ≡ entry_may_rise self.now }
@@ -84,24 +140,33 @@ impl Entry {
         ensures { result ≡ stays now self.now }
     {
         self.making.is_some()
-            || has_some(&self.references)
-            || (self.name.is_some() && !is_over(self.idle, self.attributes.retention_duration, now))
+            || self.has_references()
+            || (self.name.is_some() && !is_over(self.idle, self.retention, now))
     }
+}
+
+/// A name as an entry keeps it.
+pub(crate) fn kept_name(name: &Bytes) -> Option<KeptName>
+    requires { length name.now ≤ NAME_MAX }
+    ensures { result ≡ Some name.now }
+{
+    SectionId::from_slice(name.as_slice())
 }
 
 pub(crate) fn new_entry(
     call: CallId,
-    name: Bytes,
+    name: Option<KeptName>,
     attributes: CreationAttributes,
     identity: CkptId,
     now: Moment,
 ) -> Entry
-    ensures { result ≡ record { identity = identity; name = Some name; attributes = attributes; made = now; making = Some call; complete = no_nodes; active = None; generation = 1; references = replicate 100 0; idle = now; hold = None } }
+    ensures { result ≡ record { identity = identity; name = name; attributes = attributes; retention = attributes.retention_duration; made = now; making = Some call; complete = no_nodes; active = None; generation = 1; references = replicate 100 0; idle = now; hold = None } }
 {
     Entry {
         identity,
-        name: Some(name),
+        name,
         attributes,
+        retention: attributes.retention_duration,
         made: now,
         making: Some(call),
         complete: [0; 8],
@@ -120,6 +185,32 @@ fn add_one(references: &mut [u32; 100], client: u8)
     let place = client as usize;
     if place < 100 {
         references[place] += 1;
+    }
+}
+
+// How often the client has it open; nobody beyond the last does.
+fn count_at(references: &[u32; 100], client: u8) -> u32
+    ensures { result ≡ slice_index references.now client }
+{
+    let place = client as usize;
+    if place < 100 { references[place] } else { 0 }
+}
+
+fn take_one(references: &mut [u32; 100], client: u8)
+    ensures { references.new ≡ slice_set references.old client (slice_index references.old client - 1) }
+{
+    let place = client as usize;
+    if place < 100 {
+        references[place] = references[place].saturating_sub(1);
+    }
+}
+
+fn take_all(references: &mut [u32; 100], client: u8)
+    ensures { references.new ≡ slice_set references.old client 0 }
+{
+    let place = client as usize;
+    if place < 100 {
+        references[place] = 0;
     }
 }
 
@@ -185,39 +276,52 @@ fn place_of(entries: &[Entry], identity: CkptId) -> Option<usize>
     None
 }
 
-/// The making of a checkpoint is finished.
-pub(crate) fn make(entries: &mut Vec<Entry>, identity: CkptId, up: &[u32; 8], client: u8)
-    requires { CanRefer client (entry_of identity entries.old.items) }
-    ensures items { entries.new.items ≡ change_key identity_of identity (made_with up.now client) entries.old.items }
-    ensures capacity { vec_capacity entries.new ≡ vec_capacity entries.old }
-{
-    make_at(entries.as_mut_slice(), identity, up, client);
+/// What a step changes of one entry.
+#[derive(Clone, Copy, Debug)]
+pub(crate) enum Change {
+    /// Its making is finished on the nodes that are up, and the client has it open.
+    Made([u32; 8], u8),
+    /// The client has it open once more.
+    Referred(u8),
+    /// The client closes it once, at the moment.
+    Released(u8, Moment),
+    /// It has no name any more.
+    Unnamed,
+    /// It stays so long after its last close.
+    Retaining(i64),
 }
 
-/// A client has a checkpoint open once more.
-pub(crate) fn refer(entries: &mut Vec<Entry>, identity: CkptId, client: u8)
-    requires { CanRefer client (entry_of identity entries.old.items) }
-    ensures items { entries.new.items ≡ change_key identity_of identity (referred client) entries.old.items }
+/// The entry of an identity is changed, where it is there.
+pub(crate) fn change_entry(entries: &mut Vec<Entry>, identity: CkptId, change: Change)
+    requires { CanChange change (entry_of identity entries.old.items) }
+    ensures items { entries.new.items ≡ change_key identity_of identity (changed_by change) entries.old.items }
     ensures capacity { vec_capacity entries.new ≡ vec_capacity entries.old }
 {
-    refer_at(entries.as_mut_slice(), identity, client);
+    change_at(entries.as_mut_slice(), identity, change);
 }
 
-fn make_at(entries: &mut [Entry], identity: CkptId, up: &[u32; 8], client: u8)
-    requires { CanRefer client (entry_of identity entries.old) }
-    ensures { entries.new ≡ change_key identity_of identity (made_with up.now client) entries.old }
+fn change_at(entries: &mut [Entry], identity: CkptId, change: Change)
+    requires { CanChange change (entry_of identity entries.old) }
+    ensures { entries.new ≡ change_key identity_of identity (changed_by change) entries.old }
 {
     if let Some(i) = place_of(entries, identity) {
-        entries[i].make(up, client);
+        entries[i].change(change);
     }
 }
 
-fn refer_at(entries: &mut [Entry], identity: CkptId, client: u8)
-    requires { CanRefer client (entry_of identity entries.old) }
-    ensures { entries.new ≡ change_key identity_of identity (referred client) entries.old }
+/// A client has nothing open any more.
+pub(crate) fn release_everywhere(entries: &mut Vec<Entry>, client: u8, now: Moment)
+    ensures items { entries.new.items ≡ map (released_all client now) entries.old.items }
+    ensures capacity { vec_capacity entries.new ≡ vec_capacity entries.old }
 {
-    if let Some(i) = place_of(entries, identity) {
-        entries[i].refer(client);
+    release_in(entries.as_mut_slice(), client, now);
+}
+
+fn release_in(entries: &mut [Entry], client: u8, now: Moment)
+    ensures { entries.new ≡ map (released_all client now) entries.old }
+{
+    for entry in entries.iter_mut() {
+        entry.release_all(client, now);
     }
 }
 
@@ -228,6 +332,8 @@ pub(crate) enum Staying {
     Swept(Moment),
     /// All but one.
     AllBut(CkptId),
+    /// Those that the client is not making.
+    NotMadeBy(u8),
 }
 
 impl Staying {
@@ -237,12 +343,26 @@ impl Staying {
         match self {
             Staying::Swept(now) => entry.stays(now),
             Staying::AllBut(identity) => entry.identity != identity,
+            Staying::NotMadeBy(client) => !is_call_of(&entry.making, client),
         }
     }
 }
 
+// Whether it is a call of this client.
+fn is_call_of(call: &Option<CallId>, client: u8) -> bool
+    ensures { result ≡ is_call_of client call.now }
+{
+    match call {
+        None => false,
+        Some(call) => match call.actor {
+            ActorName::Client(other) => other == client,
+            ActorName::Node(_) => false,
+        },
+    }
+}
+
 /// The entries that stay are left, and the names of the others are unlinked.
-pub(crate) fn leave(entries: &mut Vec<Entry>, names: &mut Names, staying: Staying)
+pub(crate) fn keep_only(entries: &mut Vec<Entry>, names: &mut Names, staying: Staying)
     ensures items { entries.new.items ≡ filter (stays_by staying) entries.old.items }
     ensures capacity { vec_capacity entries.new ≡ vec_capacity entries.old }
     ensures names { names.new ≡ without_gone (stays_by staying) entries.old.items names.old }
@@ -261,10 +381,10 @@ fn unlink_gone(entries: &[Entry], names: &mut Names, staying: Staying)
     }
 }
 
-fn unlink_name(names: &mut Names, name: &Option<Bytes>)
+fn unlink_name(names: &mut Names, name: &Option<KeptName>)
     ensures { names.new ≡ without_name name.now names.old }
 {
     if let Some(name) = name {
-        names.unlink(name);
+        names.take_out(name.as_slice());
     }
 }

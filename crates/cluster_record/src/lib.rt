@@ -5,6 +5,7 @@ mod by_node;
 mod calls;
 mod clients;
 mod entries;
+mod opening;
 mod record;
 #[cfg(test)]
 mod tests;
@@ -12,5 +13,6 @@ mod tests;
 pub use by_node::{first_lacking, last_having};
 pub use calls::{ActiveKind, Making, UpdatePhase};
 pub use clients::{CLIENTS_MAX, LiveClient, number_of};
-pub use entries::{CHECKPOINTS_MAX, Entry};
+pub use entries::{CHECKPOINTS_MAX, Entry, KeptName};
+pub use opening::{OpenAnswer, accepts};
 pub use record::{Record, RecordRefused};

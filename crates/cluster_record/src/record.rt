@@ -1,24 +1,26 @@
 ghost use Rattle.std.specs.Prelude.{◌≡◌, ℕ, ◌-◌, ◌^◌, ◌≤◌, ◌<◌, None, Some, true, slice_get, IfOk, OnOk, OnErr, IfErr, MatchOption, length, nat_lt, pos, ◌≤ℤ◌, if◌then◌else◌};
 ghost use Rattle.moment_rules.specs.Times.{sum_until_end};
-ghost use Rattle.cluster_record.specs.LookUps.{node_of_client, life_of, up_as, creation_flags_of, sections_declared, identity_in};
+ghost use Rattle.cluster_record.specs.LookUps.{node_of_client, life_of, up_as, creation_flags_of, sections_declared, identity_in, at_ckpt};
 ghost use Rattle.cluster_record.specs.Identities.{IdentitiesRise, AllUpTo};
 ghost use Rattle.cluster_record.specs.Calls.{client_of};
 ghost use Rattle.cluster_record.specs.Makings.{making_call, making_finished, making_undone};
 ghost use Rattle.cluster_record.specs.Numbers.{numbers_left};
-ghost use Rattle.cluster_record.specs.Refusals.{all_taken};
+ghost use Rattle.cluster_record.specs.Opening.{answer_free, open_answer, after_open};
+ghost use Rattle.cluster_record.specs.Refusals.{all_taken, plainly, held_by, unlinkable, unlink_answer, retain_answer};
 ghost use Rattle.ckpt_types.specs.declared.identities.CallId.{CallId};
 ghost use Rattle.cluster_record.specs.Places.{find_key};
-ghost use Rattle.cluster_record.specs.RecordReady.{CanCreate, CanRefer};
-ghost use Rattle.cluster_record.specs.RecordState.{empty_record, entry_of, named, complete_of, client_key, is_live_client, is_up, is_live, is_live_from, swept, first_nodes, brought_up, entered, created, moved, opened};
+ghost use Rattle.cluster_record.specs.RecordReady.{CanCreate, CanRefer, CanReferAt};
+ghost use Rattle.cluster_record.specs.RecordState.{empty_record, entry_of, named, complete_of, client_key, is_live_client, is_up, is_live, is_live_from, swept, first_nodes, brought_up, entered, created, moved, opened, closed, unlinked, retained, departed};
 
-use crate::clients::{CLIENTS_MAX, LiveClient, find_client, number_of};
+use crate::clients::{CLIENTS_MAX, LiveClient, find_client, number_of, take_out};
 use crate::entries::{
-    CHECKPOINTS_MAX, DECLARES_NOTHING, Entry, Staying, all_may_rise, entries_may_rise, find_entry,
-    leave, make, new_entry, refer,
+    CHECKPOINTS_MAX, Change, DECLARES_NOTHING, Entry, Staying, all_may_rise, change_entry,
+    entries_may_rise, find_entry, keep_only, kept_name, new_entry, release_everywhere,
 };
+use crate::opening::{OpenAnswer, answer_of};
 use ckpt_types::{
     ActorName, AisError, Bytes, CallId, Cause, CkptId, CreationAttributes, Incarnation, Moment,
-    NodeId, OpenAsk,
+    NAME_MAX, NodeId, OpenAsk,
 };
 use name_table::Names;
 use std::alloc::{AllocError, Global};
@@ -59,14 +61,16 @@ impl Model for Record {
 }
 
 impl Record {
-    /// A record of a cluster in which no node is up. All its room is taken here.
-    pub fn new(alloc: Global) -> Result<Record, AllocError>
-        ensures { IfOk result (λ made. made ≡ empty_record) }
+    /// A record of a cluster whose first nodes are up, so many as are told. All its room is taken here.
+    pub fn new(alloc: Global, nodes: u8) -> Result<Record, AllocError>
+        requires { nodes ≤ 8 }
+        ensures { IfOk result (λ made. made ≡ brought_up nodes empty_record) }
     {
+        let up = first_nodes(nodes);
         Ok(Record {
-            up: [0; 8],
-            first_calls: [0; 8],
-            last_incarnations: [0; 8],
+            up,
+            first_calls: up,
+            last_incarnations: up,
             last_identity: 0,
             moment: 0,
             clients: Vec::with_capacity(alloc, CLIENTS_MAX)?,
@@ -281,10 +285,7 @@ impl Record {
         ensures err { IfErr result (λ refused. (refused ≡ all_taken 64) × (64 ≤ length self.old.clients) × (self.new ≡ self.old)) }
     {
         if self.clients.len() >= CLIENTS_MAX {
-            return Err(RecordRefused {
-                error: AisError::NoResources,
-                cause: Cause::Count(CLIENTS_MAX as u32),
-            });
+            return Err(all_taken(CLIENTS_MAX as u32));
         }
         let live = LiveClient {
             client: number_of(&call.actor),
@@ -296,24 +297,75 @@ impl Record {
         Ok(())
     }
 
-    /// A checkpoint gets the next identity, and is in the making by the call.
-    pub fn create(&mut self, call: CallId, ask: &OpenAsk) -> Result<(), AllocError>
+    // What an open gets of a name that no checkpoint has.
+    fn answer_free(&self, attributes: &Option<CreationAttributes>) -> OpenAnswer
+        requires { self.now.last_identity < 2 ^ 32 - 1 }
+        ensures { result ≡ answer_free self.now attributes.now }
+    {
+        if attributes.is_none() {
+            return OpenAnswer::Refused(plainly(AisError::NotExist));
+        }
+        if self.entries.len() >= CHECKPOINTS_MAX {
+            return OpenAnswer::Refused(all_taken(CHECKPOINTS_MAX as u32));
+        }
+        OpenAnswer::Made(self.last_identity + 1)
+    }
+
+    // What an open gets.
+    fn open_answer(&self, ask: &OpenAsk) -> OpenAnswer
+        requires { self.now.last_identity < 2 ^ 32 - 1 }
+        ensures { result ≡ open_answer self.now ask.now }
+    {
+        match self.named(&ask.name) {
+            None => self.answer_free(&ask.attrs),
+            Some(entry) => answer_of(entry, &ask.attrs),
+        }
+    }
+
+    // A checkpoint gets the next identity, and is in the making by the call.
+    fn create(&mut self, call: CallId, ask: OpenAsk)
+        requires name { length ask.name ≤ NAME_MAX }
         requires room { CanCreate self.old }
-        requires absent { named ask.now.name self.old.entries ≡ None }
-        ensures ok { OnOk result (self.new ≡ created call ask.now self.old) }
-        ensures err { OnErr result (self.new ≡ self.old) }
+        requires absent { named ask.name self.old.entries ≡ None }
+        ensures { self.new ≡ created call ask self.old }
     {
         let Some(attributes) = ask.attrs else {
-            return Ok(());
+            return;
         };
-        let name = ask.name.clone()?;
-        let linked = ask.name.clone()?;
+        let kept = kept_name(&ask.name);
         let identity = self.last_identity + 1;
-        let entry = new_entry(call, name, attributes, identity, self.moment);
+        let entry = new_entry(call, kept, attributes, identity, self.moment);
         self.last_identity = identity;
-        self.names.link(linked, identity);
+        self.names.link(ask.name, identity);
         self.entries.push_reserved(entry);
-        Ok(())
+    }
+
+    // A client has a checkpoint open once more.
+    fn refer(&mut self, identity: CkptId, client: u8)
+        requires { CanRefer client (entry_of identity self.old.entries) }
+        ensures { self.new ≡ opened identity client self.old }
+    {
+        change_entry(&mut self.entries, identity, Change::Referred(client));
+    }
+
+    /// A client opens the checkpoint of a name, or makes it where it is not there and attributes are given. NOT_EXIST
+    /// where it is not there and none are given, TRY_AGAIN, with the call, where one is making it, EXIST where it has
+    /// other attributes than those given, and NO_RESOURCES, with the count 16, where so many checkpoints are there and
+    /// it is not; then nothing changes. It takes no memory.
+    pub fn open(&mut self, call: CallId, ask: OpenAsk) -> OpenAnswer
+        requires name { length ask.name ≤ NAME_MAX }
+        requires references { CanReferAt ask.client self.old.entries (identity_in (named ask.name self.old.entries)) }
+        requires identity { self.old.last_identity < 2 ^ 32 - 1 }
+        ensures answer { result ≡ open_answer self.old ask }
+        ensures after { self.new ≡ after_open call ask self.old }
+    {
+        let answer = self.open_answer(&ask);
+        match answer {
+            OpenAnswer::Opened(identity, _) => self.refer(identity, ask.client),
+            OpenAnswer::Made(_) => self.create(call, ask),
+            OpenAnswer::Refused(_) => {}
+        }
+        answer
     }
 
     // The call that is making a checkpoint.
@@ -333,21 +385,76 @@ impl Record {
         ensures { self.new ≡ making_finished identity self.old }
     {
         if let Some(call) = self.making_call(identity) {
-            make(
-                &mut self.entries,
-                identity,
-                &self.up,
-                number_of(&call.actor),
-            );
+            let client = number_of(&call.actor);
+            change_entry(&mut self.entries, identity, Change::Made(self.up, client));
         }
     }
 
-    /// A client opens a checkpoint that is there.
-    pub fn open(&mut self, identity: CkptId, client: u8)
-        requires { CanRefer client (entry_of identity self.old.entries) }
-        ensures { self.new ≡ opened identity client self.old }
+    /// A client closes a checkpoint once. Nothing changes where the client does not have it open, or it is not there.
+    pub fn close(&mut self, client: u8, identity: CkptId)
+        ensures { self.new ≡ closed identity client self.old }
     {
-        refer(&mut self.entries, identity, client);
+        let change = Change::Released(client, self.moment);
+        change_entry(&mut self.entries, identity, change);
+    }
+
+    // The identity of the checkpoint that an unlink of the name is for.
+    fn unlinkable(&self, name: &Bytes) -> Result<CkptId, RecordRefused>
+        ensures { result ≡ unlinkable (named name.now self.now.entries) }
+    {
+        match self.named(name) {
+            None => Err(plainly(AisError::NotExist)),
+            Some(entry) => match entry.making {
+                Some(call) => Err(held_by(call)),
+                None => Ok(entry.identity),
+            },
+        }
+    }
+
+    /// A checkpoint's name goes, so that another may take it. NOT_EXIST exactly where no checkpoint has the name, and
+    /// TRY_AGAIN, with the call, exactly where one is making the checkpoint that has it; then nothing changes.
+    pub fn unlink(&mut self, name: &Bytes) -> Result<(), RecordRefused>
+        ensures answer { result ≡ unlink_answer (named name.now self.old.entries) }
+        ensures ok { OnOk result (self.new ≡ at_ckpt (identity_in (named name.now self.old.entries)) self.old (λ k. unlinked k self.old)) }
+        ensures err { OnErr result (self.new ≡ self.old) }
+    {
+        let identity = self.unlinkable(name)?;
+        self.names.unlink(name);
+        change_entry(&mut self.entries, identity, Change::Unnamed);
+        Ok(())
+    }
+
+    // Whether a checkpoint's retention may be set.
+    fn may_retain(&self, identity: CkptId) -> Result<(), RecordRefused>
+        ensures { result ≡ retain_answer (entry_of identity self.now.entries) }
+    {
+        match self.entry(identity) {
+            None => Err(plainly(AisError::NotExist)),
+            Some(entry) if entry.name.is_none() => Err(plainly(AisError::BadOperation)),
+            Some(_) => Ok(()),
+        }
+    }
+
+    /// How long a checkpoint stays after its last close is set. BAD_OPERATION exactly where it has no name, and
+    /// NOT_EXIST exactly where it is not there; then nothing changes.
+    pub fn retain(&mut self, identity: CkptId, duration: i64) -> Result<(), RecordRefused>
+        ensures answer { result ≡ retain_answer (entry_of identity self.old.entries) }
+        ensures ok { OnOk result (self.new ≡ retained identity duration self.old) }
+        ensures err { OnErr result (self.new ≡ self.old) }
+    {
+        self.may_retain(identity)?;
+        change_entry(&mut self.entries, identity, Change::Retaining(duration));
+        Ok(())
+    }
+
+    /// A client leaves: it is live no more, what it was making goes, and it has nothing open.
+    pub fn leave(&mut self, client: u8)
+        ensures { self.new ≡ departed client self.old }
+    {
+        take_out(&mut self.clients, client);
+        let staying = Staying::NotMadeBy(client);
+        keep_only(&mut self.entries, &mut self.names, staying);
+        release_everywhere(&mut self.entries, client, self.moment);
     }
 
     /// The making is undone. Nothing changes where the checkpoint is not in the making.
@@ -355,11 +462,8 @@ impl Record {
         ensures { self.new ≡ making_undone identity self.old }
     {
         if self.making_call(identity).is_some() {
-            leave(
-                &mut self.entries,
-                &mut self.names,
-                Staying::AllBut(identity),
-            );
+            let staying = Staying::AllBut(identity);
+            keep_only(&mut self.entries, &mut self.names, staying);
         }
     }
 
@@ -368,7 +472,7 @@ impl Record {
         ensures { self.new ≡ swept self.old }
     {
         let staying = Staying::Swept(self.moment);
-        leave(&mut self.entries, &mut self.names, staying);
+        keep_only(&mut self.entries, &mut self.names, staying);
     }
 
     /// The moment is set, and what is over then is swept away.
@@ -378,6 +482,36 @@ impl Record {
     {
         self.moment = t;
         self.sweep();
+    }
+}
+
+// All of so many places are taken.
+fn all_taken(count: u32) -> RecordRefused
+    ensures { result ≡ all_taken count }
+{
+    RecordRefused {
+        error: AisError::NoResources,
+        cause: Cause::Count(count),
+    }
+}
+
+// A refusal that says all.
+pub(crate) fn plainly(error: AisError) -> RecordRefused
+    ensures { result ≡ plainly error }
+{
+    RecordRefused {
+        error,
+        cause: Cause::Plain,
+    }
+}
+
+// A refusal since another call is making the checkpoint.
+pub(crate) fn held_by(call: CallId) -> RecordRefused
+    ensures { result ≡ held_by call }
+{
+    RecordRefused {
+        error: AisError::TryAgain,
+        cause: Cause::Holder(call),
     }
 }
 

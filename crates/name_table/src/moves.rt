@@ -19,16 +19,16 @@ pub(crate) fn put_last(map: &mut IndexMap<Bytes, CkptId>, name: Bytes, id: CkptI
 }
 
 /// Whether one name is another than the other.
-fn is_another(name: &Bytes, other: &Bytes) -> bool
+fn is_another(name: &[u8], other: &Bytes) -> bool
     ensures { result ≡ not (pointwise nat_eq name.now other.now) }
 {
-    name != other
+    name != other.as_slice()
 }
 
 /// Moves all names but one into an empty map with room for them, and gives back every place that they had.
 pub(crate) fn move_others(
     from: &mut IndexMap<Bytes, CkptId>,
-    name: &Bytes,
+    name: &[u8],
     to: &mut IndexMap<Bytes, CkptId>,
 )
     requires empty { IsEmpty to.old }

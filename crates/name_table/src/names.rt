@@ -79,9 +79,18 @@ impl Names {
         ensures others { OthersStay name.now self.old self.new }
     {
         let id = self.look_up(name)?;
+        self.take_out(name.as_slice());
+        Some(id)
+    }
+
+    /// Takes the name of these bytes out, where it is linked. It takes no memory.
+    pub fn take_out(&mut self, name: &[u8])
+        ensures unlinked { self.new ≡ unlinked name.now self.old }
+        ensures gone { found name.now self.new ≡ None }
+        ensures others { OthersStay name.now self.old self.new }
+    {
         move_others(&mut self.linked, name, &mut self.unused);
         mem::swap(&mut self.linked, &mut self.unused);
-        Some(id)
     }
 
     /// An equal table, with places of its own.

@@ -76,6 +76,10 @@ abbrev pub IsBuiltOp : Op → Type 0
 IsBuiltOp (ops.Client node version callbacks) = (node < 8) × IsVersion version × (callbacks ≡ no_callbacks)
 IsBuiltOp (ops.Open place name flags timeout attributes) = (place < 100) × (flags < 2 ^ 32) × AreBuiltAttributes attributes
 IsBuiltOp (ops.Status place) = place < 100
+IsBuiltOp ops.Finalize = ⊤
+IsBuiltOp (ops.Close place) = place < 100
+IsBuiltOp (ops.Unlink name) = ⊤
+IsBuiltOp (ops.Retain place duration) = (place < 100) × IsTime duration
 IsBuiltOp (ops.Create place update) = (place < 100) × IsCreation update
 IsBuiltOp (ops.Delete place update) = (place < 100) × IsDeletion update
 IsBuiltOp (ops.Expire place update) = (place < 100) × IsExpirationSetting update

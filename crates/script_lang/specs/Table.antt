@@ -170,11 +170,7 @@ word_of w = or_else (word_of_first w) (or_else (word_of_second w) (word_of_third
 
 -- THE WORDS WHOSE LINES ARE NOT BUILT YET, one row each
 abbrev pub is_later : LineWord → Bool
-is_later word.Finalize = true
 is_later word.OpenAsync = true
-is_later word.Close = true
-is_later word.Unlink = true
-is_later word.Retain = true
 is_later word.Active = true
 is_later word.Sync = true
 is_later word.SyncAsync = true

@@ -173,11 +173,7 @@ pub fn is_later(word: LineWord) -> bool
 {
     matches!(
         word,
-        LineWord::Finalize
-            | LineWord::OpenAsync
-            | LineWord::Close
-            | LineWord::Unlink
-            | LineWord::Retain
+        LineWord::OpenAsync
             | LineWord::Active
             | LineWord::Sync
             | LineWord::SyncAsync

@@ -28,6 +28,10 @@ are_built (Some a) built = record {
 is_built : (op : Op) → IsBuiltOp op → IsBuilt op
 is_built (ops.Client node version callbacks) built = (built.0, registers_none callbacks built.2)
 is_built (ops.Open place name flags timeout a) built = (built.0, are_built a built.2)
+is_built ops.Finalize built = tt
+is_built (ops.Close place) built = built
+is_built (ops.Unlink name) built = tt
+is_built (ops.Retain place duration) built = built.0
 is_built (ops.Create place update) built = built.0
 is_built (ops.Delete place update) built = built.0
 is_built (ops.Expire place update) built = built.0

@@ -3,7 +3,7 @@ use Rattle.cluster_record.specs.declared.calls.ActiveKind.{ActiveKind}
 use Rattle.cluster_record.specs.declared.calls.ActiveKind.TheVariants as kinds
 use Rattle.world_core.specs.declared.drivers.Rooms.{Rooms}
 use Rattle.std.proofs.Common.{◌≡◌, ℕ, Bool, true, false, ℤ, List, [], ◌∷◌, refl, subst, ◌∙◌, cond}
-use Rattle.std.specs.Prelude.{Option, Some, None, not, ◌&&◌, nat_le, length}
+use Rattle.std.specs.Prelude.{Option, Some, None, is_some, not, ◌&&◌, nat_le, length}
 use Rattle.ckpt_types.specs.declared.answers.Outcome.{Outcome}
 use Rattle.ckpt_types.specs.declared.attributes.CreationAttributes.{CreationAttributes}
 use Rattle.ckpt_types.specs.declared.identities.CallId.{CallId}
@@ -12,7 +12,7 @@ use Rattle.ckpt_types.specs.declared.operation.Op.TheVariants as ops
 use Rattle.node_msgs.specs.declared.requests.Request.{Request}
 use Rattle.node_msgs.specs.declared.requests.Request.TheVariants.{Stage, Commit}
 use Rattle.node_msgs.specs.declared.next.RecordStep.{RecordStep}
-use Rattle.node_msgs.specs.declared.next.RecordStep.TheVariants.{Undo}
+use Rattle.node_msgs.specs.declared.next.RecordStep.TheVariants.{Undo, Retain}
 use Rattle.node_msgs.specs.declared.next.Next.{Next}
 use Rattle.node_msgs.specs.declared.next.Next.TheVariants.{Serve, Event, End}
 use Rattle.node_msgs.specs.declared.steps.Verb.{Verb}
@@ -34,6 +34,7 @@ use Rattle.world_core.specs.Driving.{Kept, on_kept, driver_start, driver_state, 
 use Rattle.cluster_record.specs.DueOpen.{accepts, create_next, entry_next, on_named, reserve_or_finish, on_making, by_making}
 use Rattle.cluster_record.specs.DueUpdate.{commit_at, stage_at, by_phase, update_on, update_taken_by}
 use Rattle.cluster_record.specs.DueActive.{on_active, active_on, active_request, request_by, starts_iteration}
+use Rattle.cluster_record.specs.DueOnce.{close_of, unlink_of_making, unlink_of, retain_of}
 use Rattle.world_core.specs.Machine.{CallState}
 use Rattle.world_core.specs.Steps.{driver_of}
 use Rattle.world_core.proofs.Deadlines.{in_time-either}
@@ -118,6 +119,26 @@ asks_active c room a (Some e) = at e.active where
   at None = tt
   at (Some r) = by_test (starts_iteration a.kind && not room) _ r
 
+-- ---- a call of one step
+
+asks_close : (c : CallId) (e : Option Entry) → Asks c (close_of e)
+asks_close c None = tt
+asks_close c (Some e) = tt
+
+asks_unlink : (c : CallId) (e : Option Entry) → Asks c (unlink_of e)
+asks_unlink c None = tt
+asks_unlink c (Some e) = of_making e.making where
+  of_making : (making : Option CallId) → Asks c (unlink_of_making making)
+  of_making None = tt
+  of_making (Some call) = tt
+
+asks_retain : (c : CallId) (e : Option Entry) → Asks c (retain_of e)
+asks_retain c None = tt
+asks_retain c (Some e) = by_test (is_some e.name) _ where
+  by_test : (b : Bool) (x : Outcome) → Asks c (cond b (Event Retain) (End x))
+  by_test true x = tt
+  by_test false x = tt
+
 -- ---- any call
 
 -- a driver of an update is the call's
@@ -146,6 +167,8 @@ of_start call (ops.Read place elements) kept = of_kept call kept.ckpt _ (λ k. t
 of_start call (ops.Status place) kept = of_kept call kept.ckpt _ (λ k. tt)
 of_start call (ops.Iter iteration place chosen time) kept = of_kept call kept.ckpt _ (λ k. tt)
 of_start call (ops.Next iteration) kept = of_kept call kept.ckpt _ (λ k. tt)
+of_start call (ops.Close place) kept = of_kept call kept.ckpt _ (λ k. tt)
+of_start call (ops.Retain place duration) kept = of_kept call kept.ckpt _ (λ k. tt)
 of_start call op kept = tt
 
 of_taken : (call : CallId) (d : StepDone) (x : Driver) → Of call x → Of call (driver_taken d x)
@@ -161,6 +184,10 @@ asks_of R room call (drivers.Enter r) h = asks_end call (nat_le 64 (length R.cli
 asks_of R room call (drivers.Open o) h = asks_open call R room.handles o o.making
 asks_of R room call (drivers.Update u) h = subst (λ (c : CallId). Asks c (driver_next R room (drivers.Update u))) h (asks_update u R.moment (entry_of u.ckpt R.entries))
 asks_of R room call (drivers.Active a) h = asks_active call room.iterations a (entry_of a.ckpt R.entries)
+asks_of R room call drivers.Leave h = tt
+asks_of R room call (drivers.Close k) h = asks_close call (entry_of k R.entries)
+asks_of R room call (drivers.Unlink name) h = asks_unlink call (named name R.entries)
+asks_of R room call (drivers.Retain k duration) h = asks_retain call (entry_of k R.entries)
 
 -- what a call asks a node, it asks as itself
 pub own_request : (R : RecordState) (room : Rooms) (s : CallState) (r : ℕ) (request : Request) → driver_next R room (driver_of s) ≡ Serve r request → IsOwn s.call request

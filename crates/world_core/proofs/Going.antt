@@ -1,6 +1,7 @@
 -- What each step of the record makes of each entry.
-use Rattle.std.proofs.Common.{◌≡◌, inl, inr, ℕ, ◌+◌, ◌≤◌, Bool, true, false, List, [], ◌∷◌, ◌++◌, refl, sym, ap, subst, ◌∙◌, cond, arith}
-use Rattle.std.specs.Prelude.{Option, Some, None, IsSomeAnd, not, ◌==◌, slice_index, filter}
+use Rattle.std.proofs.Common.{◌≡◌, inl, inr, ℕ, ◌+◌, ◌-◌, ◌≤◌, ℤ, Bool, true, false, List, [], ◌∷◌, ◌++◌, map, refl, sym, ap, subst, ◌∙◌, cond, arith}
+use Rattle.std.specs.Prelude.{Option, Some, None, IsSomeAnd, not, ◌==◌, slice_index, slice_set, filter}
+use Rattle.std.specs.Option.{option_map}
 use Rattle.std.proofs.lemmas.Bool.{eqb-true}
 use Rattle.ckpt_types.specs.declared.attributes.CreationAttributes.{CreationAttributes}
 use Rattle.ckpt_types.specs.declared.identities.CallId.{CallId}
@@ -13,7 +14,8 @@ use Rattle.cluster_record.specs.declared.entries.Entry.{Entry}
 use Rattle.world_core.specs.declared.replica.Replica.{Replica}
 use Rattle.world_core.specs.declared.world.World.{World}
 use Rattle.cluster_record.specs.Places.{change_key}
-use Rattle.cluster_record.specs.RecordState.{RecordState, identity_of, entry_of, named, stays, referred, made_with, new_entry, created_as, opened, finished, undone}
+use Rattle.cluster_record.specs.Calls.{client_of}
+use Rattle.cluster_record.specs.RecordState.{RecordState, identity_of, entry_of, named, stays, referred, made_with, new_entry, created_as, opened, finished, undone, has_references, idle_from, released, released_all, unnamed, unlinked, retaining, is_call_of, departed}
 use Rattle.world_core.specs.Serving.{replica_in, opened_replica}
 use Rattle.world_core.specs.Driving.{event_change, event_after}
 use Rattle.cluster_record.specs.DueOpen.{making_ckpt}
@@ -21,7 +23,7 @@ use Rattle.cluster_record.specs.LookUps.{at_ckpt, identity_in}
 use Rattle.world_core.specs.Machine.{Machine, CallState}
 use Rattle.cluster_record.specs.Identities.{AllUpTo, IdentitiesRise}
 use Rattle.world_core.specs.Shows.{History, Fits, FitsReserved, Facts, IsEventReady, IsFinishable, machine_of, where_not_complete, shown_reservation}
-use Rattle.cluster_record.proofs.IdentityLaws.{IsLeft, KeepsIdentity, entry_of-beyond, IdentitiesRise-filter, IdentitiesRise-change_key, IdentitiesRise-push, filter_leaves}
+use Rattle.cluster_record.proofs.IdentityLaws.{IsLeft, KeepsIdentity, entry_of-beyond, IdentitiesRise-filter, IdentitiesRise-map, IdentitiesRise-change_key, IdentitiesRise-push, filter_leaves}
 use Rattle.cluster_record.proofs.Places.{find_changed, find_pushed, not_changed}
 use Rattle.world_core.proofs.Recording.{GoesAt, NodeGoes, zero_there}
 
@@ -44,6 +46,45 @@ record Quiet (f : Entry → Entry) : Type 0 where
 quiet_referred : (c : ℕ) → Quiet (referred c)
 quiet_referred c = record { identity = λ e. refl; complete = λ e. refl; attributes = λ e. refl; made = λ e. refl }
 
+-- what is so of either is so of the one that a test takes
+either_so : {X : Type 0} (p : Entry → X) (b : Bool) (x y e : Entry) → p x ≡ p e → p y ≡ p e → p (cond b x y) ≡ p e
+either_so p true x y e first second = first
+either_so p false x y e first second = second
+
+-- what its references and its last close say nothing of is as it was, where references were taken from it
+released_so : {X : Type 0} (p : Entry → X) (t : ℤ) (left : List ℕ) (e : Entry) → ((left : List ℕ) (idle : ℤ) → p (record e { references = left; idle = idle }) ≡ p e) → (b : Bool) → p (cond b e (idle_from t (record e { references = left }))) ≡ p e
+released_so p t left e same b =
+    let x : Entry = record e { references = left } in
+    either_so p b e (idle_from t x) e refl (either_so p (has_references x) x (record x { idle = t }) e (same left e.idle) (same left t))
+
+quiet_released : (c : ℕ) (t : ℤ) → Quiet (released c t)
+quiet_released c t =
+    let left = λ (e : Entry). slice_set e.references c (slice_index e.references c - 1) in
+    let none = λ (e : Entry). slice_index e.references c == 0 in
+    record {
+      identity = λ e. released_so (λ (x : Entry). x.identity) t (left e) e (λ rs i. refl) (none e);
+      complete = λ e. released_so (λ (x : Entry). x.complete) t (left e) e (λ rs i. refl) (none e);
+      attributes = λ e. released_so (λ (x : Entry). x.attributes) t (left e) e (λ rs i. refl) (none e);
+      made = λ e. released_so (λ (x : Entry). x.made) t (left e) e (λ rs i. refl) (none e);
+    }
+
+quiet_released_all : (c : ℕ) (t : ℤ) → Quiet (released_all c t)
+quiet_released_all c t =
+    let left = λ (e : Entry). slice_set e.references c 0 in
+    let none = λ (e : Entry). slice_index e.references c == 0 in
+    record {
+      identity = λ e. released_so (λ (x : Entry). x.identity) t (left e) e (λ rs i. refl) (none e);
+      complete = λ e. released_so (λ (x : Entry). x.complete) t (left e) e (λ rs i. refl) (none e);
+      attributes = λ e. released_so (λ (x : Entry). x.attributes) t (left e) e (λ rs i. refl) (none e);
+      made = λ e. released_so (λ (x : Entry). x.made) t (left e) e (λ rs i. refl) (none e);
+    }
+
+quiet_unnamed : Quiet unnamed
+quiet_unnamed = record { identity = λ e. refl; complete = λ e. refl; attributes = λ e. refl; made = λ e. refl }
+
+quiet_retaining : (duration : ℤ) → Quiet (retaining duration)
+quiet_retaining duration = record { identity = λ e. refl; complete = λ e. refl; attributes = λ e. refl; made = λ e. refl }
+
 -- the entry x of identity k becomes f x, and no other changes
 changed_goes : (f : Entry → Entry) → KeepsIdentity f → (k j r : ℕ) (xs : List Entry) (x : Entry) (y : Option Replica) → entry_of k xs ≡ Some x → (j ≡ k → GoesAt j (Some x) (Some (f x)) r y) → GoesAt j (entry_of j xs) (entry_of j (change_key identity_of k f xs)) r y
 changed_goes f q k j r xs x y is goes = subst (λ (o : Option Entry). GoesAt j (entry_of j xs) o r y) (sym (find_changed identity_of k f q xs x j is)) (by_test (j == k) refl) where
@@ -56,6 +97,27 @@ quiet_goes f q k j r xs y = by_found (entry_of k xs) refl where
   by_found : (o : Option Entry) → entry_of k xs ≡ o → GoesAt j (entry_of j xs) (entry_of j (change_key identity_of k f xs)) r y
   by_found None e = subst (λ (ys : List Entry). GoesAt j (entry_of j xs) (entry_of j ys) r y) (sym (not_changed identity_of k f xs e)) (goes_same j (entry_of j xs) r y)
   by_found (Some x) e = changed_goes f q.identity k j r xs x y e (λ s. (q.attributes x, q.made x, inl (ap (λ cs. slice_index cs r) (q.complete x))))
+
+-- ---- each entry changed that is left
+
+found_case : (f : Entry → Entry) (b : Bool) (x : Entry) (o : Option Entry) → cond b (Some (f x)) (option_map f o) ≡ option_map f (cond b (Some x) o)
+found_case f true x o = refl
+found_case f false x o = refl
+
+found_each : (f : Entry → Entry) → KeepsIdentity f → (j : ℕ) (xs : List Entry) → entry_of j (map f xs) ≡ option_map f (entry_of j xs)
+found_each f same j [] = refl
+found_each f same j (x ∷ xs) =
+    ap (λ n. cond (n == j) (Some (f x)) (entry_of j (map f xs))) (same x)
+    ∙ ap (λ o. cond (x.identity == j) (Some (f x)) o) (found_each f same j xs)
+    ∙ found_case f (x.identity == j) x (entry_of j xs)
+
+each_goes : (f : Entry → Entry) → Quiet f → (j r : ℕ) (old : Option Entry) (y : Option Replica) → GoesAt j old (option_map f old) r y
+each_goes f q j r None y = tt
+each_goes f q j r (Some e) y = (q.attributes e, q.made e, inl (ap (λ cs. slice_index cs r) (q.complete e)))
+
+left_goes : (f : Entry → Entry) → Quiet f → (j r : ℕ) (old left : Option Entry) (y : Option Replica) → IsLeft old left → GoesAt j old (option_map f left) r y
+left_goes f q j r old left y (inl none) = subst (λ (o : Option Entry). GoesAt j old (option_map f o) r y) (sym none) tt
+left_goes f q j r old left y (inr same) = subst (λ (o : Option Entry). GoesAt j old (option_map f o) r y) (sym same) (each_goes f q j r old y)
 
 -- ---- a making that is finished
 
@@ -111,6 +173,10 @@ change_keeps call (drivers.Open o) events.Open R = at_keeps (identity_in (named 
 change_keeps call (drivers.Open o) events.Finish R = at_keeps (making_ckpt o.making) R (λ k. finished k o.ask.client R) (λ k. record { up = refl; last = omega arith; moment = refl })
 change_keeps call (drivers.Open o) events.Undo R = at_keeps (making_ckpt o.making) R (λ k. undone k R) (λ k. record { up = refl; last = omega arith; moment = refl })
 change_keeps call (drivers.Open o) step R = keeps_all R
+change_keeps call drivers.Leave step R = record { up = refl; last = omega arith; moment = refl }
+change_keeps call (drivers.Close k) step R = record { up = refl; last = omega arith; moment = refl }
+change_keeps call (drivers.Unlink name) step R = at_keeps (identity_in (named name R.entries)) R (λ k. unlinked k R) (λ k. record { up = refl; last = omega arith; moment = refl })
+change_keeps call (drivers.Retain k duration) step R = record { up = refl; last = omega arith; moment = refl }
 change_keeps call x step R = keeps_all R
 
 pub event_keeps : (call : CallId) (x : Driver) (step : RecordStep) (R : RecordState) → KeepsUp R (event_after call x step R)
@@ -141,9 +207,27 @@ module _ (w : World) (h : History) (facts : Facts (machine_of w h)) (fits : Fits
     IdentitiesRise-push R.last_identity R.entries (new_entry call name a R) facts.rises facts.up_to (omega arith),
   )
 
+  -- an entry changed, and nothing else of it that a node sees
+  one_goes : (f : Entry → Entry) → Quiet f → (k : ℕ) → Goes (record R { entries = change_key identity_of k f R.entries })
+  one_goes f q k = (λ j r. quiet_goes f q k j r R.entries (replica_in w.nodes j r), IdentitiesRise-change_key f q.identity k R.entries facts.rises)
+
   opened_go : (c : ℕ) (k : Option ℕ) → Goes (at_ckpt k R (λ k. opened k c R))
   opened_go c None = all_go
-  opened_go c (Some k) = (λ j r. quiet_goes (referred c) (quiet_referred c) k j r R.entries (replica_in w.nodes j r), IdentitiesRise-change_key (referred c) (λ e. refl) k R.entries facts.rises)
+  opened_go c (Some k) = one_goes (referred c) (quiet_referred c) k
+
+  unlinked_go : (k : Option ℕ) → Goes (at_ckpt k R (λ k. unlinked k R))
+  unlinked_go None = all_go
+  unlinked_go (Some k) = one_goes unnamed quiet_unnamed k
+
+  departed_go : (c : ℕ) → Goes (departed c R)
+  departed_go c =
+      let p = λ (e : Entry). not (is_call_of c e.making) in
+      let f : Entry → Entry = released_all c R.moment in
+      let q : Quiet f = quiet_released_all c R.moment in (
+        λ j r. subst (λ (o : Option Entry). GoesAt j (entry_of j R.entries) o r (replica_in w.nodes j r)) (sym (found_each f q.identity j (filter p R.entries)))
+            (left_goes f q j r (entry_of j R.entries) (entry_of j (filter p R.entries)) (replica_in w.nodes j r) (filter_leaves p R.entries facts.rises j)),
+        IdentitiesRise-map f q.identity (filter p R.entries) (IdentitiesRise-filter p R.entries facts.rises),
+      )
 
   undone_go : (k : Option ℕ) → Goes (at_ckpt k R (λ k. undone k R))
   undone_go None = all_go
@@ -171,6 +255,10 @@ module _ (w : World) (h : History) (facts : Facts (machine_of w h)) (fits : Fits
   change_go call s (drivers.Open o) events.Finish ready = finished_go o.ask.client s o.making ready.0
   change_go call s (drivers.Open o) events.Undo ready = undone_go (making_ckpt o.making)
   change_go call s (drivers.Open o) step ready = absurd ready
+  change_go call s drivers.Leave step ready = departed_go (client_of call)
+  change_go call s (drivers.Close k) step ready = one_goes (released (client_of call) R.moment) (quiet_released (client_of call) R.moment) k
+  change_go call s (drivers.Unlink name) step ready = unlinked_go (identity_in (named name R.entries))
+  change_go call s (drivers.Retain k duration) step ready = one_goes (retaining duration) (quiet_retaining duration) k
   change_go call s x step ready = absurd ready
 
   -- and after the sweep

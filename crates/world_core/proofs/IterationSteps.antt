@@ -1,8 +1,7 @@
 -- A step that starts an iteration of a client, and one that goes on with it.
-use Rattle.std.proofs.Common.{◌≡◌, ℕ, zero, suc, ◌<◌, ◌≤◌, arith, ℤ, Bool, true, false, List, [], ◌∷◌, Option, Some, None, IsSome, refl, sym, ap, subst, ◌∙◌, cond, ◌==◌}
+use Rattle.std.proofs.Common.{◌≡◌, ℕ, zero, suc, ◌<◌, ◌≤◌, arith, ℤ, true, false, List, [], ◌∷◌, Option, Some, None, IsSome, refl, sym, ap, subst, ◌∙◌}
 use Rattle.std.specs.Prelude.{IsSomeAnd, slice_get, slice_set}
 use Rattle.std.specs.Option.{option_and_then, ok_or}
-use Rattle.std.proofs.lemmas.Bool.{eqb-true}
 use Rattle.std.proofs.lemmas.Option.{same_Some}
 use Rattle.ckpt_types.specs.declared.ais_error.AisError.TheVariants.{BadHandle}
 use Rattle.ckpt_types.specs.declared.answers.Answer.{Answer}
@@ -11,7 +10,7 @@ use Rattle.ckpt_types.specs.declared.answers.Outcome.{Outcome}
 use Rattle.ckpt_types.specs.declared.answers.Outcome.TheVariants as outcomes
 use Rattle.ckpt_types.specs.declared.attributes.CreationAttributes.{CreationAttributes}
 use Rattle.ckpt_types.specs.declared.identities.ActorName.{ActorName}
-use Rattle.ckpt_types.specs.declared.identities.ActorName.TheVariants.{Client, Node}
+use Rattle.ckpt_types.specs.declared.identities.ActorName.TheVariants.{Client}
 use Rattle.ckpt_types.specs.declared.identities.CallId.{CallId}
 use Rattle.ckpt_types.specs.declared.operation.Op.{Op}
 use Rattle.ckpt_types.specs.declared.operation.Op.TheVariants as ops
@@ -44,7 +43,7 @@ use Rattle.cluster_record.specs.Calls.{number_of, left}
 use Rattle.cluster_record.specs.Places.{put}
 use Rattle.world_core.specs.TableState.{TableState, with_started_iteration, kept_at, gone_on_with, gone_on}
 use Rattle.world_core.specs.Beginning.{handle_place, iteration_place, started_place, chosen_choice, IsIterOf, IsNextOf}
-use Rattle.world_core.specs.Serving.{replica_in, reply_at, pieces_at, next_reply, next_reply_at, next_id, given_at, chosen_at}
+use Rattle.world_core.specs.Serving.{record_seen, replica_in, reply_at, pieces_at, next_reply, next_reply_at, next_id, given_at, chosen_at}
 use Rattle.node_msgs.specs.Steps.{word_of}
 use Rattle.cluster_record.specs.StepDone.{StepDone, done_of}
 use Rattle.world_core.specs.Driving.{driver_next, driver_taken, driver_end}
@@ -53,24 +52,19 @@ use Rattle.world_core.specs.Happenings.{rooms_in, IsNext, IsStep}
 use Rattle.world_core.specs.Machine.{IterationTable, Machine, CallState}
 use Rattle.world_core.specs.Steps.{due, iteration_in, IsDue, IsDone, after, changed, stepped, step_of, driver_of, seen_at, ended_pieces, ids_of, ids_asked, kept_in, handle_by, handle_over, named_handle, with_started, with_iteration, start_done, with_kept_at, with_next, handle_of_number}
 use Rattle.cluster_record.specs.LookUps.{sections_in, sections_declared}
-use Rattle.world_core.specs.Shows.{Does, IsShown, IsActive, Fits, Facts, History, machine_of, next_in, next_of, handles_in, place_in, last_in, iterations_of, iterations_in, handle_in_place, room_for, hand_at}
+use Rattle.world_core.specs.Shows.{Does, IsShown, IsActive, Fits, Facts, History, machine_of, handles_in, place_in, last_in, iterations_of, iterations_in, handle_in_place, room_for, hand_at}
 use Rattle.world_core.proofs.Begin.{handle_same}
 use Rattle.world_core.proofs.Beginnings.{table_has_no_zero, at_table}
 use Rattle.world_core.proofs.Finding as finding
 use Rattle.world_core.proofs.Held.{state_in, in_hand_is, in_hand_at, actor_is, driver_is, iteration_is, due_is, next_for}
 use Rattle.world_core.proofs.LawMoves.{IsSomeAnd-at}
-use Rattle.cluster_record.proofs.Places.{get_set}
+use Rattle.world_core.proofs.TableFields.{field_same, field_put, nexts_same}
 use Rattle.world_core.proofs.Told.{with_step, told_is, told_fits}
 
 -- ---- a client's table with other iterations
 
 abbrev pub with_iterations : IterationTable → TableState → TableState
 with_iterations x t = record t { client = record t.client { last_iteration = x.last; iterations = x.begun; iteration_places = x.places } }
-
--- what is the same of two tables is the same where the one stands for the other
-field_case : {X : Type 0} (f : Option TableState → X) (t t' : TableState) → f (Some t) ≡ f (Some t') → (b : Bool) (o : Option TableState) → (b ≡ true → o ≡ Some t) → f o ≡ f (cond b (Some t') o)
-field_case f t t' same true o is = ap f (is refl) ∙ same
-field_case f t t' same false o is = refl
 
 module _ (w : World) (h : History) (c : ℕ) (t : TableState) (x : IterationTable) (table : slice_get w.tables c ≡ Some t) where
   abbrev t' : TableState
@@ -79,31 +73,14 @@ module _ (w : World) (h : History) (c : ℕ) (t : TableState) (x : IterationTabl
   abbrev w' : World
   w' = record w { tables = slice_set w.tables c t' }
 
-  its_table : (d : ℕ) → (d == c) ≡ true → slice_get w.tables d ≡ Some t
-  its_table d e = ap (slice_get w.tables) (eqb-true d c e) ∙ table
-
-  table_at : (d : ℕ) → cond (d == c) (Some t') (slice_get w.tables d) ≡ slice_get w'.tables d
-  table_at d = sym (get_set w.tables c t' t d table)
-
-  field : {X : Type 0} (f : Option TableState → X) → f (Some t) ≡ f (Some t') → (d : ℕ) → f (slice_get w.tables d) ≡ f (slice_get w'.tables d)
-  field f same d = field_case f t t' same (d == c) (slice_get w.tables d) (its_table d) ∙ ap f (table_at d)
-
-  nexts : (a : ActorName) → next_of w.tables a ≡ next_of w'.tables a
-  nexts (Client d) = field next_in refl d
-  nexts (Node r) = refl
-
-  iterations_case : (b : Bool) (o : Option TableState) → cond b x (iterations_in o) ≡ iterations_in (cond b (Some t') o)
-  iterations_case true o = refl
-  iterations_case false o = refl
-
   -- the machine's iterations of the client are the table's
   pub iterations_is : record (machine_of w h) { iterations = put (machine_of w h).iterations c x } ≡ machine_of w' h
   iterations_is = λ i. record (machine_of w' h) {
-    next = λ a. nexts a i;
-    handles = λ d. field handles_in refl d i;
-    places = λ d p. field (λ o. place_in o p) refl d i;
-    last_handles = λ d. field last_in refl d i;
-    iterations = λ d. (iterations_case (d == c) (slice_get w.tables d) ∙ ap iterations_in (table_at d)) i;
+    next = λ a. nexts_same w c t t' table refl a i;
+    handles = λ d. field_same w c t t' table handles_in refl d i;
+    places = λ d p. field_same w c t t' table (λ o. place_in o p) refl d i;
+    last_handles = λ d. field_same w c t t' table last_in refl d i;
+    iterations = λ d. field_put w c t t' table iterations_in x refl d i;
   }
 
 -- a list with what stands at a place put there is the list
@@ -153,6 +130,10 @@ active_end op d answer (drivers.Active a) is = refl
 active_end op d answer (drivers.Enter r) is = absurd is
 active_end op d answer (drivers.Open o) is = absurd is
 active_end op d answer (drivers.Update u) is = absurd is
+active_end op d answer drivers.Leave is = absurd is
+active_end op d answer (drivers.Close k) is = absurd is
+active_end op d answer (drivers.Unlink name) is = absurd is
+active_end op d answer (drivers.Retain k duration) is = absurd is
 
 abbrev pub started_label : InHand → ℕ → ℕ → Label
 started_label hand k r = Stepped hand.call (word_of_op hand.op) verbs.Iter (Some k) (Some r) words.Ok (Some (outcomes.Done answers.Nothing)) None
@@ -229,7 +210,7 @@ module _ (w : World) (h : History) (c r : ℕ) (asked : CallId) (k : ℕ) (choic
       word = refl;
       done = subst (λ (n : Next). IsDone m s n (record { verb = verbs.Iter; ckpt = Some k; node = Some r; reply = words.Ok; end = end; pieces = None })) (sym due_here) (record {
         answer = replies.Done answers.Nothing;
-        may = sym (ap (reply_at request hand.op w.cluster.moment) there);
+        may = sym (ap (reply_at request hand.op (record_seen w.cluster k)) there);
         verb = refl;
         ckpt = refl;
         node = refl;

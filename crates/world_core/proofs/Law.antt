@@ -30,6 +30,7 @@ use Rattle.world_core.proofs.LawOpening.{asking_goes}
 use Rattle.world_core.proofs.LawMaking.{making_goes}
 use Rattle.world_core.proofs.LawUpdate.{update_goes}
 use Rattle.world_core.proofs.LawActive.{active_goes}
+use Rattle.world_core.proofs.LawOnce.{leave_goes, close_goes, unlink_goes, retain_goes}
 use Rattle.world_core.proofs.LawMoment.{Invariant-moved, Counts-moved}
 use Rattle.world_core.proofs.LawBegin.{Invariant-begun, Counts-begun}
 
@@ -43,7 +44,7 @@ invariant_empty = record {
     up = inl (refl, refl);
     rises = tt;
     up_to = tt;
-    in_use = tt;
+    swept = tt;
     entries = λ k e found. absurd (cc found);
     handles = λ c h among. let (i, below, is) = among in absurd (omega (arith, below));
     in_hand = λ a. refl;
@@ -76,6 +77,10 @@ driver_goes m s (drivers.Enter r) inv room t has done = enter_goes m s r inv roo
 driver_goes m s (drivers.Open o) inv room t has done = open_goes m s o.call o.ask o.deadline o.making inv room t has done
 driver_goes m s (drivers.Update u) inv room t has done = update_goes m s u inv room t done
 driver_goes m s (drivers.Active a) inv room t has done = active_goes m s a.call a.ckpt a.kind inv room t has done
+driver_goes m s drivers.Leave inv room t has done = leave_goes m s inv t done
+driver_goes m s (drivers.Close k) inv room t has done = close_goes m s k inv t done
+driver_goes m s (drivers.Unlink name) inv room t has done = unlink_goes m s name inv t done
+driver_goes m s (drivers.Retain k duration) inv room t has done = retain_goes m s k duration inv t done
 
 -- a due step is of the call in hand
 pub record IsTaken (m : Machine) (call : CallId) (op : OpWord) (t : Told) : Type 0 where
@@ -115,8 +120,12 @@ none_and_first up none first = absurd (let e : ◌≡◌ {A = ℕ} 0 1 = ap (λ 
 IsAt-up : (m : Machine) (n : ℕ) (s : CallState) (d : Driver) → m.cluster.up ≡ no_nodes → IsAt m s d → IsAt (record m { cluster = brought_up n m.cluster }) s d
 IsAt-up m n s (drivers.Enter r) none at = absurd (let e : false ≡ true = sym (is_up-none r m.cluster none) ∙ at.up in cc)
 IsAt-up m n s (drivers.Open o) none at = none_and_first m.cluster.up none at.up
-IsAt-up m n s (drivers.Update u) none at = record { call = at.call; update = at.update; phase = at.phase; made = at.made; owned = at.owned }
+IsAt-up m n s (drivers.Update u) none at = record { call = at.call; update = at.update; phase = at.phase; kept = at.kept; made = at.made; owned = at.owned }
 IsAt-up m n s (drivers.Active a) none at = record { call = at.call; kind = at.kind; made = at.made; kept = at.kept; sections = at.sections; handle = at.handle }
+IsAt-up m n s drivers.Leave none at = record { op = at.op; live = at.live }
+IsAt-up m n s (drivers.Close k) none at = record { op = at.op; kept = at.kept; handle = at.handle }
+IsAt-up m n s (drivers.Unlink name) none at = at
+IsAt-up m n s (drivers.Retain k duration) none at = record { op = at.op; kept = at.kept; made = at.made }
 
 -- likewise the call in hand, if there is one
 IsWorking-up : (m : Machine) (n : ℕ) (hand : Option Working) → m.cluster.up ≡ no_nodes → IsWorking m hand → IsWorking (record m { cluster = brought_up n m.cluster }) hand
@@ -131,7 +140,7 @@ Invariant-nodes m n inv one none = record {
     up = inr (ap first_nodes one);
     rises = inv.holds.rises;
     up_to = inv.holds.up_to;
-    in_use = inv.holds.in_use;
+    swept = inv.holds.swept;
     entries = inv.holds.entries;
     handles = inv.holds.handles;
     in_hand = inv.holds.in_hand;

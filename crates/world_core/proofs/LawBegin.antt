@@ -31,7 +31,7 @@ use Rattle.world_core.specs.Beginning.{begin_end, if_live, on_handle, open_begin
 use Rattle.world_core.specs.Machine.{Machine, CallState}
 use Rattle.world_core.specs.Steps.{IsBegun, MayBegin, ckpt_of_handle, handle_of_number, handle_in, named_handle, kept_at, begun, handle_by, handle_over, iteration_in, with_ended, without_iteration, begun_call, IsBeginEnd}
 use Rattle.world_core.specs.Runs.{Counts}
-use Rattle.world_core.specs.Invariant.{Working, maker_by, slot_by, IsUpdateOf, AreGoodAttributes, IsMade, IsMakingOrNone, IsAt, Alone, InvariantWith, Invariant, IsKindOf}
+use Rattle.world_core.specs.Invariant.{Working, maker_by, slot_by, IsUpdateOf, AreGoodAttributes, WasMade, IsMakingOrNone, IsAt, Alone, InvariantWith, Invariant, IsKindOf}
 use Rattle.world_core.proofs.LawMoves.{same_actor-refl, same_actor-true}
 use Rattle.world_core.proofs.LawEnds.{no_slot, IsGoodEntry-as}
 
@@ -64,6 +64,13 @@ open_begin-None name flags timeout a e =
     let (good, none) = passed (name_is_bad name || int_lt timeout (pos 0) || attributes_are_bad flags a) _ None rest in
     attributes_are_bad-false flags a (or_parts _ _ good).1
 
+-- and its name is good
+open_begin-named : (name : List ℕ) (flags : ℕ) (timeout : ℤ) (a : Option CreationAttributes) → open_begin name flags timeout a ≡ None → name_is_bad name ≡ false
+open_begin-named name flags timeout a e =
+    let (good_flags, rest) = passed (has_bad_open_flags flags) _ _ e in
+    let (good, none) = passed (name_is_bad name || int_lt timeout (pos 0) || attributes_are_bad flags a) _ None rest in
+    (or_parts (name_is_bad name) _ (or_parts (name_is_bad name || int_lt timeout (pos 0)) _ good).0).0
+
 -- ---- the handle of a place
 
 -- the handle found under a number is among them
@@ -81,17 +88,17 @@ handle_of_number-Contains handles None h e = absurd (cc e)
 handle_of_number-Contains handles (Some n) h e = handle_numbered-Contains n handles h e
 
 -- the checkpoint of a place's handle is there and made
-handle_in-made : (hand : Option Working) (m : Machine) (c : ℕ) (place : Option ℕ) (h : HandleView) → InvariantWith hand m → handle_in m c place ≡ Some h → IsMade m h.id
+handle_in-made : (hand : Option Working) (m : Machine) (c : ℕ) (place : Option ℕ) (h : HandleView) → InvariantWith hand m → handle_in m c place ≡ Some h → WasMade m.cluster h.id
 handle_in-made hand m c None h inv e = absurd (cc e)
 handle_in-made hand m c (Some place) h inv e = (inv.handles c h (handle_of_number-Contains (m.handles c) (m.places c place) h e)).1
 
 -- so it is of the handle over which an iteration goes
-over_made : (hand : Option Working) (m : Machine) (c : ℕ) (it : Option BegunIteration) (h : HandleView) → InvariantWith hand m → handle_over (m.handles c) it ≡ Some h → IsMade m h.id
+over_made : (hand : Option Working) (m : Machine) (c : ℕ) (it : Option BegunIteration) (h : HandleView) → InvariantWith hand m → handle_over (m.handles c) it ≡ Some h → WasMade m.cluster h.id
 over_made hand m c None h inv e = absurd (cc e)
 over_made hand m c (Some it) h inv e = (inv.handles c h (handle_numbered-Contains it.handle (m.handles c) h e)).1
 
 -- and of the handle that an operation is about
-named_made : (hand : Option Working) (m : Machine) (c : ℕ) (place iteration : Option ℕ) (h : HandleView) → InvariantWith hand m → handle_by m c place iteration ≡ Some h → IsMade m h.id
+named_made : (hand : Option Working) (m : Machine) (c : ℕ) (place iteration : Option ℕ) (h : HandleView) → InvariantWith hand m → handle_by m c place iteration ≡ Some h → WasMade m.cluster h.id
 named_made hand m c None iteration h inv e = over_made hand m c (iteration_in (m.iterations c) iteration) h inv e
 named_made hand m c (Some place) iteration h inv e = handle_in-made hand m c (Some place) h inv e
 
@@ -128,15 +135,15 @@ module _ (hand : Option Working) (m : Machine) (call : CallId) (inv : InvariantW
     owns : (k : ℕ) → slot_by (state_with op h) k (start_with op h) ≡ None
 
   -- an update on a handle starts with nothing staged
-  starts_update : (op : Op) (h : Option HandleView) → ((o : Option HandleView) → start_with op o ≡ update_start call (ckpt_of_handle o)) → IsUpdateOf op → ((x : HandleView) → h ≡ Some x → IsMade m x.id) → (x : HandleView) × (h ≡ Some x) → Starts op h
+  starts_update : (op : Op) (h : Option HandleView) → ((o : Option HandleView) → start_with op o ≡ update_start call (ckpt_of_handle o)) → IsUpdateOf op → ((x : HandleView) → h ≡ Some x → WasMade m.cluster x.id) → (x : HandleView) × (h ≡ Some x) → Starts op h
   starts_update op h begins is made (x, there) = subst (Starts op) (sym there) (record {
-    at = subst (IsAt m (state_with op (Some x))) (sym (begins (Some x))) (record { call = refl; update = is; phase = refl; made = made x there; owned = inl refl });
+    at = subst (IsAt m (state_with op (Some x))) (sym (begins (Some x))) (record { call = refl; update = is; phase = refl; kept = refl; made = made x there; owned = inl refl });
     makes = λ k. ap (maker_by call k) (begins (Some x));
     owns = λ k. ap (slot_by (state_with op (Some x)) k) (begins (Some x)) ∙ no_slot (k == x.id);
   })
 
   -- a call to the active on a handle
-  starts_active : (op : Op) (kind : ActiveKind) (h : Option HandleView) → ((o : Option HandleView) → start_with op o ≡ active_start call kind (ckpt_of_handle o)) → IsKindOf kind op → named_handle m call.actor op ≡ h → ((x : HandleView) → h ≡ Some x → IsMade m x.id) → (x : HandleView) × (h ≡ Some x) → Starts op h
+  starts_active : (op : Op) (kind : ActiveKind) (h : Option HandleView) → ((o : Option HandleView) → start_with op o ≡ active_start call kind (ckpt_of_handle o)) → IsKindOf kind op → named_handle m call.actor op ≡ h → ((x : HandleView) → h ≡ Some x → WasMade m.cluster x.id) → (x : HandleView) × (h ≡ Some x) → Starts op h
   starts_active op kind h begins is named made (x, there) = subst (Starts op) (sym there) (record {
     at = subst (IsAt m (state_with op (Some x))) (sym (begins (Some x))) (record { call = refl; kind = is; made = made x there; kept = refl; sections = refl; handle = subst (λ (o : Option HandleView). IsSome o) (sym (named ∙ there)) refl });
     makes = λ k. ap (maker_by call k) (begins (Some x));
@@ -144,7 +151,7 @@ module _ (hand : Option Working) (m : Machine) (call : CallId) (inv : InvariantW
   })
 
   -- each operation that goes on
-  starts : (op : Op) (h : Option HandleView) → IsBuilt op → MayBegin m.cluster (number_of call.actor) op → begin_end (is_live_client (number_of call.actor) m.cluster) h op ≡ None → ((x : HandleView) → h ≡ Some x → IsMade m x.id) → named_handle m call.actor op ≡ h → Starts op h
+  starts : (op : Op) (h : Option HandleView) → IsBuilt op → MayBegin m.cluster (number_of call.actor) op → begin_end (is_live_client (number_of call.actor) m.cluster) h op ≡ None → ((x : HandleView) → h ≡ Some x → WasMade m.cluster x.id) → named_handle m call.actor op ≡ h → Starts op h
   starts (ops.Client r version callbacks) h built may goes made named = record { at = record { op = refl; up = may.1; not_live = may.0 }; makes = λ k. refl; owns = λ k. refl }
   starts (ops.Open place name flags timeout a) h built may goes made named =
       let (live, rest) = if_live-None (is_live_client (number_of call.actor) m.cluster) _ goes in
@@ -154,6 +161,7 @@ module _ (hand : Option Working) (m : Machine) (call : CallId) (inv : InvariantW
           within = IsClient-number call.actor client;
           built = built;
           asks = (refl, refl);
+          named = open_begin-named name flags timeout a rest;
           asked = open_begin-None name flags timeout a rest;
           deadline = refl;
           up = live_up hand m (number_of call.actor) inv live;
@@ -174,6 +182,18 @@ module _ (hand : Option Working) (m : Machine) (call : CallId) (inv : InvariantW
   starts (ops.Iter iteration place chosen time) h built may goes made named =
       starts_active (ops.Iter iteration place chosen time) (kinds.Iterate (choice_of chosen time)) h (λ o. refl) (refl, built.0, built.1) named made (on_handle-None h _ _ (if_live-None (is_live_client (number_of call.actor) m.cluster) _ goes).1)
   starts (ops.Next iteration) h built may goes made named = starts_active (ops.Next iteration) kinds.Next h (λ o. refl) built named made (on_handle-None h _ _ (if_live-None (is_live_client (number_of call.actor) m.cluster) _ goes).1)
+  starts (ops.Close place) h built may goes made named =
+      let (x, there) = on_handle-None h _ _ (if_live-None (is_live_client (number_of call.actor) m.cluster) _ goes).1 in
+      subst (Starts (ops.Close place)) (sym there) (record {
+        at = record { op = built; kept = refl; handle = subst (λ (o : Option HandleView). IsSome o) (sym (named ∙ there)) refl };
+        makes = λ k. refl;
+        owns = λ k. refl;
+      })
+  starts (ops.Retain place duration) h built may goes made named =
+      let (x, there) = on_handle-None h _ _ (if_live-None (is_live_client (number_of call.actor) m.cluster) _ goes).1 in
+      subst (Starts (ops.Retain place duration)) (sym there) (record { at = record { op = refl; kept = refl; made = made x there }; makes = λ k. refl; owns = λ k. refl })
+  starts (ops.Unlink name) h built may goes made named = record { at = refl; makes = λ k. refl; owns = λ k. refl }
+  starts ops.Finalize h built may goes made named = record { at = record { op = tt; live = (if_live-None (is_live_client (number_of call.actor) m.cluster) _ goes).0 }; makes = λ k. refl; owns = λ k. refl }
   starts (ops.EndIter iteration) h built may goes made named = absurd (ends_at_once h (if_live-None (is_live_client (number_of call.actor) m.cluster) _ goes).1)
   starts op h built may goes made named = absurd built
 
@@ -187,9 +207,13 @@ IsMakingOrNone-apart m next f (Some making) at = record { there = at.there; rese
 -- a call is where it is with other numbers and hands
 pub IsAt-apart : (m : Machine) (next : ActorName → ℕ) (f : ActorName → Option CallState) (s : CallState) (d : Driver) → IsAt m s d → IsAt (record m { next = next; in_hand = f }) s d
 IsAt-apart m next f s (drivers.Enter r) at = record { op = at.op; up = at.up; not_live = at.not_live }
-IsAt-apart m next f s (drivers.Open o) at = record { client = at.client; within = at.within; built = at.built; asks = at.asks; asked = at.asked; deadline = at.deadline; up = at.up; making = IsMakingOrNone-apart m next f o.making at.making; room = at.room; in_time = at.in_time }
-IsAt-apart m next f s (drivers.Update u) at = record { call = at.call; update = at.update; phase = at.phase; made = at.made; owned = at.owned }
+IsAt-apart m next f s (drivers.Open o) at = record { client = at.client; within = at.within; built = at.built; asks = at.asks; named = at.named; asked = at.asked; deadline = at.deadline; up = at.up; making = IsMakingOrNone-apart m next f o.making at.making; room = at.room; in_time = at.in_time }
+IsAt-apart m next f s (drivers.Update u) at = record { call = at.call; update = at.update; phase = at.phase; kept = at.kept; made = at.made; owned = at.owned }
 IsAt-apart m next f s (drivers.Active a) at = record { call = at.call; kind = at.kind; made = at.made; kept = at.kept; sections = at.sections; handle = at.handle }
+IsAt-apart m next f s drivers.Leave at = record { op = at.op; live = at.live }
+IsAt-apart m next f s (drivers.Close k) at = record { op = at.op; kept = at.kept; handle = at.handle }
+IsAt-apart m next f s (drivers.Unlink name) at = at
+IsAt-apart m next f s (drivers.Retain k duration) at = record { op = at.op; kept = at.kept; made = at.made }
 
 -- where the caller has none in hand and nobody else has, nobody has
 all_idle : (m : Machine) (call : CallId) (op : Op) (end : Option Outcome) → Alone m (labels.Began call op end) → m.in_hand call.actor ≡ None → (a : ActorName) → m.in_hand a ≡ None
@@ -210,7 +234,7 @@ ended_leaves : (m : Machine) (c : ℕ) (place : Option ℕ) → InvariantWith No
 ended_leaves m c None inv = record { hand = None; holds = inv }
 ended_leaves m c (Some place) inv = record {
   hand = None;
-  holds = record { up = inv.up; rises = inv.rises; up_to = inv.up_to; in_use = inv.in_use; entries = inv.entries; handles = inv.handles; in_hand = inv.in_hand; working = tt };
+  holds = record { up = inv.up; rises = inv.rises; up_to = inv.up_to; swept = inv.swept; entries = inv.entries; handles = inv.handles; in_hand = inv.in_hand; working = tt };
 }
 
 -- a call that goes on answers nothing at once
@@ -224,7 +248,7 @@ begun_with m call op (Some o) inv alone is = ended_leaves (begun_call m call op 
   up = inv.up;
   rises = inv.rises;
   up_to = inv.up_to;
-  in_use = inv.in_use;
+  swept = inv.swept;
   entries = inv.entries;
   handles = inv.handles;
   in_hand = λ a. elim (same_actor a call.actor) as (λ b. cond b None (m.in_hand a) ≡ None) [ true ↦ refl | false ↦ inv.in_hand a ];
@@ -239,7 +263,7 @@ begun_with m call op None inv alone is =
         up = inv.up;
         rises = inv.rises;
         up_to = inv.up_to;
-        in_use = inv.in_use;
+        swept = inv.swept;
         entries = λ k e found. IsGoodEntry-as None _ None _ e (m.replicas k 0) (sym (first.makes k)) (sym (first.owns k)) (inv.entries k e found);
         handles = inv.handles;
         in_hand = λ a. ap (cond (same_actor a call.actor) (Some _)) (inv.in_hand a);

@@ -18,9 +18,9 @@ use Rattle.cluster_record.specs.Calls.{put_actor}
 use Rattle.cluster_record.specs.RecordState.{RecordState, is_up, no_nodes, first_nodes, swept}
 use Rattle.world_core.specs.Serving.{elements_of}
 use Rattle.world_core.specs.Machine.{Machine, Staged, ReplicaState, CallState}
-use Rattle.world_core.specs.Steps.{Told, look_word}
+use Rattle.world_core.specs.Steps.{Told, look_word, on_done, with_closed, stepped}
 use Rattle.world_core.specs.Guards.{LookRow, OfOpen, OfRead, OfUpdate, OfClient}
-use Rattle.world_core.specs.Invariant.{Working, maker_by, slot_by, IsGoodEntry, IsClientOf, OpensAs, IsUpdateOf, IsKindOf, AllInUse, InvariantWith, Invariant}
+use Rattle.world_core.specs.Invariant.{Working, maker_by, slot_by, IsGoodEntry, IsClientOf, OpensAs, IsUpdateOf, IsKindOf, AllStay, InvariantWith, Invariant}
 use Rattle.world_core.proofs.LawLists.{filter-stays}
 use Rattle.world_core.proofs.LawMoves.{Leads, Goes, in_hand_of-ended, Counts-hands}
 
@@ -75,9 +75,9 @@ up_first hand m r inv up = elim inv.up [
 
 -- ---- the sweep
 
--- a record whose checkpoints are all in use is swept already
-pub swept-in_use : (R : RecordState) → AllInUse R.entries → swept R ≡ R
-swept-in_use R used = ap (λ es. record R { entries = es }) (filter-stays R.moment R.entries used)
+-- a record whose checkpoints all stay is swept already
+pub swept-all : (R : RecordState) → AllStay R.moment R.entries → swept R ≡ R
+swept-all R stay = ap (λ es. record R { entries = es }) (filter-stays R.moment R.entries stay)
 
 -- ---- steps that end the call and change nothing else
 
@@ -91,20 +91,20 @@ pub IsGoodEntry-as : (maker maker' : Option CallId) (staged staged' : Option Sta
 IsGoodEntry-as maker maker' staged staged' e x makes owns good = subst (λ c. IsGoodEntry c staged' e x) makes (subst (λ z. IsGoodEntry maker z e x) owns good)
 
 -- a call that makes nothing and owns no slot ends
-pub Invariant-ended : (m : Machine) (s : CallState) (d : Driver) → InvariantWith (Some (record { state = s; driver = d })) m → ((k : ℕ) → maker_by s.call k d ≡ None) → ((k : ℕ) → slot_by s k d ≡ None) → Invariant (record m { in_hand = put_actor m.in_hand s.call.actor None })
-Invariant-ended m s d inv makes owns = record {
-  hand = None;
-  holds = record {
-    up = inv.up;
-    rises = inv.rises;
-    up_to = inv.up_to;
-    in_use = inv.in_use;
-    entries = λ k e found. IsGoodEntry-as (maker_by s.call k d) None (slot_by s k d) None e (m.replicas k 0) (makes k) (owns k) (inv.entries k e found);
-    handles = inv.handles;
-    in_hand = in_hand_of-ended m.in_hand s d inv.in_hand;
-    working = tt;
-  };
+pub InvariantWith-ended : (m : Machine) (s : CallState) (d : Driver) → InvariantWith (Some (record { state = s; driver = d })) m → ((k : ℕ) → maker_by s.call k d ≡ None) → ((k : ℕ) → slot_by s k d ≡ None) → InvariantWith None (record m { in_hand = put_actor m.in_hand s.call.actor None })
+InvariantWith-ended m s d inv makes owns = record {
+  up = inv.up;
+  rises = inv.rises;
+  up_to = inv.up_to;
+  swept = inv.swept;
+  entries = λ k e found. IsGoodEntry-as (maker_by s.call k d) None (slot_by s k d) None e (m.replicas k 0) (makes k) (owns k) (inv.entries k e found);
+  handles = inv.handles;
+  in_hand = in_hand_of-ended m.in_hand s d inv.in_hand;
+  working = tt;
 }
+
+pub Invariant-ended : (m : Machine) (s : CallState) (d : Driver) → InvariantWith (Some (record { state = s; driver = d })) m → ((k : ℕ) → maker_by s.call k d ≡ None) → ((k : ℕ) → slot_by s k d ≡ None) → Invariant (record m { in_hand = put_actor m.in_hand s.call.actor None })
+Invariant-ended m s d inv makes owns = record { hand = None; holds = InvariantWith-ended m s d inv makes owns }
 
 -- and counts no more
 pub Leads-ended : (m : Machine) (s : CallState) (d : Driver) → InvariantWith (Some (record { state = s; driver = d })) m → ((k : ℕ) → maker_by s.call k d ≡ None) → ((k : ℕ) → slot_by s k d ≡ None) → Leads m (record m { in_hand = put_actor m.in_hand s.call.actor None })
@@ -113,11 +113,11 @@ Leads-ended m s d inv makes owns = record {
   counts = Counts-hands m (put_actor m.in_hand s.call.actor None);
 }
 
--- a call ends by a look
-pub look_goes : (m : Machine) (s : CallState) (d : Driver) (o : Outcome) (t : Told) → InvariantWith (Some (record { state = s; driver = d })) m → ((k : ℕ) → maker_by s.call k d ≡ None) → ((k : ℕ) → slot_by s k d ≡ None) → look_word o ≡ words.Refused → LookRow m s (Some o)
+-- a call ends by a look that refuses it
+pub look_goes : (m : Machine) (s : CallState) (d : Driver) (o : Outcome) (t : Told) → InvariantWith (Some (record { state = s; driver = d })) m → ((k : ℕ) → maker_by s.call k d ≡ None) → ((k : ℕ) → slot_by s k d ≡ None) → look_word o ≡ words.Refused → LookRow m s words.Refused (Some o)
     → t ≡ record { verb = verbs.Look; ckpt = None; node = None; reply = look_word o; end = Some o; pieces = None } → Goes m s d t
 look_goes m s d o t inv makes owns word row is = subst (Goes m s d) (sym is) (record {
-  row = (refl, refl, word, row, refl);
-  leads = Leads-ended m s d inv makes owns;
+  row = (refl, refl, subst (λ w. LookRow m s w (Some o)) (sym word) row, refl);
+  leads = subst (λ w. Leads m (stepped (on_done w m (with_closed s m)) s verbs.Look None None w (Some o))) (sym word) (Leads-ended m s d inv makes owns);
   nearer = λ none. absurd (cc none);
 })

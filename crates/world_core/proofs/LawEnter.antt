@@ -21,7 +21,7 @@ use Rattle.world_core.specs.Steps.{Told, IsDone, IsEvent, with_record, stepped}
 use Rattle.world_core.specs.Guards.{LookRefused, MayEnter, EnterRow}
 use Rattle.world_core.specs.Invariant.{IsClientOf, InvariantWith}
 use Rattle.world_core.proofs.LawMoves.{Leads, Goes, Told-is, in_hand_of-ended, replicas_under-kept, IsGoodEntry-replica, Counts-record}
-use Rattle.world_core.proofs.LawEnds.{OfClient-is, up_first, swept-in_use, Leads-ended, look_goes}
+use Rattle.world_core.proofs.LawEnds.{OfClient-is, up_first, swept-all, Leads-ended, look_goes}
 
 -- with no room for a client it is refused
 LookRefused-client : (m : Machine) (s : CallState) (op : Op) (r : ℕ) → IsClientOf op r → 64 ≤ length m.cluster.clients → LookRefused m s op NoResources (Count 64)
@@ -38,7 +38,7 @@ module _ (m : Machine) (s : CallState) (r : ℕ) (inv : InvariantWith (Some (rec
         up = inr (up_first (Some (record { state = s; driver = drivers.Enter r })) m r inv inv.working.1.up);
         rises = inv.rises;
         up_to = inv.up_to;
-        in_use = inv.in_use;
+        swept = inv.swept;
         entries = λ k e found. IsGoodEntry-replica None None e (m.replicas k 0) _ (λ complete. replicas_under-kept m (entered (client_of s.call) r s.call.number m.cluster) k e e found found complete complete) (inv.entries k e found);
         handles = inv.handles;
         in_hand = in_hand_of-ended m.in_hand s (drivers.Enter r) inv.in_hand;
@@ -66,7 +66,7 @@ module _ (m : Machine) (s : CallState) (r : ℕ) (inv : InvariantWith (Some (rec
         done.verb (done.ckpt ∙ ap (λ d. event_ckpt m.cluster d events.Enter) inv.working.0) (done.node ∙ ap (λ d. event_node d events.Enter) inv.working.0) ok.0 ok.1 done.pieces)) (record {
           row = (OfClient-is s.op r (EnterRow m (client_of s.call) r words.Ok (Some (Done answers.Version))) inv.working.1.op (may_enter room, refl), refl);
           leads = subst (λ R. Leads m (stepped (with_record m R) s verbs.Enter None (Some r) words.Ok (Some (Done answers.Version))))
-              (sym (ap (λ d. event_after s.call d events.Enter m.cluster) inv.working.0 ∙ swept-in_use (entered (client_of s.call) r s.call.number m.cluster) inv.in_use)) leads;
+              (sym (ap (λ d. event_after s.call d events.Enter m.cluster) inv.working.0 ∙ swept-all (entered (client_of s.call) r s.call.number m.cluster) inv.swept)) leads;
           nearer = λ none. absurd (cc none);
         })
     | inr memory ↦ subst (Goes m s (drivers.Enter r)) (sym (Told-is t (record { verb = verbs.Enter; ckpt = None; node = Some r; reply = words.Memory; end = Some NoMemory; pieces = None })

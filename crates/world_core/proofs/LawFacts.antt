@@ -1,9 +1,10 @@
 -- What the code relies on holds wherever the invariant does.
 use Rattle.world_core.specs.declared.drivers.Rooms.{Rooms}
-use Rattle.std.proofs.Common.{◌≡◌, ℕ, zero, suc, ◌<◌, inl, inr, length, Option, Some, None, Bool, true, false, cond, not, ◌&&◌, ◌==◌, nat_le, nat_lt, ℤ, refl, sym, ap, subst, ◌∙◌, arith}
-use Rattle.std.specs.Prelude.{IsSome, IsSomeAnd, slice_index}
-use Rattle.std.proofs.lemmas.Bool.{leb-false, ltb-true, and_parts}
-use Rattle.ckpt_types.specs.declared.ais_error.AisError.TheVariants.{Exist, NoResources}
+use Rattle.std.proofs.Common.{◌≡◌, ℕ, zero, suc, ◌<◌, ◌≤◌, inl, inr, List, length, Option, Some, None, Bool, true, false, cond, not, ◌&&◌, ◌==◌, nat_le, nat_lt, ℤ, refl, sym, ap, subst, ◌∙◌, arith}
+use Rattle.std.specs.Prelude.{is_some, IsSome, IsSomeAnd, slice_index}
+use Rattle.std.proofs.lemmas.Bool.{leb-false, ltb-true, ltb-false, and_parts, or_parts}
+use Rattle.std.proofs.lemmas.Option.{same_Some}
+use Rattle.ckpt_types.specs.declared.ais_error.AisError.TheVariants.{Exist, NoResources, BadOperation}
 use Rattle.ckpt_types.specs.declared.answers.Cause.TheVariants.{Plain, Count}
 use Rattle.ckpt_types.specs.declared.answers.Outcome.TheVariants.{Refused}
 use Rattle.ckpt_types.specs.declared.attributes.CreationAttributes.{CreationAttributes}
@@ -17,26 +18,28 @@ use Rattle.node_msgs.specs.declared.next.Next.TheVariants.{Serve, Event, End}
 use Rattle.node_msgs.specs.declared.next.RecordStep.TheVariants as events
 use Rattle.world_core.specs.declared.drivers.Driver.{Driver}
 use Rattle.world_core.specs.declared.drivers.Driver.TheVariants as drivers
+use Rattle.ckpt_types.specs.declared.operation.Op.{Op}
+use Rattle.ckpt_types.specs.declared.operation.Op.TheVariants as ops
 use Rattle.cluster_record.specs.declared.calls.Making.{Making}
 use Rattle.cluster_record.specs.DueOpen.{OpenState}
 use Rattle.cluster_record.specs.declared.calls.ActiveKind.{ActiveKind}
 use Rattle.cluster_record.specs.declared.calls.ActiveKind.TheVariants as kinds
 use Rattle.cluster_record.specs.declared.entries.Entry.{Entry}
-use Rattle.cluster_record.specs.DueUpdate.{UpdateState}
-use Rattle.cluster_record.specs.Calls.{client_of}
+use Rattle.cluster_record.specs.DueUpdate.{UpdateState, update_on}
+use Rattle.cluster_record.specs.Calls.{client_of, number_of}
 use Rattle.cluster_record.specs.RecordState.{RecordState, entry_of, named, is_up, first_nodes, no_nodes}
 use Rattle.node_msgs.specs.Requests.{ckpt_of}
 use Rattle.world_core.specs.Serving.{IsReadyFor, IsStaged}
 use Rattle.world_core.specs.Driving.{driver_next}
 use Rattle.cluster_record.specs.DueOpen.{create_next, entry_next, on_named, on_free_name, accepts, reserve_or_finish}
 use Rattle.cluster_record.specs.StepDone.{first_lacking}
-use Rattle.cluster_record.specs.DueActive.{request_by, starts_iteration}
-use Rattle.world_core.specs.Beginning.{IsIterOf, IsNextOf, IsBuilt}
+use Rattle.cluster_record.specs.DueActive.{request_by, starts_iteration, active_on}
+use Rattle.world_core.specs.Beginning.{IsIterOf, IsNextOf, IsBuilt, IsCloseOf, IsRetainOf, IsUnlinkOf, IsFinalize, closed_place}
 use Rattle.world_core.specs.Machine.{Machine, CallState}
-use Rattle.world_core.specs.Steps.{due, driver_of, room_of, rooms_of, named_handle, seen_at, seen, seen_slot, staged_moment}
+use Rattle.world_core.specs.Steps.{due, driver_of, room_of, rooms_of, named_handle, seen_at, seen, seen_slot, staged_moment, handle_in}
 use Rattle.cluster_record.specs.LookUps.{sections_declared}
 use Rattle.world_core.specs.Shows.{IsActive, IsServable, IsReservable, AllReserved, IsEventReady, Facts}
-use Rattle.world_core.specs.Invariant.{Working, IsKindOf, IsMakingEntry, IsAt, InvariantWith, Invariant}
+use Rattle.world_core.specs.Invariant.{Working, IsKindOf, IsMakingEntry, IsAt, InvariantWith, Invariant, IsClientOf, OpensAs, IsUpdateOf}
 use Rattle.cluster_record.specs.Makings.{IsMakingOf}
 use Rattle.cluster_record.proofs.MakingLaws.{making-own}
 use Rattle.world_core.proofs.Deadlines.{in_time-either}
@@ -46,6 +49,9 @@ use Rattle.world_core.proofs.LawMade.{MadeAt, made_seen}
 use Rattle.world_core.proofs.LawMaking.{making_entry, making_by, making_is, open_next-unreserved, open_next-reserved}
 use Rattle.world_core.proofs.LawUpdate.{update_is, unstaged, staged_there, update_next-unstaged, update_next-staged, staged_moment-unstaged, unstaged_at, staged_at, own_slot}
 use Rattle.world_core.proofs.LawActive.{active_next-made, active_at}
+use Rattle.cluster_record.specs.DueOnce.{close_of, unlink_of, unlink_of_making, retain_of}
+use Rattle.cluster_record.proofs.IdentityLaws.{entry_of-find}
+use Rattle.world_core.proofs.LawOnce.{unlink_made}
 
 -- a due stage has the moment of the slots that stand
 abbrev pub HasMoment : Machine → Request → Type 0
@@ -80,9 +86,13 @@ enter_ready m s r inv room =
 
 -- ---- an open
 
-module _ (m : Machine) (s : CallState) (call : CallId) (ask : OpenAsk) (deadline : Option ℤ) where
+module _ (m : Machine) (s : CallState) (call : CallId) (ask : OpenAsk) (deadline : Option ℤ) (inv : InvariantWith (Some (record { state = s; driver = drivers.Open (record { call = call; ask = ask; deadline = deadline; making = None }) })) m) where
   abbrev asking : OpenState
   asking = record { call = call; ask = ask; deadline = deadline; making = None }
+
+  -- its name fits
+  name_fits : length ask.name ≤ 256
+  name_fits = ltb-false 256 (length ask.name) (or_parts _ _ inv.working.1.named).1
 
   -- a checkpoint that is asked for is made where there is room
   create_ready : (room : Bool) (a : CreationAttributes) → ask.attrs ≡ Some a → named ask.name m.cluster.entries ≡ None → IsDueReady m s (drivers.Open asking) (create_next m.cluster room)
@@ -90,7 +100,7 @@ module _ (m : Machine) (s : CallState) (call : CallId) (ask : OpenAsk) (deadline
   create_ready true a given free =
       elim (nat_le 16 (length m.cluster.entries)) as (λ b. nat_le 16 (length m.cluster.entries) ≡ b → IsDueReady m s (drivers.Open asking) (cond b (End (Refused NoResources (Count 16))) (Event events.Create))) [
         | true ↦ λ full. tt
-        | false ↦ λ few. (leb-false 16 (length m.cluster.entries) few, IsSomeAnd-from ask.attrs (λ a. Unit {0}) a given tt, free)
+        | false ↦ λ few. (leb-false 16 (length m.cluster.entries) few, IsSomeAnd-from ask.attrs (λ a. Unit {0}) a given tt, free, name_fits)
       ] refl
 
   -- of a name that is free
@@ -98,16 +108,19 @@ module _ (m : Machine) (s : CallState) (call : CallId) (ask : OpenAsk) (deadline
   free_ready room None given free = tt
   free_ready room (Some a) given free = in_time-either (IsDueReady m s (drivers.Open asking)) deadline m.cluster.moment (create_next m.cluster room) (λ o. tt) (create_ready room a given free)
 
-  -- of a name that a checkpoint has
-  entry_ready : (room accepted : Bool) (e : Entry) → named ask.name m.cluster.entries ≡ Some e → IsDueReady m s (drivers.Open asking) (cond (not accepted) (End (Refused Exist Plain)) (cond (not room) (End (Refused NoResources (Count 32))) (Event events.Open)))
-  entry_ready room false e found = tt
-  entry_ready false true e found = tt
-  entry_ready true true e found = IsSomeAnd-from (named ask.name m.cluster.entries) (λ e. Unit {0}) e found tt
+  -- of a name that a checkpoint has, which is made
+  entry_ready : (room accepted : Bool) (e : Entry) → accepts ask.attrs e ≡ accepted → named ask.name m.cluster.entries ≡ Some e → IsDueReady m s (drivers.Open asking) (cond (not accepted) (End (Refused Exist Plain)) (cond (not room) (End (Refused NoResources (Count 32))) (Event events.Open)))
+  entry_ready room false e is found = tt
+  entry_ready false true e is found = tt
+  entry_ready true true e is found = (
+    IsSomeAnd-from (named ask.name m.cluster.entries) (λ e. (e.making ≡ None) × (accepts ask.attrs e ≡ true)) e found ((inv.entries e.identity e (entry_of-find _ m.cluster.entries e inv.rises found)).making, is),
+    name_fits,
+  )
 
   -- of any name
   named_ready : (room : Bool) (o : Option Entry) → named ask.name m.cluster.entries ≡ o → IsDueReady m s (drivers.Open asking) (on_named m.cluster room deadline ask.attrs o)
   named_ready room None found = free_ready room ask.attrs refl found
-  named_ready room (Some e) found = in_time-either (IsDueReady m s (drivers.Open asking)) deadline m.cluster.moment (entry_next room ask.attrs e) (λ o. tt) (entry_ready room (accepts ask.attrs e) e found)
+  named_ready room (Some e) found = in_time-either (IsDueReady m s (drivers.Open asking)) deadline m.cluster.moment (entry_next room ask.attrs e) (λ o. tt) (entry_ready room (accepts ask.attrs e) e refl found)
 
 -- ---- a making
 
@@ -173,20 +186,20 @@ update_ready : (m : Machine) (s : CallState) (u : UpdateState) → InvariantWith
 update_ready m s u inv room =
     let P : UpdateState → Type 0 = λ v. InvariantWith (Some (record { state = s; driver = drivers.Update v })) m → IsDueReady m s (drivers.Update v) (driver_next m.cluster room (drivers.Update v)) in
     elim inv.working.1.owned [
-      | inl none ↦ subst P (sym (update_is u s.call no_nodes inv.working.1.call none inv.working.1.phase)) (λ inv. unstaged_ready inv) inv
-      | inr first ↦ subst P (sym (update_is u s.call (first_nodes 1) inv.working.1.call first inv.working.1.phase)) (λ inv. staged_ready inv) inv
+      | inl none ↦ subst P (sym (update_is u s.call no_nodes inv.working.1.call none inv.working.1.phase)) (λ inv. nowhere_ready inv) inv
+      | inr first ↦ subst P (sym (update_is u s.call (first_nodes 1) inv.working.1.call first.0 inv.working.1.phase)) (λ inv. staged_ready first.1 inv) inv
     ]
   where
-    unstaged_ready : InvariantWith (Some (record { state = s; driver = drivers.Update (unstaged s.call u.ckpt u.moment) })) m → IsDueReady m s (drivers.Update (unstaged s.call u.ckpt u.moment)) (driver_next m.cluster room (drivers.Update (unstaged s.call u.ckpt u.moment)))
-    unstaged_ready inv =
-        let at = unstaged_at m s u.ckpt u.moment inv in
-        subst (IsDueReady m s (drivers.Update (unstaged s.call u.ckpt u.moment))) (sym (update_next-unstaged m s u.ckpt u.moment inv room))
-        (omega arith, IsSomeAnd-from (seen_at m u.ckpt 0) (IsReadyFor (requests.Stage s.call u.ckpt m.cluster.moment)) (seen u.ckpt at.entry.attributes at.replica) (made_seen m u.ckpt None at) tt, staged_moment-unstaged m s u.ckpt u.moment inv, tt)
+    unstaged_ready : IsSome (entry_of u.ckpt m.cluster.entries) → InvariantWith (Some (record { state = s; driver = drivers.Update (unstaged s.call u.ckpt u.moment) })) m → IsDueReady m s (drivers.Update (unstaged s.call u.ckpt u.moment)) (driver_next m.cluster room (drivers.Update (unstaged s.call u.ckpt u.moment)))
+    unstaged_ready there inv =
+        let at = unstaged_at m s u.ckpt u.moment inv there in
+        subst (IsDueReady m s (drivers.Update (unstaged s.call u.ckpt u.moment))) (sym (update_next-unstaged m s u.ckpt u.moment inv there room))
+        (omega arith, IsSomeAnd-from (seen_at m u.ckpt 0) (IsReadyFor (requests.Stage s.call u.ckpt m.cluster.moment)) (seen u.ckpt at.entry.attributes at.replica) (made_seen m u.ckpt None at) tt, staged_moment-unstaged m s u.ckpt u.moment inv there, tt)
 
-    staged_ready : InvariantWith (Some (record { state = s; driver = drivers.Update (staged_there s.call u.ckpt u.moment) })) m → IsDueReady m s (drivers.Update (staged_there s.call u.ckpt u.moment)) (driver_next m.cluster room (drivers.Update (staged_there s.call u.ckpt u.moment)))
-    staged_ready inv =
-        let at = staged_at m s u.ckpt u.moment inv in
-        subst (IsDueReady m s (drivers.Update (staged_there s.call u.ckpt u.moment))) (sym (update_next-staged m s u.ckpt u.moment inv room)) (
+    staged_ready : IsSome (entry_of u.ckpt m.cluster.entries) → InvariantWith (Some (record { state = s; driver = drivers.Update (staged_there s.call u.ckpt u.moment) })) m → IsDueReady m s (drivers.Update (staged_there s.call u.ckpt u.moment)) (driver_next m.cluster room (drivers.Update (staged_there s.call u.ckpt u.moment)))
+    staged_ready there inv =
+        let at = staged_at m s u.ckpt u.moment inv there in
+        subst (IsDueReady m s (drivers.Update (staged_there s.call u.ckpt u.moment))) (sym (update_next-staged m s u.ckpt u.moment inv there room)) (
           omega arith,
           IsSomeAnd-from (seen_at m u.ckpt 0) (IsReadyFor (requests.Commit s.call u.ckpt)) (seen u.ckpt at.entry.attributes at.replica) (made_seen m u.ckpt (Some (own_slot s u.moment)) at)
               (IsSomeAnd-from (seen_slot at.replica.slot) (IsStaged s.call (seen u.ckpt at.entry.attributes at.replica)) _ (ap seen_slot at.is.slot) (record { owner = refl; fits = at.is.fits })),
@@ -194,35 +207,69 @@ update_ready m s u inv room =
           tt,
         )
 
+    -- one whose checkpoint is gone is refused
+    nowhere_ready : InvariantWith (Some (record { state = s; driver = drivers.Update (unstaged s.call u.ckpt u.moment) })) m → IsDueReady m s (drivers.Update (unstaged s.call u.ckpt u.moment)) (driver_next m.cluster room (drivers.Update (unstaged s.call u.ckpt u.moment)))
+    nowhere_ready inv = by_entry (entry_of u.ckpt m.cluster.entries) refl where
+      by_entry : (o : Option Entry) → entry_of u.ckpt m.cluster.entries ≡ o → IsDueReady m s (drivers.Update (unstaged s.call u.ckpt u.moment)) (driver_next m.cluster room (drivers.Update (unstaged s.call u.ckpt u.moment)))
+      by_entry None gone = subst (IsDueReady m s (drivers.Update (unstaged s.call u.ckpt u.moment))) (sym (ap (update_on (unstaged s.call u.ckpt u.moment) m.cluster.moment) gone)) tt
+      by_entry (Some e) found = unstaged_ready (ap is_some found) inv
+
 -- ---- a read
 
 -- a call to the active asks it, unless it starts an iteration for which there is no room
-active_ready : (m : Machine) (s : CallState) (call : CallId) (k : ℕ) (kind : ActiveKind) → InvariantWith (Some (record { state = s; driver = drivers.Active (record { call = call; ckpt = k; kind = kind }) })) m → (room : Rooms)
+kind_ready : (m : Machine) (s : CallState) (call : CallId) (k : ℕ) (kind : ActiveKind) → InvariantWith (Some (record { state = s; driver = drivers.Active (record { call = call; ckpt = k; kind = kind }) })) m → IsSome (entry_of k m.cluster.entries) → (room : Rooms)
     → IsDueReady m s (drivers.Active (record { call = call; ckpt = k; kind = kind })) (driver_next m.cluster room (drivers.Active (record { call = call; ckpt = k; kind = kind })))
-active_ready m s call k kind inv room =
-    subst (IsDueReady m s (drivers.Active (record { call = call; ckpt = k; kind = kind }))) (sym (active_next-made m s call k kind inv room)) (by_kind kind inv.working.1.kind (starts_iteration kind && not room.iterations))
+kind_ready m s call k kind inv there room =
+    subst (IsDueReady m s (drivers.Active (record { call = call; ckpt = k; kind = kind }))) (sym (active_next-made m s call k kind inv there room)) (by_kind kind inv.working.1.kind (starts_iteration kind && not room.iterations))
   where
     at : MadeAt m k None
-    at = active_at m s call k kind inv
+    at = active_at m s call k kind inv there
 
-    there : (request : Request) → ckpt_of request ≡ k → IsReadyFor request (seen k at.entry.attributes at.replica) → IsSomeAnd (seen_at m (ckpt_of request) 0) (IsReadyFor request)
-    there request about ready = IsSomeAnd-from (seen_at m (ckpt_of request) 0) (IsReadyFor request) (seen k at.entry.attributes at.replica) (ap (λ j. seen_at m j 0) about ∙ made_seen m k None at) ready
+    seen_there : (request : Request) → ckpt_of request ≡ k → IsReadyFor request (seen k at.entry.attributes at.replica) → IsSomeAnd (seen_at m (ckpt_of request) 0) (IsReadyFor request)
+    seen_there request about ready = IsSomeAnd-from (seen_at m (ckpt_of request) 0) (IsReadyFor request) (seen k at.entry.attributes at.replica) (ap (λ j. seen_at m j 0) about ∙ made_seen m k None at) ready
 
     by_kind : (x : ActiveKind) → IsKindOf x s.op → (b : Bool) → IsDueReady m s (drivers.Active (record { call = call; ckpt = k; kind = kind })) (cond b (End (Refused NoResources (Count 8))) (Serve 0 (request_by call k x)))
     by_kind x is true = tt
-    by_kind kinds.Read is false = (omega arith, there (requests.Read k) refl tt, tt, tt)
-    by_kind kinds.Status is false = (omega arith, there (requests.Status k) refl tt, tt, tt)
-    by_kind (kinds.Iterate choice) is false = (omega arith, there (requests.Iterate call k choice) refl tt, tt, (inv.working.1.sections, is, inv.working.1.handle, tt))
-    by_kind kinds.Next is false = (omega arith, there (requests.Next call k) refl tt, tt, (is, inv.working.1.handle))
+    by_kind kinds.Read is false = (omega arith, seen_there (requests.Read k) refl tt, tt, tt)
+    by_kind kinds.Status is false = (omega arith, seen_there (requests.Status k) refl tt, tt, tt)
+    by_kind (kinds.Iterate choice) is false = (omega arith, seen_there (requests.Iterate call k choice) refl tt, tt, (inv.working.1.sections, is, inv.working.1.handle, tt))
+    by_kind kinds.Next is false = (omega arith, seen_there (requests.Next call k) refl tt, tt, (is, inv.working.1.handle))
     by_kind kinds.Apply is false = absurd is
     by_kind (kinds.Weak n) is false = absurd is
+
+-- unless its checkpoint is gone
+active_ready : (m : Machine) (s : CallState) (call : CallId) (k : ℕ) (kind : ActiveKind) → InvariantWith (Some (record { state = s; driver = drivers.Active (record { call = call; ckpt = k; kind = kind }) })) m → (room : Rooms)
+    → IsDueReady m s (drivers.Active (record { call = call; ckpt = k; kind = kind })) (driver_next m.cluster room (drivers.Active (record { call = call; ckpt = k; kind = kind })))
+active_ready m s call k kind inv room = by_entry (entry_of k m.cluster.entries) refl where
+  by_entry : (o : Option Entry) → entry_of k m.cluster.entries ≡ o → IsDueReady m s (drivers.Active (record { call = call; ckpt = k; kind = kind })) (driver_next m.cluster room (drivers.Active (record { call = call; ckpt = k; kind = kind })))
+  by_entry None gone = subst (IsDueReady m s (drivers.Active (record { call = call; ckpt = k; kind = kind }))) (sym (ap (active_on room.iterations (record { call = call; ckpt = k; kind = kind })) gone)) tt
+  by_entry (Some e) found = kind_ready m s call k kind inv (ap is_some found) room
+
+-- ---- a call of one step of the record
+
+close_ready : (m : Machine) (s : CallState) (k : ℕ) (o : Option Entry) → IsDueReady m s (drivers.Close k) (close_of o)
+close_ready m s k None = tt
+close_ready m s k (Some e) = tt
+
+unlink_ready : (m : Machine) (s : CallState) (name : List ℕ) → InvariantWith (Some (record { state = s; driver = drivers.Unlink name })) m → (o : Option Entry) → named name m.cluster.entries ≡ o → IsDueReady m s (drivers.Unlink name) (unlink_of o)
+unlink_ready m s name inv None found = tt
+unlink_ready m s name inv (Some e) found =
+    let made = unlink_made m s name inv e found in
+    subst (λ o. IsDueReady m s (drivers.Unlink name) (unlink_of_making o)) (sym made) (IsSomeAnd-from (named name m.cluster.entries) (λ e. e.making ≡ None) e found made)
+
+retain_ready : (m : Machine) (s : CallState) (k : ℕ) (duration : ℤ) (o : Option Entry) → entry_of k m.cluster.entries ≡ o → IsDueReady m s (drivers.Retain k duration) (retain_of o)
+retain_ready m s k duration None found = tt
+retain_ready m s k duration (Some e) found = by_name e.name refl where
+  by_name : (o : Option (List ℕ)) → e.name ≡ o → IsDueReady m s (drivers.Retain k duration) (cond (is_some o) (Event events.Retain) (End (Refused BadOperation Plain)))
+  by_name None has = tt
+  by_name (Some name) has = IsSomeAnd-from (entry_of k m.cluster.entries) (λ e. IsSome e.name) e found (ap is_some has)
 
 -- ---- any call
 
 -- an open, making something or not
 open_ready : (m : Machine) (s : CallState) (call : CallId) (ask : OpenAsk) (deadline : Option ℤ) (making : Option Making) → InvariantWith (Some (record { state = s; driver = drivers.Open (record { call = call; ask = ask; deadline = deadline; making = making }) })) m → (room : Rooms)
     → IsDueReady m s (drivers.Open (record { call = call; ask = ask; deadline = deadline; making = making })) (driver_next m.cluster room (drivers.Open (record { call = call; ask = ask; deadline = deadline; making = making })))
-open_ready m s call ask deadline None inv room = named_ready m s call ask deadline room.handles (named ask.name m.cluster.entries) refl
+open_ready m s call ask deadline None inv room = named_ready m s call ask deadline inv room.handles (named ask.name m.cluster.entries) refl
 open_ready m s call ask deadline (Some making) inv room = making_ready m s call ask deadline making inv room
 
 -- what is due of any call
@@ -231,6 +278,10 @@ driver_ready m s (drivers.Enter r) inv room = enter_ready m s r inv room
 driver_ready m s (drivers.Open o) inv room = open_ready m s o.call o.ask o.deadline o.making inv room
 driver_ready m s (drivers.Update u) inv room = update_ready m s u inv room
 driver_ready m s (drivers.Active a) inv room = active_ready m s a.call a.ckpt a.kind inv room
+driver_ready m s drivers.Leave inv room = tt
+driver_ready m s (drivers.Close k) inv room = close_ready m s k (entry_of k m.cluster.entries)
+driver_ready m s (drivers.Unlink name) inv room = unlink_ready m s name inv (named name m.cluster.entries) refl
+driver_ready m s (drivers.Retain k duration) inv room = retain_ready m s k duration (entry_of k m.cluster.entries) refl
 
 -- the call that an actor has in hand is the actor's, and what is due of it is ready
 hand_ready : (hand : Option Working) (m : Machine) (a : ActorName) (s : CallState) → InvariantWith hand m → m.in_hand a ≡ Some s → (s.call.actor ≡ a) × IsDueReady m s (driver_of s) (due m s)
@@ -251,11 +302,61 @@ hand_at_its_place (Some w) m a s inv here = subst (λ t. IsAt m t (driver_of t))
 pub is_at : (m : Machine) (a : ActorName) (s : CallState) → Invariant m → m.in_hand a ≡ Some s → IsAt m s (driver_of s)
 is_at m a s inv here = hand_at_its_place inv.hand m a s inv.holds here
 
+-- the other calls close no handle
+client_no_close : (op : Op) (r place : ℕ) → IsClientOf op r → closed_place op ≡ Some place → ⊥
+client_no_close (ops.Client q version callbacks) r place of is = cc is
+client_no_close op r place of is = absurd of
+
+open_no_close : (op : Op) (ask : OpenAsk) (place : ℕ) → OpensAs op ask → closed_place op ≡ Some place → ⊥
+open_no_close (ops.Open given name flags timeout a) ask place of is = cc is
+open_no_close op ask place of is = absurd of
+
+update_no_close : (op : Op) (place : ℕ) → IsUpdateOf op → closed_place op ≡ Some place → ⊥
+update_no_close (ops.Create given update) place of is = cc is
+update_no_close (ops.Delete given update) place of is = cc is
+update_no_close (ops.Expire given update) place of is = cc is
+update_no_close (ops.Write given update) place of is = cc is
+update_no_close (ops.Over given update) place of is = cc is
+update_no_close op place of is = absurd of
+
+active_no_close : (kind : ActiveKind) (op : Op) (place : ℕ) → IsKindOf kind op → closed_place op ≡ Some place → ⊥
+active_no_close kinds.Read (ops.Read given elements) place of is = cc is
+active_no_close kinds.Status (ops.Status given) place of is = cc is
+active_no_close (kinds.Iterate choice) (ops.Iter iteration given chosen time) place of is = cc is
+active_no_close kinds.Next (ops.Next iteration) place of is = cc is
+active_no_close kind op place of is = absurd of
+
+finalize_no_close : (op : Op) (place : ℕ) → IsFinalize op → closed_place op ≡ Some place → ⊥
+finalize_no_close ops.Finalize place of is = cc is
+finalize_no_close op place of is = absurd of
+
+unlink_no_close : (name : List ℕ) (op : Op) (place : ℕ) → IsUnlinkOf name op → closed_place op ≡ Some place → ⊥
+unlink_no_close name (ops.Unlink given) place of is = cc is
+unlink_no_close name op place of is = absurd of
+
+retain_no_close : (duration : ℤ) (op : Op) (place : ℕ) → IsRetainOf duration op → closed_place op ≡ Some place → ⊥
+retain_no_close duration (ops.Retain handle given) place of is = cc is
+retain_no_close duration op place of is = absurd of
+
 -- an open has a place for its handle, and with a checkpoint in the making room for the handle
 open_fits : (m : Machine) (a : ActorName) (s : CallState) (o : OpenState) → Invariant m → m.in_hand a ≡ Some s → driver_of s ≡ drivers.Open o → IsBuilt s.op × (IsSome o.making → room_of m (client_of s.call) ≡ true)
 open_fits m a s o inv here is =
     let at = subst (IsAt m s) is (is_at m a s inv here) in
     (at.built, λ some. ap (room_of m) (sym at.client) ∙ at.room some)
+
+-- a close has a place below 100, with a handle
+close_fits : (m : Machine) (s : CallState) (d : Driver) (place : ℕ) → IsAt m s d → closed_place s.op ≡ Some place → (place < 100) × IsSome (handle_in m (number_of s.call.actor) (Some place))
+close_fits m s (drivers.Close k) place at is = of_op s.op at.op at.handle is where
+  of_op : (op : Op) → IsCloseOf op → IsSome (named_handle m s.call.actor op) → closed_place op ≡ Some place → (place < 100) × IsSome (handle_in m (number_of s.call.actor) (Some place))
+  of_op (ops.Close given) within there is = let same = same_Some given place is in (subst (λ p. p < 100) same within, subst (λ p. IsSome (handle_in m (number_of s.call.actor) (Some p))) same there)
+  of_op op within there is = absurd within
+close_fits m s (drivers.Enter r) place at is = absurd (client_no_close s.op r place at.op is)
+close_fits m s (drivers.Open o) place at is = absurd (open_no_close s.op o.ask place at.asks is)
+close_fits m s (drivers.Update u) place at is = absurd (update_no_close s.op place at.update is)
+close_fits m s (drivers.Active a) place at is = absurd (active_no_close a.kind s.op place at.kind is)
+close_fits m s drivers.Leave place at is = absurd (finalize_no_close s.op place at.op is)
+close_fits m s (drivers.Unlink name) place at is = absurd (unlink_no_close name s.op place at is)
+close_fits m s (drivers.Retain k duration) place at is = absurd (retain_no_close duration s.op place at.op is)
 
 -- what the code relies on
 pub facts : (m : Machine) → Invariant m → Facts m
@@ -269,5 +370,6 @@ facts m inv = record {
   goes_on = λ a s r call k here is. let (own, all) = hand_ready inv.hand m a s inv.holds here in let ready = (subst (IsDueReady m s (driver_of s)) is all).3 in (ready.0, subst (λ actor. IsSome (named_handle m actor s.op)) own ready.1);
   events = λ a s step here is. subst (IsDueReady m s (driver_of s)) is (hand_ready inv.hand m a s inv.holds here).1;
   opens = λ a s o here is. open_fits m a s o inv here is;
+  closes = λ a s place here is. let own = (hand_ready inv.hand m a s inv.holds here).0 in let fits = close_fits m s (driver_of s) place (is_at m a s inv here) is in (fits.0, subst (λ actor. IsSome (handle_in m (number_of actor) (Some place))) own fits.1);
   numbered = λ c h among. (inv.holds.handles c h among).0;
 }

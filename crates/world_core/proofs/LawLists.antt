@@ -1,13 +1,15 @@
 -- Entries looked up by their identities, after one is added, changed or taken away, and after a sweep that takes none.
-use Rattle.std.proofs.Common.{◌≡◌, ℕ, zero, suc, ◌+◌, ◌<◌, List, [], ◌∷◌, ◌++◌, length, filter, Option, Some, None, is_some, Bool, true, false, cond, not, ◌||◌, ◌==◌, ℤ, refl, sym, ap, subst, ◌∙◌, arith}
+use Rattle.std.proofs.Common.{◌≡◌, ℕ, zero, suc, ◌+◌, ◌<◌, ◌≤◌, List, [], ◌∷◌, ◌++◌, length, filter, Option, Some, None, is_some, Bool, true, false, cond, not, ◌&&◌, ◌||◌, ◌==◌, ℤ, refl, sym, ap, subst, ◌∙◌, arith}
 use Rattle.std.specs.Prelude.{slice_index, slice_set}
 use Rattle.std.specs.List.{list_any}
 use Rattle.std.proofs.lemmas.Bool.{eqb-true, eqb-false, eq-eqb, ne_eqb, or_right}
 use Rattle.std.proofs.lemmas.Option.{same_Some}
 use Rattle.cluster_record.specs.declared.entries.Entry.{Entry}
-use Rattle.cluster_record.specs.RecordState.{identity_of, entry_of, stays, has_references, referred}
+use Rattle.cluster_record.specs.Identities.{AllUpTo}
+use Rattle.cluster_record.specs.RecordState.{identity_of, entry_of, stays, has_references, retained_until, referred}
 use Rattle.cluster_record.specs.Places.{find_key, change_key}
-use Rattle.world_core.specs.Invariant.{is_in_use, AllInUse}
+use Rattle.moment_rules.specs.Times.{is_reached}
+use Rattle.world_core.specs.Invariant.{AllStay}
 
 -- ---- tests
 
@@ -96,40 +98,45 @@ find_key-change_key key j k f same (y ∷ xs) x e =
     over true a c z = refl
     over false a c z = refl
 
--- ---- entries in use
+-- the identity of an entry that is found was given
+pub entry_of-given : (n k : ℕ) (entries : List Entry) (e : Entry) → AllUpTo n entries → entry_of k entries ≡ Some e → k ≤ n
+entry_of-given n k [] e up_to found = absurd (cc found)
+entry_of-given n k (x ∷ xs) e up_to found =
+    elim (x.identity == k) as (λ b. (x.identity == k) ≡ b → cond b (Some x) (entry_of k xs) ≡ Some e → k ≤ n) [
+      | true ↦ λ is here. subst (λ j. j ≤ n) (eqb-true x.identity k is) up_to.0
+      | false ↦ λ is there. entry_of-given n k xs e up_to.1 there
+    ] refl found
 
--- some taken away leave all in use
-pub AllInUse-filter : (p : Entry → Bool) (entries : List Entry) → AllInUse entries → AllInUse (filter p entries)
-AllInUse-filter p [] used = tt
-AllInUse-filter p (x ∷ xs) used = elim (p x) as (λ b. AllInUse (cond b (x ∷ filter p xs) (filter p xs))) [ true ↦ (used.0, AllInUse-filter p xs used.1) | false ↦ AllInUse-filter p xs used.1 ]
+-- ---- entries that stay in a sweep
 
--- one more in use leaves all in use
-pub AllInUse-push : (entries : List Entry) (new : Entry) → AllInUse entries → is_in_use new ≡ true → AllInUse (entries ++ new ∷ [])
-AllInUse-push [] new used in_use = (in_use, tt)
-AllInUse-push (x ∷ xs) new used in_use = (used.0, AllInUse-push xs new used.1 in_use)
+-- some taken away, the others stay
+pub AllStay-filter : (t : ℤ) (p : Entry → Bool) (entries : List Entry) → AllStay t entries → AllStay t (filter p entries)
+AllStay-filter t p [] stay = tt
+AllStay-filter t p (x ∷ xs) stay = elim (p x) as (λ b. AllStay t (cond b (x ∷ filter p xs) (filter p xs))) [ true ↦ (stay.0, AllStay-filter t p xs stay.1) | false ↦ AllStay-filter t p xs stay.1 ]
 
--- one changed, which is in use still, leaves all in use
-pub AllInUse-change_key : (f : Entry → Entry) (k : ℕ) (entries : List Entry) → AllInUse entries → ((e : Entry) → entry_of k entries ≡ Some e → is_in_use e ≡ true → is_in_use (f e) ≡ true) → AllInUse (change_key identity_of k f entries)
-AllInUse-change_key f k [] used still = tt
-AllInUse-change_key f k (x ∷ xs) used still =
-    elim (x.identity == k) as (λ b. (x.identity == k) ≡ b → AllInUse (cond b (f x ∷ xs) (x ∷ change_key identity_of k f xs))) [
-      | true ↦ λ is. (still x (ap (λ b. cond b (Some x) (entry_of k xs)) is) used.0, used.1)
-      | false ↦ λ is. (used.0, AllInUse-change_key f k xs used.1 (λ e found in_use. still e (ap (λ b. cond b (Some x) (entry_of k xs)) is ∙ found) in_use))
+-- those that a sweep leaves stay in the next one
+pub AllStay-swept : (t : ℤ) (entries : List Entry) → AllStay t (filter (stays t) entries)
+AllStay-swept t [] = tt
+AllStay-swept t (x ∷ xs) = elim (stays t x) as (λ b. stays t x ≡ b → AllStay t (cond b (x ∷ filter (stays t) xs) (filter (stays t) xs))) [ true ↦ λ is. (is, AllStay-swept t xs) | false ↦ λ is. AllStay-swept t xs ] refl
+
+-- one more that stays
+pub AllStay-push : (t : ℤ) (entries : List Entry) (new : Entry) → AllStay t entries → stays t new ≡ true → AllStay t (entries ++ new ∷ [])
+AllStay-push t [] new stay is = (is, tt)
+AllStay-push t (x ∷ xs) new stay is = (stay.0, AllStay-push t xs new stay.1 is)
+
+-- one changed, which stays still
+pub AllStay-change_key : (t : ℤ) (f : Entry → Entry) (k : ℕ) (entries : List Entry) → AllStay t entries → ((e : Entry) → entry_of k entries ≡ Some e → stays t e ≡ true → stays t (f e) ≡ true) → AllStay t (change_key identity_of k f entries)
+AllStay-change_key t f k [] stay still = tt
+AllStay-change_key t f k (x ∷ xs) stay still =
+    elim (x.identity == k) as (λ b. (x.identity == k) ≡ b → AllStay t (cond b (f x ∷ xs) (x ∷ change_key identity_of k f xs))) [
+      | true ↦ λ is. (still x (ap (λ b. cond b (Some x) (entry_of k xs)) is) stay.0, stay.1)
+      | false ↦ λ is. (stay.0, AllStay-change_key t f k xs stay.1 (λ e found was. still e (ap (λ b. cond b (Some x) (entry_of k xs)) is ∙ found) was))
     ] refl
 
--- ---- the sweep
-
--- a test that passes by its first part
-or_more : (a b c : Bool) → (a || b) ≡ true → (a || b || c) ≡ true
-or_more true b c e = refl
-or_more false true c e = refl
-or_more false false c e = absurd (cc e)
-
--- where all are in use the sweep takes none
-pub filter-stays : (t : ℤ) (entries : List Entry) → AllInUse entries → filter (stays t) entries ≡ entries
-filter-stays t [] used = refl
-filter-stays t (x ∷ xs) used =
-    ap (λ b. cond b (x ∷ filter (stays t) xs) (filter (stays t) xs)) (or_more (is_some x.making) (has_references x) _ used.0) ∙ ap (λ es. x ∷ es) (filter-stays t xs used.1)
+-- where all stay the sweep takes none
+pub filter-stays : (t : ℤ) (entries : List Entry) → AllStay t entries → filter (stays t) entries ≡ entries
+filter-stays t [] stay = refl
+filter-stays t (x ∷ xs) stay = ap (λ b. cond b (x ∷ filter (stays t) xs) (filter (stays t) xs)) stay.0 ∙ ap (λ es. x ∷ es) (filter-stays t xs stay.1)
 
 -- one reference more leaves references
 pub list_any-one_more : (counts : List ℕ) (c : ℕ) → list_any (λ n. not (n == 0)) counts ≡ true → list_any (λ n. not (n == 0)) (slice_set counts c (slice_index counts c + 1)) ≡ true
@@ -147,10 +154,21 @@ list_any-first [] c within = absurd (omega (arith, within))
 list_any-first (n ∷ ns) zero within = ap (λ b. not b || list_any (λ n. not (n == 0)) ns) (ne_eqb (n + 1) 0 (λ same. omega (arith, same)))
 list_any-first (n ∷ ns) (suc c) within = or_right (not (n == 0)) _ (list_any-first ns c (omega arith))
 
--- an entry with a reference more is in use still
-pub is_in_use-referred : (c : ℕ) (e : Entry) → is_in_use e ≡ true → is_in_use (referred c e) ≡ true
-is_in_use-referred c e used =
-    elim (is_some e.making) as (λ b. (b || has_references e) ≡ true → (b || has_references (referred c e)) ≡ true) [
-      | true ↦ λ used. refl
-      | false ↦ λ used. list_any-one_more e.references c used
-    ] used
+-- an entry that somebody has open stays
+pub open-stays : (t : ℤ) (e : Entry) → has_references e ≡ true → stays t e ≡ true
+open-stays t e has = ap (λ b. b || (is_some e.name && not (is_reached (retained_until e) t))) (or_right (is_some e.making) (has_references e) has)
+
+-- one with a reference more stays still
+pub stays-referred : (t : ℤ) (c : ℕ) (e : Entry) → stays t e ≡ true → stays t (referred c e) ≡ true
+stays-referred t c e stay =
+    elim (is_some e.making) as (λ b. (b || has_references e || over) ≡ true → (b || has_references (referred c e) || over) ≡ true) [
+      | true ↦ λ stay. refl
+      | false ↦ by_references (has_references e) refl
+    ] stay
+  where
+    over : Bool
+    over = is_some e.name && not (is_reached (retained_until e) t)
+
+    by_references : (b : Bool) → has_references e ≡ b → (b || over) ≡ true → (has_references (referred c e) || over) ≡ true
+    by_references true has stay = ap (λ b. b || over) (list_any-one_more e.references c has)
+    by_references false has stay = or_right (has_references (referred c e)) over stay

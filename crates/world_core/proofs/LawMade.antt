@@ -85,7 +85,7 @@ IsGoodState-made None staged e x made is good = good
 IsGoodState-made (Some call) staged e x made is good = absurd (cc (made, is))
 
 -- a made checkpoint with what the invariant says of it
-pub made_at : (hand : Option Working) (m : Machine) (k : ℕ) (staged : Option Staged) → InvariantWith hand m → IsMade m k → slot_of hand k ≡ staged → MadeAt m k staged
+pub made_at : (hand : Option Working) (m : Machine) (k : ℕ) (staged : Option Staged) → InvariantWith hand m → IsMade m.cluster k → slot_of hand k ≡ staged → MadeAt m k staged
 made_at hand m k staged inv made slot =
     let (e, found, making) = IsSomeAnd-at (entry_of k m.cluster.entries) (λ e. e.making ≡ None) made in
     let entry = inv.entries k e found in

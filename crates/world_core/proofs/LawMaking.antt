@@ -1,7 +1,7 @@
 -- A checkpoint in the making is reserved on n0, and finished or undone.
 use Rattle.world_core.specs.declared.drivers.Rooms.{Rooms}
 use Rattle.std.proofs.Common.{◌≡◌, ℕ, zero, suc, ◌+◌, ◌<◌, ◌≤◌, inl, inr, List, ◌∷◌, Option, Some, None, Bool, true, false, cond, not, ◌==◌, ◌&&◌, nat_lt, ℤ, refl, sym, ap, subst, ◌∙◌, arith}
-use Rattle.std.specs.Prelude.{IsSome, IsSomeAnd, slice_index, slice_set}
+use Rattle.std.specs.Prelude.{IsSome, IsSomeAnd, slice_index, slice_set, IfSome}
 use Rattle.std.proofs.lemmas.Bool.{eq-eqb, and_right}
 use Rattle.std.proofs.lemmas.Option.{same_Some}
 use Rattle.ckpt_types.specs.declared.answers.Answer.TheVariants as answers
@@ -22,7 +22,7 @@ use Rattle.cluster_record.specs.DueOpen.{OpenState}
 use Rattle.cluster_record.specs.declared.entries.Entry.{Entry}
 use Rattle.cluster_record.specs.Calls.{client_of}
 use Rattle.cluster_record.specs.Places.{put2}
-use Rattle.cluster_record.specs.RecordState.{RecordState, identity_of, entry_of, complete_of, is_up, first_nodes, no_nodes, first_complete, made_with, finished, undone}
+use Rattle.cluster_record.specs.RecordState.{RecordState, identity_of, entry_of, complete_of, is_up, first_nodes, no_nodes, first_complete, made_with, finished, undone, stays}
 use Rattle.cluster_record.specs.StepDone.{StepDone, done_of, first_lacking}
 use Rattle.cluster_record.specs.DueOpen.{IsBefore, reserve_or_finish}
 use Rattle.world_core.specs.Driving.{driver_next, driver_taken, event_after}
@@ -30,11 +30,11 @@ use Rattle.world_core.specs.Machine.{Machine, CallState}
 use Rattle.world_core.specs.Steps.{Told, IsDone, IsServed, IsEvent, opened_state, replica_under, replicas_under, with_record, with_opened, with_handle_at, new_handle, stepped}
 use Rattle.world_core.specs.Guards.{IsMadeBy, IsInTime}
 use Rattle.world_core.specs.Runs.{lacking}
-use Rattle.world_core.specs.Invariant.{maker_by, IsMakingEntry, IsGoodEntry, IsMade, is_in_use, AllInUse, InvariantWith}
+use Rattle.world_core.specs.Invariant.{maker_by, IsMakingEntry, IsGoodEntry, WasMade, AllStay, InvariantWith}
 use Rattle.cluster_record.proofs.IdentityLaws.{AllUpTo-change_key, IdentitiesRise-change_key, AllUpTo-filter, IdentitiesRise-filter}
-use Rattle.world_core.proofs.LawLists.{find_key-without, find_key-change_key, AllInUse-change_key, AllInUse-filter, list_any-first}
-use Rattle.world_core.proofs.LawMoves.{Leads, Goes, in_hand_of-going, in_hand_of-ended, Changed, Changed-found, Changed-kept, replicas_under-kept, IsGoodEntry-replica, IsSomeAnd-from, slice_index-one_more, Counts-hands, Counts-record, references-changed, last_handles-put}
-use Rattle.world_core.proofs.LawEnds.{slice_index-first, swept-in_use, IsGoodEntry-as}
+use Rattle.world_core.proofs.LawLists.{entry_of-given, find_key-without, find_key-change_key, AllStay-change_key, AllStay-filter, open-stays, list_any-first}
+use Rattle.world_core.proofs.LawMoves.{Leads, Goes, in_hand_of-going, in_hand_of-ended, Changed, Changed-found, replicas_under-kept, IsGoodEntry-replica, IsSomeAnd-from, slice_index-one_more, Counts-hands, Counts-record, references-changed, last_handles-put, WasMade-changed}
+use Rattle.world_core.proofs.LawEnds.{slice_index-first, swept-all, IsGoodEntry-as}
 use Rattle.world_core.proofs.LawMade.{IsServed-told, IsEvent-told}
 use Rattle.world_core.proofs.LawOpening.{handles-push, opened_place-is}
 
@@ -86,9 +86,9 @@ module _ (m : Machine) (s : CallState) (call : CallId) (ask : OpenAsk) (deadline
   in_time = subst (IsBefore m.cluster.moment) inv.working.1.deadline (inv.working.1.in_time refl)
 
   -- it is not made yet
-  not_made : IsMade m k → ⊥
-  not_made made =
-      let is : entry.making ≡ None = subst (λ o. IsSomeAnd o (λ e. e.making ≡ None)) found made in
+  not_made : WasMade m.cluster k → ⊥
+  not_made was =
+      let is : entry.making ≡ None = subst (λ o. IfSome o (λ (e : Entry). e.making ≡ None)) found was.made in
       let other = good.making in
       cc
 
@@ -119,9 +119,9 @@ module _ (m : Machine) (s : CallState) (call : CallId) (ask : OpenAsk) (deadline
         up = inv.up;
         rises = IdentitiesRise-filter _ m.cluster.entries inv.rises;
         up_to = AllUpTo-filter _ m.cluster.last_identity m.cluster.entries inv.up_to;
-        in_use = AllInUse-filter _ m.cluster.entries inv.in_use;
+        swept = AllStay-filter m.cluster.moment _ m.cluster.entries inv.swept;
         entries = good_undone;
-        handles = λ c h among. let (from_one, made) = inv.handles c h among in (from_one, Changed-kept k None m.cluster.entries undone_then.entries (λ e. e.making ≡ None) change_undone (λ is. absurd (not_made is)) h.id made);
+        handles = λ c h among. let (from_one, made) = inv.handles c h among in (from_one, WasMade-changed k None m.cluster undone_then change_undone (omega arith) (λ within was. tt) h.id made);
         in_hand = in_hand_of-ended m.in_hand s (drivers.Open at_making) inv.in_hand;
         working = tt;
       };
@@ -136,7 +136,7 @@ module _ (m : Machine) (s : CallState) (call : CallId) (ask : OpenAsk) (deadline
     | inl ok ↦ subst (Goes m s (drivers.Open at_making)) (sym ok) (record {
       row = ((making_by, in_time, refl), refl);
       leads = subst (λ R. Leads m (stepped (with_record m R) s verbs.Undo (Some k) None words.Ok (Some NoMemory)))
-          (sym (ap (λ d. event_after s.call d events.Undo m.cluster) inv.working.0 ∙ swept-in_use undone_then (AllInUse-filter _ m.cluster.entries inv.in_use))) leads_undone;
+          (sym (ap (λ d. event_after s.call d events.Undo m.cluster) inv.working.0 ∙ swept-all undone_then (AllStay-filter m.cluster.moment _ m.cluster.entries inv.swept))) leads_undone;
       nearer = λ none. absurd (cc none);
     })
     | inr memory ↦ absurd (cc (memory.0))
@@ -155,10 +155,10 @@ module _ (m : Machine) (s : CallState) (call : CallId) (ask : OpenAsk) (deadline
   change_finished j = find_key-change_key identity_of k j (made_with m.cluster.up ask.client) (λ e. refl) m.cluster.entries entry found
 
   -- its maker has it open
-  in_use_finished : AllInUse finished_then.entries
-  in_use_finished = AllInUse-change_key (made_with m.cluster.up ask.client) k m.cluster.entries inv.in_use (λ e is used.
+  swept_finished : AllStay m.cluster.moment finished_then.entries
+  swept_finished = AllStay-change_key m.cluster.moment (made_with m.cluster.up ask.client) k m.cluster.entries inv.swept (λ e is stay.
       let same : entry ≡ e = same_Some entry e (sym found ∙ is) in
-      subst (λ f. is_in_use (made_with m.cluster.up ask.client f) ≡ true) same (list_any-first entry.references ask.client (subst (λ n. ask.client < n) (sym good.state.clients) inv.working.1.within)))
+      subst (λ f. stays m.cluster.moment (made_with m.cluster.up ask.client f) ≡ true) same (open-stays m.cluster.moment made (list_any-first entry.references ask.client (subst (λ n. ask.client < n) (sym good.state.clients) inv.working.1.within))))
 
   -- n0 has the opening replica now
   opened_there : replicas_under m.cluster finished_then m.replicas k 0 ≡ Some (opened_state made)
@@ -189,12 +189,15 @@ module _ (m : Machine) (s : CallState) (call : CallId) (ask : OpenAsk) (deadline
   ]
 
   -- what was made is made
-  made_still : (j : ℕ) → IsMade m j → IsSomeAnd (entry_of j finished_then.entries) (λ e. e.making ≡ None)
-  made_still = Changed-kept k (Some made) m.cluster.entries finished_then.entries (λ e. e.making ≡ None) change_finished (λ is. refl)
+  made_still : (j : ℕ) → WasMade m.cluster j → WasMade finished_then j
+  made_still = WasMade-changed k (Some made) m.cluster finished_then change_finished (omega arith) (λ within was. refl)
 
   -- and this one is
-  made_now : IsSomeAnd (entry_of k finished_then.entries) (λ e. e.making ≡ None)
-  made_now = IsSomeAnd-from (entry_of k finished_then.entries) (λ e. e.making ≡ None) made (change_finished k ∙ ap (λ b. cond b (Some made) (entry_of k m.cluster.entries)) (eq-eqb k k refl)) refl
+  made_now : WasMade finished_then k
+  made_now = record {
+    given = entry_of-given m.cluster.last_identity k m.cluster.entries entry inv.up_to found;
+    made = subst (λ o. IfSome o (λ (e : Entry). e.making ≡ None)) (sym (change_finished k ∙ ap (λ b. cond b (Some made) (entry_of k m.cluster.entries)) (eq-eqb k k refl))) refl;
+  }
 
   abbrev handle : HandleView
   handle = new_handle finished_then (m.last_handles (client_of s.call)) s.op k
@@ -208,9 +211,9 @@ module _ (m : Machine) (s : CallState) (call : CallId) (ask : OpenAsk) (deadline
         up = inv.up;
         rises = IdentitiesRise-change_key (made_with m.cluster.up ask.client) (λ e. refl) k m.cluster.entries inv.rises;
         up_to = AllUpTo-change_key (made_with m.cluster.up ask.client) (λ e. refl) m.cluster.last_identity k m.cluster.entries inv.up_to;
-        in_use = in_use_finished;
+        swept = swept_finished;
         entries = good_finished;
-        handles = handles-push m.handles (λ h. (1 ≤ h.handle) × IsSomeAnd (entry_of h.id finished_then.entries) (λ e. e.making ≡ None)) (client_of s.call) handle
+        handles = handles-push m.handles (λ h. (1 ≤ h.handle) × WasMade finished_then h.id) (client_of s.call) handle
             (λ c h among. let (from_one, is) = inv.handles c h among in (from_one, made_still h.id is)) (omega arith, made_now);
         in_hand = in_hand_of-ended m.in_hand s (drivers.Open at_making) inv.in_hand;
         working = tt;
@@ -239,7 +242,7 @@ module _ (m : Machine) (s : CallState) (call : CallId) (ask : OpenAsk) (deadline
             refl,
           );
           leads = subst (λ R. Leads m (stepped (with_opened s (Some k) (with_record m R)) s verbs.Finish (Some k) None words.Ok (Some (Done (answers.Opened k)))))
-              (sym (ap (λ d. event_after s.call d events.Finish m.cluster) inv.working.0 ∙ swept-in_use finished_then in_use_finished))
+              (sym (ap (λ d. event_after s.call d events.Finish m.cluster) inv.working.0 ∙ swept-all finished_then swept_finished))
               (subst (λ p. Leads m (stepped (with_handle_at (with_record m finished_then) (client_of s.call) handle p) s verbs.Finish (Some k) None words.Ok (Some (Done (answers.Opened k))))) (sym at_place) (leads_finished place));
           nearer = λ none. absurd (cc none);
         })
@@ -287,7 +290,7 @@ module _ (m : Machine) (s : CallState) (call : CallId) (ask : OpenAsk) (deadline
         up = inv.up;
         rises = inv.rises;
         up_to = inv.up_to;
-        in_use = inv.in_use;
+        swept = inv.swept;
         entries = inv.entries;
         handles = inv.handles;
         in_hand = in_hand_of-going m.in_hand s (drivers.Open (making_of unreserved)) (drivers.Open (making_of reserved)) (reserve_done ∷ s.steps) inv.in_hand;
@@ -298,6 +301,7 @@ module _ (m : Machine) (s : CallState) (call : CallId) (ask : OpenAsk) (deadline
             within = inv.working.1.within;
             built = inv.working.1.built;
             asks = inv.working.1.asks;
+            named = inv.working.1.named;
             asked = inv.working.1.asked;
             deadline = inv.working.1.deadline;
             up = inv.working.1.up;
@@ -323,7 +327,7 @@ module _ (m : Machine) (s : CallState) (call : CallId) (ask : OpenAsk) (deadline
         up = inv.up;
         rises = inv.rises;
         up_to = inv.up_to;
-        in_use = inv.in_use;
+        swept = inv.swept;
         entries = inv.entries;
         handles = inv.handles;
         in_hand = in_hand_of-going m.in_hand s (drivers.Open (making_of unreserved)) (drivers.Open (making_of refused)) (memory_done ∷ s.steps) inv.in_hand;
@@ -334,6 +338,7 @@ module _ (m : Machine) (s : CallState) (call : CallId) (ask : OpenAsk) (deadline
             within = inv.working.1.within;
             built = inv.working.1.built;
             asks = inv.working.1.asks;
+            named = inv.working.1.named;
             asked = inv.working.1.asked;
             deadline = inv.working.1.deadline;
             up = inv.working.1.up;

@@ -1,6 +1,6 @@
 -- What a step leaves as it was: calls in hand, replicas, entries, handles, counts.
 use Rattle.std.proofs.Common.{◌≡◌, ℕ, zero, suc, ◌+◌, ◌<◌, ◌≤◌, ◌⊎◌, inl, inr, List, [], ◌∷◌, length, Option, Some, None, Bool, true, false, cond, ◌==◌, refl, sym, ap, subst, ◌∙◌, arith}
-use Rattle.std.specs.Prelude.{IsSomeAnd, slice_index, slice_set}
+use Rattle.std.specs.Prelude.{IsSome, IsSomeAnd, IfSome, slice_index, slice_set}
 use Rattle.std.proofs.lemmas.Bool.{eqb-true, eq-eqb}
 use Rattle.std.proofs.lemmas.Option.{same_Some}
 use Rattle.ckpt_types.specs.declared.identities.ActorName.{ActorName}
@@ -17,7 +17,7 @@ use Rattle.world_core.specs.Machine.{Machine, Staged, ReplicaState, CallState}
 use Rattle.world_core.specs.Steps.{Told, opened_state, replica_under, replicas_under, with_record, step_of}
 use Rattle.world_core.specs.Guards.{Row}
 use Rattle.world_core.specs.Runs.{Counts, steps_left}
-use Rattle.world_core.specs.Invariant.{Working, in_hand_of, IsGoodReplica, IsGoodState, IsGoodEntry, Invariant}
+use Rattle.world_core.specs.Invariant.{Working, in_hand_of, IsGoodReplica, IsGoodState, IsGoodEntry, WasMade, Invariant}
 
 -- ---- what is to be shown of a step
 
@@ -102,6 +102,26 @@ Changed-kept j now old new P change still k there =
       | true ↦ λ is. still (subst (λ n. IsSomeAnd (entry_of n old) P) (eqb-true k j is) there)
       | false ↦ λ is. there
     ] refl)
+
+-- what follows of what is there, if it is there
+pub IfSome-there : {X : Type 0} (o : Option X) (P : X → Type 0) → IfSome o P → IsSome o → IsSomeAnd o P
+IfSome-there None P if_there there = absurd (cc there)
+IfSome-there (Some x) P if_there there = if_there
+
+pub IfSome-from : {X : Type 0} (o : Option X) (P : X → Type 0) → ((x : X) → o ≡ Some x → P x) → IfSome o P
+IfSome-from None P from = tt
+IfSome-from (Some x) P from = from x refl
+
+-- what was made was made still, where the changed entry is not put into the making
+pub WasMade-changed : (j : ℕ) (now : Option Entry) (R S : RecordState) → Changed j now R.entries S.entries → R.last_identity ≤ S.last_identity
+    → (j ≤ R.last_identity → IfSome (entry_of j R.entries) (λ e. e.making ≡ None) → IfSome now (λ e. e.making ≡ None)) → (k : ℕ) → WasMade R k → WasMade S k
+WasMade-changed j now R S change last still k was = record {
+  given = let given : k ≤ R.last_identity = was.given in omega (arith, last, given);
+  made = subst (λ o. IfSome o (λ (e : Entry). e.making ≡ None)) (sym (change k)) (elim (k == j) as (λ b. (k == j) ≡ b → IfSome (cond b now (entry_of k R.entries)) (λ e. e.making ≡ None)) [
+    | true ↦ λ is. let same = eqb-true k j is in still (subst (λ n. n ≤ R.last_identity) same was.given) (subst (λ n. IfSome (entry_of n R.entries) (λ e. e.making ≡ None)) same was.made)
+    | false ↦ λ is. was.made
+  ] refl);
+}
 
 -- ---- replicas
 

@@ -1,7 +1,7 @@
 -- An open is refused, creates a checkpoint, or opens one that is there.
 use Rattle.world_core.specs.declared.drivers.Rooms.{Rooms}
 use Rattle.std.proofs.Common.{◌≡◌, ℕ, ◌+◌, ◌<◌, ◌≤◌, inl, inr, List, [], ◌∷◌, ◌++◌, length, Option, Some, None, is_some, Bool, true, false, cond, not, ◌==◌, nat_le, ℤ, refl, sym, ap, subst, ◌∙◌, arith}
-use Rattle.std.specs.Prelude.{IsSomeAnd, Contains, slice_index}
+use Rattle.std.specs.Prelude.{Contains, slice_index, IfSome}
 use Rattle.std.proofs.lemmas.Bool.{eq-eqb, leb-true, leb-false}
 use Rattle.std.proofs.lemmas.Option.{same_Some}
 use Rattle.std.proofs.lemmas.List.{length-replicate}
@@ -38,12 +38,12 @@ use Rattle.world_core.specs.Machine.{Machine, CallState}
 use Rattle.world_core.specs.Steps.{Told, IsDone, IsEvent, driver_of, room_of, with_record, with_opened, with_handle_at, new_handle, replicas_under, stepped}
 use Rattle.world_core.specs.Guards.{IsInTime, MayCreate, CreateRow, CanOpen, MayOpen, OpenRow, MayExist, IsAccepted, OpenLook, LookRefused}
 use Rattle.world_core.specs.Runs.{steps_left, lacking}
-use Rattle.world_core.specs.Invariant.{maker_by, IsGoodEntry, IsMade, OpensAs, AreGoodAttributes, AllInUse, InvariantWith}
+use Rattle.world_core.specs.Invariant.{maker_by, IsGoodEntry, WasMade, OpensAs, AreGoodAttributes, AllStay, InvariantWith}
 use Rattle.world_core.proofs.Deadlines.{in_time-cases}
 use Rattle.cluster_record.proofs.IdentityLaws.{entry_of-beyond, entry_of-find, AllUpTo-change_key, IdentitiesRise-change_key, AllUpTo-push, IdentitiesRise-push}
-use Rattle.world_core.proofs.LawLists.{find_key-push, find_key-change_key, AllInUse-push, AllInUse-change_key, is_in_use-referred}
-use Rattle.world_core.proofs.LawMoves.{Leads, Goes, in_hand_of-going, in_hand_of-ended, Changed, Changed-found, Changed-kept, replicas_under-kept, IsGoodEntry-replica, IsSomeAnd-from, slice_index-one_more, Counts-record, references-changed, last_handles-put}
-use Rattle.world_core.proofs.LawEnds.{OfOpen-is, slice_index-replicate, swept-in_use, IsGoodEntry-as, Leads-ended, look_goes}
+use Rattle.world_core.proofs.LawLists.{entry_of-given, find_key-push, find_key-change_key, AllStay-push, AllStay-change_key, stays-referred}
+use Rattle.world_core.proofs.LawMoves.{Leads, Goes, in_hand_of-going, in_hand_of-ended, Changed, Changed-found, replicas_under-kept, IsGoodEntry-replica, IsSomeAnd-from, slice_index-one_more, Counts-record, references-changed, last_handles-put, WasMade-changed}
+use Rattle.world_core.proofs.LawEnds.{OfOpen-is, slice_index-replicate, swept-all, IsGoodEntry-as, Leads-ended, look_goes}
 use Rattle.world_core.proofs.LawMade.{IsEvent-told}
 
 -- ---- handles
@@ -138,12 +138,11 @@ module _ (m : Machine) (s : CallState) (call : CallId) (ask : OpenAsk) (deadline
           up = inv.up;
           rises = IdentitiesRise-push m.cluster.last_identity m.cluster.entries new inv.rises inv.up_to (omega arith);
           up_to = AllUpTo-push m.cluster.last_identity m.cluster.entries new inv.up_to refl;
-          in_use = AllInUse-push m.cluster.entries new inv.in_use refl;
+          swept = AllStay-push m.cluster.moment m.cluster.entries new inv.swept refl;
           entries = good_entries;
           handles = λ c h among. let (from_one, made) = inv.handles c h among in (
             from_one,
-            Changed-kept next (Some new) m.cluster.entries after_it.entries (λ e. e.making ≡ None) change
-                (λ there. absurd (subst (λ o. IsSomeAnd o (λ e. e.making ≡ None)) none_before there)) h.id made,
+            WasMade-changed next (Some new) m.cluster after_it change (omega arith) (λ within was. absurd (omega (arith, within))) h.id made,
           );
           in_hand = in_hand_of-going m.in_hand s (drivers.Open asking) (drivers.Open making) (create_done ∷ s.steps) inv.in_hand;
           working = (
@@ -153,6 +152,7 @@ module _ (m : Machine) (s : CallState) (call : CallId) (ask : OpenAsk) (deadline
               within = inv.working.1.within;
               built = inv.working.1.built;
               asks = inv.working.1.asks;
+              named = inv.working.1.named;
               asked = inv.working.1.asked;
               deadline = inv.working.1.deadline;
               up = inv.working.1.up;
@@ -183,7 +183,7 @@ module _ (m : Machine) (s : CallState) (call : CallId) (ask : OpenAsk) (deadline
     create_goes : (t : Told) → room_of m (client_of s.call) ≡ true → length m.cluster.entries < 16 → IsEvent m s events.Create t → Goes m s (drivers.Open asking) t
     create_goes t room few event = elim (IsEvent-told m s events.Create t (drivers.Open asking) event inv.working.0) [
       | inl ok ↦ subst (Goes m s (drivers.Open asking)) (sym ok) (
-          let same : event_after s.call (driver_of s) events.Create m.cluster ≡ after_it = ap (λ d. event_after s.call d events.Create m.cluster) inv.working.0 ∙ ap (λ o. swept (created_as s.call ask.name o m.cluster)) given ∙ swept-in_use after_it (AllInUse-push m.cluster.entries new inv.in_use refl) in
+          let same : event_after s.call (driver_of s) events.Create m.cluster ≡ after_it = ap (λ d. event_after s.call d events.Create m.cluster) inv.working.0 ∙ ap (λ o. swept (created_as s.call ask.name o m.cluster)) given ∙ swept-all after_it (AllStay-push m.cluster.moment m.cluster.entries new inv.swept refl) in
           record {
             row = (OfOpen-is s.op ask (λ name b. CreateRow m s name b next words.Ok None) inv.working.1.asks (may_create room few, refl), refl);
             leads = subst (λ R. Leads m (stepped (with_record m R) s verbs.Create (Some next) None words.Ok None)) (sym same) (leads_created room);
@@ -217,9 +217,9 @@ module _ (m : Machine) (s : CallState) (call : CallId) (ask : OpenAsk) (deadline
     change_opened : Changed e.identity (Some with_reference) m.cluster.entries opened_then.entries
     change_opened k = find_key-change_key identity_of e.identity k (referred ask.client) (λ f. refl) m.cluster.entries e there
 
-    -- all are in use still
-    in_use_opened : AllInUse opened_then.entries
-    in_use_opened = AllInUse-change_key (referred ask.client) e.identity m.cluster.entries inv.in_use (λ f is used. is_in_use-referred ask.client f used)
+    -- all stay still
+    swept_opened : AllStay m.cluster.moment opened_then.entries
+    swept_opened = AllStay-change_key m.cluster.moment (referred ask.client) e.identity m.cluster.entries inv.swept (λ f is stay. stays-referred m.cluster.moment ask.client f stay)
 
     -- the entries then
     good_opened : (k : ℕ) (f : Entry) → entry_of k opened_then.entries ≡ Some f → IsGoodEntry None None f (replicas_under m.cluster opened_then m.replicas k 0)
@@ -233,8 +233,15 @@ module _ (m : Machine) (s : CallState) (call : CallId) (ask : OpenAsk) (deadline
     ]
 
     -- what was made is made
-    made_still : (k : ℕ) → IsMade m k → IsSomeAnd (entry_of k opened_then.entries) (λ f. f.making ≡ None)
-    made_still = Changed-kept e.identity (Some with_reference) m.cluster.entries opened_then.entries (λ f. f.making ≡ None) change_opened (λ is. good.making)
+    made_still : (k : ℕ) → WasMade m.cluster k → WasMade opened_then k
+    made_still = WasMade-changed e.identity (Some with_reference) m.cluster opened_then change_opened (omega arith) (λ within was. good.making)
+
+    -- so was this one
+    was_made : WasMade m.cluster e.identity
+    was_made = record {
+      given = entry_of-given m.cluster.last_identity e.identity m.cluster.entries e inv.up_to there;
+      made = subst (λ o. IfSome o (λ (f : Entry). f.making ≡ None)) (sym there) good.making;
+    }
 
     abbrev handle : HandleView
     handle = new_handle opened_then (m.last_handles (client_of s.call)) s.op e.identity
@@ -248,11 +255,11 @@ module _ (m : Machine) (s : CallState) (call : CallId) (ask : OpenAsk) (deadline
           up = inv.up;
           rises = IdentitiesRise-change_key (referred ask.client) (λ f. refl) e.identity m.cluster.entries inv.rises;
           up_to = AllUpTo-change_key (referred ask.client) (λ f. refl) m.cluster.last_identity e.identity m.cluster.entries inv.up_to;
-          in_use = in_use_opened;
+          swept = swept_opened;
           entries = good_opened;
-          handles = handles-push m.handles (λ h. (1 ≤ h.handle) × IsSomeAnd (entry_of h.id opened_then.entries) (λ f. f.making ≡ None)) (client_of s.call) handle
+          handles = handles-push m.handles (λ h. (1 ≤ h.handle) × WasMade opened_then h.id) (client_of s.call) handle
               (λ c h among. let (from_one, made) = inv.handles c h among in (from_one, made_still h.id made))
-              (omega arith, made_still e.identity (IsSomeAnd-from (entry_of e.identity m.cluster.entries) (λ f. f.making ≡ None) e there good.making));
+              (omega arith, made_still e.identity was_made);
           in_hand = in_hand_of-ended m.in_hand s (drivers.Open asking) inv.in_hand;
           working = tt;
         };
@@ -278,7 +285,7 @@ module _ (m : Machine) (s : CallState) (call : CallId) (ask : OpenAsk) (deadline
           | inl ok ↦
               let (place, at_place) = opened_place-is s.op ask inv.working.1.asks in
               let same : event_after s.call (driver_of s) events.Open m.cluster ≡ opened_then =
-              ap (λ d. event_after s.call d events.Open m.cluster) inv.working.0 ∙ ap (λ o. swept (at_ckpt (identity_in o) m.cluster (λ k. opened k ask.client m.cluster))) found ∙ swept-in_use opened_then in_use_opened in
+              ap (λ d. event_after s.call d events.Open m.cluster) inv.working.0 ∙ ap (λ o. swept (at_ckpt (identity_in o) m.cluster (λ k. opened k ask.client m.cluster))) found ∙ swept-all opened_then swept_opened in
               subst (Goes m s (drivers.Open asking)) (sym (ok ∙ (λ i. record { verb = verbs.Open; ckpt = identity_in (found i); node = None; reply = words.Ok; end = opened_end (identity_in (found i)); pieces = None }))) (record {
                 row = (
                   OfOpen-is s.op ask (λ name b. OpenRow m s name b e.identity words.Ok (Some (Done (answers.Opened e.identity)))) inv.working.1.asks (may_open accepted room, refl),

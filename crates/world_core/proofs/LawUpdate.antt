@@ -1,7 +1,7 @@
 -- An update is staged on the one replica and committed there.
 use Rattle.world_core.specs.declared.drivers.Rooms.{Rooms}
 use Rattle.std.proofs.Common.{◌≡◌, ℕ, ◌+◌, ◌*◌, ◌<◌, inl, inr, List, ◌∷◌, Option, Some, None, Result, Ok, Err, true, false, cond, ◌==◌, ◌&&◌, ℤ, refl, sym, ap, subst, ◌∙◌, arith}
-use Rattle.std.specs.Prelude.{is_ok, slice_index, slice_set}
+use Rattle.std.specs.Prelude.{is_ok, slice_index, slice_set, IsSome, is_some}
 use Rattle.std.proofs.lemmas.Bool.{eqb-true, eq-eqb}
 use Rattle.std.proofs.lemmas.Option.{same_Some}
 use Rattle.std.proofs.lemmas.List.{length_push}
@@ -21,18 +21,22 @@ use Rattle.cluster_record.specs.DueUpdate.{UpdateState}
 use Rattle.cluster_record.specs.declared.calls.UpdatePhase.TheVariants.{Staging, Committing}
 use Rattle.cluster_record.specs.Places.{put2}
 use Rattle.cluster_record.specs.RecordState.{entry_of, complete_of, first_nodes, no_nodes}
-use Rattle.world_core.specs.Serving.{update_of, update_answer, told_id, slot_id, reply_at, pieces_at, stage_reply, done_or_refused}
+use Rattle.world_core.specs.Serving.{update_of, update_answer, told_id, slot_id, reply_at, pieces_at, stage_reply, done_or_refused, record_seen}
 use Rattle.cluster_record.specs.StepDone.{StepDone, done_of, first_lacking, last_having}
 use Rattle.world_core.specs.Driving.{driver_next, driver_taken, refused_cause}
 use Rattle.cluster_record.specs.DueUpdate.{commit_end, update_on, by_phase, kept_moment}
 use Rattle.world_core.specs.Machine.{Machine, Staged, ReplicaState, CallState}
 use Rattle.world_core.specs.Steps.{Told, ended_pieces, IsDone, IsServed, seen_slot, seen_at, staged_moment, with_slot, with_committed, effect_of, committed_slot, change_replica, stepped}
-use Rattle.world_core.specs.Guards.{OnEach, StageOk, StageRefused, StageRow, CommitOk, CommitRow, IfSlot, HasSlotOrEffect, owns_slot, owned_elsewhere}
+use Rattle.world_core.specs.Guards.{OnEach, StageOk, StageRefused, StageRow, CommitOk, CommitRow, IfSlot, HasSlotOrEffect, owns_slot, owned_elsewhere, GoneLook, LookRefused}
 use Rattle.world_core.specs.Runs.{steps_left, lacking, having}
-use Rattle.world_core.specs.Invariant.{slot_by, IsMadeEntry, IsGoodEntry, InvariantWith}
-use Rattle.world_core.proofs.LawMoves.{Leads, Goes, in_hand_of-going, in_hand_of-ended}
-use Rattle.world_core.proofs.LawEnds.{OfUpdate-is, no_slot, IsGoodEntry-as, Leads-ended}
+use Rattle.world_core.specs.Invariant.{slot_by, IsMadeEntry, IsGoodEntry, InvariantWith, IsUpdateOf}
+use Rattle.world_core.proofs.LawMoves.{Leads, Goes, in_hand_of-going, in_hand_of-ended, IfSome-there}
+use Rattle.world_core.proofs.LawEnds.{OfUpdate-is, no_slot, IsGoodEntry-as, Leads-ended, look_goes}
 use Rattle.world_core.proofs.LawMade.{MadeAt, made_at, made_complete, made_seen, made_replicas, made_moment, made_OnReplica, IsServed-told, Counts-replica}
+use Rattle.ckpt_types.specs.declared.ais_error.AisError.TheVariants.{NotExist}
+use Rattle.ckpt_types.specs.declared.answers.Cause.TheVariants.{Plain}
+use Rattle.ckpt_types.specs.declared.operation.Op.{Op}
+use Rattle.ckpt_types.specs.declared.operation.Op.TheVariants as ops
 
 -- an update that has staged nowhere, and one that has staged on n0
 abbrev pub unstaged : CallId → ℕ → ℤ → UpdateState
@@ -63,14 +67,14 @@ entries_with m k staged x slot entry there making good entries now here other j 
 
 -- ---- staging
 
-module _ (m : Machine) (s : CallState) (k : ℕ) (t : ℤ) (inv : InvariantWith (Some (record { state = s; driver = drivers.Update (unstaged s.call k t) })) m) where
+module _ (m : Machine) (s : CallState) (k : ℕ) (t : ℤ) (inv : InvariantWith (Some (record { state = s; driver = drivers.Update (unstaged s.call k t) })) m) (there : IsSome (entry_of k m.cluster.entries)) where
   -- it owns no slot
   unowned : (j : ℕ) → slot_by s j (drivers.Update (unstaged s.call k t)) ≡ None
   unowned j = no_slot (j == k)
 
   -- its checkpoint
   pub unstaged_at : MadeAt m k None
-  unstaged_at = made_at (Some (record { state = s; driver = drivers.Update (unstaged s.call k t) })) m k None inv inv.working.1.made (unowned k)
+  unstaged_at = made_at (Some (record { state = s; driver = drivers.Update (unstaged s.call k t) })) m k None inv (IfSome-there (entry_of k m.cluster.entries) (λ e. e.making ≡ None) inv.working.1.made.made there) (unowned k)
 
   -- it stages on n0
   pub update_next-unstaged : (room : Rooms) → driver_next m.cluster room (drivers.Update (unstaged s.call k t)) ≡ Serve 0 (requests.Stage s.call k m.cluster.moment)
@@ -86,7 +90,7 @@ module _ (m : Machine) (s : CallState) (k : ℕ) (t : ℤ) (inv : InvariantWith 
   answered : (u : Told) (served : IsServed m s 0 (requests.Stage s.call k m.cluster.moment) u) (r : Result (List Section) Refusal) → Gives r → served.answer ≡ done_or_refused (replies.Done answers.Nothing) r
   answered u served r gives =
       served.may
-      ∙ ap (reply_at (requests.Stage s.call k m.cluster.moment) s.op m.cluster.moment) (made_seen m k None unstaged_at)
+      ∙ ap (reply_at (requests.Stage s.call k m.cluster.moment) s.op (record_seen m.cluster k)) (made_seen m k None unstaged_at)
       ∙ ap (stage_reply (outcome unstaged_at.entry.attributes (update_of s.op) m.cluster.moment unstaged_at.replica.sections)) (ap seen_slot unstaged_at.is.slot)
       ∙ ap (done_or_refused (replies.Done answers.Nothing)) gives
 
@@ -128,7 +132,7 @@ module _ (m : Machine) (s : CallState) (k : ℕ) (t : ℤ) (inv : InvariantWith 
         up = inv.up;
         rises = inv.rises;
         up_to = inv.up_to;
-        in_use = inv.in_use;
+        swept = inv.swept;
         entries = entries_with m k (Some (own_slot s m.cluster.moment)) with_stage (λ j. slot_by s j (drivers.Update (unstaged s.call k t))) unstaged_at.entry unstaged_at.found unstaged_at.making (good_slot sections gives) inv.entries
             (λ j. slot_by s j (drivers.Update (staged_there s.call k m.cluster.moment))) (λ j is. ap (λ b. cond b (Some (own_slot s m.cluster.moment)) None) is)
             (λ j is. unowned j ∙ sym (ap (λ b. cond b (Some (own_slot s m.cluster.moment)) None) is));
@@ -137,7 +141,7 @@ module _ (m : Machine) (s : CallState) (k : ℕ) (t : ℤ) (inv : InvariantWith 
         working = (
           ap (driver_taken stage_done) inv.working.0
               ∙ ap (λ cs. drivers.Update (record { call = s.call; ckpt = k; owned = slice_set no_nodes 0 (slice_index cs 0); moment = kept_moment (last_having 0 cs no_nodes) m.cluster.moment t; phase = Staging })) (made_complete m k None unstaged_at),
-          record { call = refl; update = inv.working.1.update; phase = refl; made = inv.working.1.made; owned = inr refl },
+          record { call = refl; update = inv.working.1.update; phase = refl; kept = inv.working.1.kept; made = inv.working.1.made; owned = inr (refl, there) },
         );
       };
     };
@@ -191,14 +195,14 @@ module _ (m : Machine) (s : CallState) (k : ℕ) (t : ℤ) (inv : InvariantWith 
 
 -- ---- committing
 
-module _ (m : Machine) (s : CallState) (k : ℕ) (t : ℤ) (inv : InvariantWith (Some (record { state = s; driver = drivers.Update (staged_there s.call k t) })) m) where
+module _ (m : Machine) (s : CallState) (k : ℕ) (t : ℤ) (inv : InvariantWith (Some (record { state = s; driver = drivers.Update (staged_there s.call k t) })) m) (there : IsSome (entry_of k m.cluster.entries)) where
   -- it owns the slot
   owned_at : slot_by s k (drivers.Update (staged_there s.call k t)) ≡ Some (own_slot s t)
   owned_at = ap (λ b. cond b (Some (own_slot s t)) None) (eq-eqb k k refl)
 
   -- its checkpoint
   pub staged_at : MadeAt m k (Some (own_slot s t))
-  staged_at = made_at (Some (record { state = s; driver = drivers.Update (staged_there s.call k t) })) m k (Some (own_slot s t)) inv inv.working.1.made owned_at
+  staged_at = made_at (Some (record { state = s; driver = drivers.Update (staged_there s.call k t) })) m k (Some (own_slot s t)) inv (IfSome-there (entry_of k m.cluster.entries) (λ e. e.making ≡ None) inv.working.1.made.made there) owned_at
 
   -- it commits on n0
   pub update_next-staged : (room : Rooms) → driver_next m.cluster room (drivers.Update (staged_there s.call k t)) ≡ Serve 0 (requests.Commit s.call k)
@@ -220,7 +224,7 @@ module _ (m : Machine) (s : CallState) (k : ℕ) (t : ℤ) (inv : InvariantWith 
         up = inv.up;
         rises = inv.rises;
         up_to = inv.up_to;
-        in_use = inv.in_use;
+        swept = inv.swept;
         entries = entries_with m k None with_commit (λ j. slot_by s j (drivers.Update (staged_there s.call k t))) staged_at.entry staged_at.found staged_at.making
             (record { complete = staged_at.good.complete; active = staged_at.good.active; replica = record { slot = refl; fits = tt } }) inv.entries
             (λ j. None) (λ j is. refl) (λ j is. ap (λ b. cond b (Some (own_slot s t)) None) is);
@@ -265,7 +269,7 @@ module _ (m : Machine) (s : CallState) (k : ℕ) (t : ℤ) (inv : InvariantWith 
   unfolding with_commit
   commit_goes u served =
       let told = IsServed-told m s 0 (requests.Commit s.call k) u (drivers.Update (staged_there s.call k t)) (replies.Done (update_answer (update_of s.op))) served inv.working.0
-      (served.may ∙ ap (reply_at (requests.Commit s.call k) s.op m.cluster.moment) (made_seen m k (Some (own_slot s t)) staged_at)) in
+      (served.may ∙ ap (reply_at (requests.Commit s.call k) s.op (record_seen m.cluster k)) (made_seen m k (Some (own_slot s t)) staged_at)) in
       subst (Goes m s (drivers.Update (staged_there s.call k t))) (sym (told ∙ (λ i. record { verb = verbs.Commit; ckpt = Some k; node = Some 0; reply = words.Ok; end = commit_end-last i; pieces = ended_pieces (commit_end-last i) (commit_pieces i) }))) (record {
         row = OfUpdate-is s.op _ inv.working.1.update commit_row;
         leads = subst (λ o. Leads m (stepped (change_replica m k 0 o (with_committed (entry_of k m.cluster.entries))) s verbs.Commit (Some k) (Some 0) words.Ok (Some (Done (update_answer (update_of s.op)))))) (sym staged_at.there)
@@ -283,11 +287,35 @@ module _ (m : Machine) (s : CallState) (k : ℕ) (t : ℤ) (inv : InvariantWith 
 pub update_is : (u : UpdateState) (call : CallId) (owned : List ℕ) → u.call ≡ call → u.owned ≡ owned → u.phase ≡ Staging → u ≡ record { call = call; ckpt = u.ckpt; owned = owned; moment = u.moment; phase = Staging }
 update_is u call owned is owns phase = λ i. record { call = is i; ckpt = u.ckpt; owned = owns i; moment = u.moment; phase = phase i }
 
+-- an update of a checkpoint that is gone is refused
+LookRefused-update : (m : Machine) (s : CallState) (op : Op) → IsUpdateOf op → GoneLook m s.kept.ckpt NotExist Plain → LookRefused m s op NotExist Plain
+LookRefused-update m s (ops.Create place update) is gone = gone
+LookRefused-update m s (ops.Delete place update) is gone = gone
+LookRefused-update m s (ops.Expire place update) is gone = gone
+LookRefused-update m s (ops.Write place update) is gone = gone
+LookRefused-update m s (ops.Over place update) is gone = gone
+LookRefused-update m s op is gone = absurd is
+
+gone_goes : (m : Machine) (s : CallState) (k : ℕ) (moment : ℤ) → InvariantWith (Some (record { state = s; driver = drivers.Update (unstaged s.call k moment) })) m → entry_of k m.cluster.entries ≡ None → (room : Rooms) (t : Told)
+    → IsDone m s (driver_next m.cluster room (drivers.Update (unstaged s.call k moment))) t → Goes m s (drivers.Update (unstaged s.call k moment)) t
+gone_goes m s k moment inv gone room t done =
+    look_goes m s (drivers.Update (unstaged s.call k moment)) (Refused NotExist Plain) t inv (λ j. refl) (λ j. no_slot (j == k)) refl
+    (LookRefused-update m s s.op inv.working.1.update (subst (λ o. GoneLook m o NotExist Plain) (sym inv.working.1.kept) gone))
+    (subst (λ next. IsDone m s next t) (ap (update_on (unstaged s.call k moment) m.cluster.moment) gone) done)
+
+-- the next step of an update that has staged nowhere, by its checkpoint
+nowhere_goes : (m : Machine) (s : CallState) (k : ℕ) (moment : ℤ) → InvariantWith (Some (record { state = s; driver = drivers.Update (unstaged s.call k moment) })) m → (room : Rooms) (t : Told)
+    → IsDone m s (driver_next m.cluster room (drivers.Update (unstaged s.call k moment))) t → Goes m s (drivers.Update (unstaged s.call k moment)) t
+nowhere_goes m s k moment inv room t done = by_entry (entry_of k m.cluster.entries) refl where
+  by_entry : (o : Option Entry) → entry_of k m.cluster.entries ≡ o → Goes m s (drivers.Update (unstaged s.call k moment)) t
+  by_entry None gone = gone_goes m s k moment inv gone room t done
+  by_entry (Some e) found = unstaged_goes m s k moment inv (ap is_some found) room t done
+
 -- the next step of an update
 pub update_goes : (m : Machine) (s : CallState) (u : UpdateState) → InvariantWith (Some (record { state = s; driver = drivers.Update u })) m → (room : Rooms) (t : Told) → IsDone m s (driver_next m.cluster room (drivers.Update u)) t → Goes m s (drivers.Update u) t
 update_goes m s u inv room t done =
     let P : UpdateState → Type 0 = λ v. InvariantWith (Some (record { state = s; driver = drivers.Update v })) m → IsDone m s (driver_next m.cluster room (drivers.Update v)) t → Goes m s (drivers.Update v) t in
     elim inv.working.1.owned [
-      | inl none ↦ subst P (sym (update_is u s.call no_nodes inv.working.1.call none inv.working.1.phase)) (λ inv done. unstaged_goes m s u.ckpt u.moment inv room t done) inv done
-      | inr first ↦ subst P (sym (update_is u s.call (first_nodes 1) inv.working.1.call first inv.working.1.phase)) (λ inv done. staged_goes m s u.ckpt u.moment inv room t done) inv done
+      | inl none ↦ subst P (sym (update_is u s.call no_nodes inv.working.1.call none inv.working.1.phase)) (λ inv done. nowhere_goes m s u.ckpt u.moment inv room t done) inv done
+      | inr first ↦ subst P (sym (update_is u s.call (first_nodes 1) inv.working.1.call first.0 inv.working.1.phase)) (λ inv done. staged_goes m s u.ckpt u.moment inv first.1 room t done) inv done
     ]

@@ -1,9 +1,12 @@
 pub mod Begin
 pub mod Beginnings
 pub mod Calls
+pub mod ClosedTables
+pub mod Closing
 pub mod Deadlines
 pub mod Events
 pub mod Finding
+pub mod Freeing
 pub mod Going
 pub mod GoingOn
 pub mod Handles
@@ -19,6 +22,8 @@ pub mod LawLists
 pub mod LawMade
 pub mod LawMaking
 pub mod LawMoment
+pub mod LawOnce
+pub mod LawShrinks
 pub mod LawMoves
 pub mod LawOpening
 pub mod LawRuns
@@ -40,6 +45,7 @@ pub mod Rows
 pub mod Running
 pub mod Serve
 pub mod Stepping
+pub mod TableFields
 pub mod Taken
 pub mod Told
 pub mod Words

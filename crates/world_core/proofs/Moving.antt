@@ -2,7 +2,7 @@
 use Rattle.ckpt_types.specs.Reads.{NextGiven}
 use Rattle.section_iter.specs.KeptIds.{KeptIds}
 use Rattle.cluster_record.specs.Calls.{number_of, client_of}
-use Rattle.std.proofs.Common.{◌≡◌, ℕ, Option, Some, None, Bool, ℤ, refl, sym, ap, subst, ◌∙◌, arith}
+use Rattle.std.proofs.Common.{◌≡◌, ℕ, List, Option, Some, None, Bool, ℤ, refl, sym, ap, subst, ◌∙◌, arith}
 use Rattle.std.specs.Prelude.{filter}
 use Rattle.ckpt_types.specs.declared.answers.Outcome.{Outcome}
 use Rattle.ckpt_types.specs.declared.identities.ActorName.{ActorName}
@@ -19,16 +19,19 @@ use Rattle.run_labels.specs.declared.labels.Label.TheVariants as labels
 use Rattle.world_core.specs.declared.hands.InHand.{InHand}
 use Rattle.world_core.specs.declared.world.Event.{Event}
 use Rattle.world_core.specs.declared.world.Event.TheVariants as happenings
+use Rattle.world_core.specs.declared.replica.Replica.{Replica}
 use Rattle.world_core.specs.declared.world.World.{World}
 use Rattle.cluster_record.specs.RecordState.{RecordState, entry_of, stays, IsMomentFrom, moved}
 use Rattle.world_core.specs.Serving.{replica_in, given_at}
-use Rattle.world_core.specs.Beginning.{opened_place, started_place, iteration_place, ended_place}
+use Rattle.world_core.specs.Beginning.{opened_place, closed_place, started_place, iteration_place, ended_place}
 use Rattle.world_core.specs.Machine.{Machine, ReplicaState, CallState}
-use Rattle.world_core.specs.Steps.{on_ok, at_some, change_replica, with_handle_at, with_opened, event_done, changed, step_of, after, driver_of, with_iteration, with_next, with_ended, begun_call, named_handle, kept_in, ids_asked, seen_at}
+use Rattle.world_core.specs.Steps.{on_ok, on_done, at_some, handle_in, without_handle, with_closed, change_replica, with_handle_at, with_opened, event_done, changed, step_of, after, driver_of, with_iteration, with_next, with_ended, begun_call, named_handle, kept_in, ids_asked, seen_at}
 use Rattle.world_core.specs.Shows.{Does, Shows, Facts, History, machine_of}
+use Rattle.world_core.specs.Freeing.{freed}
 use Rattle.world_core.specs.Happenings.{SetsMoment}
 use Rattle.world_core.specs.Runs.{Answers, AnswersBegin, AnswersStep, hand_of_actor, moment_of}
 use Rattle.cluster_record.proofs.IdentityLaws.{filter_leaves}
+use Rattle.world_core.proofs.Freeing.{does_freed}
 use Rattle.world_core.proofs.Going.{goes_same, goes_left, event_keeps}
 use Rattle.world_core.proofs.Recording.{GoesAt, with_effects, record_is, record_fits}
 
@@ -51,12 +54,13 @@ moved_done w t R may R_is = subst (λ (R : RecordState). Does w (record w { clus
   };
 })
 
--- the moment is set, with its label as the code names it
-pub sets_moment : (w : World) (t u : ℤ) (R : RecordState) → u ≡ t → IsMomentFrom w.cluster.moment t → R ≡ moved u w.cluster → SetsMoment t w (record w { cluster = R }) (labels.Moved u)
-sets_moment w t u R same may R_is = record {
+-- the moment is set, and the nodes are freed of what is gone, with the label as the code names it
+pub sets_moment : (w : World) (t u : ℤ) (R : RecordState) (nodes : List (List Replica)) → u ≡ t → IsMomentFrom w.cluster.moment t → R ≡ moved u w.cluster → nodes ≡ freed R.entries w.nodes → SetsMoment t w (record w { cluster = R; nodes = nodes }) (labels.Moved u)
+sets_moment w t u R nodes same may R_is nodes_are = record {
   label_is = ap labels.Moved same;
   hands = refl;
-  does = moved_done w u R (subst (IsMomentFrom w.cluster.moment) (sym same) may) R_is;
+  does = subst (λ (nodes : List (List Replica)). Does w (record w { cluster = R; nodes = nodes }) (labels.Moved u)) (sym nodes_are)
+      (does_freed w (record w { cluster = R }) (labels.Moved u) (moved_done w u R (subst (IsMomentFrom w.cluster.moment) (sym same) may) R_is));
 }
 
 -- ---- the moment after a label
@@ -73,6 +77,10 @@ SameMoment m n = n.cluster.moment ≡ m.cluster.moment
 on_ok-moment : (m n : Machine) (reply : StepReply) → SameMoment m n → SameMoment m (on_ok reply m n)
 on_ok-moment m n words.Ok same = same
 on_ok-moment m n reply same = refl
+
+on_done-moment : (m n : Machine) (reply : StepReply) → SameMoment m n → SameMoment m (on_done reply m n)
+on_done-moment m n words.Done same = same
+on_done-moment m n reply same = refl
 
 at_some-moment : (m : Machine) (o : Option ℕ) (change : ℕ → Machine) → ((n : ℕ) → SameMoment m (change n)) → SameMoment m (at_some o m change)
 at_some-moment m None change same = refl
@@ -101,6 +109,13 @@ with_next-moment m c (Some place) (Some kept) None = refl
 with_next-moment m c (Some place) None next = refl
 with_next-moment m c None kept next = refl
 
+without_handle-moment : (m : Machine) (c : ℕ) (h : Option HandleView) → SameMoment m (without_handle m c h)
+without_handle-moment m c None = refl
+without_handle-moment m c (Some h) = refl
+
+with_closed-moment : (m : Machine) (s : CallState) → SameMoment m (with_closed s m)
+with_closed-moment m s = without_handle-moment m (client_of s.call) (handle_in m (client_of s.call) (closed_place s.op))
+
 with_ended-moment : (m : Machine) (c : ℕ) (place : Option ℕ) → SameMoment m (with_ended c place m)
 with_ended-moment m c None = refl
 with_ended-moment m c (Some place) = refl
@@ -119,6 +134,11 @@ changed-moment m s verbs.Stage k r reply = on_ok-moment m _ reply (at_some-momen
 changed-moment m s verbs.Commit k r reply = on_ok-moment m _ reply (at_some-moment m k _ (λ k. at_some-moment m r _ (λ r. change_replica-moment m k r (m.replicas k r) _)))
 changed-moment m s verbs.Iter k r reply = on_ok-moment m _ reply (at_some-moment m k _ (λ k. at_some-moment m r _ (λ r. with_iteration-moment m _ (named_handle m s.call.actor s.op) (started_place s.op) _)))
 changed-moment m s verbs.Next k r reply = on_ok-moment m _ reply (at_some-moment m k _ (λ k. at_some-moment m r _ (λ r. with_next-moment m _ (iteration_place s.op) (kept_in (m.iterations (client_of s.call)) (iteration_place s.op)) (given_at (ids_asked m s) m.cluster.moment (seen_at m k r)))))
+changed-moment m s verbs.Leave k r reply = on_ok-moment m _ reply (event_done-moment m s _)
+changed-moment m s verbs.Close k r reply = on_ok-moment m _ reply (with_closed-moment (event_done m s _) s ∙ event_done-moment m s _)
+changed-moment m s verbs.Unlink k r reply = on_ok-moment m _ reply (event_done-moment m s _)
+changed-moment m s verbs.Retain k r reply = on_ok-moment m _ reply (event_done-moment m s _)
+changed-moment m s verbs.Look k r reply = on_done-moment m _ reply (with_closed-moment m s)
 changed-moment m s verb k r reply = refl
 
 step_of-moment : (m : Machine) (o : Option CallState) (verb : Verb) (k r : Option ℕ) (reply : StepReply) (end : Option Outcome) → SameMoment m (step_of m o verb k r reply end)

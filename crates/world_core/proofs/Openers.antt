@@ -1,7 +1,7 @@
 -- An open's driver is of an open of its client, and asks for a handle only where there is room: laws of the definitions.
 use Rattle.world_core.specs.declared.drivers.Rooms.{Rooms}
 use Rattle.std.proofs.Common.{◌≡◌, ℕ, ℤ, ◌<◌, Bool, true, false, List, [], ◌∷◌, refl, sym, ap, subst, ◌∙◌, cond}
-use Rattle.std.specs.Prelude.{◌&&◌, Option, Some, None, IsSomeAnd, not, nat_le, length}
+use Rattle.std.specs.Prelude.{◌&&◌, Option, Some, None, is_some, IsSomeAnd, not, nat_le, length}
 use Rattle.ckpt_types.specs.declared.answers.Outcome.{Outcome}
 use Rattle.ckpt_types.specs.declared.attributes.CreationAttributes.{CreationAttributes}
 use Rattle.ckpt_types.specs.declared.calls.OpenAsk.{OpenAsk}
@@ -20,7 +20,7 @@ use Rattle.world_core.specs.declared.drivers.Driver.{Driver}
 use Rattle.world_core.specs.declared.drivers.Driver.TheVariants as drivers
 use Rattle.world_core.specs.declared.hands.InHand.{InHand}
 use Rattle.cluster_record.specs.declared.calls.Making.{Making}
-use Rattle.cluster_record.specs.DueOpen.{OpenState}
+use Rattle.cluster_record.specs.DueOpen.{OpenState, accepts}
 use Rattle.cluster_record.specs.DueActive.{ActiveState}
 use Rattle.cluster_record.specs.declared.entries.Entry.{Entry}
 use Rattle.cluster_record.specs.DueUpdate.{UpdateState}
@@ -34,6 +34,7 @@ use Rattle.world_core.specs.Driving.{Kept, on_kept, driver_start, driver_state, 
 use Rattle.cluster_record.specs.DueOpen.{accepts, create_next, entry_next, on_named, reserve_or_finish, by_making, create_taken, reserve_taken, with_making, open_taken_by, making_ckpt}
 use Rattle.cluster_record.specs.DueUpdate.{commit_at, by_phase, update_on}
 use Rattle.cluster_record.specs.DueActive.{on_active, active_on, active_request, starts_iteration}
+use Rattle.cluster_record.specs.DueOnce.{close_of, unlink_of_making, unlink_of, retain_of}
 use Rattle.cluster_record.specs.LookUps.{identity_in}
 use Rattle.world_core.specs.Beginning.{opened_place, IsBuilt}
 use Rattle.world_core.specs.Shows.{IsShown, Facts, hand_at}
@@ -90,6 +91,8 @@ opens_start call (ops.Read place elements) kept = opens_kept call (ops.Read plac
 opens_start call (ops.Status place) kept = opens_kept call (ops.Status place) kept.ckpt _ (λ k. tt)
 opens_start call (ops.Iter iteration place chosen time) kept = opens_kept call (ops.Iter iteration place chosen time) kept.ckpt _ (λ k. tt)
 opens_start call (ops.Next iteration) kept = opens_kept call (ops.Next iteration) kept.ckpt _ (λ k. tt)
+opens_start call (ops.Close place) kept = opens_kept call (ops.Close place) kept.ckpt _ (λ k. tt)
+opens_start call (ops.Retain place duration) kept = opens_kept call (ops.Retain place duration) kept.ckpt _ (λ k. tt)
 opens_start call op kept = tt
 
 opens_taken : (call : CallId) (op : Op) (d : StepDone) (x : Driver) → Opens call op x → Opens call op (driver_taken d x)
@@ -125,8 +128,8 @@ module _ (w : World) (c : ℕ) (hand : InHand) (held : hand_at w.hands c ≡ Som
 
 -- and there is the checkpoint that it is for
 pub ckpt_there : (R : RecordState) (step : RecordStep) (x : Driver) → GivesHandle step → EventNeeds R x step → IsSomeAnd (event_ckpt R x step) (λ k. Unit {0})
-ckpt_there R events.Open (drivers.Open o) gives needs = by_name (named o.ask.name R.entries) needs where
-  by_name : (e : Option Entry) → IsSomeAnd e (λ e. Unit {0}) → IsSomeAnd (identity_in e) (λ k. Unit {0})
+ckpt_there R events.Open (drivers.Open o) gives needs = by_name (named o.ask.name R.entries) needs.0 where
+  by_name : (e : Option Entry) → IsSomeAnd e (λ e. (e.making ≡ None) × (accepts o.ask.attrs e ≡ true)) → IsSomeAnd (identity_in e) (λ k. Unit {0})
   by_name None h = absurd h
   by_name (Some e) h = tt
 ckpt_there R events.Finish (drivers.Open o) gives needs = by_making o.making needs.0 where
@@ -201,11 +204,33 @@ room_enter : (room b : Bool) (x : Outcome) → HasRoomFor room (cond b (End x) (
 room_enter room true x = tt
 room_enter room false x = tt
 
+room_close : (room : Bool) (e : Option Entry) → HasRoomFor room (close_of e)
+room_close room None = tt
+room_close room (Some e) = tt
+
+room_unlink : (room : Bool) (e : Option Entry) → HasRoomFor room (unlink_of e)
+room_unlink room None = tt
+room_unlink room (Some e) = of_making e.making where
+  of_making : (making : Option CallId) → HasRoomFor room (unlink_of_making making)
+  of_making None = tt
+  of_making (Some call) = tt
+
+room_retain : (room : Bool) (e : Option Entry) → HasRoomFor room (retain_of e)
+room_retain room None = tt
+room_retain room (Some e) = by_test (is_some e.name) _ where
+  by_test : (b : Bool) (x : Outcome) → HasRoomFor room (cond b (Event events.Retain) (End x))
+  by_test true x = tt
+  by_test false x = tt
+
 room_next : (R : RecordState) (room : Rooms) (x : Driver) → HasRoomFor room.handles (driver_next R room x)
 room_next R room (drivers.Enter r) = room_enter room.handles (nat_le 64 (length R.clients)) _
 room_next R room (drivers.Open o) = room_making R room.handles o o.making
 room_next R room (drivers.Update u) = room_update room.handles u R.moment (entry_of u.ckpt R.entries)
 room_next R room (drivers.Active a) = room_active room.handles room.iterations a (entry_of a.ckpt R.entries)
+room_next R room drivers.Leave = tt
+room_next R room (drivers.Close k) = room_close room.handles (entry_of k R.entries)
+room_next R room (drivers.Unlink name) = room_unlink room.handles (named name R.entries)
+room_next R room (drivers.Retain k duration) = room_retain room.handles (entry_of k R.entries)
 
 pub open_room : (R : RecordState) (room : Rooms) (x : Driver) → driver_next R room x ≡ Event events.Open → room.handles ≡ true
 open_room R room x e = subst (HasRoomFor room.handles) e (room_next R room x)

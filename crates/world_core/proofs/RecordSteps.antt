@@ -1,9 +1,8 @@
 -- What a step of the record that is next for a call in hand asks of the world.
-use Rattle.std.proofs.Common.{arith, ◌≡◌, ℕ, ◌<◌, true, false, List, [], ◌∷◌, length, zero, suc, refl, sym, ap, subst, ◌∙◌}
-use Rattle.std.specs.Prelude.{Option, Some, None, Result, Ok, Err, is_err, OnOk, OnErr, IsSome, IsSomeAnd, IsTrue, slice_get, slice_set}
+use Rattle.std.proofs.Common.{◌≡◌, ℕ, ◌<◌, true, false, List, refl, sym, ap, subst, ◌∙◌}
+use Rattle.std.specs.Prelude.{Option, Some, None, Result, Ok, Err, is_err, OnOk, OnErr, IsSome, IsSomeAnd, IfSome, IsTrue, slice_get, slice_set}
 use Rattle.ckpt_types.specs.declared.answers.Outcome.{Outcome}
 use Rattle.ckpt_types.specs.declared.answers.Outcome.TheVariants.{NoMemory}
-use Rattle.ckpt_types.specs.declared.open_flags.OpenFlags.{OpenFlags}
 use Rattle.ckpt_types.specs.declared.identities.ActorName.TheVariants.{Client}
 use Rattle.node_msgs.specs.declared.next.RecordStep.{RecordStep}
 use Rattle.node_msgs.specs.declared.next.RecordStep.TheVariants as events
@@ -18,6 +17,7 @@ use Rattle.world_core.specs.declared.drivers.Driver.TheVariants as drivers
 use Rattle.world_core.specs.declared.hands.InHand.{InHand}
 use Rattle.cluster_record.specs.declared.calls.Making.{Making}
 use Rattle.cluster_record.specs.DueOpen.{OpenState}
+use Rattle.world_core.specs.declared.replica.Replica.{Replica}
 use Rattle.world_core.specs.declared.world.World.{World}
 use Rattle.cluster_record.specs.Calls.{number_of, left}
 use Rattle.cluster_record.specs.RecordState.{RecordState, entry_of}
@@ -25,36 +25,18 @@ use Rattle.world_core.specs.RecordReady.{IsRecordReady}
 use Rattle.node_msgs.specs.Steps.{event_verb}
 use Rattle.world_core.specs.Driving.{driver_next, event_ckpt, event_node, event_end, event_after, takes_memory}
 use Rattle.cluster_record.specs.StepDone.{done_of}
-use Rattle.world_core.specs.Beginning.{opened_place, opened_for, IsBuilt}
-use Rattle.world_core.specs.Giving.{gives_handle}
+use Rattle.world_core.specs.Beginning.{opened_place, closed_place, IsBuilt}
+use Rattle.world_core.specs.Freeing.{freed}
+use Rattle.world_core.specs.Settling.{settled, CanGive, CanSettle, HasPlaces}
 use Rattle.world_core.specs.Happenings.{IsStep, rooms_in}
 use Rattle.world_core.specs.HandSteps.{hand_taken}
-use Rattle.world_core.specs.TableState.{TableState, with_handle}
+use Rattle.world_core.specs.TableState.{TableState}
 use Rattle.world_core.specs.Steps.{room_of}
-use Rattle.cluster_record.specs.LookUps.{creation_flags_of}
 use Rattle.world_core.specs.Shows.{Does, IsShown, IsRoomy, Facts, machine_of, hand_at}
 use Rattle.world_core.proofs.Held.{state_in, in_hand_is, driver_is, actor_is}
 use Rattle.world_core.proofs.Openers.{place_there, place_within, ckpt_there, open_room}
 use Rattle.world_core.proofs.Readiness.{record_ready}
-use Rattle.world_core.proofs.RecordEvent.{EventNeeds, GivesHandle, LeavesTables, event_ready, quiet_done, opened_done, event_refused}
-
--- ---- the two kinds of steps
-
--- a step is of the kind that the code finds it to be
-pub gives_it : (step : RecordStep) → gives_handle step ≡ true → GivesHandle step
-gives_it events.Open is = tt
-gives_it events.Finish is = tt
-gives_it step is = absurd cc
-
-pub leaves_them : (R : RecordState) (x : Driver) (step : RecordStep) → gives_handle step ≡ false → EventNeeds R x step → LeavesTables step
-leaves_them R x events.Enter is needs = tt
-leaves_them R x events.Create is needs = tt
-leaves_them R x events.Undo is needs = tt
-leaves_them R x events.Open is needs = absurd cc
-leaves_them R x events.Finish is needs = absurd cc
-leaves_them R (drivers.Enter r) step is needs = absurd needs
-leaves_them R (drivers.Open o) step is needs = absurd needs
-leaves_them R x step is needs = absurd needs
+use Rattle.world_core.proofs.RecordEvent.{EventNeeds, GivesHandle, event_ready, event_is_done, event_refused}
 
 -- ---- what is there
 
@@ -63,11 +45,14 @@ some_within : (P : ℕ → Type 0) (x : Option ℕ) → ((n : ℕ) → x ≡ Som
 some_within P None within there = absurd there
 some_within P (Some n) within there = within n refl
 
--- where an element is there, its place is within the list
-some_there : {X : Type 0} (xs : List X) (i : ℕ) (P : X → Type 0) → IsSomeAnd (slice_get xs i) P → i < length xs
-some_there [] i P h = absurd h
-some_there (x ∷ xs) zero P h = omega arith
-some_there (x ∷ xs) (suc i) P h = omega (arith, some_there xs i P h)
+-- and of one that may be there
+if_within : (P : ℕ → Type 0) (x : Option ℕ) → ((n : ℕ) → x ≡ Some n → P n) → IfSome x P
+if_within P None within = tt
+if_within P (Some n) within = within n refl
+
+is_there : (x : Option ℕ) → IsSomeAnd x (λ n. Unit {0}) → IsSome x
+is_there None there = absurd there
+is_there (Some n) there = refl
 
 -- what is said of a result, where it is known which it is
 pub when_ok : {T E : Type 0} (P : Type 0) (r : Result T E) → is_err r ≡ false → OnOk r P → P
@@ -78,12 +63,7 @@ pub when_err : {T E : Type 0} (P : Type 0) (r : Result T E) → is_err r ≡ tru
 when_err P (Ok x) is h = absurd cc
 when_err P (Err e) is h = h
 
--- ---- a step that gives a handle
-
--- the client has a place and room for a handle
-pub record CanGive (w : World) (c : ℕ) (hand : InHand) : Type 0 where
-  pub built : IsBuilt hand.op
-  pub room : (rooms_in w c).handles ≡ true
+-- ---- the step
 
 module _ (w : World) (c : ℕ) (step : RecordStep) (hand : InHand) (held : hand_at w.hands c ≡ Some hand) (next : driver_next w.cluster (rooms_in w c) hand.driver ≡ Event step) (shown : IsShown w) where
   abbrev OpensSo : OpenState → Type 0
@@ -97,30 +77,46 @@ module _ (w : World) (c : ℕ) (step : RecordStep) (hand : InHand) (held : hand_
       let f = facts.opens (Client c) (state_in h c hand) o (in_hand_is w h c hand held) (sym (driver_is w h c hand held shown.shows.fits) ∙ is) in
       (f.0, λ some. ap (λ a. room_of (machine_of w h) (number_of a)) (sym (actor_is w h c hand held facts)) ∙ f.1 some)
 
-  can_give_by : (step : RecordStep) (x : Driver) → hand.driver ≡ x → driver_next w.cluster (rooms_in w c) x ≡ Event step → EventNeeds w.cluster x step → GivesHandle step → CanGive w c hand
-  can_give_by events.Open (drivers.Open o) is next needs gives = let f = opens_fact o is in record { built = f.0; room = open_room w.cluster (rooms_in w c) (drivers.Open o) next }
-  can_give_by events.Finish (drivers.Open o) is next needs gives = let f = opens_fact o is in record { built = f.0; room = f.1 (making_there o.making needs.0) } where
-    making_there : (m : Option Making) → IsSomeAnd m (λ making. IsSomeAnd (entry_of making.ckpt w.cluster.entries) (λ e. Unit {0})) → IsSome m
-    making_there None h = absurd h
-    making_there (Some m) h = refl
-  can_give_by events.Open x is next needs gives = absurd needs
-  can_give_by events.Finish x is next needs gives = absurd needs
-  can_give_by step x is next needs gives = absurd gives
+  making_there : (m : Option Making) → IsSomeAnd m (λ making. IsSomeAnd (entry_of making.ckpt w.cluster.entries) (λ e. Unit {0})) → IsSome m
+  making_there None h = absurd h
+  making_there (Some m) h = refl
+
+  -- the client has room for a handle, and the operation a place for it and a checkpoint
+  gives_well : (step : RecordStep) → IsRoomy w → GivesHandle step → EventNeeds w.cluster hand.driver step → IsBuilt hand.op → (rooms_in w c).handles ≡ true → CanGive c hand.op (event_ckpt w.cluster hand.driver step) w.tables
+  gives_well step roomy gives needs built room = record {
+    ckpt = is_there (event_ckpt w.cluster hand.driver step) (ckpt_there w.cluster step hand.driver gives needs);
+    place = some_within (λ p. p < 100) (opened_place hand.op) (λ p is. place_within hand.op p built is) (place_there w c hand held shown step gives needs);
+    room = room;
+    number = roomy.handles c;
+  }
+
+  -- the place that it closes is one of 100
+  closed_within : (p : ℕ) → closed_place hand.op ≡ Some p → p < 100
+  closed_within p is =
+      let h = shown.shows.history in
+      let facts : Facts (machine_of w h) = subst Facts shown.shows.same shown.facts in
+      (facts.closes (Client c) (state_in h c hand) p (in_hand_is w h c hand held) is).0
+
+  opens_well : (o : OpenState) → hand.driver ≡ drivers.Open o → IsRoomy w → driver_next w.cluster (rooms_in w c) (drivers.Open o) ≡ Event events.Open → EventNeeds w.cluster (drivers.Open o) events.Open → CanGive c hand.op (event_ckpt w.cluster hand.driver events.Open) w.tables
+  opens_well o is roomy next needs = gives_well events.Open roomy tt (subst (λ (x : Driver). EventNeeds w.cluster x events.Open) (sym is) needs) (opens_fact o is).0 (open_room w.cluster (rooms_in w c) (drivers.Open o) next)
+
+  finishes_well : (o : OpenState) → hand.driver ≡ drivers.Open o → IsRoomy w → EventNeeds w.cluster (drivers.Open o) events.Finish → CanGive c hand.op (event_ckpt w.cluster hand.driver events.Finish) w.tables
+  finishes_well o is roomy needs = let f = opens_fact o is in gives_well events.Finish roomy tt (subst (λ (x : Driver). EventNeeds w.cluster x events.Finish) (sym is) needs) f.0 (f.1 (making_there o.making needs.0))
+
+  settles_by : (step : RecordStep) (x : Driver) → hand.driver ≡ x → IsRoomy w → driver_next w.cluster (rooms_in w c) x ≡ Event step → EventNeeds w.cluster x step → CanSettle c hand.op step (event_ckpt w.cluster hand.driver step) w.tables
+  settles_by events.Open (drivers.Open o) is roomy next needs = opens_well o is roomy next needs
+  settles_by events.Finish (drivers.Open o) is roomy next needs = finishes_well o is roomy needs
+  settles_by events.Open x is roomy next needs = absurd needs
+  settles_by events.Finish x is roomy next needs = absurd needs
+  settles_by events.Close x is roomy next needs = if_within (λ p. p < 100) (closed_place hand.op) closed_within
+  settles_by step x is roomy next needs = tt
 
   needs : EventNeeds w.cluster hand.driver step
   needs = event_ready w c step hand held next shown
 
-  -- a step that gives a handle has a place and room for it
-  pub can_give : GivesHandle step → CanGive w c hand
-  can_give gives = can_give_by step hand.driver refl next needs gives
-
-  -- the operation names one of 100 places
-  pub place_is_within : GivesHandle step → IsSomeAnd (opened_place hand.op) (λ p. p < 100)
-  place_is_within gives = some_within (λ p. p < 100) (opened_place hand.op) (λ p is. place_within hand.op p (can_give gives).built is) (place_there w c hand held shown step gives needs)
-
-  -- and the step a checkpoint
-  pub ckpt_is_there : GivesHandle step → IsSomeAnd (event_ckpt w.cluster hand.driver step) (λ k. Unit {0})
-  ckpt_is_there gives = ckpt_there w.cluster step hand.driver gives needs
+  -- what the step makes of the client's table can be made
+  pub can_settle : IsRoomy w → CanSettle c hand.op step (event_ckpt w.cluster hand.driver step) w.tables
+  can_settle roomy = settles_by step hand.driver refl roomy next needs
 
   -- what the step asks of the record
   pub is_ready : IsRoomy w → IsRecordReady w.cluster hand.driver step
@@ -131,74 +127,28 @@ module _ (w : World) (c : ℕ) (step : RecordStep) (hand : InHand) (held : hand_
   abbrev its_hand : RecordState → Option ℕ → Option ℕ → InHand
   its_hand R k r = hand_taken (done_of R (event_verb step) k r words.Ok) hand
 
-  -- the call was told of the step
-  abbrev WasTold : World → List (Option InHand) → Option ℕ → Option ℕ → Option Outcome → Type 0
-  WasTold s hands k r end = (h : InHand) → hand_at s.hands c ≡ Some h → hands ≡ slice_set s.hands c (left end (hand_taken (done_of s.cluster (event_verb step) k r words.Ok) h))
-
-  -- the step leaves the tables
-  pub quiet_step : (s : World) (R : RecordState) (hands : List (Option InHand)) (word : OpWord) (verb : Verb) (k r : Option ℕ) (end : Option Outcome) → gives_handle step ≡ false → s ≡ record w { cluster = R } → WasTold s hands k r end →
-      R ≡ event_after hand.call hand.driver step w.cluster → k ≡ event_ckpt w.cluster hand.driver step → r ≡ event_node hand.driver step → end ≡ event_end step k → word ≡ word_of_op hand.op → verb ≡ event_verb step →
-      IsStep c w (record s { hands = hands }) (Stepped hand.call word verb k r words.Ok end None)
-  quiet_step s R hands word verb k r end quiet s_is told R_is k_is r_is end_is word_is verb_is =
-      subst (λ (s : World). WasTold s hands k r end → IsStep c w (record s { hands = hands }) (Stepped hand.call word verb k r words.Ok end None)) (sym s_is) (λ told. record {
-        hand = hand;
-        held = held;
-        op = word;
-        verb = verb;
-        ckpt = k;
-        node = r;
-        reply = words.Ok;
-        end = end;
-        pieces = None;
-        label_is = refl;
-        next = its_hand R k r;
-        same_call = refl;
-        same_op = refl;
-        hands = told hand held;
-        does = quiet_done w c step hand held next R hands word verb k r end (leaves_them w.cluster hand.driver step quiet needs) R_is k_is r_is end_is (told hand held) word_is verb_is;
-      }) told
-
-  -- the step gives a handle of the checkpoint
-  opened_at : (j p : ℕ) (R : RecordState) (tables : List TableState) (hands : List (Option InHand)) (flags : OpenFlags) (word : OpWord) (verb : Verb) (r : Option ℕ) (end : Option Outcome) → GivesHandle step → WasTold (record w { cluster = R; tables = tables }) hands (Some j) r end →
-      IsSomeAnd (slice_get w.tables c) (λ t. length t.client.places ≡ 100) →
-      ((t : TableState) → slice_get w.tables c ≡ Some t → tables ≡ slice_set w.tables c (with_handle j flags (creation_flags_of (entry_of j R.entries)) p t)) →
-      R ≡ event_after hand.call hand.driver step w.cluster → Some j ≡ event_ckpt w.cluster hand.driver step → r ≡ event_node hand.driver step → end ≡ event_end step (Some j) → word ≡ word_of_op hand.op → verb ≡ event_verb step → Some p ≡ opened_place hand.op → flags ≡ opened_for hand.op →
-      IsStep c w (record w { cluster = R; tables = tables; hands = hands }) (Stepped hand.call word verb (Some j) r words.Ok end None)
-  opened_at j p R tables hands flags word verb r end gives told places tables_are R_is k_is r_is end_is word_is verb_is place_is flags_is =
-      let can = can_give gives in
-      let within : (t : TableState) → slice_get w.tables c ≡ Some t → p < length t.client.places
-      = λ t is. subst (λ n. p < n) (sym (subst (λ (o : Option TableState). IsSomeAnd o (λ t. length t.client.places ≡ 100)) is places)) (place_within hand.op p can.built (sym place_is)) in
-      record {
-        hand = hand;
-        held = held;
-        op = word;
-        verb = verb;
-        ckpt = Some j;
-        node = r;
-        reply = words.Ok;
-        end = end;
-        pieces = None;
-        label_is = refl;
-        next = its_hand R (Some j) r;
-        same_call = refl;
-        same_op = refl;
-        hands = told hand held;
-        does = opened_done w c step hand held next j p R flags tables hands word verb r end gives k_is (sym place_is)
-            (some_there w.tables c (λ t. length t.client.places ≡ 100) places) within R_is flags_is tables_are r_is end_is (told hand held) word_is verb_is;
-      }
-
-  pub opened_step : (s : World) (R : RecordState) (tables : List TableState) (hands : List (Option InHand)) (flags : OpenFlags) (word : OpWord) (verb : Verb) (k r place : Option ℕ) (end : Option Outcome) → gives_handle step ≡ true → s ≡ record w { cluster = R; tables = tables } → WasTold s hands k r end →
-      IsSomeAnd (slice_get w.tables c) (λ t. length t.client.places ≡ 100) →
-      ((j p : ℕ) (t : TableState) → k ≡ Some j → place ≡ Some p → slice_get w.tables c ≡ Some t → tables ≡ slice_set w.tables c (with_handle j flags (creation_flags_of (entry_of j R.entries)) p t)) →
-      R ≡ event_after hand.call hand.driver step w.cluster → k ≡ event_ckpt w.cluster hand.driver step → r ≡ event_node hand.driver step → end ≡ event_end step k → word ≡ word_of_op hand.op → verb ≡ event_verb step → place ≡ opened_place hand.op → flags ≡ opened_for hand.op →
-      IsStep c w (record s { hands = hands }) (Stepped hand.call word verb k r words.Ok end None)
-  opened_step s R tables hands flags word verb None r place end gives s_is told places tables_are R_is k_is r_is end_is word_is verb_is place_is flags_is =
-      absurd (subst (λ (o : Option ℕ). IsSomeAnd o (λ k. Unit {0})) (sym k_is) (ckpt_is_there (gives_it step gives)))
-  opened_step s R tables hands flags word verb (Some j) r None end gives s_is told places tables_are R_is k_is r_is end_is word_is verb_is place_is flags_is =
-      absurd (subst (λ (o : Option ℕ). IsSomeAnd o (λ p. p < 100)) (sym place_is) (place_is_within (gives_it step gives)))
-  opened_step s R tables hands flags word verb (Some j) r (Some p) end gives s_is told places tables_are R_is k_is r_is end_is word_is verb_is place_is flags_is =
-      subst (λ (s : World). WasTold s hands (Some j) r end → IsStep c w (record s { hands = hands }) (Stepped hand.call word verb (Some j) r words.Ok end None)) (sym s_is)
-      (λ told. opened_at j p R tables hands flags word verb r end (gives_it step gives) told places (λ t is. tables_are j p t refl refl is) R_is k_is r_is end_is word_is verb_is place_is flags_is) told
+  -- the step is done
+  pub event_step : (R : RecordState) (nodes : List (List Replica)) (tables : List TableState) (hands : List (Option InHand)) (word : OpWord) (verb : Verb) (k r : Option ℕ) (end : Option Outcome) → IsRoomy w → HasPlaces step (slice_get w.tables c) →
+      R ≡ event_after hand.call hand.driver step w.cluster → k ≡ event_ckpt w.cluster hand.driver step → r ≡ event_node hand.driver step → end ≡ event_end step k → tables ≡ settled R c hand.op step k w.tables →
+      ((h : InHand) → hand_at w.hands c ≡ Some h → hands ≡ slice_set w.hands c (left end (hand_taken (done_of R (event_verb step) k r words.Ok) h))) → nodes ≡ freed R.entries w.nodes → word ≡ word_of_op hand.op → verb ≡ event_verb step →
+      IsStep c w (record w { cluster = R; nodes = nodes; tables = tables; hands = hands }) (Stepped hand.call word verb k r words.Ok end None)
+  event_step R nodes tables hands word verb k r end roomy places R_is k_is r_is end_is tables_are told nodes_are word_is verb_is = record {
+    hand = hand;
+    held = held;
+    op = word;
+    verb = verb;
+    ckpt = k;
+    node = r;
+    reply = words.Ok;
+    end = end;
+    pieces = None;
+    label_is = refl;
+    next = its_hand R k r;
+    same_call = refl;
+    same_op = refl;
+    hands = told hand held;
+    does = event_is_done w c step hand held next R nodes tables hands word verb k r end (can_settle roomy) places R_is k_is r_is end_is tables_are (told hand held) nodes_are word_is verb_is;
+  }
 
   -- the step is refused its memory
   pub refused_step : (R : RecordState) (hands : List (Option InHand)) (word : OpWord) (verb : Verb) (k r : Option ℕ) → IsTrue (takes_memory step) → R ≡ w.cluster → hands ≡ slice_set w.hands c None →

@@ -21,7 +21,7 @@ use Rattle.cluster_record.specs.RecordState.{entry_of}
 use Rattle.world_core.specs.Serving.{update_of, update_answer}
 use Rattle.world_core.specs.Machine.{Machine, ReplicaState, CallState}
 use Rattle.world_core.specs.Steps.{changed, stepped, step_of, after, with_ended, begun_call, ids_asked, Told}
-use Rattle.world_core.specs.Guards.{AtCkpt, AtNode, AtNodeAlone, OfOpen, OfUpdate, OfClient, OnReplica, CommitOk, Row, Allowed, owned_elsewhere, complete_replicas, OfIter, OfNext, IterOk, NextOk, NextAnswer}
+use Rattle.world_core.specs.Guards.{AtCkpt, AtNode, AtNodeAlone, OfOpen, OfUpdate, OfClient, OnReplica, CommitOk, Row, Allowed, owned_elsewhere, complete_replicas, OfIter, OfNext, IterOk, NextOk, NextAnswer, AtNone, OfFinalize, OfClose, OfUnlink, OfRetain, LookRow}
 use Rattle.world_core.specs.Runs.{last_from, last, IsRunFrom, IsRun}
 use Rattle.world_core.specs.Refusals.{IsRefused, IsRefusal, LeavesAll, RefusalLeaves}
 use Rattle.world_core.proofs.LawRuns.{last-push}
@@ -37,6 +37,11 @@ at_node : (k r : Option ℕ) (P : ℕ → ℕ → Type 0) → AtNode k r P → (
 at_node (Some k) (Some r) P p not_so = not_so k r p
 at_node (Some k) None P p not_so = p
 at_node None r P p not_so = p
+
+at_none : (k r : Option ℕ) (P : Type 0) → AtNone k r P → (P → ⊥) → ⊥
+at_none None None P p not_so = not_so p
+at_none None (Some r) P p not_so = p
+at_none (Some k) r P p not_so = p
 
 at_node_alone : (k r : Option ℕ) (P : ℕ → Type 0) → AtNodeAlone k r P → ((r : ℕ) → P r → ⊥) → ⊥
 at_node_alone None (Some r) P p not_so = not_so r p
@@ -62,6 +67,22 @@ of_iter op P p not_so = absurd p
 of_next : (op : Op) (P : Type 0) → OfNext op P → (P → ⊥) → ⊥
 of_next (ops.Next iteration) P p not_so = not_so p
 of_next op P p not_so = absurd p
+
+of_finalize : (op : Op) (P : Type 0) → OfFinalize op P → (P → ⊥) → ⊥
+of_finalize ops.Finalize P p not_so = not_so p
+of_finalize op P p not_so = absurd p
+
+of_close : (op : Op) (P : Type 0) → OfClose op P → (P → ⊥) → ⊥
+of_close (ops.Close place) P p not_so = not_so p
+of_close op P p not_so = absurd p
+
+of_unlink : (op : Op) (P : List ℕ → Type 0) → OfUnlink op P → ((name : List ℕ) → P name → ⊥) → ⊥
+of_unlink (ops.Unlink name) P p not_so = not_so name p
+of_unlink op P p not_so = absurd p
+
+of_retain : (op : Op) (P : Type 0) → OfRetain op P → (P → ⊥) → ⊥
+of_retain (ops.Retain place duration) P p not_so = not_so p
+of_retain op P p not_so = absurd p
 
 of_client : (op : Op) (q : ℕ) (P : Type 0) → OfClient op q P → (P → ⊥) → ⊥
 of_client (ops.Client r version callbacks) q P p not_so = not_so p.1
@@ -90,6 +111,13 @@ given_next : (next : Option NextGiven) (end : Option Outcome) (pieces : Option (
 given_next (Some next) end pieces answer refused = done end (answers.Section (facts_of (description next.section))) answer.0 refused
 given_next None end pieces answer refused = answer
 
+-- a look with nothing left to do
+looked : (m : Machine) (s : CallState) (end : Option Outcome) → LookRow m s words.Done end → IsRefused end → ⊥
+looked m s (Some (Done answer)) row refused = refused
+looked m s (Some (Refused error cause)) row refused = row
+looked m s (Some o) row refused = absurd refused
+looked m s None row refused = refused
+
 -- a step that ends its call with a refusal changes nothing
 changed_same : (m : Machine) (s : CallState) (verb : Verb) (k r : Option ℕ) (reply : StepReply) (end : Option Outcome) (pieces : Option (List (List ℕ)))
     → Row m s verb (record { verb = verb; ckpt = k; node = r; reply = reply; end = end; pieces = pieces }) → IsRefused end → changed m s verb k r reply ≡ m
@@ -117,6 +145,15 @@ changed_same m s verbs.Next k r words.Ok end pieces row refused =
     let t : Told = record { verb = verbs.Next; ckpt = k; node = r; reply = words.Ok; end = end; pieces = pieces } in
     absurd (at_node k r _ row (λ k r p. of_next s.op _ p (λ p. on_replica m k r (NextOk m s r t) p (λ e x (ok : NextOk m s r t e x). given_next (given (ids_asked m s) m.cluster.moment x.sections) end pieces ok.answer refused))))
 changed_same m s verbs.Next k r reply end pieces row refused = refl
+changed_same m s verbs.Leave k r words.Ok end pieces row refused = absurd (at_none k r _ row.0 (λ p. of_finalize s.op _ p (λ p. done end answers.Nothing p.1 refused)))
+changed_same m s verbs.Leave k r reply end pieces row refused = refl
+changed_same m s verbs.Close k r words.Ok end pieces row refused = absurd (at_ckpt k r _ row.0 (λ k p. of_close s.op _ p (λ p. done end answers.Nothing p.2 refused)))
+changed_same m s verbs.Close k r reply end pieces row refused = refl
+changed_same m s verbs.Unlink k r words.Ok end pieces row refused = absurd (at_ckpt k r _ row.0 (λ k p. of_unlink s.op _ p (λ name p. done end answers.Nothing p.1 refused)))
+changed_same m s verbs.Unlink k r reply end pieces row refused = refl
+changed_same m s verbs.Retain k r words.Ok end pieces row refused = absurd (at_ckpt k r _ row.0 (λ k p. of_retain s.op _ p (λ p. done end answers.Nothing p.2 refused)))
+changed_same m s verbs.Retain k r reply end pieces row refused = refl
+changed_same m s verbs.Look k r words.Done end pieces row refused = absurd (looked m s end row.2 refused)
 changed_same m s verbs.Look k r reply end pieces row refused = refl
 changed_same m s verb k r reply end pieces row refused = absurd row
 

@@ -15,7 +15,7 @@ use Rattle.world_core.specs.declared.replica.Slot.{Slot}
 use Rattle.cluster_record.specs.Places.{put2}
 use Rattle.cluster_record.specs.RecordState.{entry_of}
 use Rattle.node_msgs.specs.Requests.{ckpt_of}
-use Rattle.world_core.specs.Serving.{update_of, reply_of, replica_after, stage_reply, stage_slot, committed, IsReadyFor, IsStaged}
+use Rattle.world_core.specs.Serving.{record_seen, update_of, reply_of, replica_after, stage_reply, stage_slot, committed, IsReadyFor, IsStaged}
 use Rattle.node_msgs.specs.Steps.{verb_of, word_of}
 use Rattle.world_core.specs.Machine.{Machine, Effect, Applied, ReplicaState, CallState}
 use Rattle.world_core.specs.Steps.{changed, change_replica, with_slot, with_committed, staged_moment}
@@ -74,7 +74,7 @@ module _ (M : Machine) (s : CallState) (k r : ℕ) (E : List Effect) (o : CallId
 -- every row
 pub row_moves : (M : Machine) (s : CallState) (r : ℕ) (E : List Effect) (o : CallId) (x : Replica) (e : Entry) (request : Request) → IsPlain request → entry_of (ckpt_of request) M.cluster.entries ≡ Some e → x.store.attributes ≡ e.attributes →
     M.replicas (ckpt_of request) r ≡ shown_replica E o (Some x) → IsReadyFor request x → IsOwn s.call request → ((call : CallId) (k : ℕ) (t : ℤ) → request ≡ Stage call k t → x.slot ≡ None → staged_moment M k ≡ t) →
-    changed M s (verb_of request) (Some (ckpt_of request)) (Some r) (word_of (reply_of request s.op M.cluster.moment x))
+    changed M s (verb_of request) (Some (ckpt_of request)) (Some r) (word_of (reply_of request s.op (record_seen M.cluster (ckpt_of request)) x))
     ≡ record M { replicas = put2 M.replicas (ckpt_of request) r (shown_replica (effects_after request x o E) (origin_after request x o) (Some (replica_after request s.op x))) }
 row_moves M s r E o x e (Reserve k) plain at same is ready own moment = absurd (plain.reserves_none k refl)
 row_moves M s r E o x e (Iterate call k choice) plain at same is ready own moment = absurd (plain.starts_none call k choice refl)

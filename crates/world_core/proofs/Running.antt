@@ -63,6 +63,10 @@ steps_left-from_one R (drivers.Enter r) = omega arith
 steps_left-from_one R (drivers.Open o) = making_left-from_one R o.making
 steps_left-from_one R (drivers.Update u) = from_one _
 steps_left-from_one R (drivers.Active a) = omega arith
+steps_left-from_one R drivers.Leave = omega arith
+steps_left-from_one R (drivers.Close k) = omega arith
+steps_left-from_one R (drivers.Unlink name) = omega arith
+steps_left-from_one R (drivers.Retain k duration) = omega arith
 
 -- after a step that does not end it a call is in hand with this step more
 step_of-in_hand : (m : Machine) (s : CallState) (c : ℕ) (verb : Verb) (k r : Option ℕ) (reply : StepReply) → s.call.actor ≡ Client c
@@ -142,6 +146,10 @@ steps_left-few R (drivers.Enter r) up complete = omega arith
 steps_left-few R (drivers.Open o) up complete = making_left-few R o.making up
 steps_left-few R (drivers.Update u) up complete = update_few _ _ (length (complete_of (entry_of u.ckpt R.entries))) (lacking_having (complete_of (entry_of u.ckpt R.entries)) u.owned) (complete u.ckpt)
 steps_left-few R (drivers.Active a) up complete = omega arith
+steps_left-few R drivers.Leave up complete = omega arith
+steps_left-few R (drivers.Close k) up complete = omega arith
+steps_left-few R (drivers.Unlink name) up complete = omega arith
+steps_left-few R (drivers.Retain k duration) up complete = omega arith
 
 hand_left-few : (R : RecordState) (hand : Option InHand) → length R.up ≡ 8 → ((k : ℕ) → length (complete_of (entry_of k R.entries)) ≡ 8) → hand_left R hand ≤ 20
 hand_left-few R None up complete = omega arith

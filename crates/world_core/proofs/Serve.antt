@@ -18,13 +18,14 @@ use Rattle.run_labels.specs.declared.labels.Label.{Label}
 use Rattle.run_labels.specs.declared.labels.Label.TheVariants.{Stepped}
 use Rattle.run_labels.specs.OpWord.{word_of_op}
 use Rattle.world_core.specs.declared.hands.InHand.{InHand}
+use Rattle.world_core.specs.declared.replica.RecordSeen.{RecordSeen}
 use Rattle.world_core.specs.declared.replica.Replica.{Replica}
 use Rattle.world_core.specs.declared.world.World.{World}
 use Rattle.cluster_record.specs.Calls.{put_actor, left}
 use Rattle.cluster_record.specs.Places.{put, put2}
 use Rattle.cluster_record.specs.RecordState.{entry_of, complete_of}
 use Rattle.node_msgs.specs.Requests.{ckpt_of}
-use Rattle.world_core.specs.Serving.{replica_in, reply_at, pieces_at, replica_after, served, IsReadyFor, IsReadyAt}
+use Rattle.world_core.specs.Serving.{record_seen, replica_in, reply_at, pieces_at, replica_after, served, IsReadyFor, IsReadyAt}
 use Rattle.node_msgs.specs.Steps.{verb_of, word_of}
 use Rattle.cluster_record.specs.StepDone.{StepDone, done_of}
 use Rattle.world_core.specs.Driving.{driver_next, driver_taken, driver_end}
@@ -41,7 +42,7 @@ use Rattle.world_core.proofs.Finding.{There}
 use Rattle.world_core.proofs.Finding as finding
 
 -- what is asked of a replica as it is, is answered by that replica
-may_answer : (m : Machine) (s : CallState) (r : ℕ) (request : Request) (answer : Reply) → IsPlain request → answer ≡ reply_at request s.op m.cluster.moment (seen_at m (ckpt_of request) r) → MayAnswer m s request r answer
+may_answer : (m : Machine) (s : CallState) (r : ℕ) (request : Request) (answer : Reply) → IsPlain request → answer ≡ reply_at request s.op (record_seen m.cluster (ckpt_of request)) (seen_at m (ckpt_of request) r) → MayAnswer m s request r answer
 may_answer m s r (Reserve k) answer plain h = absurd (plain.reserves_none k refl)
 may_answer m s r (requests.Next call k) answer plain h = absurd (plain.goes_on_with_none call k refl)
 may_answer m s r request answer plain h = h
@@ -55,7 +56,7 @@ abbrev pub served_step : World → Request → ℕ → Reply → StepDone
 served_step w request r reply = done_of w.cluster (verb_of request) (Some (ckpt_of request)) (Some r) (word_of reply)
 
 abbrev reply_in : World → ℕ → Request → InHand → Reply
-reply_in w r request hand = reply_at request hand.op w.cluster.moment (replica_in w.nodes (ckpt_of request) r)
+reply_in w r request hand = reply_at request hand.op (record_seen w.cluster (ckpt_of request)) (replica_in w.nodes (ckpt_of request) r)
 
 abbrev pieces_in : World → ℕ → Request → InHand → Option (List (List ℕ))
 pieces_in w r request hand = pieces_at request hand.op w.cluster.moment (replica_in w.nodes (ckpt_of request) r)
@@ -140,7 +141,7 @@ module _ (w : World) (h : History) (c r : ℕ) (request : Request) (hand : InHan
     word = refl;
     done = subst (λ (n : Next). IsDone m s n (record { verb = verb_of request; ckpt = Some k; node = Some r; reply = word_of reply; end = end; pieces = ended_pieces end (pieces_in w r request hand) })) (sym (due_is w h c hand held facts fits (Serve r request) next)) (record {
       answer = reply;
-      may = may_answer m s r request reply plain (ap (reply_at request hand.op w.cluster.moment) (sym seen_is));
+      may = may_answer m s r request reply plain (ap (reply_at request hand.op (record_seen w.cluster (ckpt_of request))) (sym seen_is));
       verb = refl;
       ckpt = refl;
       node = refl;
@@ -155,7 +156,7 @@ module _ (w : World) (h : History) (c r : ℕ) (request : Request) (hand : InHan
 
   move : changed m s (verb_of request) (Some k) (Some r) (word_of reply) ≡ record m { replicas = put2 m.replicas k r (shown_replica E' o' (Some x')) }
   move =
-      ap (λ (b : Option Replica). changed m s (verb_of request) (Some k) (Some r) (word_of (reply_at request hand.op w.cluster.moment b))) found.is
+      ap (λ (b : Option Replica). changed m s (verb_of request) (Some k) (Some r) (word_of (reply_at request hand.op (record_seen w.cluster (ckpt_of request)) b))) found.is
       ∙ row_moves m s r E o x found.entry request plain found.at found.attributes shown found.holds own moment
 
   at_each : (j q : ℕ) → replica_in w'.nodes j q ≡ cond ((j == k) && (q == r)) (Some x') (replica_in w.nodes j q)
@@ -207,16 +208,16 @@ module _ (w : World) (c r : ℕ) (request : Request) (hand : InHand) (plain : Is
       ready_at (replica_in w.nodes (ckpt_of request) r) f.replica f.is f.holds (room.updates (ckpt_of request) r f.replica (ap (λ b. cond b None (replica_in w.nodes (ckpt_of request) r)) f.complete ∙ f.is))
 
   -- the node serves the request, with the parts of the new world and of the label as the code names them
-  pub serve_done : (op : Op) (now : ℤ) (nodes : List (List Replica)) (hands : List (Option InHand)) (word : OpWord) (verb : Verb) (k : ℕ) (said : StepReply) (reply : Reply) (end : Option Outcome) (pieces : Option (List (List ℕ))) →
-      op ≡ hand.op → now ≡ w.cluster.moment → reply ≡ reply_at request op now (replica_in w.nodes (ckpt_of request) r) → pieces ≡ ended_pieces end (pieces_at request op now (replica_in w.nodes (ckpt_of request) r)) → nodes ≡ served w.nodes r request op →
+  pub serve_done : (op : Op) (sight : RecordSeen) (nodes : List (List Replica)) (hands : List (Option InHand)) (word : OpWord) (verb : Verb) (k : ℕ) (said : StepReply) (reply : Reply) (end : Option Outcome) (pieces : Option (List (List ℕ))) →
+      op ≡ hand.op → sight ≡ record_seen w.cluster (ckpt_of request) → reply ≡ reply_at request op sight (replica_in w.nodes (ckpt_of request) r) → pieces ≡ ended_pieces end (pieces_at request op sight.moment (replica_in w.nodes (ckpt_of request) r)) → nodes ≡ served w.nodes r request op →
       end ≡ driver_end hand.op (served_step w request r reply) reply (driver_taken (served_step w request r reply) hand.driver) → hands ≡ slice_set w.hands c (left end (hand_taken (served_step w request r reply) hand)) →
       word ≡ word_of_op hand.op → verb ≡ verb_of request → k ≡ ckpt_of request → said ≡ word_of reply → Does w (record w { nodes = nodes; hands = hands }) (Stepped hand.call word verb (Some k) (Some r) said end pieces)
-  serve_done op now nodes hands word verb k said reply end pieces op_is now_is reply_is pieces_is nodes_is end_is hands_is word_is verb_is k_is said_is =
+  serve_done op sight nodes hands word verb k said reply end pieces op_is sight_is reply_is pieces_is nodes_is end_is hands_is word_is verb_is k_is said_is =
       let y = replica_in w.nodes (ckpt_of request) r in
-      let a : reply_in w r request hand ≡ reply = (λ i. reply_at request (sym op_is i) (sym now_is i) y) ∙ sym reply_is in
+      let a : reply_in w r request hand ≡ reply = (λ i. reply_at request (sym op_is i) (sym sight_is i) y) ∙ sym reply_is in
       let n : served w.nodes r request hand.op ≡ nodes = ap (served w.nodes r request) (sym op_is) ∙ sym nodes_is in
       let e : end_with w r request hand (reply_in w r request hand) ≡ end = ap (end_with w r request hand) a ∙ sym end_is in
-      let p : ended_pieces (end_with w r request hand (reply_in w r request hand)) (pieces_in w r request hand) ≡ pieces = (λ i. ended_pieces (e i) (pieces_at request (sym op_is i) (sym now_is i) y)) ∙ sym pieces_is in
+      let p : ended_pieces (end_with w r request hand (reply_in w r request hand)) (pieces_in w r request hand) ≡ pieces = (λ i. ended_pieces (e i) (pieces_at request (sym op_is i) ((sym sight_is i).moment) y)) ∙ sym pieces_is in
       let g : slice_set w.hands c (left (end_with w r request hand (reply_in w r request hand)) (hand_taken (served_step w request r (reply_in w r request hand)) hand)) ≡ hands
       = (λ i. slice_set w.hands c (left (e i) (hand_taken (served_step w request r (a i)) hand))) ∙ sym hands_is in
       subst (λ (y : List (List Replica) × List (Option InHand) × OpWord × Verb × ℕ × StepReply × Option Outcome × Option (List (List ℕ))). Does w (record w { nodes = y.0; hands = y.1 }) (Stepped hand.call y.2 y.3 (Some y.4) (Some r) y.5 y.6 y.7))

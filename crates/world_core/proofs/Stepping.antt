@@ -1,5 +1,5 @@
 -- The steps of a call in hand, with the call that the code finds there.
-use Rattle.std.proofs.Common.{◌≡◌, ◌≢◌, ℕ, ◌<◌, ℤ, List, length, refl, sym, subst, ◌∙◌}
+use Rattle.std.proofs.Common.{◌≡◌, ◌≢◌, ℕ, ◌<◌, List, length, refl, sym, subst, ◌∙◌}
 use Rattle.std.specs.Prelude.{Option, Some, None, IsSomeAnd, slice_set}
 use Rattle.ckpt_types.specs.declared.answers.Answer.TheVariants as answers
 use Rattle.ckpt_types.specs.declared.answers.Outcome.{Outcome}
@@ -17,15 +17,18 @@ use Rattle.run_labels.specs.declared.labels.Label.TheVariants.{Stepped}
 use Rattle.run_labels.specs.OpWord.{word_of_op}
 use Rattle.world_core.specs.declared.hands.InHand.{InHand}
 use Rattle.cluster_record.specs.declared.entries.Entry.{Entry}
+use Rattle.world_core.specs.declared.replica.RecordSeen.{RecordSeen}
 use Rattle.world_core.specs.declared.replica.Replica.{Replica}
 use Rattle.world_core.specs.declared.world.World.{World}
 use Rattle.cluster_record.specs.Calls.{left}
 use Rattle.cluster_record.specs.RecordState.{entry_of}
 use Rattle.node_msgs.specs.Requests.{ckpt_of}
-use Rattle.world_core.specs.Serving.{replica_in, reply_at, pieces_at, served, IsReadyAt, opened_replica, reserved_at}
+use Rattle.world_core.specs.Serving.{record_seen, replica_in, reply_at, pieces_at, served, IsReadyAt, opened_replica, reserved_at}
 use Rattle.world_core.specs.Reserving.{IsReserved}
 use Rattle.node_msgs.specs.Steps.{verb_of, word_of}
 use Rattle.world_core.specs.HandSteps.{hand_taken, hand_end}
+use Rattle.world_core.specs.Settling.{looked}
+use Rattle.world_core.specs.TableState.{TableState}
 use Rattle.world_core.specs.Steps.{ended_pieces, look_word}
 use Rattle.world_core.specs.Shows.{IsShown, IsRoomy, IsReservable, hand_at}
 use Rattle.world_core.specs.Happenings.{IsNext, IsStep}
@@ -40,9 +43,9 @@ pub some_held : (o : Option InHand) (hand : InHand) → o ≡ Some hand → o �
 some_held o hand is none = let z : None ≡ Some hand = sym none ∙ is in absurd (cc z)
 
 -- the step whose answer the record alone decides
-pub look_is : (w : World) (c : ℕ) (o : Outcome) (hand : InHand) (hands : List (Option InHand)) (word : OpWord) (reply : StepReply) → hand_at w.hands c ≡ Some hand → IsNext w c (End o) →
-    hands ≡ slice_set w.hands c None → word ≡ word_of_op hand.op → reply ≡ look_word o → IsStep c w (record w { hands = hands }) (Stepped hand.call word verbs.Look None None reply (Some o) None)
-look_is w c o hand hands word reply held next hands_is word_is reply_is = record {
+pub look_is : (w : World) (c : ℕ) (o : Outcome) (hand : InHand) (tables : List TableState) (hands : List (Option InHand)) (word : OpWord) (reply : StepReply) → hand_at w.hands c ≡ Some hand → IsNext w c (End o) →
+    tables ≡ looked o c hand.op w.tables → hands ≡ slice_set w.hands c None → word ≡ word_of_op hand.op → reply ≡ look_word o → IsStep c w (record w { tables = tables; hands = hands }) (Stepped hand.call word verbs.Look None None reply (Some o) None)
+look_is w c o hand tables hands word reply held next tables_are hands_is word_is reply_is = record {
   hand = hand;
   held = held;
   op = word;
@@ -57,7 +60,7 @@ look_is w c o hand hands word reply held next hands_is word_is reply_is = record
   same_call = refl;
   same_op = refl;
   hands = hands_is;
-  does = look_done w c o hand held (next_for w c (End o) hand held next) hands word reply hands_is word_is reply_is;
+  does = look_done w c o hand held (next_for w c (End o) hand held next) tables hands word reply tables_are hands_is word_is reply_is;
 }
 
 -- a step that a node serves
@@ -68,11 +71,11 @@ module _ (w : World) (c r : ℕ) (request : Request) (hand : InHand) (held : han
   pub node_ready : IsShown w → IsRoomy w → IsReadyAt request (replica_in w.nodes (ckpt_of request) r)
   node_ready = serve_ready w c r request hand plain held (next_for w c (Serve r request) hand held next)
 
-  pub serve_is : (now : ℤ) (nodes : List (List Replica)) (hands : List (Option InHand)) (word : OpWord) (verb : Verb) (k : ℕ) (said : StepReply) (reply : Reply) (end : Option Outcome) (pieces : Option (List (List ℕ))) →
-      now ≡ w.cluster.moment → reply ≡ reply_at request hand.op now (replica_in w.nodes (ckpt_of request) r) → pieces ≡ ended_pieces end (pieces_at request hand.op now (replica_in w.nodes (ckpt_of request) r)) → nodes ≡ served w.nodes r request hand.op →
+  pub serve_is : (sight : RecordSeen) (nodes : List (List Replica)) (hands : List (Option InHand)) (word : OpWord) (verb : Verb) (k : ℕ) (said : StepReply) (reply : Reply) (end : Option Outcome) (pieces : Option (List (List ℕ))) →
+      sight ≡ record_seen w.cluster (ckpt_of request) → reply ≡ reply_at request hand.op sight (replica_in w.nodes (ckpt_of request) r) → pieces ≡ ended_pieces end (pieces_at request hand.op sight.moment (replica_in w.nodes (ckpt_of request) r)) → nodes ≡ served w.nodes r request hand.op →
       end ≡ hand_end (served_step w request r reply) reply (hand_taken (served_step w request r reply) hand) → hands ≡ slice_set w.hands c (left end (hand_taken (served_step w request r reply) hand)) →
       word ≡ word_of_op hand.op → verb ≡ verb_of request → k ≡ ckpt_of request → said ≡ word_of reply → IsStep c w (record w { nodes = nodes; hands = hands }) (Stepped hand.call word verb (Some k) (Some r) said end pieces)
-  serve_is now nodes hands word verb k said reply end pieces now_is reply_is pieces_is nodes_is end_is hands_is word_is verb_is k_is said_is = record {
+  serve_is sight nodes hands word verb k said reply end pieces sight_is reply_is pieces_is nodes_is end_is hands_is word_is verb_is k_is said_is = record {
     hand = hand;
     held = held;
     op = word;
@@ -87,7 +90,7 @@ module _ (w : World) (c r : ℕ) (request : Request) (hand : InHand) (held : han
     same_call = refl;
     same_op = refl;
     hands = hands_is;
-    does = serve_done w c r request hand plain held (next_for w c (Serve r request) hand held next) hand.op now nodes hands word verb k said reply end pieces refl now_is reply_is pieces_is nodes_is end_is hands_is word_is verb_is k_is said_is;
+    does = serve_done w c r request hand plain held (next_for w c (Serve r request) hand held next) hand.op sight nodes hands word verb k said reply end pieces refl sight_is reply_is pieces_is nodes_is end_is hands_is word_is verb_is k_is said_is;
   }
 
 some_there : {P : Entry → Type 0} (o : Option Entry) → IsSomeAnd o P → (e : Entry) × (o ≡ Some e) × P e

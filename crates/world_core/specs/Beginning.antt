@@ -97,6 +97,10 @@ begin_end live h (ops.Status place) = if_live live (on_handle h false may_always
 begin_end live h (ops.Iter iteration place chosen time) = if_live live (on_handle h (choice_is_bad chosen) may_read)
 begin_end live h (ops.Next iteration) = if_live live (on_handle h false may_always)
 begin_end live h (ops.EndIter iteration) = if_live live (end_iteration h)
+begin_end live h (ops.Close place) = if_live live (on_handle h false may_always)
+begin_end live h (ops.Retain place duration) = if_live live (on_handle h (int_lt duration (pos 0)) may_always)
+begin_end live h (ops.Unlink name) = if_live live None
+begin_end live h ops.Finalize = if_live live None
 begin_end live h op = None
 
 -- the place of the handle that an operation names, the place of the iteration that it goes on with or ends, and the place that an open names
@@ -109,12 +113,19 @@ handle_place (ops.Over place update) = Some place
 handle_place (ops.Read place elements) = Some place
 handle_place (ops.Status place) = Some place
 handle_place (ops.Iter iteration place chosen time) = Some place
+handle_place (ops.Close place) = Some place
+handle_place (ops.Retain place duration) = Some place
 handle_place op = None
 
 abbrev pub iteration_place : Op → Option ℕ
 iteration_place (ops.Next iteration) = Some iteration
 iteration_place (ops.EndIter iteration) = Some iteration
 iteration_place op = None
+
+-- the place of the handle that an operation closes
+abbrev pub closed_place : Op → Option ℕ
+closed_place (ops.Close place) = Some place
+closed_place op = None
 
 -- the place of the iteration that an operation starts, and its choice; what is none chooses nothing
 abbrev pub started_place : Op → Option ℕ
@@ -159,6 +170,23 @@ abbrev pub IsIterOf : Choice → Op → Type 0
 IsIterOf choice (ops.Iter iteration place chosen time) = (choice ≡ choice_of chosen time) × (iteration < 100) × (place < 100)
 IsIterOf choice op = ⊥
 
+-- the operation closes a handle, sets this retention, or takes this name away
+abbrev pub IsCloseOf : Op → Type 0
+IsCloseOf (ops.Close place) = place < 100
+IsCloseOf op = ⊥
+
+abbrev pub IsRetainOf : ℤ → Op → Type 0
+IsRetainOf duration (ops.Retain place given) = duration ≡ given
+IsRetainOf duration op = ⊥
+
+abbrev pub IsUnlinkOf : List ℕ → Op → Type 0
+IsUnlinkOf name (ops.Unlink given) = name ≡ given
+IsUnlinkOf name op = ⊥
+
+abbrev pub IsFinalize : Op → Type 0
+IsFinalize ops.Finalize = Unit {0}
+IsFinalize op = ⊥
+
 abbrev pub IsNextOf : Op → Type 0
 IsNextOf (ops.Next iteration) = iteration < 100
 IsNextOf op = ⊥
@@ -180,7 +208,7 @@ abbrev pub AreBuilt : Option CreationAttributes → Type 0
 AreBuilt None = Unit {0}
 AreBuilt (Some a) = IsBuiltAttributes a
 
--- an Initialize on one of eight nodes, an open, an update, a read, a status, and iterations, with places from 0 to 99; the others are not built yet
+-- an Initialize on one of eight nodes, an open, an update, a read, a status, iterations, a close, a retention, with places from 0 to 99, an unlink and a Finalize; the others are not built yet
 abbrev pub IsBuilt : Op → Type 0
 IsBuilt (ops.Client r version callbacks) = (r < 8) × RegistersNone callbacks
 IsBuilt (ops.Open place name flags timeout a) = (place < 100) × AreBuilt a
@@ -194,4 +222,8 @@ IsBuilt (ops.Status place) = place < 100
 IsBuilt (ops.Iter iteration place chosen time) = (iteration < 100) × (place < 100)
 IsBuilt (ops.Next iteration) = iteration < 100
 IsBuilt (ops.EndIter iteration) = iteration < 100
+IsBuilt (ops.Close place) = place < 100
+IsBuilt (ops.Retain place duration) = place < 100
+IsBuilt (ops.Unlink name) = Unit {0}
+IsBuilt ops.Finalize = Unit {0}
 IsBuilt op = ⊥

@@ -24,12 +24,13 @@ use Rattle.cluster_record.specs.declared.calls.ActiveKind.{ActiveKind}
 use Rattle.cluster_record.specs.declared.calls.ActiveKind.TheVariants as kinds
 use Rattle.cluster_record.specs.Calls.{client_of}
 use Rattle.world_core.specs.Beginning.{choice_of}
-use Rattle.cluster_record.specs.LookUps.{identity_in}
-use Rattle.cluster_record.specs.RecordState.{RecordState, named, entered, swept}
+use Rattle.cluster_record.specs.LookUps.{identity_in, at_ckpt}
+use Rattle.cluster_record.specs.RecordState.{RecordState, named, entered, swept, closed, unlinked, retained, departed}
 use Rattle.cluster_record.specs.StepDone.{StepDone}
 use Rattle.cluster_record.specs.DueOpen.{open_begun, open_next, open_taken, making_ckpt, open_event}
 use Rattle.cluster_record.specs.DueUpdate.{update_begun, update_next, update_taken, done_end_by}
 use Rattle.cluster_record.specs.DueActive.{active_begun, active_next}
+use Rattle.cluster_record.specs.DueOnce.{close_next, unlink_next, retain_next}
 
 -- a refusal of a vector tells the index of its first refused element
 abbrev pub refused_cause : Op → ℕ → Cause
@@ -43,18 +44,30 @@ driver_next R rooms (drivers.Enter r) = if nat_le 64 (length R.clients) then End
 driver_next R rooms (drivers.Open o) = open_next R rooms.handles o
 driver_next R rooms (drivers.Update u) = update_next R u
 driver_next R rooms (drivers.Active a) = active_next R rooms.iterations a
+driver_next R rooms drivers.Leave = Event events.Leave
+driver_next R rooms (drivers.Close k) = close_next R k
+driver_next R rooms (drivers.Unlink name) = unlink_next R name
+driver_next R rooms (drivers.Retain k duration) = retain_next R k
 
 abbrev pub driver_taken : StepDone → Driver → Driver
 driver_taken d (drivers.Enter r) = drivers.Enter r
 driver_taken d (drivers.Open o) = drivers.Open (open_taken d o)
 driver_taken d (drivers.Update u) = drivers.Update (update_taken d u)
 driver_taken d (drivers.Active a) = drivers.Active a
+driver_taken d drivers.Leave = drivers.Leave
+driver_taken d (drivers.Close k) = drivers.Close k
+driver_taken d (drivers.Unlink name) = drivers.Unlink name
+driver_taken d (drivers.Retain k duration) = drivers.Retain k duration
 
 abbrev pub done_end : StepDone → Answer → Driver → Option Outcome
 done_end d answer (drivers.Enter r) = None
 done_end d answer (drivers.Open o) = None
 done_end d answer (drivers.Update u) = done_end_by d answer u d.verb
 done_end d answer (drivers.Active a) = Some (Done answer)
+done_end d answer drivers.Leave = None
+done_end d answer (drivers.Close k) = None
+done_end d answer (drivers.Unlink name) = None
+done_end d answer (drivers.Retain k duration) = None
 
 -- how a call of an operation ends by a node's reply; where nothing comes of it, the call goes on
 abbrev pub driver_end : Op → StepDone → Reply → Driver → Option Outcome
@@ -70,6 +83,9 @@ event_ckpt R (drivers.Open o) events.Create = Some (R.last_identity + 1)
 event_ckpt R (drivers.Open o) events.Open = identity_in (named o.ask.name R.entries)
 event_ckpt R (drivers.Open o) events.Finish = making_ckpt o.making
 event_ckpt R (drivers.Open o) events.Undo = making_ckpt o.making
+event_ckpt R (drivers.Close k) events.Close = Some k
+event_ckpt R (drivers.Unlink name) events.Unlink = identity_in (named name R.entries)
+event_ckpt R (drivers.Retain k duration) events.Retain = Some k
 event_ckpt R driver step = None
 
 abbrev pub event_node : Driver → RecordStep → Option ℕ
@@ -86,6 +102,10 @@ event_end events.Enter k = Some (Done answers.Version)
 event_end events.Open k = opened_end k
 event_end events.Finish k = opened_end k
 event_end events.Undo k = Some NoMemory
+event_end events.Leave k = Some (Done answers.Nothing)
+event_end events.Close k = Some (Done answers.Nothing)
+event_end events.Unlink k = Some (Done answers.Nothing)
+event_end events.Retain k = Some (Done answers.Nothing)
 event_end step k = None
 
 -- the steps that take memory, and may be refused it
@@ -98,6 +118,10 @@ takes_memory step = false
 abbrev pub event_change : CallId → Driver → RecordStep → RecordState → RecordState
 event_change call (drivers.Enter r) step R = entered (client_of call) r call.number R
 event_change call (drivers.Open o) step R = open_event call o (event_ckpt R (drivers.Open o) step) step R
+event_change call drivers.Leave step R = departed (client_of call) R
+event_change call (drivers.Close k) step R = closed k (client_of call) R
+event_change call (drivers.Unlink name) step R = at_ckpt (identity_in (named name R.entries)) R (λ k. unlinked k R)
+event_change call (drivers.Retain k duration) step R = retained k duration R
 event_change call driver step R = R
 
 -- and what is over is swept away
@@ -140,6 +164,10 @@ driver_start call (ops.Read place elements) kept = active_start call kinds.Read 
 driver_start call (ops.Status place) kept = active_start call kinds.Status kept.ckpt
 driver_start call (ops.Iter iteration place chosen time) kept = active_start call (kinds.Iterate (choice_of chosen time)) kept.ckpt
 driver_start call (ops.Next iteration) kept = active_start call kinds.Next kept.ckpt
+driver_start call (ops.Close place) kept = on_kept kept.ckpt (λ k. drivers.Close k)
+driver_start call (ops.Retain place duration) kept = on_kept kept.ckpt (λ k. drivers.Retain k duration)
+driver_start call (ops.Unlink name) kept = drivers.Unlink name
+driver_start call ops.Finalize kept = drivers.Leave
 driver_start call op kept = drivers.Enter 0
 
 -- where a call's steps have led it, the newest first

@@ -3,6 +3,7 @@ use Rattle.std.specs.Prelude.{◌≡◌, ◌⊎◌, ℕ, ◌+◌, ◌<◌, ◌�
 use Rattle.moment_rules.specs.Times.{is_reached}
 use Rattle.ckpt_types.specs.declared.ais_error.AisError.{AisError}
 use Rattle.ckpt_types.specs.declared.ais_error.AisError.TheVariants as errors
+use Rattle.ckpt_types.specs.declared.answers.Answer.{Answer}
 use Rattle.ckpt_types.specs.declared.answers.Answer.TheVariants as answers
 use Rattle.ckpt_types.specs.declared.answers.Cause.{Cause}
 use Rattle.ckpt_types.specs.declared.answers.Cause.TheVariants.{Plain, Index, Holder, Deadline, Count}
@@ -26,7 +27,7 @@ use Rattle.run_labels.specs.declared.labels.Label.TheVariants as labels
 use Rattle.run_labels.specs.OpWord.{word_of_op}
 use Rattle.cluster_record.specs.declared.entries.Entry.{Entry}
 use Rattle.cluster_record.specs.Calls.{same_call, client_of}
-use Rattle.cluster_record.specs.RecordState.{entry_of, complete_of, named, is_live, is_live_client, is_up, IsMomentFrom}
+use Rattle.cluster_record.specs.RecordState.{entry_of, complete_of, named, attributes_now, is_live, is_live_client, is_up, IsMomentFrom}
 use Rattle.cluster_record.specs.DueOpen.{IsBefore, accepts}
 use Rattle.world_core.specs.Driving.{deadline_from, refused_cause}
 use Rattle.world_core.specs.Serving.{update_of, update_answer, told_id}
@@ -131,10 +132,10 @@ ReadRow m elements k r t = OnReplica m k r (λ e x. (e.active ≡ Some r) × Rea
 
 -- ---- status and iterations, on the active
 
--- the status of its sections
+-- the status of its sections, with the checkpoint's attributes as they are now
 pub record StatusOk (m : Machine) (r : ℕ) (end : Option Outcome) (e : Entry) (x : ReplicaState) : Type 0 where
   pub active : e.active ≡ Some r
-  pub answer : end ≡ Some (Done (answers.Status (status e.attributes m.cluster.moment x.sections)))
+  pub answer : end ≡ Some (Done (answers.Status (status (attributes_now e) m.cluster.moment x.sections)))
 
 abbrev pub StatusRow : Machine → ℕ → ℕ → StepReply → Option Outcome → Type 0
 StatusRow m k r words.Ok end = OnReplica m k r (StatusOk m r end)
@@ -231,6 +232,32 @@ OpenRow m s name a k words.Ok end = MayOpen m s name a k × (end ≡ Some (Done 
 OpenRow m s name a k words.Memory end = MayOpen m s name a k × (end ≡ Some NoMemory)
 OpenRow m s name a k reply end = ⊥
 
+-- ---- the end of a checkpoint's life
+
+-- a client that is live leaves
+abbrev pub LeaveRow : Machine → ℕ → StepReply → Option Outcome → Type 0
+LeaveRow m c words.Ok end = (is_live_client c m.cluster ≡ true) × (end ≡ Some (Done answers.Nothing))
+LeaveRow m c reply end = ⊥
+
+-- the checkpoint of the handle is there
+abbrev pub CloseRow : Machine → CallState → ℕ → StepReply → Option Outcome → Type 0
+CloseRow m s k words.Ok end = (s.kept.ckpt ≡ Some k) × IsSome (entry_of k m.cluster.entries) × (end ≡ Some (Done answers.Nothing))
+CloseRow m s k reply end = ⊥
+
+-- the checkpoint of the name is made
+pub record CanUnlink (k : ℕ) (e : Entry) : Type 0 where
+  pub identity : e.identity ≡ k
+  pub made : e.making ≡ None
+
+abbrev pub UnlinkRow : Machine → List ℕ → ℕ → StepReply → Option Outcome → Type 0
+UnlinkRow m name k words.Ok end = IsSomeAnd (named name m.cluster.entries) (CanUnlink k) × (end ≡ Some (Done answers.Nothing))
+UnlinkRow m name k reply end = ⊥
+
+-- the checkpoint of the handle is there and has a name
+abbrev pub RetainRow : Machine → CallState → ℕ → StepReply → Option Outcome → Type 0
+RetainRow m s k words.Ok end = (s.kept.ckpt ≡ Some k) × IsSomeAnd (entry_of k m.cluster.entries) (λ e. IsSome e.name) × (end ≡ Some (Done answers.Nothing))
+RetainRow m s k reply end = ⊥
+
 -- ---- what the record and the client's tables decide
 
 -- a checkpoint has the name, or one is asked for
@@ -274,17 +301,29 @@ abbrev pub GoneLook : Machine → Option ℕ → AisError → Cause → Type 0
 GoneLook m (Some k) errors.NotExist Plain = entry_of k m.cluster.entries ≡ None
 GoneLook m k error cause = ⊥
 
+abbrev pub HasNoActive : Option Entry → Type 0
+HasNoActive None = Unit {0}
+HasNoActive (Some e) = e.active ≡ None
+
 abbrev pub NoActiveLook : Machine → Option ℕ → AisError → Cause → Type 0
-NoActiveLook m (Some k) errors.NotExist Plain = HasNoActive (entry_of k m.cluster.entries) where
-  HasNoActive : Option Entry → Type 0
-  HasNoActive None = Unit {0}
-  HasNoActive (Some e) = e.active ≡ None
+NoActiveLook m (Some k) errors.NotExist Plain = HasNoActive (entry_of k m.cluster.entries)
 NoActiveLook m k error cause = ⊥
 
 -- there is no active, or the client has as many iterations as it may have
 abbrev pub IterLook : Machine → CallState → AisError → Cause → Type 0
 IterLook m s errors.NoResources (Count n) = IsSomeAnd s.kept.ckpt (λ k. IsSomeAnd (entry_of k m.cluster.entries) (λ e. IsSome e.active)) × ((rooms_of m (client_of s.call)).iterations ≡ false) × (n ≡ 8)
 IterLook m s error cause = NoActiveLook m s.kept.ckpt error cause
+
+-- no checkpoint has the name, or another live call is making it
+abbrev pub UnlinkLook : Machine → CallState → List ℕ → AisError → Cause → Type 0
+UnlinkLook m s name errors.NotExist Plain = named name m.cluster.entries ≡ None
+UnlinkLook m s name errors.TryAgain (Holder by) = IsSomeAnd (named name m.cluster.entries) (λ e. e.making ≡ Some by) × (is_live m.cluster by ≡ true) × (same_call by s.call ≡ false)
+UnlinkLook m s name error cause = ⊥
+
+-- the handle's entry is gone, or unlinked
+abbrev pub RetainLook : Machine → Option ℕ → AisError → Cause → Type 0
+RetainLook m (Some k) errors.BadOperation Plain = IsSomeAnd (entry_of k m.cluster.entries) (λ e. e.name ≡ None)
+RetainLook m k error cause = GoneLook m k error cause
 
 abbrev pub LookRefused : Machine → CallState → Op → AisError → Cause → Type 0
 LookRefused m s (ops.Client r version callbacks) error cause = EnterLook m error cause
@@ -298,11 +337,19 @@ LookRefused m s (ops.Read place elements) error cause = NoActiveLook m s.kept.ck
 LookRefused m s (ops.Status place) error cause = NoActiveLook m s.kept.ckpt error cause
 LookRefused m s (ops.Iter iteration place chosen time) error cause = IterLook m s error cause
 LookRefused m s (ops.Next iteration) error cause = NoActiveLook m s.kept.ckpt error cause
+LookRefused m s (ops.Unlink name) error cause = UnlinkLook m s name error cause
+LookRefused m s (ops.Retain place duration) error cause = RetainLook m s.kept.ckpt error cause
 LookRefused m s op error cause = ⊥
 
-abbrev pub LookRow : Machine → CallState → Option Outcome → Type 0
-LookRow m s (Some (Refused error cause)) = LookRefused m s s.op error cause
-LookRow m s end = ⊥
+-- nothing is left to do: a close of a checkpoint that is gone
+abbrev pub LookDone : Machine → CallState → Op → Answer → Type 0
+LookDone m s (ops.Close place) answers.Nothing = IsSomeAnd s.kept.ckpt (λ k. entry_of k m.cluster.entries ≡ None)
+LookDone m s op answer = ⊥
+
+abbrev pub LookRow : Machine → CallState → StepReply → Option Outcome → Type 0
+LookRow m s words.Refused (Some (Refused error cause)) = LookRefused m s s.op error cause
+LookRow m s words.Done (Some (Done answer)) = LookDone m s s.op answer
+LookRow m s reply end = ⊥
 
 -- ---- any step
 
@@ -313,6 +360,10 @@ AtCkpt k r P = ⊥
 abbrev pub AtNode : Option ℕ → Option ℕ → (ℕ → ℕ → Type 0) → Type 0
 AtNode (Some k) (Some r) P = P k r
 AtNode k r P = ⊥
+
+abbrev pub AtNone : Option ℕ → Option ℕ → Type 0 → Type 0
+AtNone None None P = P
+AtNone k r P = ⊥
 
 abbrev pub AtNodeAlone : Option ℕ → Option ℕ → (ℕ → Type 0) → Type 0
 AtNodeAlone None (Some r) P = P r
@@ -347,6 +398,23 @@ abbrev pub OfNext : Op → Type 0 → Type 0
 OfNext (ops.Next iteration) P = P
 OfNext op P = ⊥
 
+-- it is a Finalize, a close, an unlink of this name, or a setting of a retention
+abbrev pub OfFinalize : Op → Type 0 → Type 0
+OfFinalize ops.Finalize P = P
+OfFinalize op P = ⊥
+
+abbrev pub OfClose : Op → Type 0 → Type 0
+OfClose (ops.Close place) P = P
+OfClose op P = ⊥
+
+abbrev pub OfUnlink : Op → (List ℕ → Type 0) → Type 0
+OfUnlink (ops.Unlink name) P = P name
+OfUnlink op P = ⊥
+
+abbrev pub OfRetain : Op → Type 0 → Type 0
+OfRetain (ops.Retain place duration) P = P
+OfRetain op P = ⊥
+
 abbrev pub OfClient : Op → ℕ → Type 0 → Type 0
 OfClient (ops.Client r version callbacks) q P = (q ≡ r) × P
 OfClient op q P = ⊥
@@ -364,7 +432,11 @@ Row m s verbs.Read t = AtNode t.ckpt t.node (λ k r. OfRead s.op (λ elements. R
 Row m s verbs.Status t = AtNode t.ckpt t.node (λ k r. OfStatus s.op (StatusRow m k r t.reply t.end)) × (t.pieces ≡ None)
 Row m s verbs.Iter t = AtNode t.ckpt t.node (λ k r. OfIter s.op (IterRow m s k r t.reply t.end)) × (t.pieces ≡ None)
 Row m s verbs.Next t = AtNode t.ckpt t.node (λ k r. OfNext s.op (NextRow m s k r t))
-Row m s verbs.Look t = (t.ckpt ≡ None) × (t.node ≡ None) × (t.reply ≡ words.Refused) × LookRow m s t.end × (t.pieces ≡ None)
+Row m s verbs.Leave t = AtNone t.ckpt t.node (OfFinalize s.op (LeaveRow m (client_of s.call) t.reply t.end)) × (t.pieces ≡ None)
+Row m s verbs.Close t = AtCkpt t.ckpt t.node (λ k. OfClose s.op (CloseRow m s k t.reply t.end)) × (t.pieces ≡ None)
+Row m s verbs.Unlink t = AtCkpt t.ckpt t.node (λ k. OfUnlink s.op (λ name. UnlinkRow m name k t.reply t.end)) × (t.pieces ≡ None)
+Row m s verbs.Retain t = AtCkpt t.ckpt t.node (λ k. OfRetain s.op (RetainRow m s k t.reply t.end)) × (t.pieces ≡ None)
+Row m s verbs.Look t = (t.ckpt ≡ None) × (t.node ≡ None) × LookRow m s t.reply t.end × (t.pieces ≡ None)
 Row m s verb t = ⊥
 
 pub record IsAllowedStep (m : Machine) (call : CallId) (op : OpWord) (t : Told) : Type 0 where

@@ -1,5 +1,5 @@
 -- What holds in every state of a run of one node, one call at a time; from it follow the guards, and all that the code relies on.
-use Rattle.std.specs.Prelude.{◌≡◌, ◌≢◌, ◌⊎◌, ℕ, ◌<◌, ◌≤◌, List, [], ◌∷◌, length, Option, Some, None, IsSome, IsSomeAnd, Contains, IsOk, Bool, true, false, ◌||◌, ◌==◌, if◌then◌else◌, is_some, slice_index}
+use Rattle.std.specs.Prelude.{◌≡◌, ◌≢◌, ◌⊎◌, ℕ, ◌<◌, ◌≤◌, List, [], ◌∷◌, length, Option, Some, None, IsSome, IsSomeAnd, IfSome, Contains, IsOk, true, false, ◌==◌, if◌then◌else◌, ℤ, slice_index}
 use Rattle.ckpt_types.specs.declared.attributes.CreationAttributes.{CreationAttributes}
 use Rattle.ckpt_types.specs.declared.calls.OpenAsk.{OpenAsk}
 use Rattle.ckpt_types.specs.declared.identities.ActorName.{ActorName}
@@ -22,11 +22,11 @@ use Rattle.cluster_record.specs.declared.entries.Entry.{Entry}
 use Rattle.cluster_record.specs.DueUpdate.{UpdateState}
 use Rattle.cluster_record.specs.declared.calls.UpdatePhase.TheVariants.{Staging}
 use Rattle.cluster_record.specs.Calls.{same_actor, client_of}
-use Rattle.cluster_record.specs.RecordState.{entry_of, first_nodes, no_nodes, has_references, is_live_client, is_up}
+use Rattle.cluster_record.specs.RecordState.{RecordState, entry_of, first_nodes, no_nodes, stays, is_live_client, is_up}
 use Rattle.world_core.specs.Serving.{update_of}
 use Rattle.cluster_record.specs.DueOpen.{IsBefore}
 use Rattle.world_core.specs.Driving.{deadline_from}
-use Rattle.world_core.specs.Beginning.{IsIterOf, IsNextOf, IsBuilt}
+use Rattle.world_core.specs.Beginning.{IsIterOf, IsNextOf, IsCloseOf, IsRetainOf, IsUnlinkOf, IsFinalize, IsBuilt, name_is_bad}
 use Rattle.world_core.specs.Machine.{Machine, Staged, ReplicaState, CallState}
 use Rattle.world_core.specs.Steps.{driver_of, room_of, named_handle}
 use Rattle.cluster_record.specs.LookUps.{sections_declared}
@@ -54,6 +54,10 @@ maker_by call k (drivers.Open o) = maker_if call k o.making
 maker_by call k (drivers.Enter r) = None
 maker_by call k (drivers.Update u) = None
 maker_by call k (drivers.Active a) = None
+maker_by call k drivers.Leave = None
+maker_by call k (drivers.Close j) = None
+maker_by call k (drivers.Unlink name) = None
+maker_by call k (drivers.Retain j duration) = None
 
 abbrev pub maker_of : Option Working → ℕ → Option CallId
 maker_of None k = None
@@ -68,6 +72,10 @@ slot_by s k (drivers.Update u) = if k == u.ckpt then slot_if (slice_index u.owne
 slot_by s k (drivers.Enter r) = None
 slot_by s k (drivers.Open o) = None
 slot_by s k (drivers.Active a) = None
+slot_by s k drivers.Leave = None
+slot_by s k (drivers.Close j) = None
+slot_by s k (drivers.Unlink name) = None
+slot_by s k (drivers.Retain j duration) = None
 
 abbrev pub slot_of : Option Working → ℕ → Option Staged
 slot_of None k = None
@@ -107,17 +115,22 @@ pub record IsGoodEntry (maker : Option CallId) (staged : Option Staged) (e : Ent
   pub making : e.making ≡ maker
   pub state : IsGoodState maker staged e x
 
--- a checkpoint that is in the making or that somebody has open stays in every sweep
-abbrev pub is_in_use : Entry → Bool
-is_in_use e = is_some e.making || has_references e
-
-abbrev pub AllInUse : List Entry → Type 0
-AllInUse [] = Unit {0}
-AllInUse (e ∷ es) = (is_in_use e ≡ true) × AllInUse es
+-- each stays in a sweep at this moment
+abbrev pub AllStay : ℤ → List Entry → Type 0
+AllStay t [] = Unit {0}
+AllStay t (e ∷ es) = (stays t e ≡ true) × AllStay t es
 
 -- a checkpoint is there and made
-abbrev pub IsMade : Machine → ℕ → Type 0
-IsMade m k = IsSomeAnd (entry_of k m.cluster.entries) (λ e. e.making ≡ None)
+abbrev pub IsMade : RecordState → ℕ → Type 0
+IsMade R k = IsSomeAnd (entry_of k R.entries) (λ e. e.making ≡ None)
+
+-- its identity was given, and what is there of it is not in the making: it is made, or gone
+pub record WasMadeIn (last : ℕ) (entries : List Entry) (k : ℕ) : Type 0 where
+  pub given : k ≤ last
+  pub made : IfSome (entry_of k entries) (λ e. e.making ≡ None)
+
+abbrev pub WasMade : RecordState → ℕ → Type 0
+WasMade R k = WasMadeIn R.last_identity R.entries k
 
 -- ---- where a call in hand is
 
@@ -169,6 +182,7 @@ pub record IsOpenAt (m : Machine) (s : CallState) (o : OpenState) : Type 0 where
   pub within : o.ask.client < 100
   pub built : IsBuilt s.op
   pub asks : OpensAs s.op o.ask
+  pub named : name_is_bad o.ask.name ≡ false
   pub asked : AreGoodAttributes o.ask.attrs
   pub deadline : o.deadline ≡ deadline_from s.kept.moment s.op
   pub up : m.cluster.up ≡ first_nodes 1
@@ -177,28 +191,49 @@ pub record IsOpenAt (m : Machine) (s : CallState) (o : OpenState) : Type 0 where
   pub room : IsSome o.making → room_of m o.ask.client ≡ true
   pub in_time : IsSome o.making → IsBefore m.cluster.moment o.deadline
 
--- an update has staged nowhere, or on n0
+-- an update has staged nowhere, or on n0, where its checkpoint is
 pub record IsUpdateAt (m : Machine) (s : CallState) (u : UpdateState) : Type 0 where
   pub call : u.call ≡ s.call
   pub update : IsUpdateOf s.op
   pub phase : u.phase ≡ Staging
-  pub made : IsMade m u.ckpt
-  pub owned : (u.owned ≡ no_nodes) ⊎ (u.owned ≡ first_nodes 1)
+  pub kept : s.kept.ckpt ≡ Some u.ckpt
+  pub made : WasMade m.cluster u.ckpt
+  pub owned : (u.owned ≡ no_nodes) ⊎ ((u.owned ≡ first_nodes 1) × IsSome (entry_of u.ckpt m.cluster.entries))
 
 pub record IsActiveAt (m : Machine) (s : CallState) (a : ActiveState) : Type 0 where
   pub call : a.call ≡ s.call
   pub kind : IsKindOf a.kind s.op
-  pub made : IsMade m a.ckpt
+  pub made : WasMade m.cluster a.ckpt
   pub kept : s.kept.ckpt ≡ Some a.ckpt
   -- what its checkpoint declares is as it was at its beginning, and its handle is there
   pub sections : s.kept.sections ≡ sections_declared m.cluster (Some a.ckpt)
   pub handle : IsSome (named_handle m s.call.actor s.op)
+
+-- a client that is live leaves
+pub record IsLeaveAt (m : Machine) (s : CallState) : Type 0 where
+  pub op : IsFinalize s.op
+  pub live : is_live_client (client_of s.call) m.cluster ≡ true
+
+-- a handle is there that is closed
+pub record IsCloseAt (m : Machine) (s : CallState) (k : ℕ) : Type 0 where
+  pub op : IsCloseOf s.op
+  pub kept : s.kept.ckpt ≡ Some k
+  pub handle : IsSome (named_handle m s.call.actor s.op)
+
+pub record IsRetainAt (m : Machine) (s : CallState) (k : ℕ) (duration : ℤ) : Type 0 where
+  pub op : IsRetainOf duration s.op
+  pub kept : s.kept.ckpt ≡ Some k
+  pub made : WasMade m.cluster k
 
 abbrev pub IsAt : Machine → CallState → Driver → Type 0
 IsAt m s (drivers.Enter r) = IsEnterAt m s r
 IsAt m s (drivers.Open o) = IsOpenAt m s o
 IsAt m s (drivers.Update u) = IsUpdateAt m s u
 IsAt m s (drivers.Active a) = IsActiveAt m s a
+IsAt m s drivers.Leave = IsLeaveAt m s
+IsAt m s (drivers.Close k) = IsCloseAt m s k
+IsAt m s (drivers.Unlink name) = IsUnlinkOf name s.op
+IsAt m s (drivers.Retain k duration) = IsRetainAt m s k duration
 
 -- its steps have led it there
 abbrev pub IsWorking : Machine → Option Working → Type 0
@@ -213,10 +248,10 @@ pub record InvariantWith (hand : Option Working) (m : Machine) : Type 0 where
   pub up : ((m.cluster.up ≡ no_nodes) × (m.cluster.clients ≡ [])) ⊎ (m.cluster.up ≡ first_nodes 1)
   pub rises : IdentitiesRise m.cluster.entries
   pub up_to : AllUpTo m.cluster.last_identity m.cluster.entries
-  pub in_use : AllInUse m.cluster.entries
+  pub swept : AllStay m.cluster.moment m.cluster.entries
   pub entries : (k : ℕ) (e : Entry) → entry_of k m.cluster.entries ≡ Some e → IsGoodEntry (maker_of hand k) (slot_of hand k) e (m.replicas k 0)
-  -- a handle has a number from 1, and its checkpoint is there and made
-  pub handles : (c : ℕ) (h : HandleView) → Contains (m.handles c) h → (1 ≤ h.handle) × IsMade m h.id
+  -- a handle has a number from 1, and its checkpoint was made
+  pub handles : (c : ℕ) (h : HandleView) → Contains (m.handles c) h → (1 ≤ h.handle) × WasMade m.cluster h.id
   pub in_hand : (a : ActorName) → m.in_hand a ≡ in_hand_of hand a
   pub working : IsWorking m hand
 

@@ -3,6 +3,7 @@ pub mod TableState
 pub mod TableView
 pub mod NewTable
 pub mod Serving
+pub mod Freeing
 pub mod Reserving
 pub mod CallStates
 pub mod Driving
@@ -12,7 +13,7 @@ pub mod Beginning
 pub mod Steps
 pub mod HandSteps
 pub mod Shows
-pub mod Giving
+pub mod Settling
 pub mod Guards
 pub mod Invariant
 pub mod Runs

@@ -1,19 +1,36 @@
 -- What a step of a call asks of the record.
-use Rattle.std.specs.Prelude.{◌≡◌, None}
+use Rattle.std.specs.Prelude.{◌≡◌, ℕ, ◌+◌, ◌-◌, ◌^◌, ◌<◌, ◌≤◌, length, Some, None, IsSome, IsSomeAnd, false}
 use Rattle.node_msgs.specs.declared.next.RecordStep.{RecordStep}
 use Rattle.node_msgs.specs.declared.next.RecordStep.TheVariants as events
 use Rattle.world_core.specs.declared.drivers.Driver.{Driver}
 use Rattle.world_core.specs.declared.drivers.Driver.TheVariants as drivers
 use Rattle.cluster_record.specs.DueOpen.{OpenState}
-use Rattle.cluster_record.specs.RecordReady.{CanEnter, CanCreate, CanReferAt}
-use Rattle.cluster_record.specs.RecordState.{RecordState, named}
+use Rattle.ckpt_types.specs.declared.calls.OpenAsk.{OpenAsk}
+use Rattle.cluster_record.specs.declared.opening.OpenAnswer.{OpenAnswer}
+use Rattle.cluster_record.specs.declared.opening.OpenAnswer.TheVariants.{Opened, Made, Refused}
+use Rattle.cluster_record.specs.Opening.{open_answer}
+use Rattle.cluster_record.specs.RecordReady.{CanEnter, CanReferAt}
+use Rattle.cluster_record.specs.RecordState.{RecordState, named, entry_of}
 use Rattle.cluster_record.specs.DueOpen.{making_ckpt}
 use Rattle.cluster_record.specs.LookUps.{identity_in}
 use Rattle.cluster_record.specs.Makings.{IsMakingOf}
 
+-- an open can be asked of the record: its name fits, and no number is at its end
+pub record CanAsk (R : RecordState) (ask : OpenAsk) : Type 0 where
+  pub fits : length ask.name ≤ 256
+  pub references : CanReferAt ask.client R.entries (identity_in (named ask.name R.entries))
+  pub identity : R.last_identity < 2 ^ 32 - 1
+
+-- an open that is not refused
+abbrev pub IsGranted : OpenAnswer → Type 0
+IsGranted (Opened k added) = Unit {0}
+IsGranted (Made k) = Unit {0}
+IsGranted (Refused refused) = ⊥
+
+-- a creation and an opening are the same call, and are answered as they were decided
 abbrev pub IsOpenReady : RecordState → OpenState → RecordStep → Type 0
-IsOpenReady R o events.Create = CanCreate R × (named o.ask.name R.entries ≡ None)
-IsOpenReady R o events.Open = CanReferAt o.ask.client R.entries (identity_in (named o.ask.name R.entries))
+IsOpenReady R o events.Create = CanAsk R o.ask × (open_answer R o.ask ≡ Made (R.last_identity + 1))
+IsOpenReady R o events.Open = CanAsk R o.ask × ((k : ℕ) × (identity_in (named o.ask.name R.entries) ≡ Some k) × (open_answer R o.ask ≡ Opened k false))
 IsOpenReady R o events.Finish = CanReferAt o.ask.client R.entries (making_ckpt o.making) × IsMakingOf R o.ask.client (making_ckpt o.making)
 IsOpenReady R o events.Undo = IsMakingOf R o.ask.client (making_ckpt o.making)
 IsOpenReady R o step = Unit {0}
@@ -21,4 +38,6 @@ IsOpenReady R o step = Unit {0}
 abbrev pub IsRecordReady : RecordState → Driver → RecordStep → Type 0
 IsRecordReady R (drivers.Enter r) step = CanEnter r R
 IsRecordReady R (drivers.Open o) step = IsOpenReady R o step
+IsRecordReady R (drivers.Unlink name) step = IsSomeAnd (named name R.entries) (λ e. e.making ≡ None)
+IsRecordReady R (drivers.Retain k duration) step = IsSomeAnd (entry_of k R.entries) (λ e. IsSome e.name)
 IsRecordReady R driver step = Unit {0}

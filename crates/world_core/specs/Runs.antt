@@ -124,6 +124,10 @@ steps_left R (drivers.Enter r) = 1
 steps_left R (drivers.Open o) = making_left R o.making
 steps_left R (drivers.Update u) = let complete = complete_of (entry_of u.ckpt R.entries) in 2 * lacking complete u.owned + having complete u.owned + 1
 steps_left R (drivers.Active a) = 1
+steps_left R drivers.Leave = 1
+steps_left R (drivers.Close k) = 1
+steps_left R (drivers.Unlink name) = 1
+steps_left R (drivers.Retain k duration) = 1
 
 abbrev pub hand_left : RecordState → Option InHand → ℕ
 hand_left R None = 0

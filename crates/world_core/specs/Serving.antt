@@ -1,5 +1,5 @@
 -- What a node answers to a request, and what becomes of its one replica.
-use Rattle.std.specs.Prelude.{◌≡◌, ℕ, ◌+◌, ◌-◌, ◌<◌, ◌^◌, List, [], ◌∷◌, ◌++◌, Option, Some, None, Result, Ok, Err, IsOk, IsSomeAnd, ℤ, slice_get, slice_set}
+use Rattle.std.specs.Prelude.{◌≡◌, ℕ, ◌+◌, ◌-◌, ◌<◌, ◌^◌, List, [], ◌∷◌, ◌++◌, Option, Some, None, Result, Ok, Err, IsOk, IsSomeAnd, ℤ, pos, slice_get, slice_set}
 use Rattle.std.specs.Result.{result_ok}
 use Rattle.ckpt_types.specs.declared.ais_error.AisError.TheVariants.{NoSections}
 use Rattle.ckpt_types.specs.declared.answers.Answer.{Answer}
@@ -20,9 +20,12 @@ use Rattle.node_msgs.specs.declared.requests.Request.TheVariants as requests
 use Rattle.node_msgs.specs.Requests.{ckpt_of}
 use Rattle.node_msgs.specs.declared.replies.Reply.{Reply}
 use Rattle.node_msgs.specs.declared.replies.Reply.TheVariants as replies
+use Rattle.world_core.specs.declared.replica.RecordSeen.{RecordSeen}
 use Rattle.world_core.specs.declared.replica.Replica.{Replica}
 use Rattle.world_core.specs.declared.replica.Slot.{Slot}
+use Rattle.cluster_record.specs.declared.entries.Entry.{Entry}
 use Rattle.cluster_record.specs.Places.{find_key, change_key, list_or}
+use Rattle.cluster_record.specs.RecordState.{RecordState, entry_of}
 
 -- ---- what travels beside a request
 
@@ -82,14 +85,23 @@ abbrev pub slot_id : Update → List Section → Option Slot → Option (List (L
 slot_id update sections None = None
 slot_id update sections (Some slot) = told_id update slot.moment sections
 
--- the answer of a replica to a request of a call with this operation, at the record's moment
-abbrev pub reply_of : Request → Op → ℤ → Replica → Reply
-reply_of (requests.Stage call k t) op now x = stage_reply (outcome x.store.attributes (update_of op) t x.store.sections) x.slot
-reply_of (requests.Commit call k) op now x = replies.Done (update_answer (update_of op))
-reply_of (requests.Read k) op now x = done_or_refused (replies.Done answers.Pieces) (read (elements_of op) now x.store.sections)
-reply_of (requests.Status k) op now x = replies.Done (answers.Status (status x.store.attributes now x.store.sections))
-reply_of (requests.Iterate call k choice) op now x = replies.Done answers.Nothing
-reply_of _ op now x = replies.NoReplica
+-- the retention of a checkpoint as it is set now; 0 where it is gone
+abbrev pub retention_in : Option Entry → ℤ
+retention_in None = pos 0
+retention_in (Some e) = e.retention
+
+-- what a node sees of the record at a step about a checkpoint
+abbrev pub record_seen : RecordState → ℕ → RecordSeen
+record_seen R k = record { moment = R.moment; retention = retention_in (entry_of k R.entries) }
+
+-- the answer of a replica to a request of a call with this operation
+abbrev pub reply_of : Request → Op → RecordSeen → Replica → Reply
+reply_of (requests.Stage call k t) op seen x = stage_reply (outcome x.store.attributes (update_of op) t x.store.sections) x.slot
+reply_of (requests.Commit call k) op seen x = replies.Done (update_answer (update_of op))
+reply_of (requests.Read k) op seen x = done_or_refused (replies.Done answers.Pieces) (read (elements_of op) seen.moment x.store.sections)
+reply_of (requests.Status k) op seen x = replies.Done (answers.Status (status (record x.store.attributes { retention_duration = seen.retention }) seen.moment x.store.sections))
+reply_of (requests.Iterate call k choice) op seen x = replies.Done answers.Nothing
+reply_of _ op seen x = replies.NoReplica
 
 -- and what the replica becomes
 abbrev pub replica_after : Request → Op → Replica → Replica
@@ -131,9 +143,9 @@ replica_key x = x.ckpt
 abbrev pub replica_in : List (List Replica) → ℕ → ℕ → Option Replica
 replica_in nodes k r = find_key replica_key k (list_or (slice_get nodes r))
 
-abbrev pub reply_at : Request → Op → ℤ → Option Replica → Reply
-reply_at request op now None = replies.NoReplica
-reply_at request op now (Some x) = reply_of request op now x
+abbrev pub reply_at : Request → Op → RecordSeen → Option Replica → Reply
+reply_at request op seen None = replies.NoReplica
+reply_at request op seen (Some x) = reply_of request op seen x
 
 abbrev pub pieces_at : Request → Op → ℤ → Option Replica → Option (List (List ℕ))
 pieces_at request op now None = None

@@ -17,7 +17,7 @@ use Rattle.run_labels.specs.declared.labels.Label.{Label}
 use Rattle.client_handles.specs.ClientState.{ClientState, handle_at, iteration_at}
 use Rattle.client_handles.specs.declared.handle_view.HandleView.{HandleView}
 use Rattle.cluster_record.specs.Makings.{IsMakingOf}
-use Rattle.cluster_record.specs.DueOpen.{making_ckpt}
+use Rattle.cluster_record.specs.DueOpen.{making_ckpt, accepts}
 use Rattle.world_core.specs.declared.drivers.Driver.{Driver}
 use Rattle.world_core.specs.declared.drivers.Driver.TheVariants as drivers
 use Rattle.world_core.specs.declared.hands.InHand.{InHand}
@@ -27,7 +27,7 @@ use Rattle.cluster_record.specs.declared.entries.Entry.{Entry}
 use Rattle.world_core.specs.declared.replica.Replica.{Replica}
 use Rattle.world_core.specs.declared.replica.Slot.{Slot}
 use Rattle.world_core.specs.declared.world.World.{World}
-use Rattle.cluster_record.specs.Calls.{client_of}
+use Rattle.cluster_record.specs.Calls.{client_of, number_of}
 use Rattle.cluster_record.specs.Identities.{IdentitiesRise, AllUpTo}
 use Rattle.cluster_record.specs.Places.{or_none}
 use Rattle.cluster_record.specs.RecordState.{RecordState, entry_of, complete_of, named}
@@ -36,9 +36,9 @@ use Rattle.node_msgs.specs.Requests.{ckpt_of}
 use Rattle.world_core.specs.Serving.{replica_in, opened_replica, IsReadyFor}
 use Rattle.cluster_record.specs.StepDone.{StepDone}
 use Rattle.world_core.specs.Driving.{Kept, driver_state}
-use Rattle.world_core.specs.Beginning.{IsIterOf, IsNextOf, IsBuilt}
+use Rattle.world_core.specs.Beginning.{IsIterOf, IsNextOf, IsBuilt, closed_place}
 use Rattle.world_core.specs.Machine.{IterationTable, no_iterations, Machine, Effect, Staged, ReplicaState, CallState}
-use Rattle.world_core.specs.Steps.{IsDue, after, due, driver_of, room_of, seen_at, staged_moment, named_handle, handle_over}
+use Rattle.world_core.specs.Steps.{IsDue, after, due, driver_of, room_of, seen_at, staged_moment, named_handle, handle_in, handle_over}
 use Rattle.cluster_record.specs.LookUps.{sections_declared}
 
 -- ---- what the machine keeps and the code does not
@@ -224,10 +224,14 @@ IsFinishable m (Some making) = AllReserved m making.ckpt × IsSomeAnd (entry_of 
 -- what a due step of the record asks of it
 abbrev pub IsEventReady : Machine → CallState → Driver → RecordStep → Type 0
 IsEventReady m s (drivers.Enter r) events.Enter = (r < 8) × (length m.cluster.clients < 64)
-IsEventReady m s (drivers.Open o) events.Create = (length m.cluster.entries < 16) × IsSomeAnd o.ask.attrs (λ a. Unit {0}) × (named o.ask.name m.cluster.entries ≡ None)
-IsEventReady m s (drivers.Open o) events.Open = IsSomeAnd (named o.ask.name m.cluster.entries) (λ e. Unit {0})
+IsEventReady m s (drivers.Open o) events.Create = (length m.cluster.entries < 16) × IsSomeAnd o.ask.attrs (λ a. Unit {0}) × (named o.ask.name m.cluster.entries ≡ None) × (length o.ask.name ≤ 256)
+IsEventReady m s (drivers.Open o) events.Open = IsSomeAnd (named o.ask.name m.cluster.entries) (λ e. (e.making ≡ None) × (accepts o.ask.attrs e ≡ true)) × (length o.ask.name ≤ 256)
 IsEventReady m s (drivers.Open o) events.Finish = IsFinishable m o.making × IsMakingOf m.cluster o.ask.client (making_ckpt o.making)
 IsEventReady m s (drivers.Open o) events.Undo = IsSomeAnd o.making (λ making. Unit {0}) × IsMakingOf m.cluster o.ask.client (making_ckpt o.making)
+IsEventReady m s drivers.Leave events.Leave = Unit {0}
+IsEventReady m s (drivers.Close k) events.Close = Unit {0}
+IsEventReady m s (drivers.Unlink name) events.Unlink = IsSomeAnd (named name m.cluster.entries) (λ e. e.making ≡ None)
+IsEventReady m s (drivers.Retain k duration) events.Retain = IsSomeAnd (entry_of k m.cluster.entries) (λ e. IsSome e.name)
 IsEventReady m s driver step = ⊥
 
 -- a call to the active alone
@@ -249,6 +253,8 @@ pub record Facts (m : Machine) : Type 0 where
   -- an iteration that is started has room for all sections that are declared, and one that goes on is there
   pub starts : (a : ActorName) (s : CallState) (r : ℕ) (call : CallId) (k : ℕ) (choice : Choice) → m.in_hand a ≡ Some s → due m s ≡ Serve r (requests.Iterate call k choice) → (s.kept.sections ≡ sections_declared m.cluster (Some k)) × IsIterOf choice s.op × IsSome (named_handle m a s.op) × IsActive (driver_of s)
   pub goes_on : (a : ActorName) (s : CallState) (r : ℕ) (call : CallId) (k : ℕ) → m.in_hand a ≡ Some s → due m s ≡ Serve r (requests.Next call k) → IsNextOf s.op × IsSome (named_handle m a s.op)
+  -- a handle is there that is closed
+  pub closes : (a : ActorName) (s : CallState) (place : ℕ) → m.in_hand a ≡ Some s → closed_place s.op ≡ Some place → (place < 100) × IsSome (handle_in m (number_of a) (Some place))
   -- the numbers of handles are from 1
   pub numbered : (c : ℕ) (h : HandleView) → Contains (m.handles c) h → 1 ≤ h.handle
 

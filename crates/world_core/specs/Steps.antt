@@ -39,7 +39,7 @@ use Rattle.run_labels.specs.declared.labels.Label.{Label}
 use Rattle.run_labels.specs.declared.labels.Label.TheVariants as labels
 use Rattle.run_labels.specs.OpWord.{word_of_op}
 use Rattle.client_handles.specs.Numbered.{without, stands_for}
-use Rattle.client_handles.specs.ClientState.{handle_numbered, iteration_number, keeping}
+use Rattle.client_handles.specs.ClientState.{handle_number, handle_numbered, iteration_number, goes_over, keeping}
 use Rattle.client_handles.specs.declared.begun.BegunIteration.{BegunIteration}
 use Rattle.client_handles.specs.declared.begun.TheConstants.{ITERATIONS_MAX}
 use Rattle.client_handles.specs.declared.client.TheConstants.{HANDLES_MAX}
@@ -54,11 +54,11 @@ use Rattle.cluster_record.specs.Places.{find_key, put, put2}
 use Rattle.cluster_record.specs.LookUps.{node_of_client, sections_declared, creation_flags_of}
 use Rattle.cluster_record.specs.RecordState.{RecordState, entry_of, complete_of, client_key, is_live_client, is_up, no_nodes, brought_up, IsMomentFrom, moved}
 use Rattle.node_msgs.specs.Requests.{ckpt_of}
-use Rattle.world_core.specs.Serving.{update_of, reply_at, pieces_at, or_same, next_reply_at, next_id, given_at, chosen_at}
+use Rattle.world_core.specs.Serving.{update_of, record_seen, reply_at, pieces_at, or_same, next_reply_at, next_id, given_at, chosen_at}
 use Rattle.node_msgs.specs.Steps.{word_of, verb_of, event_verb}
 use Rattle.world_core.specs.Driving.{Kept, driver_state, driver_next, driver_taken, driver_end, event_ckpt, event_node, event_end, event_after, takes_memory}
 use Rattle.cluster_record.specs.StepDone.{done_of}
-use Rattle.world_core.specs.Beginning.{begin_end, handle_place, iteration_place, started_place, ended_place, chosen_choice, opened_place, opened_for, takes_room, IsBuilt}
+use Rattle.world_core.specs.Beginning.{begin_end, handle_place, iteration_place, closed_place, started_place, ended_place, chosen_choice, opened_place, opened_for, takes_room, IsBuilt}
 use Rattle.world_core.specs.Machine.{IterationTable, Machine, Effect, Applied, Staged, ReplicaState, CallState}
 
 -- ---- what the code sees of one replica
@@ -117,7 +117,7 @@ ids_asked m s = ids_of (kept_in (m.iterations (client_of s.call)) (iteration_pla
 abbrev pub MayAnswer : Machine → CallState → Request → ℕ → Reply → Type 0
 MayAnswer m s (requests.Reserve k) r answer = (answer ≡ replies.Done answers.Nothing) ⊎ (answer ≡ replies.NoMemory)
 MayAnswer m s (requests.Next call k) r answer = answer ≡ next_reply_at (ids_asked m s) m.cluster.moment (seen_at m k r)
-MayAnswer m s request r answer = answer ≡ reply_at request s.op m.cluster.moment (seen_at m (ckpt_of request) r)
+MayAnswer m s request r answer = answer ≡ reply_at request s.op (record_seen m.cluster (ckpt_of request)) (seen_at m (ckpt_of request) r)
 
 -- the pieces that come with the answer
 abbrev pub pieces_due : Machine → CallState → Request → ℕ → Option (List (List ℕ))
@@ -315,6 +315,10 @@ abbrev pub on_ok : StepReply → Machine → Machine → Machine
 on_ok words.Ok m after_it = after_it
 on_ok reply m after_it = m
 
+abbrev pub on_done : StepReply → Machine → Machine → Machine
+on_done words.Done m after_it = after_it
+on_done reply m after_it = m
+
 abbrev pub at_some : Option ℕ → Machine → (ℕ → Machine) → Machine
 at_some None m change = m
 at_some (Some n) m change = change n
@@ -361,6 +365,22 @@ with_next m c place kept next = m
 abbrev pub next_done : Machine → CallState → ℕ → ℕ → Machine
 next_done m s k r = with_next m (client_of s.call) (iteration_place s.op) (kept_in (m.iterations (client_of s.call)) (iteration_place s.op)) (given_at (ids_asked m s) m.cluster.moment (seen_at m k r))
 
+-- without a handle, and without the iterations over it
+abbrev pub without_handle : Machine → ℕ → Option HandleView → Machine
+without_handle m c None = m
+without_handle m c (Some h) = record m {
+  handles = put m.handles c (without handle_number h.handle (m.handles c));
+  iterations = put m.iterations c (record (m.iterations c) { begun = without goes_over h.handle (m.iterations c).begun });
+}
+
+-- the handle is closed that the operation closes, if it closes one
+abbrev pub with_closed : CallState → Machine → Machine
+with_closed s m = without_handle m (client_of s.call) (handle_in m (client_of s.call) (closed_place s.op))
+
+-- a client has no handle and no iteration
+abbrev pub with_none : ℕ → Machine → Machine
+with_none c m = record m { handles = put m.handles c []; iterations = put m.iterations c (record (m.iterations c) { begun = [] }) }
+
 abbrev pub event_done : Machine → CallState → RecordStep → Machine
 event_done m s step = with_record m (event_after s.call (driver_of s) step m.cluster)
 
@@ -376,6 +396,11 @@ changed m s verbs.Stage k r reply = on_ok reply m (at_some k m (λ k. at_some r 
 changed m s verbs.Commit k r reply = on_ok reply m (at_some k m (λ k. at_some r m (λ r. change_replica m k r (m.replicas k r) (with_committed (entry_of k m.cluster.entries)))))
 changed m s verbs.Iter k r reply = on_ok reply m (at_some k m (λ k. at_some r m (start_done m s k)))
 changed m s verbs.Next k r reply = on_ok reply m (at_some k m (λ k. at_some r m (next_done m s k)))
+changed m s verbs.Leave k r reply = on_ok reply m (with_none (client_of s.call) (event_done m s events.Leave))
+changed m s verbs.Close k r reply = on_ok reply m (with_closed s (event_done m s events.Close))
+changed m s verbs.Unlink k r reply = on_ok reply m (event_done m s events.Unlink)
+changed m s verbs.Retain k r reply = on_ok reply m (event_done m s events.Retain)
+changed m s verbs.Look k r reply = on_done reply m (with_closed s m)
 changed m s verb k r reply = m
 
 -- m is the state after the change: what the call keeps of the record is of then

@@ -5,7 +5,7 @@ use Rattle.ckpt_types.specs.declared.open_flags.OpenFlags.{OpenFlags}
 use Rattle.ckpt_types.specs.Reads.{NextGiven}
 use Rattle.section_iter.specs.KeptIds.{KeptIds}
 use Rattle.section_iter.specs.Next.{kept_after}
-use Rattle.client_handles.specs.ClientState.{ClientState, taken, bound, added, iteration_at, returned, ended}
+use Rattle.client_handles.specs.ClientState.{ClientState, taken, bound, added, iteration_at, returned, ended, dropped, emptied}
 use Rattle.client_handles.specs.declared.begun.BegunIteration.{BegunIteration}
 
 pub record TableState : Type 0 where
@@ -36,6 +36,14 @@ gone_on place next t = gone_on_with place (kept_at place t) next t
 -- the iteration of a place is no more
 abbrev pub without_begun : ℕ → TableState → TableState
 without_begun place t = record t { client = ended place t.client }
+
+-- without the handle for which the place stands, and without the iterations over it
+abbrev pub with_closed : ℕ → TableState → TableState
+with_closed place t = record t { client = dropped place t.client }
+
+-- without all handles and iterations
+abbrev pub with_none : TableState → TableState
+with_none t = record t { client = emptied t.client }
 
 -- one call more was begun
 abbrev pub advanced : TableState → TableState

@@ -1,15 +1,13 @@
-ghost use Rattle.std.specs.Prelude.{◌≡◌, OnOk, OnErr, IsTrue};
-ghost use Rattle.cluster_record.specs.LookUps.{identity_in, at_ckpt};
-ghost use Rattle.cluster_record.specs.RecordReady.{CanReferAt};
-ghost use Rattle.cluster_record.specs.RecordState.{named, opened};
-ghost use Rattle.world_core.specs.RecordReady.{IsOpenReady, IsRecordReady};
+ghost use Rattle.std.specs.Prelude.{◌≡◌, IfOk, OnOk, OnErr, IsTrue};
+ghost use Rattle.cluster_record.specs.Opening.{open_answer, after_open};
+ghost use Rattle.world_core.specs.RecordReady.{CanAsk, IsGranted, IsOpenReady, IsRecordReady};
 ghost use Rattle.world_core.specs.Driving.{event_change, event_after, takes_memory};
 ghost use Rattle.world_core.specs.declared.drivers.Driver.TheVariants.{Open};
 
 use crate::drivers::Driver;
 use crate::open_call::OpenCall;
 use ckpt_types::{CallId, OpenAsk};
-use cluster_record::Record;
+use cluster_record::{OpenAnswer, Record, number_of};
 use node_msgs::RecordStep;
 use std::alloc::AllocError;
 
@@ -50,6 +48,26 @@ fn change(
         }
         Driver::Open(open_call) => change_by_open(cluster, call, open_call, step),
         Driver::Update(_) | Driver::Active(_) => Ok(()),
+        Driver::Leave => {
+            cluster.leave(number_of(&call.actor));
+            Ok(())
+        }
+        Driver::Close(ckpt) => {
+            cluster.close(number_of(&call.actor), *ckpt);
+            Ok(())
+        }
+        Driver::Unlink(name) => {
+            let Ok(()) = cluster.unlink(name) else {
+                unreachable!()
+            };
+            Ok(())
+        }
+        Driver::Retain(ckpt, duration) => {
+            let Ok(()) = cluster.retain(*ckpt, *duration) else {
+                unreachable!()
+            };
+            Ok(())
+        }
     }
 }
 
@@ -65,11 +83,7 @@ fn change_by_open(
     ensures memory { OnErr result (IsTrue (takes_memory step)) }
 {
     match step {
-        RecordStep::Create => cluster.create(call, open_call.ask()),
-        RecordStep::Open => {
-            open_named(cluster, open_call.ask());
-            Ok(())
-        }
+        RecordStep::Create | RecordStep::Open => ask(cluster, call, open_call.ask()),
         RecordStep::Finish => {
             if let Some(ckpt) = open_call.making() {
                 cluster.finish_create(ckpt);
@@ -86,11 +100,27 @@ fn change_by_open(
     }
 }
 
-fn open_named(cluster: &mut Record, ask: &OpenAsk)
-    requires { CanReferAt ask.now.client cluster.old.entries (identity_in (named ask.now.name cluster.old.entries)) }
-    ensures { cluster.new ≡ at_ckpt (identity_in (named ask.now.name cluster.old.entries)) cluster.old (λ k. opened k ask.now.client cluster.old) }
+// The record opens the checkpoint of the ask, or puts it into the making: that none of both is refused was decided before.
+fn ask(cluster: &mut Record, call: CallId, ask: &OpenAsk) -> Result<(), AllocError>
+    requires can { CanAsk cluster.old ask.now }
+    requires granted { IsGranted (open_answer cluster.old ask.now) }
+    ensures ok { OnOk result (cluster.new ≡ after_open call ask.now cluster.old) }
+    ensures err { OnErr result (cluster.new ≡ cluster.old) }
 {
-    if let Some(identity) = cluster.find(&ask.name) {
-        cluster.open(identity, ask.client);
+    let ask = copy(ask)?;
+    if let OpenAnswer::Refused(_) = cluster.open(call, ask) {
+        unreachable!()
     }
+    Ok(())
+}
+
+fn copy(ask: &OpenAsk) -> Result<OpenAsk, AllocError>
+    ensures { IfOk result (λ copied. copied ≡ ask.now) }
+{
+    Ok(OpenAsk {
+        name: ask.name.clone()?,
+        attrs: ask.attrs,
+        client: ask.client,
+        node: ask.node,
+    })
 }

@@ -1,7 +1,7 @@
-ghost use Rattle.std.specs.Prelude.{◌≡◌, None, false, not, if◌then◌else◌};
+ghost use Rattle.std.specs.Prelude.{◌≡◌, None, false, not, if◌then◌else◌, pos, int_lt};
 ghost use Rattle.ckpt_types.specs.declared.ais_error.AisError.TheVariants as errors;
 ghost use Rattle.ckpt_types.specs.Attributes.{has_flag, has_bad_open_flags, is_malformed};
-ghost use Rattle.world_core.specs.Beginning.{refused, version_is_bad, name_is_bad, attributes_are_bad, open_begin, vector_is_bad, update_is_bad, on_handle, may_write, may_read, may_always, choice_is_bad, choice_of, end_iteration, update_begin, begin_end, handle_place, iteration_place, started_place, ended_place, takes_room, opened_place, no_flags, opened_for};
+ghost use Rattle.world_core.specs.Beginning.{refused, version_is_bad, name_is_bad, attributes_are_bad, open_begin, vector_is_bad, update_is_bad, on_handle, may_write, may_read, may_always, choice_is_bad, choice_of, end_iteration, update_begin, begin_end, handle_place, closed_place, iteration_place, started_place, ended_place, takes_room, opened_place, no_flags, opened_for};
 ghost use Rattle.world_core.specs.Steps.{ckpt_of_handle};
 
 use crate::world::VECTOR_MAX;
@@ -53,7 +53,7 @@ pub fn begin_end(live: bool, handle: &Option<HandleView>, op: &Op) -> Option<Out
                 refused(AisError::BadHandle)
             }
         }
-        Op::Status(_) | Op::Next(_) => {
+        Op::Status(_) | Op::Next(_) | Op::Close(_) => {
             if live {
                 handle_begin(handle)
             } else {
@@ -63,6 +63,20 @@ pub fn begin_end(live: bool, handle: &Option<HandleView>, op: &Op) -> Option<Out
         Op::EndIter(_) => {
             if live {
                 end_iteration(handle)
+            } else {
+                refused(AisError::BadHandle)
+            }
+        }
+        Op::Retain(_, duration) => {
+            if live {
+                retain_begin(handle, *duration)
+            } else {
+                refused(AisError::BadHandle)
+            }
+        }
+        Op::Unlink(_) | Op::Finalize => {
+            if live {
+                None
             } else {
                 refused(AisError::BadHandle)
             }
@@ -83,7 +97,19 @@ pub fn handle_place(op: &Op) -> Option<u8>
         | Op::Over(place, _)
         | Op::Read(place, _)
         | Op::Status(place)
-        | Op::Iter(_, place, _, _) => Some(*place),
+        | Op::Iter(_, place, _, _)
+        | Op::Close(place)
+        | Op::Retain(place, _) => Some(*place),
+        _ => None,
+    }
+}
+
+/// The place of the handle that an operation closes.
+pub fn closed_place(op: &Op) -> Option<u8>
+    ensures { result ≡ closed_place op.now }
+{
+    match op {
+        Op::Close(place) => Some(*place),
         _ => None,
     }
 }
@@ -298,6 +324,15 @@ fn handle_begin(handle: &Option<HandleView>) -> Option<Outcome>
     match handle {
         None => refused(AisError::BadHandle),
         Some(_) => None,
+    }
+}
+
+fn retain_begin(handle: &Option<HandleView>, duration: i64) -> Option<Outcome>
+    ensures { result ≡ on_handle handle.now (int_lt duration (pos 0)) may_always }
+{
+    match handle {
+        None => refused(AisError::BadHandle),
+        Some(_) => may_begin(duration < 0, true),
     }
 }
 

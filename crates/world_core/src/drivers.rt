@@ -1,18 +1,20 @@
 ghost use Rattle.std.specs.Prelude.{◌≡◌, ◌-◌, ◌^◌, ◌<◌, Some, IfOk};
 ghost use Rattle.node_msgs.specs.Requests.{ckpt_of};
 ghost use Rattle.node_msgs.specs.Steps.{verb_of, word_of, event_verb};
-ghost use Rattle.world_core.specs.Driving.{driver_next, driver_taken, driver_end, driver_start, update_start, active_start, done_end, event_ckpt, event_node, event_end, opened_end, takes_memory, refused_cause};
+ghost use Rattle.world_core.specs.Driving.{driver_next, driver_taken, driver_end, driver_start, on_kept, update_start, active_start, done_end, event_ckpt, event_node, event_end, opened_end, takes_memory, refused_cause};
 ghost use Rattle.cluster_record.specs.StepDone.{done_of};
 ghost use Rattle.cluster_record.specs.DueOpen.{making_ckpt};
 ghost use Rattle.cluster_record.specs.Calls.{client_of};
 ghost use Rattle.world_core.specs.Steps.{kept_at};
 ghost use Rattle.node_msgs.specs.declared.steps.StepReply.TheVariants as words;
+ghost use Rattle.world_core.specs.declared.drivers.Driver.TheVariants.{Close, Retain};
 
 use crate::beginning::{choice_of, ckpt_of_handle};
+use crate::one_step::{close_next, retain_next, unlink_next};
 use crate::open_call::OpenCall;
 use crate::reading::ActiveCall;
 use crate::update_call::UpdateCall;
-use ckpt_types::{AisError, Answer, CallId, Cause, CkptId, NodeId, Op, OpenAsk, Outcome};
+use ckpt_types::{AisError, Answer, Bytes, CallId, Cause, CkptId, NodeId, Op, OpenAsk, Outcome};
 use client_handles::HandleView;
 use cluster_record::{ActiveKind, CLIENTS_MAX, Record, number_of};
 use node_msgs::{Next, RecordStep, Reply, Request, StepReply};
@@ -38,6 +40,14 @@ pub enum Driver {
     Update(UpdateCall),
     /// A call to the active replica.
     Active(ActiveCall),
+    /// The client leaves.
+    Leave,
+    /// A handle of the checkpoint is closed.
+    Close(CkptId),
+    /// The checkpoint of the name loses it.
+    Unlink(Bytes),
+    /// The retention of the checkpoint becomes this duration.
+    Retain(CkptId, i64),
 }
 
 impl Driver {
@@ -77,6 +87,10 @@ impl Driver {
                 ckpt_of_handle(handle),
             )),
             Op::Next(_) => Ok(active_start(call, ActiveKind::Next, ckpt_of_handle(handle))),
+            Op::Close(_) => Ok(close_start(ckpt_of_handle(handle))),
+            Op::Retain(_, duration) => Ok(retain_start(*duration, ckpt_of_handle(handle))),
+            Op::Unlink(name) => Ok(Driver::Unlink(name.clone()?)),
+            Op::Finalize => Ok(Driver::Leave),
             _ => Ok(Driver::Enter(0)),
         }
     }
@@ -99,6 +113,10 @@ impl Driver {
             Driver::Open(open_call) => open_call.next(cluster, rooms.handles),
             Driver::Update(update) => update.next(cluster),
             Driver::Active(active) => active.next(cluster, rooms.iterations),
+            Driver::Leave => Next::Event(RecordStep::Leave),
+            Driver::Close(ckpt) => close_next(cluster, *ckpt),
+            Driver::Unlink(name) => unlink_next(cluster, name),
+            Driver::Retain(ckpt, _) => retain_next(cluster, *ckpt),
         }
     }
 
@@ -124,9 +142,9 @@ impl Driver {
         ensures { self.new ≡ driver_taken (done_of cluster.now (verb_of request.now) (Some (ckpt_of request.now)) (Some r) word) self.old }
     {
         match self {
-            Driver::Enter(_) | Driver::Active(_) => {}
             Driver::Open(open_call) => open_call.take(cluster, r, request, word),
             Driver::Update(update) => update.take(cluster, r, request, word),
+            _ => {}
         }
     }
 
@@ -167,9 +185,9 @@ impl Driver {
         ensures { result ≡ done_end (done_of cluster.now (verb_of request.now) (Some (ckpt_of request.now)) (Some r) words.Ok) answer.now self.now }
     {
         match self {
-            Driver::Enter(_) | Driver::Open(_) => None,
             Driver::Update(update) => update.end(cluster, r, request, answer),
             Driver::Active(_) => Some(Outcome::Done(*answer)),
+            _ => None,
         }
     }
 
@@ -218,18 +236,36 @@ fn active_start(call: CallId, kind: ActiveKind, ckpt: Option<CkptId>) -> Driver
     }
 }
 
+fn close_start(ckpt: Option<CkptId>) -> Driver
+    ensures { result ≡ on_kept ckpt (λ k. Close k) }
+{
+    match ckpt {
+        None => Driver::Enter(0),
+        Some(ckpt) => Driver::Close(ckpt),
+    }
+}
+
+fn retain_start(duration: i64, ckpt: Option<CkptId>) -> Driver
+    ensures { result ≡ on_kept ckpt (λ k. Retain k duration) }
+{
+    match ckpt {
+        None => Driver::Enter(0),
+        Some(ckpt) => Driver::Retain(ckpt, duration),
+    }
+}
+
 /// The checkpoint of a step of the record, before it is done.
 pub fn event_ckpt(cluster: &Record, driver: &Driver, step: &RecordStep) -> Option<CkptId>
     requires { cluster.now.last_identity < 2 ^ 32 - 1 }
     ensures { result ≡ event_ckpt cluster.now driver.now step.now }
 {
-    let Driver::Open(open_call) = driver else {
-        return None;
-    };
-    match step {
-        RecordStep::Create => Some(cluster.last_identity() + 1),
-        RecordStep::Open => cluster.find(&open_call.ask().name),
-        RecordStep::Finish | RecordStep::Undo => open_call.making(),
+    match (driver, step) {
+        (Driver::Open(_), RecordStep::Create) => Some(cluster.last_identity() + 1),
+        (Driver::Open(open_call), RecordStep::Open) => cluster.find(&open_call.ask().name),
+        (Driver::Open(open_call), RecordStep::Finish | RecordStep::Undo) => open_call.making(),
+        (Driver::Unlink(name), RecordStep::Unlink) => cluster.find(name),
+        (Driver::Close(ckpt), RecordStep::Close) => Some(*ckpt),
+        (Driver::Retain(ckpt, _), RecordStep::Retain) => Some(*ckpt),
         _ => None,
     }
 }
@@ -252,6 +288,9 @@ pub fn event_end(step: &RecordStep, ckpt: Option<CkptId>) -> Option<Outcome>
         RecordStep::Enter => Some(Outcome::Done(Answer::Version)),
         RecordStep::Open | RecordStep::Finish => opened_end(ckpt),
         RecordStep::Undo => Some(Outcome::NoMemory),
+        RecordStep::Leave | RecordStep::Close | RecordStep::Unlink | RecordStep::Retain => {
+            Some(Outcome::Done(Answer::Nothing))
+        }
         _ => None,
     }
 }

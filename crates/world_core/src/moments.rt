@@ -12,6 +12,7 @@ impl World {
         ensures { SetsMoment t self.old self.new result }
     {
         self.cluster.set_moment(t);
+        self.nodes.free_gone(&self.cluster);
         Label::Moved(t)
     }
 }

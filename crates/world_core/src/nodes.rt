@@ -1,23 +1,39 @@
-ghost use Rattle.std.specs.Prelude.{◌≡◌, ◌<◌, ◌≤◌, [], ◌++◌, ◌∷◌, false, Option, Some, None, IfOk, IfSome, IsSomeAnd, MatchOption, OnOk, OnErr, length, replicate, slice_get};
+ghost use Rattle.std.specs.Prelude.{◌≡◌, ◌<◌, ◌≤◌, [], ◌++◌, ◌∷◌, false, Option, Some, None, IfOk, IfSome, IsSomeAnd, MatchOption, OnOk, OnErr, filter, length, replicate, slice_get};
 ghost use Rattle.ckpt_types.specs.declared.section_id.TheConstants.{SECTION_ID_MAX};
 ghost use Rattle.section_iter.specs.Next.{kept_after};
 ghost use Rattle.ckpt_types.specs.Attributes.{is_malformed};
 ghost use Rattle.cluster_record.specs.Places.{find_key, change_key, place_key};
 ghost use Rattle.node_msgs.specs.Requests.{ckpt_of};
-ghost use Rattle.world_core.specs.Serving.{replica_key, replica_after, replica_in, reply_at, pieces_at, served, IsReadyAt, opened_replica, added, reserved_at, chosen_at, given_at, next_id, next_reply_at};
+ghost use Rattle.world_core.specs.Serving.{record_seen, replica_key, replica_after, replica_in, reply_at, pieces_at, served, IsReadyAt, opened_replica, added, reserved_at, chosen_at, given_at, next_id, next_reply_at};
+ghost use Rattle.world_core.specs.Freeing.{is_there, freed};
 ghost use Rattle.world_core.specs.Lending.{IsLent, pieces_told};
 ghost use Rattle.world_core.specs.Steps.{ended_pieces};
 
-use crate::replica::Replica;
+use crate::replica::{RecordSeen, Replica};
 use ckpt_types::{
     Answer, Choice, CkptId, CreationAttributes, Moment, NodeId, Op, Outcome, Pieces, ReadBuf,
     SharedReads, SharedUpdate,
 };
+use cluster_record::Record;
 use node_msgs::{Reply, Request};
 use section_iter::Iteration;
 use section_store::Store;
 use std::alloc::{AllocError, Global};
 use std::marker::Model;
+
+/// What a node sees of the record at a step that is about a checkpoint.
+pub fn record_seen(cluster: &Record, ckpt: CkptId) -> RecordSeen
+    ensures { result ≡ record_seen cluster.now ckpt }
+{
+    let retention = match cluster.entry(ckpt) {
+        None => 0,
+        Some(entry) => entry.retention,
+    };
+    RecordSeen {
+        moment: cluster.now(),
+        retention,
+    }
+}
 
 /// What a call lends to a step that a node serves.
 #[derive(Drop)]
@@ -72,24 +88,24 @@ impl Nodes {
         })
     }
 
-    /// The answer of a node to a request of a call with this operation, at the moment. What travels beside
-    /// the request is lent. It takes no memory.
+    /// The answer of a node to a request of a call with this operation, by what it sees of the record. What
+    /// travels beside the request is lent. It takes no memory.
     pub fn serve(
         &mut self,
         r: NodeId,
         request: &Request,
         op: &Op,
-        now: Moment,
+        seen: RecordSeen,
         lent: &mut Lent,
     ) -> Reply
         requires node { r < 8 }
         requires ready { IsReadyAt request.now (replica_in self.old (ckpt_of request.now) r) }
         requires lent { IsLent request.now op.now lent.old }
-        ensures reply { result ≡ reply_at request.now op.now now (replica_in self.old (ckpt_of request.now) r) }
+        ensures reply { result ≡ reply_at request.now op.now seen (replica_in self.old (ckpt_of request.now) r) }
         ensures new { self.new ≡ served self.old r request.now op.now }
-        ensures pieces { pieces_told result lent.new.read.pieces ≡ pieces_at request.now op.now now (replica_in self.old (ckpt_of request.now) r) }
+        ensures pieces { pieces_told result lent.new.read.pieces ≡ pieces_at request.now op.now seen.moment (replica_in self.old (ckpt_of request.now) r) }
     {
-        serve_node(self.list.as_mut_slice(), r, request, op, now, lent)
+        serve_node(self.list.as_mut_slice(), r, request, op, seen, lent)
     }
 
     /// The replica that a node has of a checkpoint gives what is chosen now to an iteration with room for it. It
@@ -153,6 +169,14 @@ impl Nodes {
     {
         reserve_node(self.list.as_mut_slice(), alloc, r, ckpt, attributes, made)
     }
+
+    /// On all nodes the replicas go, complete or reserved, whose checkpoint has no entry in the record. It
+    /// takes no memory.
+    pub fn free_gone(&mut self, cluster: &Record)
+        ensures { self.new ≡ freed cluster.now.entries self.old }
+    {
+        free_nodes(self.list.as_mut_slice(), cluster);
+    }
 }
 
 impl Node {
@@ -163,14 +187,14 @@ impl Node {
         find_at(self.replicas.as_slice(), ckpt)
     }
 
-    fn serve(&mut self, request: &Request, op: &Op, now: Moment, lent: &mut Lent) -> Reply
+    fn serve(&mut self, request: &Request, op: &Op, seen: RecordSeen, lent: &mut Lent) -> Reply
         requires ready { IsReadyAt request.now (find_key replica_key (ckpt_of request.now) self.old) }
         requires lent { IsLent request.now op.now lent.old }
-        ensures reply { result ≡ reply_at request.now op.now now (find_key replica_key (ckpt_of request.now) self.old) }
+        ensures reply { result ≡ reply_at request.now op.now seen (find_key replica_key (ckpt_of request.now) self.old) }
         ensures new { self.new ≡ change_key replica_key (ckpt_of request.now) (replica_after request.now op.now) self.old }
-        ensures pieces { pieces_told result lent.new.read.pieces ≡ pieces_at request.now op.now now (find_key replica_key (ckpt_of request.now) self.old) }
+        ensures pieces { pieces_told result lent.new.read.pieces ≡ pieces_at request.now op.now seen.moment (find_key replica_key (ckpt_of request.now) self.old) }
     {
-        serve_at(self.replicas.as_mut_slice(), request, op, now, lent)
+        serve_at(self.replicas.as_mut_slice(), request, op, seen, lent)
     }
 
     fn reserve(
@@ -185,6 +209,13 @@ impl Node {
         ensures err { OnErr result (self.new ≡ self.old) }
     {
         reserve_in(&mut self.replicas, alloc, ckpt, attributes, made)
+    }
+
+    // Its replicas of checkpoints that are gone go.
+    fn free_gone(&mut self, cluster: &Record)
+        ensures { self.new ≡ filter (is_there cluster.now.entries) self.old }
+    {
+        free_in(&mut self.replicas, cluster);
     }
 }
 
@@ -240,20 +271,20 @@ fn serve_at(
     replicas: &mut [Replica],
     request: &Request,
     op: &Op,
-    now: Moment,
+    seen: RecordSeen,
     lent: &mut Lent,
 ) -> Reply
     requires ready { IsReadyAt request.now (find_key replica_key (ckpt_of request.now) replicas.old) }
     requires lent { IsLent request.now op.now lent.old }
-    ensures reply { result ≡ reply_at request.now op.now now (find_key replica_key (ckpt_of request.now) replicas.old) }
+    ensures reply { result ≡ reply_at request.now op.now seen (find_key replica_key (ckpt_of request.now) replicas.old) }
     ensures new { replicas.new ≡ change_key replica_key (ckpt_of request.now) (replica_after request.now op.now) replicas.old }
-    ensures pieces { pieces_told result lent.new.read.pieces ≡ pieces_at request.now op.now now (find_key replica_key (ckpt_of request.now) replicas.old) }
+    ensures pieces { pieces_told result lent.new.read.pieces ≡ pieces_at request.now op.now seen.moment (find_key replica_key (ckpt_of request.now) replicas.old) }
 {
     let Some(i) = place_of(replicas, request.ckpt()) else {
         return Reply::NoReplica;
     };
     let replica = &mut replicas[i];
-    replica.serve(request, op, now, lent)
+    replica.serve(request, op, seen, lent)
 }
 
 fn serve_node(
@@ -261,18 +292,18 @@ fn serve_node(
     r: NodeId,
     request: &Request,
     op: &Op,
-    now: Moment,
+    seen: RecordSeen,
     lent: &mut Lent,
 ) -> Reply
     requires node { r < length nodes.old }
     requires ready { IsReadyAt request.now (replica_in nodes.old (ckpt_of request.now) r) }
     requires lent { IsLent request.now op.now lent.old }
-    ensures reply { result ≡ reply_at request.now op.now now (replica_in nodes.old (ckpt_of request.now) r) }
+    ensures reply { result ≡ reply_at request.now op.now seen (replica_in nodes.old (ckpt_of request.now) r) }
     ensures new { nodes.new ≡ served nodes.old r request.now op.now }
-    ensures pieces { pieces_told result lent.new.read.pieces ≡ pieces_at request.now op.now now (replica_in nodes.old (ckpt_of request.now) r) }
+    ensures pieces { pieces_told result lent.new.read.pieces ≡ pieces_at request.now op.now seen.moment (replica_in nodes.old (ckpt_of request.now) r) }
 {
     let node = &mut nodes[r as usize];
-    node.serve(request, op, now, lent)
+    node.serve(request, op, seen, lent)
 }
 
 fn reserve_in(
@@ -310,4 +341,24 @@ fn reserve_node(
 {
     let node = &mut nodes[r as usize];
     node.reserve(alloc, ckpt, attributes, made)
+}
+
+fn stays(replica: &Replica, cluster: &Record) -> bool
+    ensures { result ≡ is_there cluster.now.entries replica.now }
+{
+    cluster.entry(replica.ckpt).is_some()
+}
+
+fn free_in(replicas: &mut Vec<Replica>, cluster: &Record)
+    ensures { replicas.new.items ≡ filter (is_there cluster.now.entries) replicas.old.items }
+{
+    replicas.retain(|replica| stays(replica, cluster));
+}
+
+fn free_nodes(nodes: &mut [Node], cluster: &Record)
+    ensures { nodes.new ≡ freed cluster.now.entries nodes.old }
+{
+    for node in nodes.iter_mut() {
+        node.free_gone(cluster);
+    }
 }

@@ -2,14 +2,14 @@ ghost use Rattle.std.specs.Prelude.{◌≡◌, ◌<◌, Some, None};
 ghost use Rattle.cluster_record.specs.RecordState.{named};
 ghost use Rattle.node_msgs.specs.Requests.{ckpt_of};
 ghost use Rattle.node_msgs.specs.Steps.{verb_of, event_verb};
-ghost use Rattle.cluster_record.specs.DueOpen.{open_begun, making_ckpt, accepts, in_time, create_next, entry_next, on_free_name, on_named, on_making, made_of, create_taken, open_next, open_taken};
+ghost use Rattle.cluster_record.specs.DueOpen.{open_begun, making_ckpt, in_time, create_next, entry_next, on_free_name, on_named, on_making, made_of, create_taken, open_next, open_taken};
 ghost use Rattle.cluster_record.specs.StepDone.{done_of};
 
 use ckpt_types::{
     AisError, CallId, Cause, CkptId, CreationAttributes, Moment, NodeId, OpenAsk, Outcome,
 };
 use client_handles::HANDLES_MAX;
-use cluster_record::{CHECKPOINTS_MAX, Entry, Making, Record, first_lacking};
+use cluster_record::{CHECKPOINTS_MAX, Entry, Making, Record, accepts, first_lacking};
 use moment_rules::reached;
 use node_msgs::{Next, RecordStep, Request, StepReply};
 use std::marker::Model;
@@ -151,15 +151,6 @@ fn made_of(ckpt: Option<CkptId>) -> Option<Making>
     }
 }
 
-fn accepts(attributes: &Option<CreationAttributes>, entry: &Entry) -> bool
-    ensures { result ≡ accepts attributes.now entry.now }
-{
-    match attributes {
-        None => true,
-        Some(attributes) => entry.attributes.same_but_retention(attributes),
-    }
-}
-
 // What is next before the deadline; where it is reached, the call ends with TIMEOUT.
 fn in_time(deadline: Option<Moment>, moment: Moment, next: Next) -> Next
     ensures { result ≡ in_time deadline moment next }
@@ -205,7 +196,7 @@ fn create_next(cluster: &Record, room: bool) -> Next
 fn entry_next(room: bool, attributes: &Option<CreationAttributes>, entry: &Entry) -> Next
     ensures { result ≡ entry_next room attributes.now entry.now }
 {
-    if !accepts(attributes, entry) {
+    if !accepts(entry, attributes) {
         Next::End(Outcome::Refused(AisError::Exist, Cause::Plain))
     } else if !room {
         Next::End(Outcome::Refused(AisError::NoResources, Cause::Count(HANDLES_MAX as u32)))

@@ -4,7 +4,7 @@ ghost use Rattle.std.specs.Result.{result_ok};
 ghost use Rattle.ckpt_types.specs.declared.answers.Answer.TheVariants as answers;
 ghost use Rattle.ckpt_types.specs.declared.identities.CallId.{CallId};
 ghost use Rattle.ckpt_types.specs.Updates.{outcome};
-ghost use Rattle.ckpt_types.specs.Reads.{read, chosen, given};
+ghost use Rattle.ckpt_types.specs.Reads.{read, status, chosen, given};
 ghost use Rattle.ckpt_types.specs.declared.section_id.TheConstants.{SECTION_ID_MAX};
 ghost use Rattle.section_iter.specs.Next.{kept_after};
 ghost use Rattle.node_msgs.specs.declared.replies.Reply.TheVariants as replies;
@@ -15,8 +15,8 @@ ghost use Rattle.world_core.specs.Lending.{bytes_asked, IsLentRead, IsLentFor, I
 use crate::hands::update_in;
 use crate::nodes::Lent;
 use ckpt_types::{
-    AisError, Answer, CallId, Choice, CkptId, CreationAttributes, Moment, NewId, Op, ReadBuf,
-    ReadElement, SharedUpdate, Update,
+    AisError, Answer, CallId, CheckpointDescriptor, Choice, CkptId, CreationAttributes, Moment,
+    NewId, Op, ReadBuf, ReadElement, SharedUpdate, Update,
 };
 use node_msgs::{Reply, Request};
 use section_iter::Iteration;
@@ -33,6 +33,15 @@ pub struct Slot {
     pub update: SharedUpdate,
     /// The moment at which it is done.
     pub moment: Moment,
+}
+
+/// What a node sees of the record at a step that is about a checkpoint.
+#[derive(Clone, Copy, Debug)]
+pub struct RecordSeen {
+    /// The moment.
+    pub moment: Moment,
+    /// The retention of the checkpoint, as it is set now.
+    pub retention: i64,
 }
 
 /// One checkpoint on one node.
@@ -70,22 +79,32 @@ impl Replica {
         })
     }
 
-    /// The answer to a request of a call with this operation, at the moment. What travels beside it is lent.
-    pub fn serve(&mut self, request: &Request, op: &Op, now: Moment, lent: &mut Lent) -> Reply
+    /// The answer to a request of a call with this operation, by what its node sees of the record. What travels
+    /// beside the request is lent.
+    pub fn serve(&mut self, request: &Request, op: &Op, seen: RecordSeen, lent: &mut Lent) -> Reply
         requires ready { IsReady request.now self.old }
         requires lent { IsLent request.now op.now lent.old }
-        ensures reply { result ≡ reply_of request.now op.now now self.old }
+        ensures reply { result ≡ reply_of request.now op.now seen self.old }
         ensures new { self.new ≡ replica_after request.now op.now self.old }
-        ensures pieces { pieces_told result lent.new.read.pieces ≡ pieces_of request.now op.now now self.old }
+        ensures pieces { pieces_told result lent.new.read.pieces ≡ pieces_of request.now op.now seen.moment self.old }
     {
         match request {
             Request::Stage(call, _, moment) => self.stage_lent(*call, op, *moment, lent),
             Request::Commit(_, _) => self.commit_lent(op, lent),
-            Request::Read(_) => self.read_lent(op, now, lent),
-            Request::Status(_) => Reply::Done(Answer::Status(self.store.descriptor(now))),
+            Request::Read(_) => self.read_lent(op, seen.moment, lent),
+            Request::Status(_) => Reply::Done(Answer::Status(self.status(seen))),
             Request::Iterate(_, _, _) => Reply::Done(Answer::Nothing),
             _ => Reply::NoReplica,
         }
+    }
+
+    // The retention is the record's alone: that of the store is as old as the replica.
+    fn status(&self, seen: RecordSeen) -> CheckpointDescriptor
+        ensures { result ≡ status (record self.now.store.attributes { retention_duration = seen.retention }) seen.moment self.now.store.sections }
+    {
+        let mut status = self.store.descriptor(seen.moment);
+        status.attributes.retention_duration = seen.retention;
+        status
     }
 
     /// Gives what is chosen now to an iteration with room for it. It takes no memory.

@@ -1,4 +1,4 @@
-ghost use Rattle.std.specs.Prelude.{◌≡◌, ◌≢◌, ◌⊎◌, ℕ, ◌-◌, ◌^◌, ◌<◌, Some, None, IsSomeAnd, IfOk, OnErr, true, length, nat_lt, slice_get, slice_set};
+ghost use Rattle.std.specs.Prelude.{◌≡◌, ◌≢◌, ◌⊎◌, ℕ, ◌<◌, Some, IfSome, IsSomeAnd, IfOk, OnErr, length, slice_get};
 ghost use Rattle.ckpt_types.specs.declared.identities.ActorName.TheVariants.{Client};
 ghost use Rattle.ckpt_types.specs.declared.identities.Who.TheVariants as whos;
 ghost use Rattle.node_msgs.specs.declared.next.Next.TheVariants as nexts;
@@ -6,26 +6,24 @@ ghost use Rattle.node_msgs.specs.declared.requests.Request.{Request};
 ghost use Rattle.node_msgs.specs.declared.requests.Request.TheVariants as requests;
 ghost use Rattle.run_labels.specs.declared.labels.Label.TheVariants as labels;
 ghost use Rattle.run_labels.specs.declared.words.Said.TheVariants.{Idle};
-ghost use Rattle.world_core.specs.Giving.{gives_handle};
+ghost use Rattle.world_core.specs.Settling.{given, closed_at, settled, looked, CanGive, CanSettle, HasPlaces};
 ghost use Rattle.cluster_record.specs.RecordState.{entry_of};
-ghost use Rattle.client_handles.specs.declared.client.TheConstants.{HANDLES_MAX};
-ghost use Rattle.cluster_record.specs.LookUps.{creation_flags_of};
-ghost use Rattle.world_core.specs.TableState.{TableState, with_handle};
+ghost use Rattle.world_core.specs.Beginning.{opened_place, closed_place};
 ghost use Rattle.world_core.specs.Reserving.{IsReserved};
 ghost use Rattle.world_core.specs.Runs.{step_word};
-ghost use Rattle.world_core.specs.Shows.{IsShown, IsRoomy, IsReservable, handles_in, last_in};
+ghost use Rattle.world_core.specs.Shows.{IsShown, IsRoomy, IsReservable};
 ghost use Rattle.world_core.specs.Happenings.{rooms_in, IsNext, IsStep, IsIdle};
 ghost use Rattle.ckpt_types.specs.declared.identities.CallId.{CallId};
 ghost use Rattle.ckpt_types.specs.declared.sections.Choice.{Choice};
 
 use crate::applying::apply;
-use crate::beginning::{opened_for, opened_place};
+use crate::beginning::{closed_place, opened_for, opened_place};
 use crate::drivers::{Rooms, event_ckpt, event_end, event_node};
 use crate::messages::look_word;
-use crate::nodes::told_pieces;
+use crate::nodes::{record_seen, told_pieces};
 use crate::tables::Tables;
 use crate::world::World;
-use ckpt_types::{ActorName, Answer, CkptId, NodeId, OpenFlags, Outcome, Who};
+use ckpt_types::{ActorName, Answer, CkptId, NodeId, Op, Outcome, Who};
 use cluster_record::Record;
 use node_msgs::{Next, RecordStep, Reply, Request, StepReply, Verb};
 use run_labels::{Label, LineWord, Said};
@@ -126,8 +124,8 @@ impl World {
         let call = hand.call;
         let op = hand.word();
         let mut lent = hand.lend(alloc, request)?;
-        let now = self.cluster.now();
-        let reply = self.nodes.serve(r, request, &hand.op, now, &mut lent);
+        let seen = record_seen(&self.cluster, request.ckpt());
+        let reply = self.nodes.serve(r, request, &hand.op, seen, &mut lent);
         let end = self.hands.take(c, &self.cluster, r, request, &reply);
         let pieces = told_pieces(&end, &reply, lent.read);
         Ok(Label::Stepped {
@@ -155,8 +153,6 @@ impl World {
         };
         let call = hand.call;
         let op = hand.word();
-        let place = opened_place(&hand.op);
-        let flags = opened_for(&hand.op);
         let ckpt = event_ckpt(&self.cluster, &hand.driver, &step);
         let node = event_node(&hand.driver, &step);
         let verb = step.verb();
@@ -173,12 +169,11 @@ impl World {
                 pieces: None,
             };
         }
-        if gives_handle(&step) {
-            give(&mut self.tables, &self.cluster, c, flags, ckpt, place);
-        }
+        settle(&mut self.tables, &self.cluster, c, &hand.op, &step, ckpt);
         let end = event_end(&step, ckpt);
         self.hands
             .told(c, &self.cluster, &step, ckpt, node, StepReply::Ok, &end);
+        self.nodes.free_gone(&self.cluster);
         Label::Stepped {
             call,
             op,
@@ -204,6 +199,7 @@ impl World {
         let call = hand.call;
         let op = hand.word();
         let reply = look_word(&end);
+        settle_look(&mut self.tables, c, &hand.op, &end);
         self.hands.clear(c);
         Label::Stepped {
             call,
@@ -248,35 +244,60 @@ fn idle(c: u8, finish: bool) -> Label
     Label::Word(Who::Actor(ActorName::Client(c)), word, Said::Idle)
 }
 
-// Whether a step of the record gives a handle.
-fn gives_handle(step: &RecordStep) -> bool
-    ensures { result ≡ gives_handle step.now }
-{
-    match step {
-        RecordStep::Open | RecordStep::Finish => true,
-        _ => false,
-    }
-}
-
-// The client gets a handle of the checkpoint, for which the place stands.
-fn give(
+// What a step of the record makes of its client's table.
+fn settle(
     tables: &mut Tables,
     cluster: &Record,
     c: u8,
-    flags: OpenFlags,
+    op: &Op,
+    step: &RecordStep,
     ckpt: Option<CkptId>,
-    place: Option<u8>,
 )
     requires client { c < 100 }
-    requires room { nat_lt (length (handles_in (slice_get tables.old c))) HANDLES_MAX ≡ true }
-    requires number { last_in (slice_get tables.old c) < 2 ^ 32 - 1 }
-    requires ckpt { ckpt ≢ None }
-    requires place { IsSomeAnd place (λ p. p < 100) }
-    ensures new { (j p : ℕ) (t : TableState) → ckpt ≡ Some j → place ≡ Some p → slice_get tables.old c ≡ Some t → tables.new ≡ slice_set tables.old c (with_handle j flags (creation_flags_of (entry_of j cluster.now.entries)) p t) }
+    requires can { CanSettle c op.now step.now ckpt tables.old }
+    ensures new { tables.new ≡ settled cluster.now c op.now step.now ckpt tables.old }
+    ensures places { HasPlaces step.now (slice_get tables.old c) }
+{
+    match step {
+        RecordStep::Open | RecordStep::Finish => give(tables, cluster, c, op, ckpt),
+        RecordStep::Close => close(tables, c, closed_place(op)),
+        RecordStep::Leave => tables.leave(c),
+        _ => {}
+    }
+}
+
+// Where the record alone says that a call is done, the handle that it closes is closed.
+fn settle_look(tables: &mut Tables, c: u8, op: &Op, end: &Outcome)
+    requires client { c < 100 }
+    requires place { IfSome (closed_place op.now) (λ p. p < 100) }
+    ensures { tables.new ≡ looked end.now c op.now tables.old }
+{
+    match end {
+        Outcome::Done(_) => close(tables, c, closed_place(op)),
+        _ => {}
+    }
+}
+
+// The handle at the place is closed, if there is a place.
+fn close(tables: &mut Tables, c: u8, place: Option<u8>)
+    requires client { c < 100 }
+    requires place { IfSome place (λ p. p < 100) }
+    ensures { tables.new ≡ closed_at c place tables.old }
+{
+    if let Some(place) = place {
+        tables.close(c, place);
+    }
+}
+
+// The client gets a handle of the checkpoint, for which the place stands that the operation names.
+fn give(tables: &mut Tables, cluster: &Record, c: u8, op: &Op, ckpt: Option<CkptId>)
+    requires client { c < 100 }
+    requires can { CanGive c op.now ckpt tables.old }
+    ensures new { tables.new ≡ given cluster.now c op.now ckpt (opened_place op.now) tables.old }
     ensures places { IsSomeAnd (slice_get tables.old c) (λ t. length t.client.places ≡ 100) }
 {
-    let (Some(ckpt), Some(place)) = (ckpt, place) else {
+    let (Some(ckpt), Some(place)) = (ckpt, opened_place(op)) else {
         unreachable!()
     };
-    tables.add(c, ckpt, flags, cluster.creation_flags(ckpt), place);
+    tables.add(c, ckpt, opened_for(op), cluster.creation_flags(ckpt), place);
 }

@@ -6,7 +6,7 @@ ghost use Rattle.world_core.specs.Serving.{replica_in, given_at, next_id, next_r
 ghost use Rattle.world_core.specs.Lending.{pieces_told};
 ghost use Rattle.world_core.specs.Steps.{handle_over, ids_of};
 ghost use Rattle.client_handles.specs.declared.client.TheConstants.{HANDLES_MAX};
-ghost use Rattle.world_core.specs.TableState.{with_handle, with_started_iteration, gone_on, kept_at, begun_with};
+ghost use Rattle.world_core.specs.TableState.{with_handle, with_started_iteration, gone_on, kept_at, begun_with, with_closed, with_none};
 ghost use Rattle.world_core.specs.NewTable.{new_table};
 ghost use Rattle.world_core.specs.Shows.{next_in, handles_in, iterations_in, last_in, handle_in_place, handle_over_place};
 
@@ -172,6 +172,21 @@ impl Table {
         };
         self.client.bind(place, number);
     }
+
+    // The handle for which a place stands is closed, and the iterations over it end.
+    fn close(&mut self, place: u8)
+        requires { place < 100 }
+        ensures { self.new ≡ with_closed place self.old }
+    {
+        let _closed = self.client.drop_handle(place);
+    }
+
+    // All handles are closed, and all iterations end.
+    fn leave(&mut self)
+        ensures { self.new ≡ with_none self.old }
+    {
+        self.client.close_all();
+    }
 }
 
 impl Tables {
@@ -309,6 +324,25 @@ impl Tables {
             place,
         );
     }
+
+    /// The handle for which a place of a client stands is closed, and the iterations over it end. Where it
+    /// stands for none nothing changes. It takes no memory.
+    pub fn close(&mut self, c: u8, place: u8)
+        requires client { c < 100 }
+        requires place { place < 100 }
+        ensures { IsSomeAnd (slice_get self.old c) (λ table. self.new ≡ slice_set self.old c (with_closed place table)) }
+    {
+        close_at(self.list.as_mut_slice(), c as usize, place);
+    }
+
+    /// All handles of a client are closed, and all its iterations end. Its places then stand for none, and
+    /// no number is given again. It takes no memory.
+    pub fn leave(&mut self, c: u8)
+        requires { c < 100 }
+        ensures { IsSomeAnd (slice_get self.old c) (λ table. self.new ≡ slice_set self.old c (with_none table)) }
+    {
+        leave_at(self.list.as_mut_slice(), c as usize);
+    }
 }
 
 fn new_tables(alloc: Global) -> Result<Vec<Table>, AllocError>
@@ -385,4 +419,21 @@ fn add_at(
 {
     let table = &mut tables[c];
     table.add(id, flags, creation_flags, place);
+}
+
+fn close_at(tables: &mut [Table], c: usize, place: u8)
+    requires client { c < length tables.old }
+    requires place { place < 100 }
+    ensures { IsSomeAnd (slice_get tables.old c) (λ table. tables.new ≡ slice_set tables.old c (with_closed place table)) }
+{
+    let table = &mut tables[c];
+    table.close(place);
+}
+
+fn leave_at(tables: &mut [Table], c: usize)
+    requires { c < length tables.old }
+    ensures { IsSomeAnd (slice_get tables.old c) (λ table. tables.new ≡ slice_set tables.old c (with_none table)) }
+{
+    let table = &mut tables[c];
+    table.leave();
 }

@@ -47,7 +47,7 @@ impl World {
         ensures { IfOk result IsNew }
     {
         Ok(World {
-            cluster: Record::new(alloc)?,
+            cluster: Record::new(alloc, 0)?,
             nodes: Nodes::new(alloc)?,
             tables: Tables::new(alloc)?,
             hands: Hands::new(alloc)?,

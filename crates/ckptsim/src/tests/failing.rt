@@ -49,7 +49,7 @@ fn a_failing_source_or_sink_is_told_and_leaves_the_front_of_the_lines(
     for (name, read, write, room, status, written) in cases {
         let mut source = MemSource::new(rt.alloc(), SCRIPT, &[read])?;
         let mut sink = MemSink::new(rt.alloc(), room, &[write])?;
-        let ended = played(&rt, rt.alloc(), "run", &mut source, &mut sink)?;
+        let ended = played(&rt, rt.alloc(), &["run"], &mut source, &mut sink)?;
         assert_eq!(rt; ended, status, "{name}");
         assert_eq!(rt; sink.contents().len(), written, "{name}");
         assert!(rt; LINES.starts_with(sink.contents()), "{name}");
@@ -79,7 +79,7 @@ fn a_later_write_that_fails_leaves_the_front_of_the_lines(rt: HostRuntime) -> Re
     for write in [1, 2, 3] {
         let mut source = MemSource::new(rt.alloc(), script.as_slice(), &[])?;
         let mut sink = MemSink::new(rt.alloc(), 100_000, &[write])?;
-        let status = played(&rt, rt.alloc(), "run", &mut source, &mut sink)?;
+        let status = played(&rt, rt.alloc(), &["run"], &mut source, &mut sink)?;
         assert_eq!(rt; status, Status::WriteFault, "write {write}");
         assert!(rt;
             !sink.contents().is_empty(),
@@ -103,7 +103,7 @@ fn a_later_read_that_fails_writes_nothing(rt: HostRuntime) -> Result<(), Fail> {
     for read in [1, 2, 3] {
         let mut source = MemSource::new(rt.alloc(), script.as_slice(), &[read])?;
         let mut sink = MemSink::new(rt.alloc(), 100_000, &[])?;
-        let status = played(&rt, rt.alloc(), "run", &mut source, &mut sink)?;
+        let status = played(&rt, rt.alloc(), &["run"], &mut source, &mut sink)?;
         assert_eq!(rt; status, Status::ReadFault, "read {read}");
         assert_eq!(rt; sink.contents(), b"".as_slice(), "read {read}");
     }
@@ -116,7 +116,7 @@ fn a_script_that_comes_byte_by_byte_is_read_whole(rt: HostRuntime) -> Result<(),
     let bytes = MemSource::new(rt.alloc(), script.as_slice(), &[])?;
     let mut source = ByteByByte { bytes };
     let mut sink = MemSink::new(rt.alloc(), 100_000, &[])?;
-    let status = played(&rt, rt.alloc(), "run", &mut source, &mut sink)?;
+    let status = played(&rt, rt.alloc(), &["run"], &mut source, &mut sink)?;
     assert_eq!(rt; status, Status::Ran);
     assert_eq!(rt; sink.contents(), lines.as_slice());
     Ok(())
@@ -130,7 +130,7 @@ fn lines_that_are_taken_three_bytes_at_a_time_are_written_whole(
     let mut source = MemSource::new(rt.alloc(), script.as_slice(), &[])?;
     let bytes = MemSink::new(rt.alloc(), 100_000, &[])?;
     let mut sink = ThreeByThree { bytes };
-    let status = played(&rt, rt.alloc(), "run", &mut source, &mut sink)?;
+    let status = played(&rt, rt.alloc(), &["run"], &mut source, &mut sink)?;
     assert_eq!(rt; status, Status::Ran);
     assert_eq!(rt; sink.bytes.contents(), lines.as_slice());
     Ok(())
@@ -141,14 +141,14 @@ fn a_fault_among_small_pieces_is_told(rt: HostRuntime) -> Result<(), Fail> {
     let bytes = MemSource::new(rt.alloc(), SCRIPT, &[40])?;
     let mut source = ByteByByte { bytes };
     let mut sink = MemSink::new(rt.alloc(), 4096, &[])?;
-    let status = played(&rt, rt.alloc(), "run", &mut source, &mut sink)?;
+    let status = played(&rt, rt.alloc(), &["run"], &mut source, &mut sink)?;
     assert_eq!(rt; status, Status::ReadFault, "the read behind 40 bytes fails");
     assert_eq!(rt; sink.contents(), b"".as_slice(), "nothing was written");
 
     let mut source = MemSource::new(rt.alloc(), SCRIPT, &[])?;
     let bytes = MemSink::new(rt.alloc(), 4096, &[5])?;
     let mut sink = ThreeByThree { bytes };
-    let status = played(&rt, rt.alloc(), "run", &mut source, &mut sink)?;
+    let status = played(&rt, rt.alloc(), &["run"], &mut source, &mut sink)?;
     assert_eq!(rt;
         status,
         Status::WriteFault,

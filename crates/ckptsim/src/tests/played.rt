@@ -15,22 +15,30 @@ pub const SCRIPT: &[u8] =
 pub const LINES: &[u8] =
     b"c0.1 client OK B.2.2\nc0.2 open OK K1\nc0.3 write OK\nc0.4 read OK x616263\n";
 
-/// How the run of one word ends, on a cluster of which no node is up.
+/// What it prints with its steps.
+pub const STEPPED_LINES: &[u8] = b"+ c0.1 begin client\n+ c0.1 enter n0 ok\nc0.1 client OK B.2.2\n\
++ c0.2 begin open\n+ c0.2 create K1 ok\n+ c0.2 reserve K1 n0 ok\n+ c0.2 finish K1 ok\nc0.2 open OK K1\n\
++ c0.3 begin write\n+ c0.3 stage K1 n0 ok\n+ c0.3 commit K1 n0 ok\nc0.3 write OK\n\
++ c0.4 begin read\n+ c0.4 read K1 n0 ok\nc0.4 read OK x616263\n";
+
+/// How the run of these words ends, on a cluster of which no node is up.
 pub fn played<R: Threads + Wait + Sync, S: Source, K: Sink>(
     rt: &R,
     alloc: Global,
-    word: &str,
+    words: &[&str],
     source: &mut S,
     sink: &mut K,
 ) -> Result<Status, AllocError> {
-    let mut words = Vec::new(alloc);
-    words.push(String::from_str(alloc, word)?)?;
+    let mut owned = Vec::new(alloc);
+    for word in words {
+        owned.push(String::from_str(alloc, word)?)?;
+    }
     let mut world = World::new(alloc)?;
     let mut log = RunLog::new(alloc);
     Ok(ckpt_run(
         rt,
         alloc,
-        words.as_slice(),
+        owned.as_slice(),
         source,
         sink,
         &OpenGate,

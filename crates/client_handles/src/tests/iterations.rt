@@ -336,13 +336,48 @@ fn an_iteration_that_is_lent_ends_too(rt: HostRuntime) -> Result<(), Fail> {
         return Err(Fail::new("none was lent"));
     };
     let mut copy = client.copy(rt.alloc())?;
+    let mut left = client.copy(rt.alloc())?;
     assert_eq!(rt; client.end_iteration(3), Ok(()));
     assert_eq!(rt; client.end_iteration(3), Err(AisError::BadHandle));
     assert_eq!(rt; whose(&copy, 3), Some(1));
     copy.release(1);
     assert_eq!(rt; whose(&copy, 3), None);
     assert_eq!(rt; copy.end_iteration(3), Err(AisError::BadHandle));
+    left.close_all();
+    assert_eq!(rt; whose(&left, 3), None);
+    assert_eq!(rt; left.handle(0), Err(AisError::BadHandle));
     Ok(())
+}
+
+#[test]
+fn a_client_that_leaves_keeps_nothing(rt: HostRuntime) -> Result<(), Fail> {
+    let mut client = Client::new(rt.alloc(), NO_CALLBACKS)?;
+    play(
+        rt.alloc(),
+        &mut client,
+        &[
+            ("a handle at h0", 0, Act::Open(0), Some(1)),
+            ("and one at h99", 0, Act::Open(99), Some(2)),
+            ("one over h0", 0, Act::Begin(0, 1), Some(1)),
+            ("one over h99", 99, Act::Begin(99, 2), Some(2)),
+        ],
+    )?;
+    client.close_all();
+    play(
+        rt.alloc(),
+        &mut client,
+        &[
+            ("i0 stands for none", 0, Act::Whose, None),
+            ("i99 stands for none", 99, Act::End, None),
+            ("h0 is closed", 0, Act::Close(0), None),
+            ("no handle, no iteration", 1, Act::Begin(99, 3), None),
+            ("the next handle", 0, Act::Open(5), Some(3)),
+            ("h0 stands for none", 0, Act::Close(0), None),
+            ("one over h5", 7, Act::Begin(5, 4), Some(4)),
+            ("goes over the third", 7, Act::Whose, Some(3)),
+            ("i0 stands for none still", 0, Act::Pass, None),
+        ],
+    )
 }
 
 #[test]

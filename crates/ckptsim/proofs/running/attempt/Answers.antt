@@ -1,8 +1,8 @@
-use Rattle.std.proofs.Common.{List, arith, subst}
+use Rattle.std.proofs.Common.{Bool, List, arith, subst}
 use Rattle.std.specs.Io.KnownBytes.{Appends}
 use Rattle.run_labels.specs.declared.labels.Label.{Label}
 use Rattle.session_run.proofs.Playable.{playable}
-use Rattle.ckptsim.specs.Headline.{printed}
+use Rattle.ckptsim.specs.Headline.{asks_steps, printed}
 use Rattle.ckptsim.proofs.Written.{part_of_all}
 use Rattle.ckptsim.proofs.running.attempt.Goals as goal
 
@@ -17,5 +17,8 @@ session-requires-clause-lines g c κs within = omega (arith, c.in-Ok-parse.ensur
 -- all lines were written, which are a front of them
 pub returns-in-Ok-write_lines-clause-part : goal.returns-in-Ok-write_lines-clause-part
 returns-in-Ok-write_lines-clause-part g c =
-    part_of_all (g.K.Sink.held c.args.sink.now) (g.K.Sink.held c.write_lines.new.sink) (printed c.session.new.log.labels)
-    (subst (λ (labels : List Label). Appends (g.K.Sink.held c.args.sink.now) (g.K.Sink.held c.write_lines.new.sink) (printed labels)) c.as_slice-2.ensures c.in-Ok-write_lines.ensures.written)
+    let before = g.K.Sink.held c.args.sink.now in
+    let after = g.K.Sink.held c.write_lines.new.sink in
+    let written = subst (λ (labels : List Label). Appends before after (printed c.wants_steps.result labels)) c.as_slice-2.ensures c.in-Ok-write_lines.ensures.written in
+    part_of_all before after (printed (asks_steps c.args.words.now) c.session.new.log.labels)
+    (subst (λ (steps : Bool). Appends before after (printed steps c.session.new.log.labels)) c.wants_steps.ensures written)

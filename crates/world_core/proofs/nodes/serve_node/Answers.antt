@@ -1,7 +1,5 @@
-use Rattle.std.proofs.Common.{sym, ap, ◌∙◌, w64, List}
+use Rattle.std.proofs.Common.{sym, ap, ◌∙◌, List}
 use Rattle.std.specs.Prelude.{slice_set}
-use Rattle.std.proofs.lemmas.Int.{to_z-of_z}
-use mir.Val.{SFits}
 use Rattle.world_core.specs.declared.replica.Replica.{Replica}
 use Rattle.cluster_record.specs.Places.{find_key, change_key}
 use Rattle.node_msgs.specs.Requests.{ckpt_of}
@@ -11,9 +9,8 @@ use Rattle.world_core.proofs.nodes.serve_node.Goals as goal
 
 pub returns-clause-reply : goal.returns-clause-reply
 returns-clause-reply c =
-    let fits : SFits w64 c.args.now = c.ranges.now in
-    (simp to_z-of_z at c.serve.ensures.reply)
-    ∙ ap (λ (xs : List Replica). reply_at c.args.request.now c.args.op.now c.args.now (find_key replica_key (ckpt_of c.args.request.now) xs)) (sym (list_or-slice_get c.args.nodes.now c.args.r c.index-nodes-r.result c.requires.node))
+    c.serve.ensures.reply
+    ∙ ap (λ (xs : List Replica). reply_at c.args.request.now c.args.op.now c.args.seen (find_key replica_key (ckpt_of c.args.request.now) xs)) (sym (list_or-slice_get c.args.nodes.now c.args.r c.index-nodes-r.result c.requires.node))
 
 pub returns-clause-new : goal.returns-clause-new
 returns-clause-new c =
@@ -23,6 +20,5 @@ returns-clause-new c =
 
 pub returns-clause-pieces : goal.returns-clause-pieces
 returns-clause-pieces c =
-    let fits : SFits w64 c.args.now = c.ranges.now in
-    (simp to_z-of_z at c.serve.ensures.pieces)
-    ∙ ap (λ (xs : List Replica). pieces_at c.args.request.now c.args.op.now c.args.now (find_key replica_key (ckpt_of c.args.request.now) xs)) (sym (list_or-slice_get c.args.nodes.now c.args.r c.index-nodes-r.result c.requires.node))
+    c.serve.ensures.pieces
+    ∙ ap (λ (xs : List Replica). pieces_at c.args.request.now c.args.op.now c.args.seen.moment (find_key replica_key (ckpt_of c.args.request.now) xs)) (sym (list_or-slice_get c.args.nodes.now c.args.r c.index-nodes-r.result c.requires.node))

@@ -8,23 +8,18 @@ use Rattle.cluster_record.proofs.NameLaws.{absent-name, length-names_of, pushed-
 use Rattle.cluster_record.proofs.record.Record.create.Goals as goal
 
 -- no entry has the name that is linked
-absent_in : (c : goal.After-link-arg-1) → named c.in_ok-linked.linked c.self.inside.entries.items ≡ None
-absent_in c =
-    ap (λ name. named name c.self.inside.entries.items) c.in_ok-linked.ensures.cases
-    ∙ ap (λ (R : RecordState). named c.args.ask.now.name R.entries) c.self.view_is
-    ∙ c.requires.absent
+absent_in : (c : goal.After-link-arg-1) → named c.args.ask.name c.self.inside.entries.items ≡ None
+absent_in c = ap (λ (R : RecordState). named c.args.ask.name R.entries) c.self.view_is ∙ c.requires.absent
 
 pub invariant_of-self : goal.invariant_of-self
 invariant_of-self c =
     let entry = c.new_entry-entry.result in
     let last = c.self.inside.last_identity in
     let old = c.self.inside.entries.items in
-    let name = c.in_ok-linked.linked in
+    let name = c.args.ask.name in
     let next : entry.identity ≡ last + 1 = ap (λ (e : Entry). e.identity) c.new_entry-entry.ensures in
-    let called : entry.name ≡ Some name = ap (λ (e : Entry). e.name) c.new_entry-entry.ensures ∙ ap Some (c.in_ok-name.ensures.cases ∙ sym c.in_ok-linked.ensures.cases) in
-    let absent : named name old ≡ None =
-    ap (λ name. named name old) c.in_ok-linked.ensures.cases ∙ ap (λ (R : RecordState). named c.args.ask.now.name R.entries) c.self.view_is ∙ c.requires.absent
-    in
+    let called : entry.name ≡ Some name = ap (λ (e : Entry). e.name) c.new_entry-entry.ensures ∙ c.kept_name-kept.ensures in
+    let absent : named name old ≡ None = ap (λ (R : RecordState). named c.args.ask.name R.entries) c.self.view_is ∙ c.requires.absent in
     record {
       clients = c.self.invariant.clients;
       entries = subst (λ (n : ℕ). 16 ≤ n) (sym c.push_reserved.ensures.capacity) c.self.invariant.entries;
@@ -42,4 +37,4 @@ link-requires-clause-spare_place c =
 
 pub link-requires-clause-absent : goal.link-requires-clause-absent
 link-requires-clause-absent c =
-    subst (λ table. found c.in_ok-linked.linked table ≡ None) (sym c.self.invariant.names) (absent-name c.in_ok-linked.linked c.self.inside.entries.items (absent_in c))
+    subst (λ table. found c.args.ask.name table ≡ None) (sym c.self.invariant.names) (absent-name c.args.ask.name c.self.inside.entries.items (absent_in c))

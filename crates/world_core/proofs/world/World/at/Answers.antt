@@ -3,6 +3,5 @@ use Rattle.std.proofs.lemmas.Int.{to_z-of_z}
 use Rattle.world_core.proofs.Moving.{sets_moment}
 use Rattle.world_core.proofs.world.World.at.Goals as goal
 
--- src/moments.rt:10:5
 pub returns : goal.returns
-returns c = sets_moment c.args.self.now c.args.t _ c.set_moment.new.self (to_z-of_z w64 c.args.t c.ranges.t) c.requires c.set_moment.ensures
+returns c = sets_moment c.args.self.now c.args.t _ c.set_moment.new.self c.free_gone.new.self (to_z-of_z w64 c.args.t c.ranges.t) c.requires c.set_moment.ensures c.free_gone.ensures

@@ -1,5 +1,5 @@
-use Rattle.std.proofs.Common.{ap, ◌∙◌, w64, to_z, of_z}
-use Rattle.std.proofs.lemmas.Int.{to_z-of_z}
+use Rattle.std.proofs.Common.{ap, ◌∙◌}
+use Rattle.world_core.specs.Serving.{record_seen}
 use Rattle.world_core.specs.Steps.{ended_pieces}
 use Rattle.world_core.proofs.Stepping.{node_there, node_ready, serve_is}
 use Rattle.world_core.proofs.world.World.serve_step.Goals as goal
@@ -22,7 +22,5 @@ returns-clause-ok c =
     let w = c.args.self.now in
     let hand = c.in-Some.hand.now in
     let held = c.in-Some.ensures in
-    let now = to_z w64 (of_z w64 c.now-now.result) in
-    let now_is = to_z-of_z w64 c.now-now.result (record { sfits = c.now-now.type_inv }) ∙ c.now-now.ensures in
-    serve_is w c.args.c c.args.r c.args.request.now hand held c.requires.next (record { reserves_none = c.requires.reserves_none; starts_none = c.requires.starts_none; goes_on_with_none = c.requires.goes_on_with_none }) now c.serve-reply.new.self c.take-end.new.self c.word-op.result c.verb.result c.ckpt.result c.word.result c.serve-reply.result c.take-end.result c.told_pieces-pieces.result
-    now_is c.serve-reply.ensures.reply (c.told_pieces-pieces.ensures ∙ ap (ended_pieces c.take-end.result) c.serve-reply.ensures.pieces) c.serve-reply.ensures.new (c.take-end.ensures.end hand held) (c.take-end.ensures.new hand held) c.word-op.ensures c.verb.ensures c.ckpt.ensures c.word.ensures
+    serve_is w c.args.c c.args.r c.args.request.now hand held c.requires.next (record { reserves_none = c.requires.reserves_none; starts_none = c.requires.starts_none; goes_on_with_none = c.requires.goes_on_with_none }) c.record_seen-seen.result c.serve-reply.new.self c.take-end.new.self c.word-op.result c.verb.result c.ckpt-2.result c.word.result c.serve-reply.result c.take-end.result c.told_pieces-pieces.result
+    (c.record_seen-seen.ensures ∙ ap (record_seen w.cluster) c.ckpt.ensures) c.serve-reply.ensures.reply (c.told_pieces-pieces.ensures ∙ ap (ended_pieces c.take-end.result) c.serve-reply.ensures.pieces) c.serve-reply.ensures.new (c.take-end.ensures.end hand held) (c.take-end.ensures.new hand held) c.word-op.ensures c.verb.ensures c.ckpt-2.ensures c.word.ensures

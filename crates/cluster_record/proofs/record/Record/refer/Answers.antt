@@ -1,0 +1,7 @@
+use Rattle.std.proofs.Common.{refl}
+use Rattle.cluster_record.specs.RecordState.{referred}
+use Rattle.cluster_record.proofs.KeptLaws.{kept-changed}
+use Rattle.cluster_record.proofs.record.Record.refer.Goals as goal
+
+pub invariant_of-self : goal.invariant_of-self
+invariant_of-self c = kept-changed c.self.inside _ (referred c.args.client) c.args.identity c.self.invariant (λ e. refl) (λ e. refl) c.change_entry.ensures.items c.change_entry.ensures.capacity refl

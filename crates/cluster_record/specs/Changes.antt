@@ -1,0 +1,22 @@
+-- What a step changes of one entry.
+use Rattle.std.specs.Prelude.{Option}
+use Rattle.cluster_record.specs.declared.entries.Entry.{Entry}
+use Rattle.cluster_record.specs.declared.entries.Change.{Change}
+use Rattle.cluster_record.specs.declared.entries.Change.TheVariants.{Made, Referred, Released, Unnamed, Retaining}
+use Rattle.cluster_record.specs.RecordReady.{CanRefer}
+use Rattle.cluster_record.specs.RecordState.{made_with, referred, released, unnamed, retaining}
+
+abbrev pub changed_by : Change → Entry → Entry
+changed_by (Made up c) = made_with up c
+changed_by (Referred c) = referred c
+changed_by (Released c t) = released c t
+changed_by Unnamed = unnamed
+changed_by (Retaining duration) = retaining duration
+
+-- a reference more wants a count of references that is not at its end
+abbrev pub CanChange : Change → Option Entry → Type 0
+CanChange (Made up c) e = CanRefer c e
+CanChange (Referred c) e = CanRefer c e
+CanChange (Released c t) e = Unit {0}
+CanChange Unnamed e = Unit {0}
+CanChange (Retaining duration) e = Unit {0}

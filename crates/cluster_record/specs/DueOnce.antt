@@ -1,0 +1,40 @@
+-- What a call of one step of the record does next, by the record: a close, an unlink, a setting of the retention.
+use Rattle.std.specs.Prelude.{ℕ, List, Option, Some, None, is_some, if◌then◌else◌}
+use Rattle.ckpt_types.specs.declared.ais_error.AisError.TheVariants.{NotExist, BadOperation, TryAgain}
+use Rattle.ckpt_types.specs.declared.answers.Answer.TheVariants as answers
+use Rattle.ckpt_types.specs.declared.answers.Cause.TheVariants.{Plain, Holder}
+use Rattle.ckpt_types.specs.declared.answers.Outcome.TheVariants.{Done, Refused}
+use Rattle.ckpt_types.specs.declared.identities.CallId.{CallId}
+use Rattle.node_msgs.specs.declared.next.Next.{Next}
+use Rattle.node_msgs.specs.declared.next.Next.TheVariants.{Event, End}
+use Rattle.node_msgs.specs.declared.next.RecordStep.TheVariants as events
+use Rattle.cluster_record.specs.declared.entries.Entry.{Entry}
+use Rattle.cluster_record.specs.RecordState.{RecordState, entry_of, named}
+
+-- a close of a checkpoint that is gone has nothing left to do
+abbrev pub close_of : Option Entry → Next
+close_of None = End (Done answers.Nothing)
+close_of (Some e) = Event events.Close
+
+abbrev pub close_next : RecordState → ℕ → Next
+close_next R k = close_of (entry_of k R.entries)
+
+-- what is in the making keeps its name
+abbrev pub unlink_of_making : Option CallId → Next
+unlink_of_making None = Event events.Unlink
+unlink_of_making (Some call) = End (Refused TryAgain (Holder call))
+
+abbrev pub unlink_of : Option Entry → Next
+unlink_of None = End (Refused NotExist Plain)
+unlink_of (Some e) = unlink_of_making e.making
+
+abbrev pub unlink_next : RecordState → List ℕ → Next
+unlink_next R name = unlink_of (named name R.entries)
+
+-- the retention of an unlinked checkpoint can't be set
+abbrev pub retain_of : Option Entry → Next
+retain_of None = End (Refused NotExist Plain)
+retain_of (Some e) = if is_some e.name then Event events.Retain else End (Refused BadOperation Plain)
+
+abbrev pub retain_next : RecordState → ℕ → Next
+retain_next R k = retain_of (entry_of k R.entries)

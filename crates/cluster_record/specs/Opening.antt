@@ -1,0 +1,42 @@
+-- An open as one step of the record: what it answers, and what the record becomes.
+use Rattle.std.specs.Prelude.{ℕ, ◌+◌, length, Option, Some, None, false, not, nat_le, if◌then◌else◌}
+use Rattle.ckpt_types.specs.declared.ais_error.AisError.TheVariants.{NotExist, Exist}
+use Rattle.ckpt_types.specs.declared.attributes.CreationAttributes.{CreationAttributes}
+use Rattle.ckpt_types.specs.declared.calls.OpenAsk.{OpenAsk}
+use Rattle.ckpt_types.specs.declared.identities.CallId.{CallId}
+use Rattle.cluster_record.specs.declared.entries.Entry.{Entry}
+use Rattle.cluster_record.specs.declared.opening.OpenAnswer.{OpenAnswer}
+use Rattle.cluster_record.specs.declared.opening.OpenAnswer.TheVariants.{Opened, Made, Refused}
+use Rattle.cluster_record.specs.DueOpen.{accepts}
+use Rattle.cluster_record.specs.Refusals.{plainly, held_by, all_taken}
+use Rattle.cluster_record.specs.RecordState.{RecordState, named, created, opened}
+
+-- what is in the making is not opened by another call, and what is there only with the attributes that it has
+abbrev pub answer_unless : Option CallId → Option CreationAttributes → Entry → OpenAnswer
+answer_unless (Some call) a e = Refused (held_by call)
+answer_unless None a e = if not (accepts a e) then Refused (plainly Exist) else Opened e.identity false
+
+abbrev pub answer_of : Option CreationAttributes → Entry → OpenAnswer
+answer_of a e = answer_unless e.making a e
+
+-- of a name that no checkpoint has: one is made where attributes are given, and room is left
+abbrev pub answer_free : RecordState → Option CreationAttributes → OpenAnswer
+answer_free R None = Refused (plainly NotExist)
+answer_free R (Some a) = if nat_le 16 (length R.entries) then Refused (all_taken 16) else Made (R.last_identity + 1)
+
+abbrev pub answer_named : RecordState → Option CreationAttributes → Option Entry → OpenAnswer
+answer_named R a None = answer_free R a
+answer_named R a (Some e) = answer_of a e
+
+-- what an open answers
+abbrev pub open_answer : RecordState → OpenAsk → OpenAnswer
+open_answer R ask = answer_named R ask.attrs (named ask.name R.entries)
+
+abbrev pub after_answer : CallId → OpenAsk → RecordState → OpenAnswer → RecordState
+after_answer call ask R (Opened k added) = opened k ask.client R
+after_answer call ask R (Made k) = created call ask R
+after_answer call ask R (Refused refused) = R
+
+-- what the record becomes by an open
+abbrev pub after_open : CallId → OpenAsk → RecordState → RecordState
+after_open call ask R = after_answer call ask R (open_answer R ask)

@@ -1,0 +1,42 @@
+ghost use Rattle.std.specs.Prelude.{◌≡◌};
+ghost use Rattle.cluster_record.specs.DueOpen.{accepts};
+ghost use Rattle.cluster_record.specs.Opening.{answer_of};
+
+use crate::entries::Entry;
+use crate::record::{RecordRefused, held_by, plainly};
+use ckpt_types::{AisError, CkptId, CreationAttributes};
+
+/// What the record answers to an open.
+#[derive(Clone, Copy, Debug, PartialEq, Eq)]
+pub enum OpenAnswer {
+    /// The checkpoint was there, and the client has it open once more; and whether a replica of a collocated one is
+    /// added by that, which is false so far.
+    Opened(CkptId, bool),
+    /// The checkpoint is in the making by the call.
+    Made(CkptId),
+    /// Nothing changed.
+    Refused(RecordRefused),
+}
+
+/// What an open gets of a checkpoint that has the name.
+pub(crate) fn answer_of(entry: &Entry, attributes: &Option<CreationAttributes>) -> OpenAnswer
+    ensures { result ≡ answer_of attributes.now entry.now }
+{
+    if let Some(call) = entry.making {
+        return OpenAnswer::Refused(held_by(call));
+    }
+    if !accepts(entry, attributes) {
+        return OpenAnswer::Refused(plainly(AisError::Exist));
+    }
+    OpenAnswer::Opened(entry.identity, false)
+}
+
+/// Whether the attributes asked for are the checkpoint's, the retention left aside; with none asked for, any are.
+pub fn accepts(entry: &Entry, attributes: &Option<CreationAttributes>) -> bool
+    ensures { result ≡ accepts attributes.now entry.now }
+{
+    match attributes {
+        None => true,
+        Some(attributes) => entry.attributes.same_but_retention(attributes),
+    }
+}
