@@ -9,7 +9,7 @@ ghost use Rattle.world_core.specs.Freeing.{is_there, freed};
 ghost use Rattle.world_core.specs.Lending.{IsLent, pieces_told};
 ghost use Rattle.world_core.specs.Steps.{ended_pieces};
 
-use crate::replica::{RecordSeen, Replica};
+use crate::replica::Replica;
 use ckpt_types::{
     Answer, Choice, CkptId, CreationAttributes, Moment, NodeId, Op, Outcome, Pieces, ReadBuf,
     SharedReads, SharedUpdate,
@@ -20,20 +20,6 @@ use section_iter::Iteration;
 use section_store::Store;
 use std::alloc::{AllocError, Global};
 use std::marker::Model;
-
-/// What a node sees of the record at a step that is about a checkpoint.
-pub fn record_seen(cluster: &Record, ckpt: CkptId) -> RecordSeen
-    ensures { result ≡ record_seen cluster.now ckpt }
-{
-    let retention = match cluster.entry(ckpt) {
-        None => 0,
-        Some(entry) => entry.retention,
-    };
-    RecordSeen {
-        moment: cluster.now(),
-        retention,
-    }
-}
 
 /// What a call lends to a step that a node serves.
 #[derive(Drop)]
@@ -95,17 +81,17 @@ impl Nodes {
         r: NodeId,
         request: &Request,
         op: &Op,
-        seen: RecordSeen,
+        cluster: &Record,
         lent: &mut Lent,
     ) -> Reply
         requires node { r < 8 }
         requires ready { IsReadyAt request.now (replica_in self.old (ckpt_of request.now) r) }
         requires lent { IsLent request.now op.now lent.old }
-        ensures reply { result ≡ reply_at request.now op.now seen (replica_in self.old (ckpt_of request.now) r) }
+        ensures reply { result ≡ reply_at request.now op.now (record_seen cluster.now (ckpt_of request.now)) (replica_in self.old (ckpt_of request.now) r) }
         ensures new { self.new ≡ served self.old r request.now op.now }
-        ensures pieces { pieces_told result lent.new.read.pieces ≡ pieces_at request.now op.now seen.moment (replica_in self.old (ckpt_of request.now) r) }
+        ensures pieces { pieces_told result lent.new.read.pieces ≡ pieces_at request.now op.now cluster.now.moment (replica_in self.old (ckpt_of request.now) r) }
     {
-        serve_node(self.list.as_mut_slice(), r, request, op, seen, lent)
+        serve_node(self.list.as_mut_slice(), r, request, op, cluster, lent)
     }
 
     /// The replica that a node has of a checkpoint gives what is chosen now to an iteration with room for it. It
@@ -187,14 +173,14 @@ impl Node {
         find_at(self.replicas.as_slice(), ckpt)
     }
 
-    fn serve(&mut self, request: &Request, op: &Op, seen: RecordSeen, lent: &mut Lent) -> Reply
+    fn serve(&mut self, request: &Request, op: &Op, cluster: &Record, lent: &mut Lent) -> Reply
         requires ready { IsReadyAt request.now (find_key replica_key (ckpt_of request.now) self.old) }
         requires lent { IsLent request.now op.now lent.old }
-        ensures reply { result ≡ reply_at request.now op.now seen (find_key replica_key (ckpt_of request.now) self.old) }
+        ensures reply { result ≡ reply_at request.now op.now (record_seen cluster.now (ckpt_of request.now)) (find_key replica_key (ckpt_of request.now) self.old) }
         ensures new { self.new ≡ change_key replica_key (ckpt_of request.now) (replica_after request.now op.now) self.old }
-        ensures pieces { pieces_told result lent.new.read.pieces ≡ pieces_at request.now op.now seen.moment (find_key replica_key (ckpt_of request.now) self.old) }
+        ensures pieces { pieces_told result lent.new.read.pieces ≡ pieces_at request.now op.now cluster.now.moment (find_key replica_key (ckpt_of request.now) self.old) }
     {
-        serve_at(self.replicas.as_mut_slice(), request, op, seen, lent)
+        serve_at(self.replicas.as_mut_slice(), request, op, cluster, lent)
     }
 
     fn reserve(
@@ -271,20 +257,20 @@ fn serve_at(
     replicas: &mut [Replica],
     request: &Request,
     op: &Op,
-    seen: RecordSeen,
+    cluster: &Record,
     lent: &mut Lent,
 ) -> Reply
     requires ready { IsReadyAt request.now (find_key replica_key (ckpt_of request.now) replicas.old) }
     requires lent { IsLent request.now op.now lent.old }
-    ensures reply { result ≡ reply_at request.now op.now seen (find_key replica_key (ckpt_of request.now) replicas.old) }
+    ensures reply { result ≡ reply_at request.now op.now (record_seen cluster.now (ckpt_of request.now)) (find_key replica_key (ckpt_of request.now) replicas.old) }
     ensures new { replicas.new ≡ change_key replica_key (ckpt_of request.now) (replica_after request.now op.now) replicas.old }
-    ensures pieces { pieces_told result lent.new.read.pieces ≡ pieces_at request.now op.now seen.moment (find_key replica_key (ckpt_of request.now) replicas.old) }
+    ensures pieces { pieces_told result lent.new.read.pieces ≡ pieces_at request.now op.now cluster.now.moment (find_key replica_key (ckpt_of request.now) replicas.old) }
 {
     let Some(i) = place_of(replicas, request.ckpt()) else {
         return Reply::NoReplica;
     };
     let replica = &mut replicas[i];
-    replica.serve(request, op, seen, lent)
+    replica.serve(request, op, cluster, lent)
 }
 
 fn serve_node(
@@ -292,18 +278,18 @@ fn serve_node(
     r: NodeId,
     request: &Request,
     op: &Op,
-    seen: RecordSeen,
+    cluster: &Record,
     lent: &mut Lent,
 ) -> Reply
     requires node { r < length nodes.old }
     requires ready { IsReadyAt request.now (replica_in nodes.old (ckpt_of request.now) r) }
     requires lent { IsLent request.now op.now lent.old }
-    ensures reply { result ≡ reply_at request.now op.now seen (replica_in nodes.old (ckpt_of request.now) r) }
+    ensures reply { result ≡ reply_at request.now op.now (record_seen cluster.now (ckpt_of request.now)) (replica_in nodes.old (ckpt_of request.now) r) }
     ensures new { nodes.new ≡ served nodes.old r request.now op.now }
-    ensures pieces { pieces_told result lent.new.read.pieces ≡ pieces_at request.now op.now seen.moment (replica_in nodes.old (ckpt_of request.now) r) }
+    ensures pieces { pieces_told result lent.new.read.pieces ≡ pieces_at request.now op.now cluster.now.moment (replica_in nodes.old (ckpt_of request.now) r) }
 {
     let node = &mut nodes[r as usize];
-    node.serve(request, op, seen, lent)
+    node.serve(request, op, cluster, lent)
 }
 
 fn reserve_in(

@@ -7,9 +7,10 @@ ghost use Rattle.ckpt_types.specs.Updates.{outcome};
 ghost use Rattle.ckpt_types.specs.Reads.{read, status, chosen, given};
 ghost use Rattle.ckpt_types.specs.declared.section_id.TheConstants.{SECTION_ID_MAX};
 ghost use Rattle.section_iter.specs.Next.{kept_after};
+ghost use Rattle.node_msgs.specs.Requests.{ckpt_of};
 ghost use Rattle.node_msgs.specs.declared.replies.Reply.TheVariants as replies;
 ghost use Rattle.update_rules.specs.Told.{told};
-ghost use Rattle.world_core.specs.Serving.{update_of, elements_of, stage_reply, stage_slot, committed, update_answer, told_id, slot_id, done_or_refused, reply_of, replica_after, pieces_of, next_reply, next_id, IsStaged, IsReady, opened_replica};
+ghost use Rattle.world_core.specs.Serving.{record_seen, update_of, elements_of, stage_reply, stage_slot, committed, update_answer, told_id, slot_id, done_or_refused, reply_of, replica_after, pieces_of, next_reply, next_id, IsStaged, IsReady, opened_replica};
 ghost use Rattle.world_core.specs.Lending.{bytes_asked, IsLentRead, IsLentFor, IsLent, pieces_told};
 
 use crate::hands::update_in;
@@ -18,6 +19,7 @@ use ckpt_types::{
     AisError, Answer, CallId, CheckpointDescriptor, Choice, CkptId, CreationAttributes, Moment,
     NewId, Op, ReadBuf, ReadElement, SharedUpdate, Update,
 };
+use cluster_record::Record;
 use node_msgs::{Reply, Request};
 use section_iter::Iteration;
 use section_store::Store;
@@ -59,6 +61,20 @@ pub struct Replica {
     pub slot: Option<Slot>,
 }
 
+// What a node sees of the record at a step that is about a checkpoint.
+fn record_seen(cluster: &Record, ckpt: CkptId) -> RecordSeen
+    ensures { result ≡ record_seen cluster.now ckpt }
+{
+    let retention = match cluster.entry(ckpt) {
+        None => 0,
+        Some(entry) => entry.retention,
+    };
+    RecordSeen {
+        moment: cluster.now(),
+        retention,
+    }
+}
+
 impl Replica {
     /// A replica as a reservation makes it: the opening sections, no update, no slot.
     pub fn open(
@@ -81,18 +97,20 @@ impl Replica {
 
     /// The answer to a request of a call with this operation, by what its node sees of the record. What travels
     /// beside the request is lent.
-    pub fn serve(&mut self, request: &Request, op: &Op, seen: RecordSeen, lent: &mut Lent) -> Reply
+    pub fn serve(&mut self, request: &Request, op: &Op, cluster: &Record, lent: &mut Lent) -> Reply
         requires ready { IsReady request.now self.old }
         requires lent { IsLent request.now op.now lent.old }
-        ensures reply { result ≡ reply_of request.now op.now seen self.old }
+        ensures reply { result ≡ reply_of request.now op.now (record_seen cluster.now (ckpt_of request.now)) self.old }
         ensures new { self.new ≡ replica_after request.now op.now self.old }
-        ensures pieces { pieces_told result lent.new.read.pieces ≡ pieces_of request.now op.now seen.moment self.old }
+        ensures pieces { pieces_told result lent.new.read.pieces ≡ pieces_of request.now op.now cluster.now.moment self.old }
     {
         match request {
             Request::Stage(call, _, moment) => self.stage_lent(*call, op, *moment, lent),
             Request::Commit(_, _) => self.commit_lent(op, lent),
-            Request::Read(_) => self.read_lent(op, seen.moment, lent),
-            Request::Status(_) => Reply::Done(Answer::Status(self.status(seen))),
+            Request::Read(_) => self.read_lent(op, cluster.now(), lent),
+            Request::Status(ckpt) => {
+                Reply::Done(Answer::Status(self.status(record_seen(cluster, *ckpt))))
+            }
             Request::Iterate(_, _, _) => Reply::Done(Answer::Nothing),
             _ => Reply::NoReplica,
         }

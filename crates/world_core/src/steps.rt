@@ -20,7 +20,7 @@ use crate::applying::apply;
 use crate::beginning::{closed_place, opened_for, opened_place};
 use crate::drivers::{Rooms, event_ckpt, event_end, event_node};
 use crate::messages::look_word;
-use crate::nodes::{record_seen, told_pieces};
+use crate::nodes::told_pieces;
 use crate::tables::Tables;
 use crate::world::World;
 use ckpt_types::{ActorName, Answer, CkptId, NodeId, Op, Outcome, Who};
@@ -32,6 +32,8 @@ use std::alloc::{AllocError, Global};
 impl World {
     /// The call of a client takes its next step, or a word says that it has none in hand. Want of memory leaves
     /// the world as it was; where the step's own memory is refused, the call is told so instead.
+    // Put in line: a call would copy its label once more.
+    #[inline(always)]
     pub fn step(&mut self, alloc: Global, c: u8, finish: bool) -> Result<Label, AllocError>
         requires client { c < 100 }
         requires shown { IsShown self.old }
@@ -124,8 +126,9 @@ impl World {
         let call = hand.call;
         let op = hand.word();
         let mut lent = hand.lend(alloc, request)?;
-        let seen = record_seen(&self.cluster, request.ckpt());
-        let reply = self.nodes.serve(r, request, &hand.op, seen, &mut lent);
+        let reply = self
+            .nodes
+            .serve(r, request, &hand.op, &self.cluster, &mut lent);
         let end = self.hands.take(c, &self.cluster, r, request, &reply);
         let pieces = told_pieces(&end, &reply, lent.read);
         Ok(Label::Stepped {

@@ -1,7 +1,7 @@
 use Rattle.std.proofs.Common.{sym, ap, subst, ◌∙◌}
 use Rattle.cluster_record.specs.Places.{place_key}
 use Rattle.node_msgs.specs.Requests.{ckpt_of}
-use Rattle.world_core.specs.Serving.{replica_key, reply_at, pieces_at, replica_after, IsReadyAt}
+use Rattle.world_core.specs.Serving.{record_seen, replica_key, reply_at, pieces_at, replica_after, IsReadyAt}
 use Rattle.cluster_record.proofs.Places.{changes_at, changes_none}
 use Rattle.cluster_record.proofs.AtKeys.{element_at, none_at}
 use Rattle.world_core.proofs.nodes.serve_at.Goals as goal
@@ -9,7 +9,7 @@ use Rattle.world_core.proofs.nodes.serve_at.Goals as goal
 pub returns-in_default-clause-reply : goal.returns-in_default-clause-reply
 returns-in_default-clause-reply c =
     let from = c.place_of.ensures.place ∙ ap (λ k. place_key replica_key k c.args.replicas.now) c.ckpt.ensures in
-    ap (reply_at c.args.request.now c.args.op.now c.args.seen) (sym (none_at replica_key (ckpt_of c.args.request.now) c.args.replicas.now c.place_of.result from c.in_default.is))
+    ap (reply_at c.args.request.now c.args.op.now (record_seen c.args.cluster.now (ckpt_of c.args.request.now))) (sym (none_at replica_key (ckpt_of c.args.request.now) c.args.replicas.now c.place_of.result from c.in_default.is))
 
 pub returns-in_default-clause-new : goal.returns-in_default-clause-new
 returns-in_default-clause-new c =
@@ -19,7 +19,7 @@ returns-in_default-clause-new c =
 pub returns-in_default-clause-pieces : goal.returns-in_default-clause-pieces
 returns-in_default-clause-pieces c =
     let from = c.place_of.ensures.place ∙ ap (λ k. place_key replica_key k c.args.replicas.now) c.ckpt.ensures in
-    ap (pieces_at c.args.request.now c.args.op.now c.args.seen.moment) (sym (none_at replica_key (ckpt_of c.args.request.now) c.args.replicas.now c.place_of.result from c.in_default.is))
+    ap (pieces_at c.args.request.now c.args.op.now c.args.cluster.now.moment) (sym (none_at replica_key (ckpt_of c.args.request.now) c.args.replicas.now c.place_of.result from c.in_default.is))
 
 pub serve-requires-clause-ready : goal.serve-requires-clause-ready
 serve-requires-clause-ready c =
@@ -30,7 +30,7 @@ pub returns-clause-reply : goal.returns-clause-reply
 returns-clause-reply c =
     let from = c.place_of.ensures.place ∙ ap (λ k. place_key replica_key k c.args.replicas.now) c.ckpt.ensures in
     c.serve.ensures.reply
-    ∙ ap (reply_at c.args.request.now c.args.op.now c.args.seen) (sym (element_at replica_key (ckpt_of c.args.request.now) c.args.replicas.now c.place_of.result from c.in-Some.i c.index-replicas-i.result c.in-Some.is))
+    ∙ ap (reply_at c.args.request.now c.args.op.now (record_seen c.args.cluster.now (ckpt_of c.args.request.now))) (sym (element_at replica_key (ckpt_of c.args.request.now) c.args.replicas.now c.place_of.result from c.in-Some.i c.index-replicas-i.result c.in-Some.is))
 
 pub returns-clause-new : goal.returns-clause-new
 returns-clause-new c =
@@ -41,4 +41,4 @@ pub returns-clause-pieces : goal.returns-clause-pieces
 returns-clause-pieces c =
     let from = c.place_of.ensures.place ∙ ap (λ k. place_key replica_key k c.args.replicas.now) c.ckpt.ensures in
     c.serve.ensures.pieces
-    ∙ ap (pieces_at c.args.request.now c.args.op.now c.args.seen.moment) (sym (element_at replica_key (ckpt_of c.args.request.now) c.args.replicas.now c.place_of.result from c.in-Some.i c.index-replicas-i.result c.in-Some.is))
+    ∙ ap (pieces_at c.args.request.now c.args.op.now c.args.cluster.now.moment) (sym (element_at replica_key (ckpt_of c.args.request.now) c.args.replicas.now c.place_of.result from c.in-Some.i c.index-replicas-i.result c.in-Some.is))

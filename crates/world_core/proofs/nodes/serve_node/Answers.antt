@@ -3,14 +3,14 @@ use Rattle.std.specs.Prelude.{slice_set}
 use Rattle.world_core.specs.declared.replica.Replica.{Replica}
 use Rattle.cluster_record.specs.Places.{find_key, change_key}
 use Rattle.node_msgs.specs.Requests.{ckpt_of}
-use Rattle.world_core.specs.Serving.{replica_key, reply_at, pieces_at, replica_after}
+use Rattle.world_core.specs.Serving.{record_seen, replica_key, reply_at, pieces_at, replica_after}
 use Rattle.cluster_record.proofs.AtKeys.{list_or-slice_get}
 use Rattle.world_core.proofs.nodes.serve_node.Goals as goal
 
 pub returns-clause-reply : goal.returns-clause-reply
 returns-clause-reply c =
     c.serve.ensures.reply
-    ∙ ap (λ (xs : List Replica). reply_at c.args.request.now c.args.op.now c.args.seen (find_key replica_key (ckpt_of c.args.request.now) xs)) (sym (list_or-slice_get c.args.nodes.now c.args.r c.index-nodes-r.result c.requires.node))
+    ∙ ap (λ (xs : List Replica). reply_at c.args.request.now c.args.op.now (record_seen c.args.cluster.now (ckpt_of c.args.request.now)) (find_key replica_key (ckpt_of c.args.request.now) xs)) (sym (list_or-slice_get c.args.nodes.now c.args.r c.index-nodes-r.result c.requires.node))
 
 pub returns-clause-new : goal.returns-clause-new
 returns-clause-new c =
@@ -21,4 +21,4 @@ returns-clause-new c =
 pub returns-clause-pieces : goal.returns-clause-pieces
 returns-clause-pieces c =
     c.serve.ensures.pieces
-    ∙ ap (λ (xs : List Replica). pieces_at c.args.request.now c.args.op.now c.args.seen.moment (find_key replica_key (ckpt_of c.args.request.now) xs)) (sym (list_or-slice_get c.args.nodes.now c.args.r c.index-nodes-r.result c.requires.node))
+    ∙ ap (λ (xs : List Replica). pieces_at c.args.request.now c.args.op.now c.args.cluster.now.moment (find_key replica_key (ckpt_of c.args.request.now) xs)) (sym (list_or-slice_get c.args.nodes.now c.args.r c.index-nodes-r.result c.requires.node))

@@ -1,4 +1,5 @@
-use Rattle.std.proofs.Common.{ap, ◌∙◌}
+use Rattle.std.proofs.Common.{refl, ap, ◌∙◌}
+use Rattle.node_msgs.specs.Requests.{ckpt_of}
 use Rattle.world_core.specs.Serving.{record_seen}
 use Rattle.world_core.specs.Steps.{ended_pieces}
 use Rattle.world_core.proofs.Stepping.{node_there, node_ready, serve_is}
@@ -22,5 +23,5 @@ returns-clause-ok c =
     let w = c.args.self.now in
     let hand = c.in-Some.hand.now in
     let held = c.in-Some.ensures in
-    serve_is w c.args.c c.args.r c.args.request.now hand held c.requires.next (record { reserves_none = c.requires.reserves_none; starts_none = c.requires.starts_none; goes_on_with_none = c.requires.goes_on_with_none }) c.record_seen-seen.result c.serve-reply.new.self c.take-end.new.self c.word-op.result c.verb.result c.ckpt-2.result c.word.result c.serve-reply.result c.take-end.result c.told_pieces-pieces.result
-    (c.record_seen-seen.ensures ∙ ap (record_seen w.cluster) c.ckpt.ensures) c.serve-reply.ensures.reply (c.told_pieces-pieces.ensures ∙ ap (ended_pieces c.take-end.result) c.serve-reply.ensures.pieces) c.serve-reply.ensures.new (c.take-end.ensures.end hand held) (c.take-end.ensures.new hand held) c.word-op.ensures c.verb.ensures c.ckpt-2.ensures c.word.ensures
+    serve_is w c.args.c c.args.r c.args.request.now hand held c.requires.next (record { reserves_none = c.requires.reserves_none; starts_none = c.requires.starts_none; goes_on_with_none = c.requires.goes_on_with_none }) (record_seen w.cluster (ckpt_of c.args.request.now)) c.serve-reply.new.self c.take-end.new.self c.word-op.result c.verb.result c.ckpt.result c.word.result c.serve-reply.result c.take-end.result c.told_pieces-pieces.result
+    refl c.serve-reply.ensures.reply (c.told_pieces-pieces.ensures ∙ ap (ended_pieces c.take-end.result) c.serve-reply.ensures.pieces) c.serve-reply.ensures.new (c.take-end.ensures.end hand held) (c.take-end.ensures.new hand held) c.word-op.ensures c.verb.ensures c.ckpt.ensures c.word.ensures
