@@ -8,9 +8,8 @@ use Rattle.std.proofs.lemmas.Map.Views.{Contains-from_any, exact_unsigned_eq}
 use Rattle.std.proofs.lemmas.List.Elements.{All-contains, All-from_recursion}
 use Rattle.ckpt_types.specs.declared.ais_error.AisError.TheVariants.{BadFlags}
 use Rattle.ckpt_types.specs.declared.open_flags.OpenFlags.{OpenFlags}
-use Rattle.ckpt_types.specs.declared.open_flags.TheConstants.{CHECKPOINT_READ, CHECKPOINT_WRITE, CHECKPOINT_CREATE, OPEN_FLAGS_ALL}
 use Rattle.ckpt_types.specs.declared.attributes.CreationAttributes.{CreationAttributes}
-use Rattle.ckpt_types.specs.declared.attributes.TheConstants.{WR_ALL_REPLICAS, WR_ACTIVE_REPLICA, WR_ACTIVE_REPLICA_WEAK, CHECKPOINT_COLLOCATED, CREATION_FLAGS_ALL, DECLARED_BYTES_MAX, SECTIONS_MAX, DECLARED_ID_MAX}
+use Rattle.ckpt_types.specs.Limits.{checkpoint_read, checkpoint_write, checkpoint_create, open_flags_all, wr_all_replicas, wr_active_replica, wr_active_replica_weak, checkpoint_collocated, creation_flags_all, declared_bytes_max, sections_max, declared_id_max}
 use Rattle.ckpt_types.specs.Attributes.{IsWellFormed, is_malformed, has_flag, has_malformed_flags, has_malformed_sizes, declared_bytes, has_bad_open_flags, open_flags_of}
 
 -- attributes that pass the check keep to the rules
@@ -18,9 +17,9 @@ pub IsWellFormed-from_check : (a : CreationAttributes) → is_malformed a ≡ fa
 IsWellFormed-from_check a passes =
     let all = or_parts (has_malformed_flags a.creation_flags || has_malformed_sizes a) (int_lt a.retention_duration (pos 0)) passes in
     let front = or_parts (has_malformed_flags a.creation_flags) (has_malformed_sizes a) all.0 in
-    let id_bytes = or_parts _ (nat_lt DECLARED_ID_MAX a.max_section_id_size) front.1 in
-    let sections = or_parts _ (nat_lt SECTIONS_MAX a.max_sections) id_bytes.0 in
-    let bytes = or_parts _ (nat_lt DECLARED_BYTES_MAX (declared_bytes a)) sections.0 in
+    let id_bytes = or_parts _ (nat_lt declared_id_max a.max_section_id_size) front.1 in
+    let sections = or_parts _ (nat_lt sections_max a.max_sections) id_bytes.0 in
+    let bytes = or_parts _ (nat_lt declared_bytes_max (declared_bytes a)) sections.0 in
     let cover = or_parts _ (nat_lt (declared_bytes a) a.checkpoint_size) bytes.0 in
     let no_id_bytes = or_parts _ (a.max_section_id_size == 0) cover.0 in
     let no_section_bytes = or_parts _ (a.max_section_size == 0) no_id_bytes.0 in
@@ -46,16 +45,16 @@ is_malformed-from_IsWellFormed a keeps =
     let no_section_bytes = or_from _ (a.max_section_size == 0) nothing (ne_eqb a.max_section_size 0 (λ e. omega arith)) in
     let no_id_bytes = or_from _ (a.max_section_id_size == 0) no_section_bytes (ne_eqb a.max_section_id_size 0 (λ e. omega arith)) in
     let cover = or_from _ (nat_lt (declared_bytes a) a.checkpoint_size) no_id_bytes (le-ltb _ _ keeps.covered) in
-    let bytes = or_from _ (nat_lt DECLARED_BYTES_MAX (declared_bytes a)) cover (le-ltb _ _ keeps.few_bytes) in
-    let sections = or_from _ (nat_lt SECTIONS_MAX a.max_sections) bytes (le-ltb _ _ keeps.few_sections) in
-    let sizes : has_malformed_sizes a ≡ false = or_from _ (nat_lt DECLARED_ID_MAX a.max_section_id_size) sections (le-ltb _ _ keeps.few_id_bytes) in
+    let bytes = or_from _ (nat_lt declared_bytes_max (declared_bytes a)) cover (le-ltb _ _ keeps.few_bytes) in
+    let sections = or_from _ (nat_lt sections_max a.max_sections) bytes (le-ltb _ _ keeps.few_sections) in
+    let sizes : has_malformed_sizes a ≡ false = or_from _ (nat_lt declared_id_max a.max_section_id_size) sections (le-ltb _ _ keeps.few_id_bytes) in
     or_from _ _ (or_from _ _ keeps.flags sizes) retention
 
 -- ---- creation flags
 
 -- the creation flags that pass: one update option, and collocated with any option but all replicas
 abbrev pub passing_flags : List ℕ
-passing_flags = WR_ALL_REPLICAS ∷ WR_ACTIVE_REPLICA ∷ WR_ACTIVE_REPLICA_WEAK ∷ (WR_ACTIVE_REPLICA + CHECKPOINT_COLLOCATED) ∷ (WR_ACTIVE_REPLICA_WEAK + CHECKPOINT_COLLOCATED) ∷ []
+passing_flags = wr_all_replicas ∷ wr_active_replica ∷ wr_active_replica_weak ∷ (wr_active_replica + checkpoint_collocated) ∷ (wr_active_replica_weak + checkpoint_collocated) ∷ []
 
 -- the creation flags that pass, as numbers
 pub passing_flags-are : passing_flags ≡ 1 ∷ 2 ∷ 4 ∷ 10 ∷ 12 ∷ []
@@ -68,8 +67,8 @@ is_passing flags = list_any (eqb flags) passing_flags
 -- creation flags that pass are among these
 pub passing_flags-only : (flags : ℕ) → has_malformed_flags flags ≡ false → Contains passing_flags flags
 passing_flags-only flags passes =
-    let known : nat_lt CREATION_FLAGS_ALL flags ≡ false = (or_parts _ _ (or_parts _ _ passes).0).0 in
-    let few : flags ≤ CREATION_FLAGS_ALL = ltb-false _ _ known in
+    let known : nat_lt creation_flags_all flags ≡ false = (or_parts _ _ (or_parts _ _ passes).0).0 in
+    let few : flags ≤ creation_flags_all = ltb-false _ _ known in
     let agree : has_malformed_flags flags ≡ not (is_passing flags) = agree_below_at has_malformed_flags (λ n. not (is_passing n)) 16 flags refl (omega arith) in
     Contains-from_any {eq = eqb} exact_unsigned_eq flags passing_flags (not-false (is_passing flags) (sym agree ∙ passes))
 
@@ -83,24 +82,24 @@ has_malformed_flags-passing flags among =
 
 -- the bits of what a checkpoint is opened for
 abbrev pub bits_of : OpenFlags → ℕ
-bits_of flags = (if flags.read then CHECKPOINT_READ else 0) + (if flags.write then CHECKPOINT_WRITE else 0) + (if flags.create then CHECKPOINT_CREATE else 0)
+bits_of flags = (if flags.read then checkpoint_read else 0) + (if flags.write then checkpoint_write else 0) + (if flags.create then checkpoint_create else 0)
 
 -- the flags that the bits name
 abbrev named : ℕ → OpenFlags
-named bits = record { read = has_flag bits CHECKPOINT_READ; write = has_flag bits CHECKPOINT_WRITE; create = has_flag bits CHECKPOINT_CREATE }
+named bits = record { read = has_flag bits checkpoint_read; write = has_flag bits checkpoint_write; create = has_flag bits checkpoint_create }
 
 -- bits of known flags are the bits of the flags that they name
-bits_of-named : (bits : ℕ) → bits ≤ OPEN_FLAGS_ALL → bits ≡ bits_of (named bits)
+bits_of-named : (bits : ℕ) → bits ≤ open_flags_all → bits ≡ bits_of (named bits)
 bits_of-named bits few = eqb-true _ _ (agree_below_at (λ n. n == bits_of (named n)) (λ n. true) 8 bits refl (omega arith))
 
 -- flags that are told from bits tell the bits
-bits_from_flags : (bits : ℕ) (flags : OpenFlags) → open_flags_of bits ≡ Ok flags → (1 ≤ bits) × (bits ≤ OPEN_FLAGS_ALL) × (bits ≡ bits_of flags)
+bits_from_flags : (bits : ℕ) (flags : OpenFlags) → open_flags_of bits ≡ Ok flags → (1 ≤ bits) × (bits ≤ open_flags_all) × (bits ≡ bits_of flags)
 bits_from_flags bits flags told =
     elim (cases_Bool (has_bad_open_flags bits)) [
       | inl bad ↦ let refused : Err BadFlags ≡ Ok flags = sym (cond-true (has_bad_open_flags bits) (Err BadFlags) (Ok (named bits)) bad) ∙ told in absurd (cc)
       | inr good ↦
-          let parts = or_parts (bits == 0) (nat_lt OPEN_FLAGS_ALL bits) good in
-          let few : bits ≤ OPEN_FLAGS_ALL = ltb-false _ _ parts.1 in
+          let parts = or_parts (bits == 0) (nat_lt open_flags_all bits) good in
+          let few : bits ≤ open_flags_all = ltb-false _ _ parts.1 in
           let some : bits ≡ 0 → ⊥ = eqb-false _ _ parts.0 in
           let done : Ok (named bits) ≡ Ok flags = sym (cond-false (has_bad_open_flags bits) (Err BadFlags) (Ok (named bits)) good) ∙ told in
           let same : named bits ≡ flags = cc in
@@ -119,6 +118,6 @@ flags_from_bits false false true some = refl
 flags_from_bits false false false some = absurd (omega arith)
 
 -- open flags are told from exactly their bits
-pub open_flags_of-Ok : (bits : ℕ) (flags : OpenFlags) → (open_flags_of bits ≡ Ok flags) ↔ ((1 ≤ bits) × (bits ≤ OPEN_FLAGS_ALL) × (bits ≡ bits_of flags))
+pub open_flags_of-Ok : (bits : ℕ) (flags : OpenFlags) → (open_flags_of bits ≡ Ok flags) ↔ ((1 ≤ bits) × (bits ≤ open_flags_all) × (bits ≡ bits_of flags))
 open_flags_of-Ok bits flags =
     (bits_from_flags bits flags, λ told. let some : 1 ≤ bits_of flags = omega arith in rw told.2 (flags_from_bits flags.read flags.write flags.create some))

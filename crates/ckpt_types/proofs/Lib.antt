@@ -1,5 +1,6 @@
 pub mod Accepted
 pub mod AttributeLaws
+mod Constants
 pub mod EndsLemmas
 pub mod Fitting
 pub mod Numbering

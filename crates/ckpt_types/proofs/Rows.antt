@@ -3,16 +3,14 @@
 use Rattle.std.proofs.Common.{◌≡◌, ℕ, List, [], ◌∷◌, ◌++◌, replicate, pos, Some, None, Ok, codes, refl}
 use Rattle.ckpt_types.specs.declared.ais_error.AisError.TheVariants.{Exist, InvalidParam, NoSpace, NotExist}
 use Rattle.ckpt_types.specs.declared.attributes.CreationAttributes.{CreationAttributes}
-use Rattle.ckpt_types.specs.declared.attributes.TheConstants.{WR_ALL_REPLICAS}
-use Rattle.ckpt_types.specs.declared.identities.TheConstants.{NEVER}
 use Rattle.ckpt_types.specs.declared.sections.Choice.{Choice}
 use Rattle.ckpt_types.specs.declared.sections.SectionState.TheVariants as states
-use Rattle.ckpt_types.specs.declared.sections.TheConstants.{SECTIONS_ANY, SECTIONS_CORRUPTED, SECTIONS_FOREVER, SECTIONS_GEQ_EXPIRATION_TIME, SECTIONS_LEQ_EXPIRATION_TIME}
 use Rattle.ckpt_types.specs.declared.update.IoElement.{IoElement}
 use Rattle.ckpt_types.specs.declared.update.NewId.TheVariants.{Given, Generated}
 use Rattle.ckpt_types.specs.declared.update.ReadElement.{ReadElement}
 use Rattle.ckpt_types.specs.declared.update.Update.{Update}
 use Rattle.ckpt_types.specs.declared.update.Update.TheVariants as updates
+use Rattle.ckpt_types.specs.Limits.{wr_all_replicas, end_of_time, sections_any, sections_corrupted, sections_forever, sections_geq_expiration_time, sections_leq_expiration_time}
 use Rattle.ckpt_types.specs.Reads.{chosen, description, given, read, status}
 use Rattle.ckpt_types.specs.Sections.{Section, opening}
 use Rattle.ckpt_types.specs.Updates.{generated_id, outcome, refuse, refuse_at}
@@ -21,11 +19,11 @@ use Rattle.ckpt_types.specs.Updates.{generated_id, outcome, refuse, refuse_at}
 
 -- a checkpoint of so many bytes, sections, and bytes in a section, with identifiers of up to 8 bytes
 abbrev checkpoint : ℕ → ℕ → ℕ → CreationAttributes
-checkpoint size sections each = record { creation_flags = WR_ALL_REPLICAS; checkpoint_size = size; retention_duration = pos 0; max_sections = sections; max_section_size = each; max_section_id_size = 8 }
+checkpoint size sections each = record { creation_flags = wr_all_replicas; checkpoint_size = size; retention_duration = pos 0; max_sections = sections; max_section_size = each; max_section_id_size = 8 }
 
 -- a valid section that never expires, last updated at moment 0
 abbrev section : List ℕ → List ℕ → Section
-section id bytes = record { id = id; bytes = bytes; expiration = NEVER; state = states.Valid; last_update = pos 0 }
+section id bytes = record { id = id; bytes = bytes; expiration = end_of_time; state = states.Valid; last_update = pos 0 }
 
 abbrev updated_at : ℕ → Section → Section
 updated_at t s = record s { last_update = pos t }
@@ -50,11 +48,11 @@ write id offset bytes = updates.Write (into id offset bytes ∷ [])
 
 -- a new section of that identifier, which never expires
 abbrev create : List ℕ → List ℕ → Update
-create id bytes = updates.Create (Given id) NEVER bytes
+create id bytes = updates.Create (Given id) end_of_time bytes
 
 -- a new section of a generated identifier, which never expires
 abbrev create_generated : Update
-create_generated = updates.Create Generated NEVER []
+create_generated = updates.Create Generated end_of_time []
 
 -- the identifier of 8 bytes whose last is n, and the others zeros
 abbrev number : ℕ → List ℕ
@@ -182,7 +180,7 @@ default_section_only-create = refl
 pub default_section_only-delete : outcome four_bytes (updates.Delete []) (pos 0) with_four_bytes ≡ refuse InvalidParam
 default_section_only-delete = refl
 
-pub default_section_only-expire : outcome four_bytes (updates.SetExpiration [] NEVER) (pos 0) with_four_bytes ≡ refuse InvalidParam
+pub default_section_only-expire : outcome four_bytes (updates.SetExpiration [] end_of_time) (pos 0) with_four_bytes ≡ refuse InvalidParam
 default_section_only-expire = refl
 
 -- ---- expiration
@@ -250,7 +248,7 @@ abbrev eight_of_eight : CreationAttributes
 eight_of_eight = checkpoint 64 8 8
 
 abbrev any : Choice
-any = choice SECTIONS_ANY 0
+any = choice sections_any 0
 
 abbrev four : List Section
 four = section (codes "a") [] ∷ section (codes "b") [] ∷ section (codes "c") [] ∷ section (codes "d") [] ∷ []
@@ -304,7 +302,7 @@ iteration_gives_the_last = refl
 pub identifier_that_was_not_kept_is_not_given : given [] (pos 0) with_e_too ≡ None
 identifier_that_was_not_kept_is_not_given = refl
 
-pub description_tells_the_size : description (section (codes "c") (codes "q")) ≡ record { id = codes "c"; expiration = NEVER; size = 1; state = states.Valid; last_update = pos 0 }
+pub description_tells_the_size : description (section (codes "c") (codes "q")) ≡ record { id = codes "c"; expiration = end_of_time; size = 1; state = states.Valid; last_update = pos 0 }
 description_tells_the_size = refl
 
 pub status_counts_present_sections : status two_of_eight (pos 19) expiring_and_y ≡ record { attributes = two_of_eight; number_of_sections = 2; memory_used = 2 }
@@ -313,13 +311,13 @@ status_counts_present_sections = refl
 pub status_leaves_out_an_expired_section : status two_of_eight (pos 20) expiring_and_y ≡ record { attributes = two_of_eight; number_of_sections = 1; memory_used = 1 }
 status_leaves_out_an_expired_section = refl
 
-pub forever_chooses_what_never_expires : chosen (choice SECTIONS_FOREVER 0) (pos 10) expiring_and_y ≡ codes "b" ∷ []
+pub forever_chooses_what_never_expires : chosen (choice sections_forever 0) (pos 10) expiring_and_y ≡ codes "b" ∷ []
 forever_chooses_what_never_expires = refl
 
-pub leq_chooses_what_expires_at_the_time : chosen (choice SECTIONS_LEQ_EXPIRATION_TIME 20) (pos 10) expiring_and_y ≡ codes "a" ∷ []
+pub leq_chooses_what_expires_at_the_time : chosen (choice sections_leq_expiration_time 20) (pos 10) expiring_and_y ≡ codes "a" ∷ []
 leq_chooses_what_expires_at_the_time = refl
 
-pub geq_leaves_out_what_expires_before_the_time : chosen (choice SECTIONS_GEQ_EXPIRATION_TIME 21) (pos 10) expiring_and_y ≡ codes "b" ∷ []
+pub geq_leaves_out_what_expires_before_the_time : chosen (choice sections_geq_expiration_time 21) (pos 10) expiring_and_y ≡ codes "b" ∷ []
 geq_leaves_out_what_expires_before_the_time = refl
 
 -- ---- corrupted sections
@@ -331,7 +329,7 @@ abbrev one_valid_again : List Section
 one_valid_again = section (codes "a") (codes "cc") ∷ corrupted (section (codes "b") (codes "bbbb")) ∷ []
 
 abbrev corrupted_ones : Choice
-corrupted_ones = choice SECTIONS_CORRUPTED 0
+corrupted_ones = choice sections_corrupted 0
 
 pub iteration_finds_the_corrupted : chosen corrupted_ones (pos 0) both_corrupted ≡ codes "a" ∷ codes "b" ∷ []
 iteration_finds_the_corrupted = refl

@@ -3,9 +3,8 @@ use Rattle.std.specs.Prelude.{◌≡◌, ℕ, ◌+◌, ◌*◌, ◌≤◌, Bool,
 use Rattle.ckpt_types.specs.declared.ais_error.AisError.{AisError}
 use Rattle.ckpt_types.specs.declared.ais_error.AisError.TheVariants.{InvalidParam, BadFlags}
 use Rattle.ckpt_types.specs.declared.attributes.CreationAttributes.{CreationAttributes}
-use Rattle.ckpt_types.specs.declared.attributes.TheConstants.{WR_ALL_REPLICAS, WR_ACTIVE_REPLICA, WR_ACTIVE_REPLICA_WEAK, CHECKPOINT_COLLOCATED, CREATION_FLAGS_ALL, DECLARED_BYTES_MAX, SECTIONS_MAX, DECLARED_ID_MAX}
 use Rattle.ckpt_types.specs.declared.open_flags.OpenFlags.{OpenFlags}
-use Rattle.ckpt_types.specs.declared.open_flags.TheConstants.{CHECKPOINT_READ, CHECKPOINT_WRITE, CHECKPOINT_CREATE, OPEN_FLAGS_ALL}
+use Rattle.ckpt_types.specs.Limits.{wr_all_replicas, wr_active_replica, wr_active_replica_weak, checkpoint_collocated, creation_flags_all, declared_bytes_max, sections_max, declared_id_max, checkpoint_read, checkpoint_write, checkpoint_create, open_flags_all}
 
 -- the flag is among the flags
 abbrev pub has_flag : ℕ → ℕ → Bool
@@ -17,14 +16,14 @@ times_named flags flag = if has_flag flags flag then 1 else 0
 
 -- how many of the three update options the flags name
 abbrev pub options_named : ℕ → ℕ
-options_named flags = times_named flags WR_ALL_REPLICAS + times_named flags WR_ACTIVE_REPLICA + times_named flags WR_ACTIVE_REPLICA_WEAK
+options_named flags = times_named flags wr_all_replicas + times_named flags wr_active_replica + times_named flags wr_active_replica_weak
 
 -- an unknown flag, not just one update option, or collocated with all replicas
 abbrev pub has_malformed_flags : ℕ → Bool
 has_malformed_flags flags =
-    nat_lt CREATION_FLAGS_ALL flags
+    nat_lt creation_flags_all flags
     || not (options_named flags == 1)
-    || (has_flag flags WR_ALL_REPLICAS && has_flag flags CHECKPOINT_COLLOCATED)
+    || (has_flag flags wr_all_replicas && has_flag flags checkpoint_collocated)
 
 -- the most bytes that the declared sections can have
 abbrev pub declared_bytes : CreationAttributes → ℕ
@@ -38,9 +37,9 @@ has_malformed_sizes a =
     || (a.max_section_size == 0)
     || (a.max_section_id_size == 0)
     || nat_lt (declared_bytes a) a.checkpoint_size
-    || nat_lt DECLARED_BYTES_MAX (declared_bytes a)
-    || nat_lt SECTIONS_MAX a.max_sections
-    || nat_lt DECLARED_ID_MAX a.max_section_id_size
+    || nat_lt declared_bytes_max (declared_bytes a)
+    || nat_lt sections_max a.max_sections
+    || nat_lt declared_id_max a.max_section_id_size
 
 abbrev pub is_malformed : CreationAttributes → Bool
 is_malformed a = has_malformed_flags a.creation_flags || has_malformed_sizes a || int_lt a.retention_duration (pos 0)
@@ -66,17 +65,17 @@ pub record IsWellFormed (a : CreationAttributes) : Type 0 where
   pub some_section_bytes : 1 ≤ a.max_section_size
   pub some_id_bytes : 1 ≤ a.max_section_id_size
   pub covered : a.checkpoint_size ≤ declared_bytes a
-  pub few_bytes : declared_bytes a ≤ DECLARED_BYTES_MAX
-  pub few_sections : a.max_sections ≤ SECTIONS_MAX
-  pub few_id_bytes : a.max_section_id_size ≤ DECLARED_ID_MAX
+  pub few_bytes : declared_bytes a ≤ declared_bytes_max
+  pub few_sections : a.max_sections ≤ sections_max
+  pub few_id_bytes : a.max_section_id_size ≤ declared_id_max
   pub retention : pos 0 ≤ℤ a.retention_duration
 
 -- no flag, or an unknown one
 abbrev pub has_bad_open_flags : ℕ → Bool
-has_bad_open_flags bits = (bits == 0) || nat_lt OPEN_FLAGS_ALL bits
+has_bad_open_flags bits = (bits == 0) || nat_lt open_flags_all bits
 
 -- what is opened for, or that the flags are bad
 abbrev pub open_flags_of : ℕ → Result OpenFlags AisError
 open_flags_of bits =
     if has_bad_open_flags bits then Err BadFlags
-    else Ok (record { read = has_flag bits CHECKPOINT_READ; write = has_flag bits CHECKPOINT_WRITE; create = has_flag bits CHECKPOINT_CREATE })
+    else Ok (record { read = has_flag bits checkpoint_read; write = has_flag bits checkpoint_write; create = has_flag bits checkpoint_create })

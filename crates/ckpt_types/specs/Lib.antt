@@ -2,6 +2,7 @@ pub mod AisError
 pub mod Attributes
 pub mod Buffer
 pub mod Ends
+pub mod Limits
 pub mod ReadBuf
 pub mod Reads
 pub mod SectionId

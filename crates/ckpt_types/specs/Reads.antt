@@ -3,15 +3,14 @@ use Rattle.std.specs.Prelude.{ℕ, ◌+◌, List, [], ◌∷◌, length, take, d
 use Rattle.std.specs.Ordering.{int_eq}
 use Rattle.ckpt_types.specs.declared.ais_error.AisError.TheVariants.{InvalidParam}
 use Rattle.ckpt_types.specs.declared.attributes.CreationAttributes.{CreationAttributes}
-use Rattle.ckpt_types.specs.declared.identities.TheConstants.{NEVER}
 use Rattle.ckpt_types.specs.declared.sections.CheckpointDescriptor.{CheckpointDescriptor}
 use Rattle.ckpt_types.specs.declared.sections.Choice.{Choice}
 use Rattle.ckpt_types.specs.declared.sections.SectionDescriptor.{SectionDescriptor}
 use Rattle.ckpt_types.specs.declared.sections.SectionFacts.{SectionFacts}
 use Rattle.ckpt_types.specs.declared.sections.SectionState.{SectionState}
 use Rattle.ckpt_types.specs.declared.sections.SectionState.TheVariants.{Valid, Corrupted}
-use Rattle.ckpt_types.specs.declared.sections.TheConstants.{SECTIONS_FOREVER, SECTIONS_LEQ_EXPIRATION_TIME, SECTIONS_GEQ_EXPIRATION_TIME, SECTIONS_CORRUPTED, SECTIONS_ANY}
 use Rattle.ckpt_types.specs.declared.update.ReadElement.{ReadElement}
+use Rattle.ckpt_types.specs.Limits.{end_of_time, sections_forever, sections_leq_expiration_time, sections_geq_expiration_time, sections_corrupted, sections_any}
 use Rattle.ckpt_types.specs.Sections.{Section, section_at, present, size_of, memory_used}
 use Rattle.ckpt_types.specs.Updates.{Refusal, refuse_at, on_section, and_then}
 
@@ -38,11 +37,11 @@ is_corrupted Corrupted = true
 -- the choice takes the section
 abbrev pub chooses : Choice → Section → Bool
 chooses choice s =
-    if choice.chosen == SECTIONS_FOREVER then int_eq s.expiration NEVER
-    else if choice.chosen == SECTIONS_LEQ_EXPIRATION_TIME then int_le s.expiration choice.time
-    else if choice.chosen == SECTIONS_GEQ_EXPIRATION_TIME then int_le choice.time s.expiration
-    else if choice.chosen == SECTIONS_CORRUPTED then is_corrupted s.state
-    else choice.chosen == SECTIONS_ANY
+    if choice.chosen == sections_forever then int_eq s.expiration end_of_time
+    else if choice.chosen == sections_leq_expiration_time then int_le s.expiration choice.time
+    else if choice.chosen == sections_geq_expiration_time then int_le choice.time s.expiration
+    else if choice.chosen == sections_corrupted then is_corrupted s.state
+    else choice.chosen == sections_any
 
 -- the identifiers that an iteration keeps, in their order
 abbrev pub chosen : Choice → ℤ → List Section → List (List ℕ)

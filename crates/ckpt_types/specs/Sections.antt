@@ -7,10 +7,10 @@ use Rattle.std.specs.declared.cmp.Ordering.{Ordering}
 use Rattle.std.specs.declared.cmp.Ordering.TheVariants.{Less}
 use Rattle.std.specs.Cmp.Lexicographic.{pointwise, slice_cmp}
 use Rattle.ckpt_types.specs.declared.attributes.CreationAttributes.{CreationAttributes}
-use Rattle.ckpt_types.specs.declared.identities.TheConstants.{NEVER}
 use Rattle.ckpt_types.specs.declared.sections.SectionState.{SectionState}
 use Rattle.ckpt_types.specs.declared.sections.SectionState.TheVariants.{Valid}
 use Rattle.ckpt_types.specs.declared.sections.SectionRef.{SectionRef}
+use Rattle.ckpt_types.specs.Limits.{end_of_time}
 
 -- a section: its identifier and bytes, from when on it is absent, its state, when its bytes were last updated
 pub record Section : Type 0 where
@@ -79,7 +79,7 @@ where_present t (Some s) = if is_present t s then Some s else None
 
 -- the one section of a checkpoint that may have only one
 abbrev pub default_section : ℤ → Section
-default_section made = record { id = []; bytes = []; expiration = NEVER; state = Valid; last_update = made }
+default_section made = record { id = []; bytes = []; expiration = end_of_time; state = Valid; last_update = made }
 
 -- what a checkpoint has when it is made: the default section where it may have only one, else nothing
 abbrev pub opening : CreationAttributes → ℤ → List Section

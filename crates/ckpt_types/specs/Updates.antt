@@ -10,6 +10,7 @@ use Rattle.ckpt_types.specs.declared.update.NewId.{NewId}
 use Rattle.ckpt_types.specs.declared.update.NewId.TheVariants.{Given, Generated}
 use Rattle.ckpt_types.specs.declared.update.Update.{Update}
 use Rattle.ckpt_types.specs.declared.update.Update.TheVariants as updates
+use Rattle.ckpt_types.specs.Limits.{generated_id_bytes}
 use Rattle.ckpt_types.specs.Sections.{Section, section_at, is_taken, with_section, without_section, present, memory_used}
 
 -- why an update or a read is refused: the error, and for a vector the index of the refused element, from 0
@@ -64,7 +65,7 @@ new_id Generated sections = generated_id sections
 -- the identifier is empty or too long, or the declared length leaves no room for a generated one
 abbrev pub is_bad_id : CreationAttributes → NewId → Bool
 is_bad_id a (Given id) = (length id == 0) || nat_lt a.max_section_id_size (length id)
-is_bad_id a Generated = nat_lt a.max_section_id_size 8
+is_bad_id a Generated = nat_lt a.max_section_id_size generated_id_bytes
 
 -- ---- the updates, each over the sections that are present
 

@@ -2,30 +2,10 @@ ghost use Rattle.std.specs.Prelude.{◌≡◌, ◌↔◌, IsTrue};
 ghost use Rattle.ckpt_types.specs.Attributes.{has_flag, has_malformed_flags, has_malformed_sizes, checked, same_but_retention};
 
 use crate::ais_error::AisError;
-
-/// Creation flag: an update is done when every replica has it.
-pub const WR_ALL_REPLICAS: u32 = 1;
-
-/// Creation flag: an update is done when the active replica has it.
-pub const WR_ACTIVE_REPLICA: u32 = 2;
-
-/// Creation flag: as `WR_ACTIVE_REPLICA`, and a write that is cut short may leave its sections corrupted.
-pub const WR_ACTIVE_REPLICA_WEAK: u32 = 4;
-
-/// Creation flag: replicas are on the nodes that opened the checkpoint, and a client sets the active.
-pub const CHECKPOINT_COLLOCATED: u32 = 8;
-
-/// All creation flags together.
-pub const CREATION_FLAGS_ALL: u32 = 15;
-
-/// The most bytes that the sections of a checkpoint may be declared to have.
-pub const DECLARED_BYTES_MAX: u64 = 1_048_576;
-
-/// The most sections that a checkpoint may be declared to have.
-pub const SECTIONS_MAX: u32 = 1_024;
-
-/// The most bytes that the identifiers of a checkpoint's sections may be declared to have.
-pub const DECLARED_ID_MAX: u64 = 64;
+use crate::limits::{
+    CHECKPOINT_COLLOCATED, CREATION_FLAGS_ALL, DECLARED_BYTES_MAX, DECLARED_ID_MAX, SECTIONS_MAX,
+    WR_ACTIVE_REPLICA, WR_ACTIVE_REPLICA_WEAK, WR_ALL_REPLICAS,
+};
 
 /// What a checkpoint is declared to have when it is made.
 #[derive(Clone, Copy, Debug, PartialEq, Eq, Hash)]

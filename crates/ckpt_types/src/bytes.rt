@@ -4,13 +4,12 @@ ghost use Rattle.std.specs.Cmp.Lexicographic.{pointwise, nat_list_eq_equiv};
 ghost use Rattle.std.specs.Cmp.Rules.{hashing};
 ghost use Rattle.std.proofs.Common.{rules};
 ghost use Rattle.std.specs.Cmp;
+ghost use Rattle.ckpt_types.specs.Limits.{name_max};
 
+use crate::limits::NAME_MAX;
 use std::alloc::{AllocError, Global};
 use std::hash::{Hash, Hasher};
 use std::marker::Model;
-
-/// The most bytes that a checkpoint's name has.
-pub const NAME_MAX: usize = 256;
 
 /// A string of bytes: a checkpoint's name, or the data of a section.
 #[derive(Debug, Drop)]
@@ -92,7 +91,7 @@ impl Hash for Bytes {
 
 /// Whether the bytes fit as a checkpoint's name: 1 to 256 of them.
 pub fn name_fits(name: &Bytes) -> bool
-    ensures { IsTrue result ↔ ((1 ≤ length name.now) × (length name.now ≤ NAME_MAX)) }
+    ensures { IsTrue result ↔ ((1 ≤ length name.now) × (length name.now ≤ name_max)) }
 {
     let len = name.as_slice().len();
     1 <= len && len <= NAME_MAX

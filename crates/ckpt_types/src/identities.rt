@@ -2,9 +2,6 @@
 /// never falls.
 pub type Moment = i64;
 
-/// The time that means never: no moment reaches it.
-pub const NEVER: Moment = i64::MAX;
-
 /// The number of a node, 0 to 7.
 pub type NodeId = u8;
 

@@ -7,6 +7,7 @@ mod attributes;
 mod bytes;
 mod calls;
 mod identities;
+mod limits;
 mod open_flags;
 mod operation;
 mod read_buf;
@@ -20,23 +21,27 @@ mod vector;
 
 pub use ais_error::AisError;
 pub use answers::{Answer, Cause, Given, Outcome};
-pub use attributes::{
-    CHECKPOINT_COLLOCATED, CREATION_FLAGS_ALL, CreationAttributes, DECLARED_BYTES_MAX,
-    DECLARED_ID_MAX, SECTIONS_MAX, WR_ACTIVE_REPLICA, WR_ACTIVE_REPLICA_WEAK, WR_ALL_REPLICAS,
-};
-pub use bytes::{Bytes, NAME_MAX, name_fits};
+pub use attributes::CreationAttributes;
+pub use bytes::{Bytes, name_fits};
 pub use calls::{AsyncKind, CallbackSet, Count, Held, OpenAsk, RaceBlock, RaceLine, Version};
-pub use identities::{ActorName, CallId, CkptId, Incarnation, Moment, NEVER, NodeId, Who};
-pub use open_flags::{
-    CHECKPOINT_CREATE, CHECKPOINT_READ, CHECKPOINT_WRITE, OPEN_FLAGS_ALL, OpenFlags,
+pub use identities::{ActorName, CallId, CkptId, Incarnation, Moment, NodeId, Who};
+pub use limits::{
+    BLOCK_LINES_MAX, CHECKPOINT_COLLOCATED, CHECKPOINT_CREATE, CHECKPOINT_READ, CHECKPOINT_WRITE,
+    CHECKPOINTS_MAX, CLIENT_NUMBERS, CLIENTS_MAX, CREATION_FLAGS_ALL, DECLARED_BYTES_MAX,
+    DECLARED_ID_MAX, GENERATED_ID_BYTES, HANDLES_MAX, ITERATIONS_MAX, LINE_ELEMENTS_MAX,
+    LINE_STEPS_MAX, MAJOR_MAX, MAJOR_MIN, MINOR_ANSWERED, NAME_MAX, NEVER, NODES_MAX,
+    OPEN_FLAGS_ALL, PLACES_MAX, RELEASE, SCRIPT_BYTES_MAX, SCRIPT_LINES_MAX, SCRIPT_READS_MAX,
+    SCRIPT_SHOWS_MAX, SECTION_ID_MAX, SECTIONS_ANY, SECTIONS_CORRUPTED, SECTIONS_FOREVER,
+    SECTIONS_GEQ_EXPIRATION_TIME, SECTIONS_LEQ_EXPIRATION_TIME, SECTIONS_MAX, VECTOR_MAX,
+    WR_ACTIVE_REPLICA, WR_ACTIVE_REPLICA_WEAK, WR_ALL_REPLICAS,
 };
+pub use open_flags::OpenFlags;
 pub use operation::Op;
 pub use read_buf::{Pieces, ReadBuf};
-pub use section_id::{SECTION_ID_MAX, SectionId};
+pub use section_id::SectionId;
 pub use sections::{
-    CheckpointDescriptor, Choice, SECTIONS_ANY, SECTIONS_CORRUPTED, SECTIONS_FOREVER,
-    SECTIONS_GEQ_EXPIRATION_TIME, SECTIONS_LEQ_EXPIRATION_TIME, SectionDescriptor, SectionFacts,
-    SectionRef, SectionState, Sections,
+    CheckpointDescriptor, Choice, SectionDescriptor, SectionFacts, SectionRef, SectionState,
+    Sections,
 };
 pub use shared::Shared;
 pub use update::{

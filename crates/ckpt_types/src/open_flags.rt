@@ -2,18 +2,7 @@ ghost use Rattle.std.specs.Prelude.{◌≡◌};
 
 use crate::ais_error::AisError;
 use crate::attributes::has_flag;
-
-/// Open flag: the handle may read.
-pub const CHECKPOINT_READ: u32 = 1;
-
-/// Open flag: the handle may write.
-pub const CHECKPOINT_WRITE: u32 = 2;
-
-/// Open flag: the checkpoint is made where it is missing.
-pub const CHECKPOINT_CREATE: u32 = 4;
-
-/// All open flags together.
-pub const OPEN_FLAGS_ALL: u32 = 7;
+use crate::limits::{CHECKPOINT_CREATE, CHECKPOINT_READ, CHECKPOINT_WRITE, OPEN_FLAGS_ALL};
 
 /// What a checkpoint is opened for.
 #[derive(Clone, Copy, Debug, PartialEq, Eq, Hash)]

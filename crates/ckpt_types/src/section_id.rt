@@ -5,19 +5,18 @@ ghost use Rattle.std.specs.Cmp.Lexicographic.{pointwise, slice_cmp, nat_list_eq_
 ghost use Rattle.std.specs.Cmp.Rules.{hashing};
 ghost use Rattle.std.specs.Ordering.{nat_cmp};
 ghost use Rattle.std.proofs.Common.{rules};
+ghost use Rattle.ckpt_types.specs.Limits.{section_id_max};
 
+use crate::limits::SECTION_ID_MAX;
 use std::cmp::Ordering;
 use std::hash::{Hash, Hasher};
 use std::marker::Model;
-
-/// The most bytes that an identifier of a section has.
-pub const SECTION_ID_MAX: usize = 256;
 
 /// The identifier of a section: at most 256 bytes, kept in place. Identifiers are ordered by their
 /// bytes, a proper prefix first.
 #[derive(Clone, Copy, Debug)]
 pub struct SectionId {
-    bytes: [u8; 256],
+    bytes: [u8; SECTION_ID_MAX],
     len: usize,
 }
 
@@ -40,7 +39,7 @@ impl Model for SectionId {
 impl SectionId {
     /// The identifier of these bytes; none exactly for more than 256.
     pub fn from_slice(bytes: &[u8]) -> Option<SectionId>
-        ensures { SomeIff result (length bytes.now ≤ SECTION_ID_MAX) bytes.now }
+        ensures { SomeIff result (length bytes.now ≤ section_id_max) bytes.now }
     {
         let len = bytes.len();
         if len > SECTION_ID_MAX {

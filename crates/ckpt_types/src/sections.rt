@@ -4,21 +4,6 @@ use crate::attributes::CreationAttributes;
 use crate::identities::Moment;
 use crate::section_id::SectionId;
 
-/// Choice of sections: those that never expire.
-pub const SECTIONS_FOREVER: u32 = 1;
-
-/// Choice of sections: those that expire at the time or before.
-pub const SECTIONS_LEQ_EXPIRATION_TIME: u32 = 2;
-
-/// Choice of sections: those that expire at the time or later.
-pub const SECTIONS_GEQ_EXPIRATION_TIME: u32 = 3;
-
-/// Choice of sections: the corrupted ones.
-pub const SECTIONS_CORRUPTED: u32 = 4;
-
-/// Choice of sections: all.
-pub const SECTIONS_ANY: u32 = 5;
-
 /// Whether a section has what was written into it.
 #[derive(Clone, Copy, Debug, PartialEq, Eq, Hash)]
 pub enum SectionState {

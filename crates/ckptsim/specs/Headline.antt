@@ -4,6 +4,7 @@ use Rattle.std.specs.String.{string_bytes}
 use Rattle.std.specs.declared.string.String.{String}
 use Rattle.std.specs.declared.alloc.Global.{Global}
 use Rattle.std.specs.Io.KnownBytes.{Consumes, Appends, IsAtEnd}
+use Rattle.ckpt_types.specs.Limits.{script_bytes_max}
 use Rattle.run_labels.specs.declared.labels.Label.{Label}
 use Rattle.run_labels.specs.Lines.{lines_of}
 use Rattle.script_words.specs.declared.reason.Reason.TheVariants.{Length}
@@ -54,7 +55,7 @@ pub record HasRun (steps : Bool) (left_old left_new held_old held_new : Option (
 abbrev pub HasFault : Option (List ℕ) → Option (List ℕ) → ScriptFault → Type 0
 HasFault old new fault =
     ((bytes : List ℕ) × Consumes old new bytes × IsAtEnd new × (script_of bytes ≡ Err fault))
-    ⊎ ((bytes : List ℕ) × Consumes old new bytes × (length bytes ≡ 262145) × (fault ≡ record { line = 0; reason = Length }))
+    ⊎ ((bytes : List ℕ) × Consumes old new bytes × (length bytes ≡ script_bytes_max + 1) × (fault ≡ record { line = 0; reason = Length }))
 
 -- the answers after which nothing was written
 abbrev pub WroteNothing : Status → Type 0

@@ -2,7 +2,8 @@ ghost use Rattle.std.specs.Prelude.{◌≡◌, ◌≤◌, IfOk, Err};
 ghost use Rattle.outside_io.specs.Causes.{Rose};
 ghost use Rattle.ckptsim.specs.Reading.{Reads};
 
-use crate::running::{SCRIPT_BYTES_MAX, Trouble};
+use crate::running::Trouble;
+use ckpt_types::SCRIPT_BYTES_MAX;
 use outside_io::{Failed, Source};
 use std::alloc::Global;
 

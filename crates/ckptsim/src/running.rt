@@ -17,9 +17,6 @@ use std::sync::Wait;
 use std::thread::Threads;
 use world_core::World;
 
-/// The most bytes that a script has.
-pub const SCRIPT_BYTES_MAX: usize = 262_144;
-
 /// What kept reading or writing from its end.
 #[derive(Clone, Copy, Debug, PartialEq, Eq)]
 pub enum Trouble {

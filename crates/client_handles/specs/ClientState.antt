@@ -7,6 +7,7 @@ use Rattle.ckpt_types.specs.declared.ais_error.AisError.TheVariants.{BadHandle}
 use Rattle.ckpt_types.specs.declared.calls.CallbackSet.{CallbackSet}
 use Rattle.ckpt_types.specs.declared.calls.Count.{Count}
 use Rattle.ckpt_types.specs.declared.open_flags.OpenFlags.{OpenFlags}
+use Rattle.ckpt_types.specs.Limits.{iterations_max, places_max, handles_max}
 use Rattle.section_iter.specs.KeptIds.{KeptIds}
 use Rattle.client_handles.specs.Numbered.{numbered, without, stands_for, RiseWithin}
 use Rattle.client_handles.specs.declared.begun.BegunIteration.{BegunIteration}
@@ -182,17 +183,17 @@ IsOver handles it = IsSome (handle_numbered (goes_over it) handles)
 -- at most 8 iterations were begun, each later than those before it, over handles that are open; a place
 -- was set to no number that was not given
 pub record HasIterations (s : ClientState) : Type 0 where
-  pub few : length s.iterations ≤ 8
+  pub few : length s.iterations ≤ iterations_max
   pub numbers : RiseWithin iteration_number 0 s.last_iteration s.iterations
   pub over_open : All (IsOver s.handles) s.iterations
-  pub places : length s.iteration_places ≡ 100
+  pub places : length s.iteration_places ≡ places_max
   pub given : (place : ℕ) → slice_index s.iteration_places place ≤ s.last_iteration
 
 -- at most 32 handles are open, each taken later than those before it; a place was set to no number that
 -- was not given; and so it is with iterations
 pub record IsValid (s : ClientState) : Type 0 where
-  pub few : length s.handles ≤ 32
+  pub few : length s.handles ≤ handles_max
   pub numbers : RiseWithin handle_number 0 s.last_number s.handles
-  pub places : length s.places ≡ 100
+  pub places : length s.places ≡ places_max
   pub given : (place : ℕ) → slice_index s.places place ≤ s.last_number
   pub iterations : HasIterations s

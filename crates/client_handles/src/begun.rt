@@ -1,13 +1,12 @@
 ghost use Rattle.std.specs.Prelude.{◌≡◌, ◌<◌, ◌≤◌, [], None, Some, IfNone, IfOk, IfSome, IsSomeAnd, length, slice_get, slice_set, vec_capacity};
 ghost use Rattle.std.specs.Option.{option_map};
+ghost use Rattle.ckpt_types.specs.Limits.{iterations_max};
 ghost use Rattle.client_handles.specs.ClientState.{iteration_number, goes_over, with_kept};
 ghost use Rattle.client_handles.specs.Numbered.{numbered, without};
 
+use ckpt_types::ITERATIONS_MAX;
 use section_iter::Iteration;
 use std::alloc::{AllocError, Global};
-
-/// How many iterations a client has at most.
-pub const ITERATIONS_MAX: usize = 8;
 
 /// An iteration that was begun.
 #[derive(Drop)]
@@ -88,7 +87,7 @@ pub(crate) fn copy_of_begun(
     alloc: Global,
     begun: &[BegunIteration],
 ) -> Result<Vec<BegunIteration>, AllocError>
-    requires { length begun.now ≤ 8 }
+    requires { length begun.now ≤ iterations_max }
     ensures items { IfOk result (λ copy. copy.items ≡ begun.now) }
     ensures capacity { IfOk result (λ copy. 8 ≤ vec_capacity copy) }
 {

@@ -1,21 +1,20 @@
 ghost use Rattle.std.specs.Prelude.{◌≡◌, ◌-◌, ◌^◌, ◌<◌, IfOk, OnOk, OnErr, IsSome};
+ghost use Rattle.ckpt_types.specs.Limits.{places_max};
 ghost use Rattle.client_handles.specs.ClientState.{handle_numbered, named_handle, has_handle_room, new_client, taken, taken_number, released, bound, dropped, emptied, IsValid};
 ghost use Rattle.client_handles.specs.ClientState.{iterated_handle, kept_iteration, IsLent, IsNotLent, has_iteration_room, added, added_answer, lent, returned, ended, ended_answer};
 
 use crate::begun::{
-    BegunIteration, ITERATIONS_MAX, copy_of_begun, end_all, end_over, handle_over, keep, place_of,
-    take_kept,
+    BegunIteration, copy_of_begun, end_all, end_over, handle_over, keep, place_of, take_kept,
 };
 use crate::handle_view::HandleView;
-use crate::kept::{Bound, PLACES, copy_of, handle_of, handle_under, key_of, no_places};
-use ckpt_types::{AisError, CallbackSet, CkptId, Count, OpenFlags};
+use crate::kept::{Bound, copy_of, handle_of, handle_under, key_of, no_places};
+use ckpt_types::{
+    AisError, CallbackSet, CkptId, Count, HANDLES_MAX, ITERATIONS_MAX, OpenFlags, PLACES_MAX,
+};
 use section_iter::Iteration;
 use slab::Slab;
 use std::alloc::{AllocError, Global};
 use std::marker::Model;
-
-/// How many handles a client has open at most.
-pub const HANDLES_MAX: usize = 32;
 
 /// What one client keeps: its open handles, the iterations over them, and the places that stand for both.
 #[derive(Drop)]
@@ -25,13 +24,13 @@ pub struct Client {
     last_number: u32,
     handles: Slab<HandleView>,
     /// To which handle each place was set last. That handle may be closed since.
-    places: [Option<Bound>; PLACES],
+    places: [Option<Bound>; PLACES_MAX],
     /// The number of the iteration last begun, or 0.
     last_iteration: u32,
     /// The iterations, in the order of their beginning.
     iterations: Vec<BegunIteration>,
     /// The number of the iteration to which each place was set last, or 0. It may have ended since.
-    iteration_places: [u32; PLACES],
+    iteration_places: [u32; PLACES_MAX],
 }
 
 impl Model for Client {
@@ -59,7 +58,7 @@ impl Client {
             places: no_places(),
             last_iteration: 0,
             iterations: Vec::with_capacity(alloc, ITERATIONS_MAX)?,
-            iteration_places: [0; PLACES],
+            iteration_places: [0; PLACES_MAX],
         })
     }
 
@@ -73,7 +72,7 @@ impl Client {
     /// The handle for which a place stands. `BadHandle` where the place was never set, or the handle was
     /// closed.
     pub fn handle(&self, place: u8) -> Result<HandleView, AisError>
-        requires { place < 100 }
+        requires { place < places_max }
         ensures answer { result ≡ named_handle place self.now }
         ensures valid { IsValid self.now }
     {
@@ -142,7 +141,7 @@ impl Client {
 
     /// Lets a place stand for an open handle. Another handle for which it stood before stays open.
     pub fn bind(&mut self, place: u8, handle: u32)
-        requires place { place < 100 }
+        requires place { place < places_max }
         requires opened { IsSome (handle_numbered handle self.old.handles) }
         ensures { self.new ≡ bound place handle self.old }
     {
@@ -158,7 +157,7 @@ impl Client {
     /// Closes the handle for which a place stands, tells it, and ends the iterations over it. `BadHandle`
     /// where it stands for none, and then nothing changes.
     pub fn drop_handle(&mut self, place: u8) -> Result<HandleView, AisError>
-        requires { place < 100 }
+        requires { place < places_max }
         ensures answer { result ≡ named_handle place self.old }
         ensures dropped { self.new ≡ dropped place self.old }
     {
@@ -170,7 +169,7 @@ impl Client {
     /// The handle over which the iteration goes for which a place stands. `BadHandle` where the place was
     /// never set, or the iteration has ended.
     pub fn iteration_handle(&self, place: u8) -> Result<HandleView, AisError>
-        requires { place < 100 }
+        requires { place < places_max }
         ensures answer { result ≡ iterated_handle place self.now }
         ensures valid { IsValid self.now }
     {
@@ -187,7 +186,7 @@ impl Client {
     /// Lends the iteration for which a place stands, and which is not lent. The place goes on to stand for
     /// it. `BadHandle` where the place stands for none, and then nothing changes.
     pub fn lend_iteration(&mut self, place: u8) -> Result<Iteration, AisError>
-        requires place { place < 100 }
+        requires place { place < places_max }
         requires not_lent { IsNotLent place self.old }
         ensures answer { result ≡ kept_iteration place self.old }
         ensures lent { OnOk result (self.new ≡ lent place self.old) }
@@ -205,7 +204,7 @@ impl Client {
 
     /// Takes back the iteration for which a place stands, and which is lent.
     pub fn return_iteration(&mut self, place: u8, iteration: Iteration)
-        requires place { place < 100 }
+        requires place { place < places_max }
         requires lent { IsLent place self.old }
         ensures { self.new ≡ returned place iteration self.old }
     {
@@ -224,7 +223,7 @@ impl Client {
         handle: u32,
         iteration: Iteration,
     ) -> Result<(), Count>
-        requires place { place < 100 }
+        requires place { place < places_max }
         requires opened { IsSome (handle_numbered handle self.old.handles) }
         requires number { self.old.last_iteration < 2 ^ 32 - 1 }
         ensures answer { result ≡ added_answer self.old }
@@ -249,7 +248,7 @@ impl Client {
     /// Ends the iteration for which a place stands. `BadHandle` where it stands for none, and then nothing
     /// changes.
     pub fn end_iteration(&mut self, place: u8) -> Result<(), AisError>
-        requires { place < 100 }
+        requires { place < places_max }
         ensures answer { result ≡ ended_answer place self.old }
         ensures ended { OnOk result (self.new ≡ ended place self.old) }
         ensures unchanged { OnErr result (self.new ≡ self.old) }

@@ -4,11 +4,9 @@ ghost use Rattle.client_handles.specs.Kept.{where_numbered};
 ghost use Rattle.client_handles.specs.declared.handle_view.HandleView.{HandleView};
 
 use crate::handle_view::HandleView;
+use ckpt_types::PLACES_MAX;
 use slab::Slab;
 use std::alloc::AllocError;
-
-/// How many places a client has for its handles: h0 to h99.
-pub const PLACES: usize = 100;
 
 /// What a place was set to. The number is the generation: where another handle lies under the key
 /// now, it has another number.
@@ -21,10 +19,10 @@ pub(crate) struct Bound {
 }
 
 /// Places of which none was set.
-pub(crate) fn no_places() -> [Option<Bound>; PLACES]
+pub(crate) fn no_places() -> [Option<Bound>; PLACES_MAX]
     ensures { result ≡ replicate 100 None }
 {
-    [None; PLACES]
+    [None; PLACES_MAX]
 }
 
 /// The handle under a key, where it has that number.

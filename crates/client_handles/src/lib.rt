@@ -8,7 +8,5 @@ mod kept;
 #[cfg(test)]
 mod tests;
 
-pub use begun::ITERATIONS_MAX;
-pub use client::{Client, HANDLES_MAX};
+pub use client::Client;
 pub use handle_view::HandleView;
-pub use kept::PLACES;

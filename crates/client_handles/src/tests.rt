@@ -1,6 +1,7 @@
 mod iterations;
 
 ghost use Rattle.std.specs.Prelude.{◌≡◌, ◌+◌, ◌-◌, ◌^◌, ◌<◌, ◌≤◌, length};
+ghost use Rattle.ckpt_types.specs.Limits.{places_max};
 
 use crate::{Client, HandleView};
 use ckpt_types::{AisError, CallbackSet, CkptId, Count, OpenFlags, WR_ALL_REPLICAS};
@@ -42,7 +43,7 @@ fn told(answer: Result<HandleView, AisError>) -> Option<(CkptId, u32)> {
 }
 
 fn open_at(client: &mut Client, place: u8, id: CkptId) -> Option<(CkptId, u32)>
-    requires place { place < 100 }
+    requires place { place < places_max }
     requires number { client.old.last_number < 2 ^ 32 - 1 }
     ensures { client.new.last_number ≤ client.old.last_number + 1 }
 {
@@ -55,7 +56,7 @@ fn open_at(client: &mut Client, place: u8, id: CkptId) -> Option<(CkptId, u32)>
 }
 
 fn set_at(client: &mut Client, place: u8, from: u8) -> Option<(CkptId, u32)>
-    requires place { place < 100 }
+    requires place { place < places_max }
     requires from { from < 100 }
     ensures { client.new.last_number ≡ client.old.last_number }
 {
@@ -67,7 +68,7 @@ fn set_at(client: &mut Client, place: u8, from: u8) -> Option<(CkptId, u32)>
 }
 
 fn do_at(client: &mut Client, place: u8, what: Act) -> Option<(CkptId, u32)>
-    requires place { place < 100 }
+    requires place { place < places_max }
     requires number { client.old.last_number < 2 ^ 32 - 1 }
     ensures { client.new.last_number ≤ client.old.last_number + 1 }
 {

@@ -3,6 +3,7 @@ use Rattle.std.specs.Prelude.{ℕ, ◌<◌, Option, Some, None, Bool, false, ◌
 use Rattle.ckpt_types.specs.declared.identities.ActorName.{ActorName}
 use Rattle.ckpt_types.specs.declared.identities.ActorName.TheVariants.{Client, Node}
 use Rattle.ckpt_types.specs.declared.identities.CallId.{CallId}
+use Rattle.ckpt_types.specs.Limits.{client_numbers}
 
 abbrev pub same_actor : ActorName → ActorName → Bool
 same_actor (Client a) (Client b) = a == b
@@ -24,7 +25,7 @@ client_of call = number_of call.actor
 
 -- one of the clients that the script may name, c0 to c99
 abbrev pub IsClient : ActorName → Type 0
-IsClient (Client c) = c < 100
+IsClient (Client c) = c < client_numbers
 IsClient (Node r) = ⊥
 
 -- a map by actor with one value changed

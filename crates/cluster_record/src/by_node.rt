@@ -1,4 +1,5 @@
 ghost use Rattle.std.specs.Prelude.{◌≡◌, ◌<◌, Some, None, IfSome, if◌then◌else◌};
+ghost use Rattle.ckpt_types.specs.Limits.{nodes_max};
 ghost use Rattle.cluster_record.specs.StepDone.{lacks, has, first_lacking, last_having};
 
 use ckpt_types::NodeId;
@@ -6,7 +7,7 @@ use ckpt_types::NodeId;
 /// The lowest of these nodes that the call lacks: with an incarnation that it does not have there.
 pub fn first_lacking(nodes: &[u32; 8], own: &[u32; 8]) -> Option<NodeId>
     ensures value { result ≡ first_lacking 0 nodes.now own.now }
-    ensures within { IfSome result (λ r. r < 8) }
+    ensures within { IfSome result (λ r. r < nodes_max) }
 {
     for r in 0..8u8 {
         if lacks(nodes[r as usize], own[r as usize]) {

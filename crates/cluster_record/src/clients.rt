@@ -5,9 +5,6 @@ ghost use Rattle.cluster_record.specs.RecordState.{client_key};
 
 use ckpt_types::{ActorName, Incarnation, NodeId};
 
-/// How many clients are live at most.
-pub const CLIENTS_MAX: usize = 64;
-
 /// A client that is live.
 #[derive(Clone, Copy, Debug)]
 pub struct LiveClient {

@@ -1,5 +1,6 @@
 ghost use Rattle.std.specs.Prelude.{◌≡◌, ◌+◌, ◌-◌, ◌^◌, ◌<◌, ◌≤◌, Some, None, IfSome, MatchOption, length, filter, map, not, ◌==◌, slice_index, slice_set, replicate, vec_capacity};
 ghost use Rattle.std.specs.List.{list_any, list_all};
+ghost use Rattle.ckpt_types.specs.Limits.{name_max};
 ghost use Rattle.moment_rules.specs.Times.{sum_until_end, is_reached};
 ghost use Rattle.cluster_record.specs.Numbers.{may_rise, entry_may_rise};
 ghost use Rattle.cluster_record.specs.Changes.{changed_by, CanChange};
@@ -12,9 +13,6 @@ use ckpt_types::{
 };
 use moment_rules::reached;
 use name_table::Names;
-
-/// How many checkpoints there are at most.
-pub const CHECKPOINTS_MAX: usize = 16;
 
 // What a checkpoint declares that is gone.
 pub(crate) const DECLARES_NOTHING: CreationAttributes = CreationAttributes {
@@ -147,7 +145,7 @@ impl Entry {
 
 /// A name as an entry keeps it.
 pub(crate) fn kept_name(name: &Bytes) -> Option<KeptName>
-    requires { length name.now ≤ NAME_MAX }
+    requires { length name.now ≤ name_max }
     ensures { result ≡ Some name.now }
 {
     SectionId::from_slice(name.as_slice())

@@ -12,7 +12,7 @@ mod tests;
 
 pub use by_node::{first_lacking, last_having};
 pub use calls::{ActiveKind, Making, UpdatePhase};
-pub use clients::{CLIENTS_MAX, LiveClient, number_of};
-pub use entries::{CHECKPOINTS_MAX, Entry, KeptName};
+pub use clients::{LiveClient, number_of};
+pub use entries::{Entry, KeptName};
 pub use opening::{OpenAnswer, accepts};
 pub use record::{Record, RecordRefused};

@@ -8,19 +8,20 @@ ghost use Rattle.cluster_record.specs.Numbers.{numbers_left};
 ghost use Rattle.cluster_record.specs.Opening.{answer_free, open_answer, after_open};
 ghost use Rattle.cluster_record.specs.Refusals.{all_taken, plainly, held_by, unlinkable, unlink_answer, retain_answer};
 ghost use Rattle.ckpt_types.specs.declared.identities.CallId.{CallId};
+ghost use Rattle.ckpt_types.specs.Limits.{nodes_max, clients_max, name_max};
 ghost use Rattle.cluster_record.specs.Places.{find_key};
 ghost use Rattle.cluster_record.specs.RecordReady.{CanCreate, CanRefer, CanReferAt};
 ghost use Rattle.cluster_record.specs.RecordState.{empty_record, entry_of, named, complete_of, client_key, is_live_client, is_up, is_live, is_live_from, swept, first_nodes, brought_up, entered, created, moved, opened, closed, unlinked, retained, departed};
 
-use crate::clients::{CLIENTS_MAX, LiveClient, find_client, number_of, take_out};
+use crate::clients::{LiveClient, find_client, number_of, take_out};
 use crate::entries::{
-    CHECKPOINTS_MAX, Change, DECLARES_NOTHING, Entry, Staying, all_may_rise, change_entry,
-    entries_may_rise, find_entry, keep_only, kept_name, new_entry, release_everywhere,
+    Change, DECLARES_NOTHING, Entry, Staying, all_may_rise, change_entry, entries_may_rise,
+    find_entry, keep_only, kept_name, new_entry, release_everywhere,
 };
 use crate::opening::{OpenAnswer, answer_of};
 use ckpt_types::{
-    ActorName, AisError, Bytes, CallId, Cause, CkptId, CreationAttributes, Incarnation, Moment,
-    NAME_MAX, NodeId, OpenAsk,
+    ActorName, AisError, Bytes, CHECKPOINTS_MAX, CLIENTS_MAX, CallId, Cause, CkptId,
+    CreationAttributes, Incarnation, Moment, NAME_MAX, NodeId, OpenAsk,
 };
 use name_table::Names;
 use std::alloc::{AllocError, Global};
@@ -63,7 +64,7 @@ impl Model for Record {
 impl Record {
     /// A record of a cluster whose first nodes are up, so many as are told. All its room is taken here.
     pub fn new(alloc: Global, nodes: u8) -> Result<Record, AllocError>
-        requires { nodes ≤ 8 }
+        requires { nodes ≤ nodes_max }
         ensures { IfOk result (λ made. made ≡ brought_up nodes empty_record) }
     {
         let up = first_nodes(nodes);
@@ -268,7 +269,7 @@ impl Record {
 
     /// The first nodes come up.
     pub fn bring_up(&mut self, n: u8)
-        requires { n ≤ 8 }
+        requires { n ≤ nodes_max }
         ensures { self.new ≡ brought_up n self.old }
     {
         let nodes = first_nodes(n);
@@ -280,8 +281,8 @@ impl Record {
     /// A client becomes live on a node, by its Initialize call. NO_RESOURCES, with the count 64, exactly where so many
     /// are; then nothing changes. It takes no memory.
     pub fn enter(&mut self, call: CallId, node: NodeId) -> Result<(), RecordRefused>
-        requires { node < 8 }
-        ensures ok { OnOk result ((length self.old.clients < 64) × (self.new ≡ entered (client_of call) node call.number self.old)) }
+        requires { node < nodes_max }
+        ensures ok { OnOk result ((length self.old.clients < clients_max) × (self.new ≡ entered (client_of call) node call.number self.old)) }
         ensures err { IfErr result (λ refused. (refused ≡ all_taken 64) × (64 ≤ length self.old.clients) × (self.new ≡ self.old)) }
     {
         if self.clients.len() >= CLIENTS_MAX {
@@ -324,7 +325,7 @@ impl Record {
 
     // A checkpoint gets the next identity, and is in the making by the call.
     fn create(&mut self, call: CallId, ask: OpenAsk)
-        requires name { length ask.name ≤ NAME_MAX }
+        requires name { length ask.name ≤ name_max }
         requires room { CanCreate self.old }
         requires absent { named ask.name self.old.entries ≡ None }
         ensures { self.new ≡ created call ask self.old }
@@ -353,7 +354,7 @@ impl Record {
     /// other attributes than those given, and NO_RESOURCES, with the count 16, where so many checkpoints are there and
     /// it is not; then nothing changes. It takes no memory.
     pub fn open(&mut self, call: CallId, ask: OpenAsk) -> OpenAnswer
-        requires name { length ask.name ≤ NAME_MAX }
+        requires name { length ask.name ≤ name_max }
         requires references { CanReferAt ask.client self.old.entries (identity_in (named ask.name self.old.entries)) }
         requires identity { self.old.last_identity < 2 ^ 32 - 1 }
         ensures answer { result ≡ open_answer self.old ask }

@@ -6,4 +6,4 @@ mod names;
 #[cfg(test)]
 mod tests;
 
-pub use names::{Names, PLACES};
+pub use names::Names;

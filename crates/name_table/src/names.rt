@@ -2,14 +2,11 @@ ghost use Rattle.std.specs.Prelude.{◌≡◌, ◌<◌, ◌≤◌, [], length, S
 ghost use Rattle.name_table.specs.Table.{found, linked, unlinked, EachOnce, OthersStay, places};
 
 use crate::moves::{move_others, put_last};
-use ckpt_types::{Bytes, CkptId};
+use ckpt_types::{Bytes, CHECKPOINTS_MAX, CkptId};
 use indexmap::IndexMap;
 use std::alloc::{AllocError, Global};
 use std::marker::Model;
 use std::mem;
-
-/// For how many names a table has places.
-pub const PLACES: usize = 16;
 
 /// The names of the checkpoints, in the order in which they were linked.
 #[derive(Debug, Drop)]
@@ -37,8 +34,8 @@ impl Names {
         ensures { IfOk result (λ names. names ≡ []) }
     {
         Ok(Names {
-            linked: IndexMap::with_capacity(alloc, PLACES)?,
-            unused: IndexMap::with_capacity(alloc, PLACES)?,
+            linked: IndexMap::with_capacity(alloc, CHECKPOINTS_MAX)?,
+            unused: IndexMap::with_capacity(alloc, CHECKPOINTS_MAX)?,
         })
     }
 

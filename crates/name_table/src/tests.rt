@@ -1,5 +1,5 @@
-use crate::{Names, PLACES};
-use ckpt_types::{Bytes, CkptId};
+use crate::Names;
+use ckpt_types::{Bytes, CHECKPOINTS_MAX, CkptId};
 use std::alloc::Global;
 use std::test::Fail;
 
@@ -16,7 +16,7 @@ type Row<'a> = (Ask, &'a [u8], &'a str);
 
 /// Links the name, where a place is spare and the name is absent.
 fn link(names: &mut Names, name: Bytes, id: CkptId) -> bool {
-    let may = names.len() < PLACES && names.look_up(&name).is_none();
+    let may = names.len() < CHECKPOINTS_MAX && names.look_up(&name).is_none();
     if may {
         names.link(name, id);
     }

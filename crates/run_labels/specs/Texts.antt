@@ -6,11 +6,11 @@ use Rattle.hex.specs.Hex.{encode_lower}
 use Rattle.ckpt_types.specs.declared.identities.ActorName.{ActorName}
 use Rattle.ckpt_types.specs.declared.identities.ActorName.TheVariants.{Client, Node}
 use Rattle.ckpt_types.specs.declared.identities.CallId.{CallId}
-use Rattle.ckpt_types.specs.declared.identities.TheConstants.{NEVER}
 use Rattle.ckpt_types.specs.declared.identities.Who.{Who}
 use Rattle.ckpt_types.specs.declared.identities.Who.TheVariants.{Actor, Call}
 use Rattle.ckpt_types.specs.declared.sections.SectionState.{SectionState}
 use Rattle.ckpt_types.specs.declared.sections.SectionState.TheVariants.{Valid, Corrupted}
+use Rattle.ckpt_types.specs.Limits.{end_of_time}
 
 -- a node: `n1`
 abbrev pub node_text : ℕ → List ℕ
@@ -36,7 +36,7 @@ who_text (Call call) = call_text call
 
 -- a time: its number, or `end` for the one that means never
 abbrev pub time_text : ℤ → List ℕ
-time_text time = if int_eq time NEVER then codes "end" else signed_decimal time
+time_text time = if int_eq time end_of_time then codes "end" else signed_decimal time
 
 -- bytes: `x` and two digits for each
 abbrev pub bytes_text : List ℕ → List ℕ

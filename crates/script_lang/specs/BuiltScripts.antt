@@ -9,6 +9,7 @@ use Rattle.ckpt_types.specs.declared.update.IoElement.{IoElement}
 use Rattle.ckpt_types.specs.declared.update.ReadElement.{ReadElement}
 use Rattle.ckpt_types.specs.declared.update.Update.{Update}
 use Rattle.ckpt_types.specs.declared.update.Update.TheVariants as updates
+use Rattle.ckpt_types.specs.Limits.{nodes_max, places_max, client_numbers, section_id_max, line_elements_max, script_reads_max, script_lines_max}
 use Rattle.script_words.specs.Fitting.{IsNewId, IsTime, IsVersion}
 use Rattle.script_lang.specs.declared.lines.Line.{Line}
 use Rattle.script_lang.specs.declared.lines.Line.TheVariants as lines
@@ -36,20 +37,20 @@ AreBuiltAttributes (Some a) = IsBuiltDeclared a
 
 -- an offset of 64 bits, and an identifier of at most 256 bytes
 abbrev pub IsIoElement : IoElement → Type 0
-IsIoElement e = (e.offset < 2 ^ 64) × (length e.id ≤ 256)
+IsIoElement e = (e.offset < 2 ^ 64) × (length e.id ≤ section_id_max)
 
 -- an offset of 64 bits, an identifier of at most 256 bytes, and at most 16,777,216 bytes to read
 abbrev pub IsReadElement : ReadElement → Type 0
-IsReadElement e = (e.offset < 2 ^ 64) × (e.len ≤ 16777216) × (length e.id ≤ 256)
+IsReadElement e = (e.offset < 2 ^ 64) × (e.len ≤ script_reads_max) × (length e.id ≤ section_id_max)
 
 -- a write of 1 to 256 elements
 abbrev pub AreWrites : Update → Type 0
-AreWrites (updates.Write elements) = (0 < length elements) × (length elements ≤ 256) × All IsIoElement elements
+AreWrites (updates.Write elements) = (0 < length elements) × (length elements ≤ line_elements_max) × All IsIoElement elements
 AreWrites _ = ⊥
 
 -- 1 to 256 elements of a read, which ask for at most 16,777,216 bytes together
 abbrev pub AreReads : List ReadElement → Type 0
-AreReads elements = (0 < length elements) × (length elements ≤ 256) × All IsReadElement elements × (sum_by (λ e. e.len) elements ≤ 16777216)
+AreReads elements = (0 < length elements) × (length elements ≤ line_elements_max) × All IsReadElement elements × (sum_by (λ e. e.len) elements ≤ script_reads_max)
 
 -- a new section, under an identifier of at most 256 bytes or one that the service makes
 abbrev pub IsCreation : Update → Type 0
@@ -58,42 +59,42 @@ IsCreation _ = ⊥
 
 -- a section is taken away
 abbrev pub IsDeletion : Update → Type 0
-IsDeletion (updates.Delete id) = length id ≤ 256
+IsDeletion (updates.Delete id) = length id ≤ section_id_max
 IsDeletion _ = ⊥
 
 -- a section expires at another time
 abbrev pub IsExpirationSetting : Update → Type 0
-IsExpirationSetting (updates.SetExpiration id expiration) = (length id ≤ 256) × IsTime expiration
+IsExpirationSetting (updates.SetExpiration id expiration) = (length id ≤ section_id_max) × IsTime expiration
 IsExpirationSetting _ = ⊥
 
 -- other bytes for a section
 abbrev pub IsOverwriting : Update → Type 0
-IsOverwriting (updates.Overwrite id bytes) = length id ≤ 256
+IsOverwriting (updates.Overwrite id bytes) = length id ≤ section_id_max
 IsOverwriting _ = ⊥
 
 -- a call that is built
 abbrev pub IsBuiltOp : Op → Type 0
-IsBuiltOp (ops.Client node version callbacks) = (node < 8) × IsVersion version × (callbacks ≡ no_callbacks)
-IsBuiltOp (ops.Open place name flags timeout attributes) = (place < 100) × (flags < 2 ^ 32) × AreBuiltAttributes attributes
-IsBuiltOp (ops.Status place) = place < 100
+IsBuiltOp (ops.Client node version callbacks) = (node < nodes_max) × IsVersion version × (callbacks ≡ no_callbacks)
+IsBuiltOp (ops.Open place name flags timeout attributes) = (place < places_max) × (flags < 2 ^ 32) × AreBuiltAttributes attributes
+IsBuiltOp (ops.Status place) = place < places_max
 IsBuiltOp ops.Finalize = ⊤
-IsBuiltOp (ops.Close place) = place < 100
+IsBuiltOp (ops.Close place) = place < places_max
 IsBuiltOp (ops.Unlink name) = ⊤
-IsBuiltOp (ops.Retain place duration) = (place < 100) × IsTime duration
-IsBuiltOp (ops.Create place update) = (place < 100) × IsCreation update
-IsBuiltOp (ops.Delete place update) = (place < 100) × IsDeletion update
-IsBuiltOp (ops.Expire place update) = (place < 100) × IsExpirationSetting update
-IsBuiltOp (ops.Iter iteration place chosen time) = (iteration < 100) × (place < 100) × (chosen < 2 ^ 64)
-IsBuiltOp (ops.Next iteration) = iteration < 100
-IsBuiltOp (ops.EndIter iteration) = iteration < 100
-IsBuiltOp (ops.Write place update) = (place < 100) × AreWrites update
-IsBuiltOp (ops.Over place update) = (place < 100) × IsOverwriting update
-IsBuiltOp (ops.Read place elements) = (place < 100) × AreReads elements
+IsBuiltOp (ops.Retain place duration) = (place < places_max) × IsTime duration
+IsBuiltOp (ops.Create place update) = (place < places_max) × IsCreation update
+IsBuiltOp (ops.Delete place update) = (place < places_max) × IsDeletion update
+IsBuiltOp (ops.Expire place update) = (place < places_max) × IsExpirationSetting update
+IsBuiltOp (ops.Iter iteration place chosen time) = (iteration < places_max) × (place < places_max) × (chosen < 2 ^ 64)
+IsBuiltOp (ops.Next iteration) = iteration < places_max
+IsBuiltOp (ops.EndIter iteration) = iteration < places_max
+IsBuiltOp (ops.Write place update) = (place < places_max) × AreWrites update
+IsBuiltOp (ops.Over place update) = (place < places_max) × IsOverwriting update
+IsBuiltOp (ops.Read place elements) = (place < places_max) × AreReads elements
 IsBuiltOp _ = ⊥
 
 -- at this moment, a call of a client, begun and stepped to its end; or a moment that is no earlier, of 2^63-2 at most
 abbrev pub IsBuiltLine : ℤ → Line → Type 0
-IsBuiltLine t (lines.Call client op) = (client < 100) × IsBuiltOp op
+IsBuiltLine t (lines.Call client op) = (client < client_numbers) × IsBuiltOp op
 IsBuiltLine t (lines.At u) = (t ≤ℤ u) × (u ≤ℤ pos (2 ^ 63 - 2))
 IsBuiltLine t _ = ⊥
 
@@ -119,4 +120,4 @@ IsOneNodeFirst (x ∷ xs) = IsOneNode x × AreBuiltLines (pos 0) xs
 
 -- A SCRIPT OF WHAT IS BUILT, of at most 10,000 lines
 abbrev pub IsBuiltScript : List Line → Type 0
-IsBuiltScript xs = IsOneNodeFirst xs × (length xs ≤ 10000)
+IsBuiltScript xs = IsOneNodeFirst xs × (length xs ≤ script_lines_max)

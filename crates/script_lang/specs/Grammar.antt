@@ -4,6 +4,7 @@ use Rattle.std.specs.List.{slice_split, onto_first, list_any}
 use Rattle.ckpt_types.specs.declared.attributes.CreationAttributes.{CreationAttributes}
 use Rattle.ckpt_types.specs.declared.operation.Op.{Op}
 use Rattle.ckpt_types.specs.declared.operation.Op.TheVariants as ops
+use Rattle.ckpt_types.specs.Limits.{block_lines_max, script_reads_max, script_shows_max, script_lines_max, script_bytes_max}
 use Rattle.script_words.specs.declared.reason.Reason.{Reason}
 use Rattle.script_words.specs.declared.reason.Reason.TheVariants as reasons
 use Rattle.script_words.specs.Words.{or_else}
@@ -153,7 +154,7 @@ is_end _ = false
 -- a line that may not stand in the block, or is one too many; or an end without a block
 abbrev pub breaks_block : Line → Option ℕ → Bool
 breaks_block x None = is_end x
-breaks_block x (Some n) = not (may_race x) || (nat_le 256 n && not (is_end x))
+breaks_block x (Some n) = not (may_race x) || (nat_le block_lines_max n && not (is_end x))
 
 -- the fault of a line where it stands
 unfoldable pub order_fault : Marks → Line → Option Reason
@@ -166,8 +167,8 @@ order_fault m x =
 -- and of what the script asks for in all
 unfoldable pub limit_fault : Marks → Line → Option Reason
 limit_fault m x =
-    if nat_lt 16777216 (m.asked + asked_in x) then Some reasons.Reads
-    else if is_show x && nat_le 16 m.shows then Some reasons.Shows
+    if nat_lt script_reads_max (m.asked + asked_in x) then Some reasons.Reads
+    else if is_show x && nat_le script_shows_max m.shows then Some reasons.Shows
     else None
 
 -- THE NARROWER FORMS THAT ARE NOT BUILT YET
@@ -205,7 +206,7 @@ fault_of earlier x = fault_after (marks_of earlier) x
 
 -- what no line that was taken has passed
 abbrev pub IsSmall : Marks → Type 0
-IsSmall m = (block_size m.block ≤ 256) × (m.asked ≤ 16777216) × (m.shows ≤ 16)
+IsSmall m = (block_size m.block ≤ block_lines_max) × (m.asked ≤ script_reads_max) × (m.shows ≤ script_shows_max)
 
 -- HOW FAR A SCRIPT IS READ: the lines counted, the line of the last race, and what was said, the latest first
 pub record Progress : Type 0 where
@@ -238,7 +239,7 @@ after_reading p (Ok (Some x)) = if_allowed p x (fault_of p.earlier x)
 
 -- one more line of the text: the 10,001st is too many
 unfoldable pub step : Progress → List ℕ → Result Progress ScriptFault
-step p text = if nat_le 10000 p.number then fault (p.number + 1) reasons.Lines else after_reading p (reading text)
+step p text = if nat_le script_lines_max p.number then fault (p.number + 1) reasons.Lines else after_reading p (reading text)
 
 -- the second step, if the first gave a value
 abbrev pub and_then : {A B : Type 0} → Result A ScriptFault → (A → Result B ScriptFault) → Result B ScriptFault
@@ -255,4 +256,4 @@ finished p = if is_some (block_of p.earlier) then fault p.race reasons.Race else
 
 -- THE SCRIPT that the bytes spell, or the first line at fault
 unfoldable pub script_of : List ℕ → Result (List Line) ScriptFault
-script_of bytes = if nat_lt 262144 (length bytes) then fault 0 reasons.Length else and_then (steps start (text_lines bytes)) finished
+script_of bytes = if nat_lt script_bytes_max (length bytes) then fault 0 reasons.Length else and_then (steps start (text_lines bytes)) finished

@@ -1,5 +1,6 @@
 -- What a script is, apart from how it is spelled.
 use Rattle.std.specs.Prelude.{◌≡◌, ◌<◌, ◌≤◌, ◌⊎◌, ⊤, true, false, List, [], ◌∷◌, length, Option, Some, None}
+use Rattle.ckpt_types.specs.Limits.{line_elements_max, script_reads_max}
 use Rattle.script_words.specs.Fitting.{Fits}
 use Rattle.script_words.specs.Words.{Class}
 use Rattle.script_lang.specs.declared.forms.LineWord.{LineWord}
@@ -24,7 +25,7 @@ FitGroups ds (v ∷ vs) = FitAll ds v × FitGroups ds vs
 abbrev pub FitTold : (s : Shape) → Told s → Type 0
 FitTold (just cs) v = FitAll cs v
 FitTold (maybe cs ds) v = FitAll cs v.0 × FitMore ds v.1
-FitTold (times cs ds) v = FitAll cs v.0 × FitGroups ds v.1 × (0 < length v.1) × (length v.1 ≤ 256)
+FitTold (times cs ds) v = FitAll cs v.0 × FitGroups ds v.1 × (0 < length v.1) × (length v.1 ≤ line_elements_max)
 
 -- a line of a form that is built, plain or behind `begin`
 abbrev pub IsLine : Line → Type 0
@@ -33,7 +34,7 @@ IsLine x = (k : LineWord) × (v : Told (form k).shape) × FitTold (form k).shape
 -- behind these lines, the latest first, each line is of its form, may stand where it stands and reads at most 16,777,216 bytes, and no block is left open
 abbrev pub Orderly : List Line → List Line → Type 0
 Orderly earlier [] = block_of earlier ≡ None
-Orderly earlier (x ∷ xs) = IsLine x × (order_fault (marks_of earlier) x ≡ None) × (is_later_line x ≡ false) × (asked_in x ≤ 16777216) × Orderly (x ∷ earlier) xs
+Orderly earlier (x ∷ xs) = IsLine x × (order_fault (marks_of earlier) x ≡ None) × (is_later_line x ≡ false) × (asked_in x ≤ script_reads_max) × Orderly (x ∷ earlier) xs
 
 -- a script, but for its length and the limits of what it asks for in all
 abbrev pub IsScript : List Line → Type 0

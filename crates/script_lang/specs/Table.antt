@@ -7,6 +7,7 @@ use Rattle.ckpt_types.specs.declared.operation.Op.TheVariants as ops
 use Rattle.ckpt_types.specs.declared.update.IoElement.{IoElement}
 use Rattle.ckpt_types.specs.declared.update.ReadElement.{ReadElement}
 use Rattle.ckpt_types.specs.declared.update.Update.TheVariants as updates
+use Rattle.ckpt_types.specs.Limits.{line_elements_max, line_steps_max, nodes_max}
 use Rattle.script_words.specs.declared.reason.Reason.{Reason}
 use Rattle.script_words.specs.declared.reason.Reason.TheVariants as reasons
 use Rattle.script_words.specs.Reasons.{◌>>=◌}
@@ -76,7 +77,7 @@ read_element v = record { id = v.0; offset = v.1.0; len = v.1.1.0 }
 
 -- THE TABLE: the form of each line
 abbrev pub form : LineWord → Form
-form word.Nodes = record { shape = just (a_number 1 8 ∷ []); line = λ v. lines.Nodes v.0 }
+form word.Nodes = record { shape = just (a_number 1 nodes_max ∷ []); line = λ v. lines.Nodes v.0 }
 form word.Client = record { shape = just (a_client ∷ a_node ∷ a_version ∷ the_callbacks ∷ []); line = λ v. lines.Call v.0 (ops.Client v.1.0 v.1.1.0 v.1.1.1.0) }
 form word.Finalize = record { shape = just (a_client ∷ []); line = λ v. lines.Call v.0 ops.Finalize }
 form word.Open = record { shape = maybe (a_client ∷ a_place ∷ some_bytes ∷ flags ∷ a_time ∷ []) attributes; line = λ v. lines.Call v.0.0 (ops.Open v.0.1.0 v.0.1.1.0 v.0.1.1.1.0 v.0.1.1.1.1.0 (option_map attributes_of v.1)) }
@@ -98,7 +99,7 @@ form word.Read = record { shape = times (a_client ∷ a_place ∷ []) read_group
 form word.Sync = record { shape = just (a_client ∷ a_place ∷ a_time ∷ []); line = λ v. lines.Call v.0 (ops.Sync v.1.0 v.1.1.0) }
 form word.SyncAsync = record { shape = just (a_client ∷ a_place ∷ any_number ∷ []); line = λ v. lines.Call v.0 (ops.SyncAsync v.1.0 v.1.1.0) }
 form word.Dispatch = record { shape = just (a_client ∷ flags ∷ []); line = λ v. lines.Call v.0 (ops.Dispatch v.1.0) }
-form word.Step = record { shape = just (a_who ∷ a_number 1 1000000 ∷ []); line = λ v. lines.Step v.0 v.1.0 }
+form word.Step = record { shape = just (a_who ∷ a_number 1 line_steps_max ∷ []); line = λ v. lines.Step v.0 v.1.0 }
 form word.Finish = record { shape = just (a_who ∷ []); line = λ v. lines.Finish v.0 }
 form word.Copy = record { shape = just (a_node ∷ []); line = λ v. lines.Copy v.0 }
 form word.Fail = record { shape = just (a_node ∷ []); line = λ v. lines.Fail v.0 }
@@ -222,7 +223,7 @@ may_begin _ = false
 abbrev pub counts : Shape → ℕ → Bool
 counts (just cs) n = n == length cs
 counts (maybe cs ds) n = n == length cs || n == length cs + length ds
-counts (times cs ds) n = nat_lt (length cs) n && (n - length cs) % length ds == 0 && nat_le (n - length cs) (256 * length ds)
+counts (times cs ds) n = nat_lt (length cs) n && (n - length cs) % length ds == 0 && nat_le (n - length cs) (line_elements_max * length ds)
 
 -- what the words in front say by these classes, and the words behind them; the fault is the first from the left
 abbrev pub fields : (cs : List Class) → List (List ℕ) → Result (Values cs × List (List ℕ)) Reason

@@ -16,6 +16,6 @@ mod tests;
 
 pub use faults::{ParseError, ScriptFault};
 pub use lines::{Line, Script};
-pub use parser::{SCRIPT_BYTES_MAX, parse};
+pub use parser::parse;
 pub use printing::{print, read_again};
 pub use script_words::Reason;

@@ -4,10 +4,8 @@ ghost use Rattle.script_lang.specs.declared.forms.LineWord.TheVariants as word;
 ghost use Rattle.script_lang.specs.Table.{texts, said_by};
 
 use crate::lines::Line;
+use ckpt_types::LINE_STEPS_MAX;
 use script_words::{LineError, Reason};
-
-// The most steps that a line asks for.
-const STEPS_MAX: u64 = 1_000_000;
 
 /// The line that the words behind `nodes` say.
 #[tactic(auto, unfolding(crate::specs::Table::said_by))]
@@ -30,7 +28,7 @@ pub fn step_line(words: &[&[u8]]) -> Result<Line, LineError>
         return Err(LineError::Fault(Reason::Count));
     };
     let who = script_words::who(who)?;
-    let steps = script_words::number(1, STEPS_MAX, steps)?;
+    let steps = script_words::number(1, LINE_STEPS_MAX, steps)?;
     Ok(Line::Step(who, steps as u32))
 }
 

@@ -2,17 +2,11 @@ ghost use Rattle.std.specs.Prelude.{◌≡◌, ◌<◌, ◌≤◌, ◌+◌, OnOk
 ghost use Rattle.script_lang.specs.Grammar.{fault_after, marks_after, IsSmall, is_nodes, is_end, is_show, is_race as spec_is_race, goes_back, may_race_op as spec_may_race_op, may_race as spec_may_race, breaks_block, asked_in, moment_after, block_after, block_size, shows_after, is_later_declared as spec_is_later_declared, is_later_attributes as spec_is_later_attributes, is_later_op as spec_is_later_op, is_later_line as spec_is_later_line};
 
 use crate::lines::Line;
-use ckpt_types::{CreationAttributes, Moment, Op, ReadElement};
+use ckpt_types::{
+    BLOCK_LINES_MAX, CreationAttributes, Moment, Op, ReadElement, SCRIPT_READS_MAX,
+    SCRIPT_SHOWS_MAX,
+};
 use script_words::Reason;
-
-// The most bytes that the reads of a script ask for together.
-const READS_MAX: u64 = 16_777_216;
-
-// The most lines of a block.
-const BLOCK_LINES_MAX: u32 = 256;
-
-// The most lines that print replicas.
-const SHOWS_MAX: u32 = 16;
 
 /// What the lines of a script so far tell of themselves.
 #[derive(Clone, Copy, Debug)]
@@ -47,10 +41,10 @@ pub fn next_marks(marks: Marks, line: &Line) -> Result<Marks, Reason>
     if breaks(line, marks.block) {
         return Err(Reason::Race);
     }
-    let Some(left) = room_after(line, READS_MAX - marks.asked) else {
+    let Some(left) = room_after(line, SCRIPT_READS_MAX - marks.asked) else {
         return Err(Reason::Reads);
     };
-    if is_show_line(line) && SHOWS_MAX <= marks.shows {
+    if is_show_line(line) && SCRIPT_SHOWS_MAX <= marks.shows {
         return Err(Reason::Shows);
     }
     if is_later_line(line) {
@@ -60,7 +54,7 @@ pub fn next_marks(marks: Marks, line: &Line) -> Result<Marks, Reason>
         none: false,
         moment: now_after(line, marks.moment),
         block: block_behind(line, marks.block),
-        asked: READS_MAX - left,
+        asked: SCRIPT_READS_MAX - left,
         shows: shows_behind(line, marks.shows),
     })
 }

@@ -9,16 +9,10 @@ use crate::faults::{ParseError, ScriptFault};
 use crate::lines::{Line, Script};
 use crate::marks::{Marks, is_race, next_marks};
 use crate::reading::{first_line, read_line, says_nothing};
-use ckpt_types::Vector;
+use ckpt_types::{SCRIPT_BYTES_MAX, SCRIPT_LINES_MAX, Vector};
 use script_words::{LineError, Reason};
 use std::alloc::Global;
 use std::marker::Model;
-
-/// The most bytes that a script has.
-pub const SCRIPT_BYTES_MAX: usize = 262_144;
-
-// The most lines that a script has.
-const LINES_MAX: u32 = 10_000;
 
 /// The script that the bytes spell, or the first line at fault. Memory may be refused at any line.
 pub fn parse(alloc: Global, bytes: &[u8]) -> Result<Script, ParseError>
@@ -104,7 +98,7 @@ impl Reader {
         ensures ok { OnOk result (step self.old text.now ≡ Ok self.new) }
         ensures err { IfErr result (λ e. Misses e (step self.old text.now)) }
     {
-        if self.number >= LINES_MAX {
+        if self.number >= SCRIPT_LINES_MAX {
             return Err(self.fault(Reason::Lines));
         }
         if says_nothing(text) {

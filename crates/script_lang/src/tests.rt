@@ -1,4 +1,5 @@
-use crate::{ParseError, Reason, SCRIPT_BYTES_MAX, ScriptFault, parse, print};
+use crate::{ParseError, Reason, ScriptFault, parse, print};
+use ckpt_types::SCRIPT_BYTES_MAX;
 use std::alloc::{AllocError, Global};
 
 // A script of the first three lines and these.

@@ -1,5 +1,6 @@
 -- Which scripts can be played so far: of one node, with one call at a time.
 use Rattle.std.specs.Prelude.{List, [], ◌∷◌, ◌<◌, ℤ, pos}
+use Rattle.ckpt_types.specs.Limits.{client_numbers}
 use Rattle.script_lang.specs.declared.lines.Line.{Line}
 use Rattle.script_lang.specs.declared.lines.Line.TheVariants as lines
 use Rattle.script_lang.specs.BuiltScripts.{IsOneNode, moment_behind}
@@ -8,7 +9,7 @@ use Rattle.cluster_record.specs.RecordState.{IsMomentFrom}
 
 -- at this moment the line can be played with the node up: a call of a client, or a moment that does not go back
 abbrev pub IsPlayableLine : ℤ → Line → Type 0
-IsPlayableLine t (lines.Call c op) = (c < 100) × IsBuilt op
+IsPlayableLine t (lines.Call c op) = (c < client_numbers) × IsBuilt op
 IsPlayableLine t (lines.At u) = IsMomentFrom t u
 IsPlayableLine t line = ⊥
 

@@ -4,6 +4,7 @@ ghost use Rattle.script_lang.specs.BuiltScripts.{moment_behind};
 ghost use Rattle.world_core.specs.Beginning.{IsBuilt};
 ghost use Rattle.std.specs.Prelude.{false};
 ghost use Rattle.ckpt_types.specs.declared.identities.Who.TheVariants.{Actor};
+ghost use Rattle.ckpt_types.specs.Limits.{client_numbers};
 ghost use Rattle.world_core.specs.declared.world.Event.TheVariants as happenings;
 ghost use Rattle.world_core.specs.Runs.{IsNew, IsRunTo, Happens, NoneInHand, last, left_of};
 ghost use Rattle.world_core.specs.Shows.{hand_at};
@@ -93,7 +94,7 @@ fn play_call(
     world: &mut World,
 ) -> Result<(), AllocError>
     requires run { IsRunTo world.old log.old.labels }
-    requires client { client < 100 }
+    requires client { client < client_numbers }
     requires built { IsBuilt op.now }
     requires idle { NoneInHand world.old }
     requires room { length log.old.labels + 40 < 2 ^ 32 - 2 }
@@ -110,7 +111,7 @@ fn play_call(
 // The steps of the client's call in hand, to its end.
 fn finish(alloc: Global, client: u8, log: &mut RunLog, world: &mut World) -> Result<(), AllocError>
     requires run { IsRunTo world.old log.old.labels }
-    requires client { client < 100 }
+    requires client { client < client_numbers }
     requires alone { NoneBut client world.old }
     requires room { length log.old.labels + left_of world.old (Client client) < 2 ^ 32 - 2 }
     ensures run { IsRunTo world.new log.new.labels }
@@ -134,7 +135,7 @@ fn begin(
     world: &mut World,
 ) -> Result<(), AllocError>
     requires run { IsRunTo world.old log.old.labels }
-    requires client { client < 100 }
+    requires client { client < client_numbers }
     requires built { IsBuilt op.now }
     requires idle { NoneInHand world.old }
     requires room { length log.old.labels < 2 ^ 32 - 2 }
@@ -149,7 +150,7 @@ fn begin(
 // The next step of the client's call in hand.
 fn step(alloc: Global, client: u8, log: &mut RunLog, world: &mut World) -> Result<(), AllocError>
     requires run { IsRunTo world.old log.old.labels }
-    requires client { client < 100 }
+    requires client { client < client_numbers }
     requires alone { NoneBut client world.old }
     requires room { length log.old.labels < 2 ^ 32 - 2 }
     ensures run { IsRunTo world.new log.new.labels }

@@ -7,35 +7,32 @@ use Rattle.ckpt_types.specs.declared.answers.Outcome.{Outcome}
 use Rattle.ckpt_types.specs.declared.answers.Answer.TheVariants as answers
 use Rattle.ckpt_types.specs.declared.answers.Outcome.TheVariants.{Done, Refused}
 use Rattle.ckpt_types.specs.declared.attributes.CreationAttributes.{CreationAttributes}
-use Rattle.ckpt_types.specs.declared.bytes.TheConstants.{NAME_MAX}
 use Rattle.ckpt_types.specs.declared.calls.CallbackSet.{CallbackSet}
 use Rattle.ckpt_types.specs.declared.calls.Version.{Version}
 use Rattle.ckpt_types.specs.declared.open_flags.OpenFlags.{OpenFlags}
-use Rattle.ckpt_types.specs.declared.open_flags.TheConstants.{CHECKPOINT_CREATE}
 use Rattle.ckpt_types.specs.declared.operation.Op.{Op}
 use Rattle.ckpt_types.specs.declared.sections.Choice.{Choice}
 use Rattle.ckpt_types.specs.declared.operation.Op.TheVariants as ops
 use Rattle.ckpt_types.specs.declared.update.Update.{Update}
 use Rattle.ckpt_types.specs.declared.update.Update.TheVariants as updates
 use Rattle.ckpt_types.specs.Attributes.{has_flag, has_bad_open_flags, open_flags_of, is_malformed}
+use Rattle.ckpt_types.specs.Limits.{checkpoint_create, vector_max, name_max, release, places_max, nodes_max, sections_any, major_min, major_max}
 use Rattle.client_handles.specs.declared.handle_view.HandleView.{HandleView}
-use Rattle.world_core.specs.declared.beginning.TheConstants.{RELEASE}
-use Rattle.world_core.specs.declared.world.TheConstants.{VECTOR_MAX}
 
 abbrev pub refused : AisError → Option Outcome
 refused error = Some (Refused error Plain)
 
 -- the service speaks the release `B` in the major versions 1 and 2, each with any minor version
 abbrev pub version_is_bad : Version → Bool
-version_is_bad version = not (version.release == RELEASE) || not ((version.major == 1) || (version.major == 2))
+version_is_bad version = not (version.release == release) || not ((version.major == major_min) || (version.major == major_max))
 
 abbrev pub name_is_bad : List ℕ → Bool
-name_is_bad name = (length name == 0) || nat_lt NAME_MAX (length name)
+name_is_bad name = (length name == 0) || nat_lt name_max (length name)
 
 -- attributes are given just where the flags ask for a checkpoint to be made, and are well formed
 abbrev pub attributes_are_bad : ℕ → Option CreationAttributes → Bool
-attributes_are_bad flags None = has_flag flags CHECKPOINT_CREATE
-attributes_are_bad flags (Some a) = not (has_flag flags CHECKPOINT_CREATE) || is_malformed a
+attributes_are_bad flags None = has_flag flags checkpoint_create
+attributes_are_bad flags (Some a) = not (has_flag flags checkpoint_create) || is_malformed a
 
 -- an open: its flags, then its name, timeout and attributes
 abbrev pub open_begin : List ℕ → ℕ → ℤ → Option CreationAttributes → Option Outcome
@@ -46,7 +43,7 @@ open_begin name flags timeout a =
 
 -- a vector has 1 to 64 elements
 abbrev pub vector_is_bad : ℕ → Bool
-vector_is_bad n = (n == 0) || nat_lt VECTOR_MAX n
+vector_is_bad n = (n == 0) || nat_lt vector_max n
 
 abbrev pub update_is_bad : Update → Bool
 update_is_bad (updates.Write elements) = vector_is_bad (length elements)
@@ -68,7 +65,7 @@ may_always flags = true
 
 -- a choice is one of five
 abbrev pub choice_is_bad : ℕ → Bool
-choice_is_bad chosen = (chosen == 0) || nat_lt 5 chosen
+choice_is_bad chosen = (chosen == 0) || nat_lt sections_any chosen
 
 -- an iteration is ended at once, where its place stands for one
 abbrev pub end_iteration : Option HandleView → Option Outcome
@@ -133,7 +130,7 @@ started_place (ops.Iter iteration place chosen time) = Some iteration
 started_place op = None
 
 abbrev pub choice_of : ℕ → ℤ → Choice
-choice_of chosen time = record { chosen = if nat_le chosen 5 then chosen else 0; time = time }
+choice_of chosen time = record { chosen = if nat_le chosen sections_any then chosen else 0; time = time }
 
 abbrev pub chosen_choice : Op → Choice
 chosen_choice (ops.Iter iteration place chosen time) = choice_of chosen time
@@ -167,12 +164,12 @@ takes_room op = false
 
 -- the operation starts an iteration with this choice, or goes on with one
 abbrev pub IsIterOf : Choice → Op → Type 0
-IsIterOf choice (ops.Iter iteration place chosen time) = (choice ≡ choice_of chosen time) × (iteration < 100) × (place < 100)
+IsIterOf choice (ops.Iter iteration place chosen time) = (choice ≡ choice_of chosen time) × (iteration < places_max) × (place < places_max)
 IsIterOf choice op = ⊥
 
 -- the operation closes a handle, sets this retention, or takes this name away
 abbrev pub IsCloseOf : Op → Type 0
-IsCloseOf (ops.Close place) = place < 100
+IsCloseOf (ops.Close place) = place < places_max
 IsCloseOf op = ⊥
 
 abbrev pub IsRetainOf : ℤ → Op → Type 0
@@ -188,7 +185,7 @@ IsFinalize ops.Finalize = Unit {0}
 IsFinalize op = ⊥
 
 abbrev pub IsNextOf : Op → Type 0
-IsNextOf (ops.Next iteration) = iteration < 100
+IsNextOf (ops.Next iteration) = iteration < places_max
 IsNextOf op = ⊥
 
 -- ---- the operations that are built
@@ -210,20 +207,20 @@ AreBuilt (Some a) = IsBuiltAttributes a
 
 -- an Initialize on one of eight nodes, an open, an update, a read, a status, iterations, a close, a retention, with places from 0 to 99, an unlink and a Finalize; the others are not built yet
 abbrev pub IsBuilt : Op → Type 0
-IsBuilt (ops.Client r version callbacks) = (r < 8) × RegistersNone callbacks
-IsBuilt (ops.Open place name flags timeout a) = (place < 100) × AreBuilt a
-IsBuilt (ops.Create place update) = place < 100
-IsBuilt (ops.Delete place update) = place < 100
-IsBuilt (ops.Expire place update) = place < 100
-IsBuilt (ops.Write place update) = place < 100
-IsBuilt (ops.Over place update) = place < 100
-IsBuilt (ops.Read place elements) = place < 100
-IsBuilt (ops.Status place) = place < 100
-IsBuilt (ops.Iter iteration place chosen time) = (iteration < 100) × (place < 100)
-IsBuilt (ops.Next iteration) = iteration < 100
-IsBuilt (ops.EndIter iteration) = iteration < 100
-IsBuilt (ops.Close place) = place < 100
-IsBuilt (ops.Retain place duration) = place < 100
+IsBuilt (ops.Client r version callbacks) = (r < nodes_max) × RegistersNone callbacks
+IsBuilt (ops.Open place name flags timeout a) = (place < places_max) × AreBuilt a
+IsBuilt (ops.Create place update) = place < places_max
+IsBuilt (ops.Delete place update) = place < places_max
+IsBuilt (ops.Expire place update) = place < places_max
+IsBuilt (ops.Write place update) = place < places_max
+IsBuilt (ops.Over place update) = place < places_max
+IsBuilt (ops.Read place elements) = place < places_max
+IsBuilt (ops.Status place) = place < places_max
+IsBuilt (ops.Iter iteration place chosen time) = (iteration < places_max) × (place < places_max)
+IsBuilt (ops.Next iteration) = iteration < places_max
+IsBuilt (ops.EndIter iteration) = iteration < places_max
+IsBuilt (ops.Close place) = place < places_max
+IsBuilt (ops.Retain place duration) = place < places_max
 IsBuilt (ops.Unlink name) = Unit {0}
 IsBuilt ops.Finalize = Unit {0}
 IsBuilt op = ⊥

@@ -17,6 +17,7 @@ use Rattle.ckpt_types.specs.declared.update.ReadElement.{ReadElement}
 use Rattle.ckpt_types.specs.declared.update.Update.{Update}
 use Rattle.ckpt_types.specs.Updates.{Refusal, outcome}
 use Rattle.ckpt_types.specs.Reads.{read, status, NextGiven, given, description, facts_of}
+use Rattle.ckpt_types.specs.Limits.{clients_max, checkpoints_max, handles_max, iterations_max, nodes_max}
 use Rattle.run_labels.specs.declared.words.OpWord.{OpWord}
 use Rattle.node_msgs.specs.declared.steps.Verb.{Verb}
 use Rattle.node_msgs.specs.declared.steps.Verb.TheVariants as verbs
@@ -170,7 +171,7 @@ NextRow m s k r t = OnReplica m k r (NextOk m s r t)
 pub record MayEnter (m : Machine) (c r : ℕ) : Type 0 where
   pub up : is_up r m.cluster ≡ true
   pub not_live : is_live_client c m.cluster ≡ false
-  pub few : length m.cluster.clients < 64
+  pub few : length m.cluster.clients < clients_max
 
 abbrev pub EnterRow : Machine → ℕ → ℕ → StepReply → Option Outcome → Type 0
 EnterRow m c r words.Ok end = MayEnter m c r × (end ≡ Some (Done answers.Version))
@@ -194,7 +195,7 @@ pub record MayCreate (m : Machine) (s : CallState) (name : List ℕ) (a : Option
   pub asked : IsSome a
   pub in_time : IsInTime m s
   pub room : room_of m (client_of s.call) ≡ true
-  pub few : length m.cluster.entries < 16
+  pub few : length m.cluster.entries < checkpoints_max
   pub next : k ≡ m.cluster.last_identity + 1
 
 abbrev pub CreateRow : Machine → CallState → List ℕ → Option CreationAttributes → ℕ → StepReply → Option Outcome → Type 0
@@ -274,7 +275,7 @@ IsAccepted (Some e) a = accepts a e ≡ true
 pub record HasNoPlace (m : Machine) (s : CallState) (name : List ℕ) (a : Option CreationAttributes) (n : ℕ) : Type 0 where
   pub accepted : IsAccepted (named name m.cluster.entries) a
   pub full : room_of m (client_of s.call) ≡ false
-  pub limit : n ≡ 32
+  pub limit : n ≡ handles_max
 
 -- a checkpoint is asked for where as many are there as may be
 pub record IsFull (m : Machine) (s : CallState) (name : List ℕ) (a : Option CreationAttributes) (n : ℕ) : Type 0 where
@@ -282,7 +283,7 @@ pub record IsFull (m : Machine) (s : CallState) (name : List ℕ) (a : Option Cr
   pub asked : IsSome a
   pub room : room_of m (client_of s.call) ≡ true
   pub full : 16 ≤ length m.cluster.entries
-  pub limit : n ≡ 16
+  pub limit : n ≡ checkpoints_max
 
 -- the refusals of an open that the record and the tables decide, each where none before it applies: NOT_EXIST, TIMEOUT, EXIST, NO_RESOURCES
 abbrev pub OpenLook : Machine → CallState → List ℕ → Option CreationAttributes → AisError → Cause → Type 0
@@ -293,7 +294,7 @@ OpenLook m s name a errors.NoResources (Count n) = IsInTime m s × (HasNoPlace m
 OpenLook m s name a error cause = ⊥
 
 abbrev pub EnterLook : Machine → AisError → Cause → Type 0
-EnterLook m errors.NoResources (Count n) = (64 ≤ length m.cluster.clients) × (n ≡ 64)
+EnterLook m errors.NoResources (Count n) = (clients_max ≤ length m.cluster.clients) × (n ≡ clients_max)
 EnterLook m error cause = ⊥
 
 -- the handle's entry is gone, or a read's checkpoint has no active
@@ -311,7 +312,7 @@ NoActiveLook m k error cause = ⊥
 
 -- there is no active, or the client has as many iterations as it may have
 abbrev pub IterLook : Machine → CallState → AisError → Cause → Type 0
-IterLook m s errors.NoResources (Count n) = IsSomeAnd s.kept.ckpt (λ k. IsSomeAnd (entry_of k m.cluster.entries) (λ e. IsSome e.active)) × ((rooms_of m (client_of s.call)).iterations ≡ false) × (n ≡ 8)
+IterLook m s errors.NoResources (Count n) = IsSomeAnd s.kept.ckpt (λ k. IsSomeAnd (entry_of k m.cluster.entries) (λ e. IsSome e.active)) × ((rooms_of m (client_of s.call)).iterations ≡ false) × (n ≡ iterations_max)
 IterLook m s error cause = NoActiveLook m s.kept.ckpt error cause
 
 -- no checkpoint has the name, or another live call is making it
@@ -451,6 +452,6 @@ abbrev pub Allowed : Machine → Label → Type 0
 Allowed m (labels.Began call op end) = IsBegun m call op end
 Allowed m (labels.Stepped call op verb k r reply end pieces) = IsAllowedStep m call op (record { verb = verb; ckpt = k; node = r; reply = reply; end = end; pieces = pieces })
 Allowed m (labels.Word who word said) = IsWord m who word said
-Allowed m (labels.Nodes n) = (0 < n) × (n < 9) × ((r : ℕ) → is_up r m.cluster ≡ false)
+Allowed m (labels.Nodes n) = (0 < n) × (n ≤ nodes_max) × ((r : ℕ) → is_up r m.cluster ≡ false)
 Allowed m (labels.Moved t) = IsMomentFrom m.cluster.moment t
 Allowed m label = ⊥

@@ -5,14 +5,13 @@ use Rattle.ckpt_types.specs.declared.identities.ActorName.TheVariants.{Client}
 use Rattle.ckpt_types.specs.declared.identities.CallId.{CallId}
 use Rattle.ckpt_types.specs.declared.identities.Who.TheVariants as whos
 use Rattle.ckpt_types.specs.declared.operation.Op.{Op}
+use Rattle.ckpt_types.specs.Limits.{iterations_max, handles_max, client_numbers}
 use Rattle.node_msgs.specs.declared.next.Next.{Next}
 use Rattle.run_labels.specs.declared.labels.Label.{Label}
 use Rattle.run_labels.specs.declared.labels.Label.TheVariants as labels
 use Rattle.node_msgs.specs.declared.steps.StepReply.{StepReply}
 use Rattle.run_labels.specs.declared.words.OpWord.{OpWord}
 use Rattle.node_msgs.specs.declared.steps.Verb.{Verb}
-use Rattle.client_handles.specs.declared.client.TheConstants.{HANDLES_MAX}
-use Rattle.client_handles.specs.declared.begun.TheConstants.{ITERATIONS_MAX}
 use Rattle.client_handles.specs.declared.handle_view.HandleView.{HandleView}
 use Rattle.world_core.specs.declared.drivers.Rooms.{Rooms}
 use Rattle.world_core.specs.declared.hands.InHand.{InHand}
@@ -29,8 +28,8 @@ use Rattle.world_core.specs.Runs.{AnswersBegin, IsIdleWord}
 -- what the client's tables have a free place for
 abbrev pub rooms_in : World → ℕ → Rooms
 rooms_in w c = record {
-  handles = nat_lt (length (handles_in (slice_get w.tables c))) HANDLES_MAX;
-  iterations = nat_lt (length (iterations_in (slice_get w.tables c)).begun) ITERATIONS_MAX;
+  handles = nat_lt (length (handles_in (slice_get w.tables c))) handles_max;
+  iterations = nat_lt (length (iterations_in (slice_get w.tables c)).begun) iterations_max;
 }
 
 -- the handle of the place of a handle, or else of the place of an iteration
@@ -102,8 +101,8 @@ pub record SetsMoment (t : ℤ) (old new : World) (label : Label) : Type 0 where
 -- what the event asks of the world
 abbrev pub ComesNow : World → Event → Type 0
 ComesNow w (happenings.Nodes n) = (n ≡ 1) × (w.cluster ≡ empty_record)
-ComesNow w (happenings.Begin (Client c) op) = (c < 100) × IsBuilt op
-ComesNow w (happenings.Step (whos.Actor (Client c)) finish) = c < 100
+ComesNow w (happenings.Begin (Client c) op) = (c < client_numbers) × IsBuilt op
+ComesNow w (happenings.Step (whos.Actor (Client c)) finish) = c < client_numbers
 ComesNow w (happenings.At t) = IsMomentFrom w.cluster.moment t
 ComesNow w event = ⊥
 

@@ -8,6 +8,7 @@ use Rattle.ckpt_types.specs.declared.operation.Op.{Op}
 use Rattle.ckpt_types.specs.declared.operation.Op.TheVariants as ops
 use Rattle.ckpt_types.specs.Attributes.{is_malformed}
 use Rattle.ckpt_types.specs.Updates.{outcome}
+use Rattle.ckpt_types.specs.Limits.{client_numbers}
 use Rattle.run_labels.specs.declared.labels.Label.{Label}
 use Rattle.run_labels.specs.declared.labels.Label.TheVariants as labels
 use Rattle.client_handles.specs.declared.handle_view.HandleView.{HandleView}
@@ -104,7 +105,7 @@ pub record IsMakingEntry (e : Entry) : Type 0 where
   pub complete : e.complete ≡ no_nodes
   pub generation : e.generation ≡ 1
   pub well_formed : is_malformed e.attributes ≡ false
-  pub clients : length e.references ≡ 100
+  pub clients : length e.references ≡ client_numbers
 
 abbrev pub IsGoodState : Option CallId → Option Staged → Entry → Option ReplicaState → Type 0
 IsGoodState None staged e x = IsMadeEntry staged e x
@@ -179,7 +180,7 @@ pub record IsEnterAt (m : Machine) (s : CallState) (r : ℕ) : Type 0 where
 
 pub record IsOpenAt (m : Machine) (s : CallState) (o : OpenState) : Type 0 where
   pub client : o.ask.client ≡ client_of s.call
-  pub within : o.ask.client < 100
+  pub within : o.ask.client < client_numbers
   pub built : IsBuilt s.op
   pub asks : OpensAs s.op o.ask
   pub named : name_is_bad o.ask.name ≡ false

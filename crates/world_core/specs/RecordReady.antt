@@ -6,6 +6,7 @@ use Rattle.world_core.specs.declared.drivers.Driver.{Driver}
 use Rattle.world_core.specs.declared.drivers.Driver.TheVariants as drivers
 use Rattle.cluster_record.specs.DueOpen.{OpenState}
 use Rattle.ckpt_types.specs.declared.calls.OpenAsk.{OpenAsk}
+use Rattle.ckpt_types.specs.Limits.{name_max}
 use Rattle.cluster_record.specs.declared.opening.OpenAnswer.{OpenAnswer}
 use Rattle.cluster_record.specs.declared.opening.OpenAnswer.TheVariants.{Opened, Made, Refused}
 use Rattle.cluster_record.specs.Opening.{open_answer}
@@ -17,7 +18,7 @@ use Rattle.cluster_record.specs.Makings.{IsMakingOf}
 
 -- an open can be asked of the record: its name fits, and no number is at its end
 pub record CanAsk (R : RecordState) (ask : OpenAsk) : Type 0 where
-  pub fits : length ask.name ≤ 256
+  pub fits : length ask.name ≤ name_max
   pub references : CanReferAt ask.client R.entries (identity_in (named ask.name R.entries))
   pub identity : R.last_identity < 2 ^ 32 - 1
 

@@ -8,6 +8,7 @@ use Rattle.ckpt_types.specs.declared.identities.Who.{Who}
 use Rattle.ckpt_types.specs.declared.identities.Who.TheVariants as whos
 use Rattle.ckpt_types.specs.declared.operation.Op.{Op}
 use Rattle.ckpt_types.specs.declared.operation.Op.TheVariants as ops
+use Rattle.ckpt_types.specs.Limits.{client_numbers}
 use Rattle.run_labels.specs.declared.labels.Label.{Label}
 use Rattle.run_labels.specs.declared.labels.Label.TheVariants as labels
 use Rattle.run_labels.specs.declared.words.LineWord.{LineWord}
@@ -86,7 +87,7 @@ pub record IsNew (w : World) : Type 0 where
 
 -- the events that a line of a script can give, as far as they are built: one node, and one call at a time
 abbrev pub NoneButOf : World → ActorName → Type 0
-NoneButOf w (Client c) = (c < 100) × ((d : ℕ) → d ≢ c → hand_at w.hands d ≡ None)
+NoneButOf w (Client c) = (c < client_numbers) × ((d : ℕ) → d ≢ c → hand_at w.hands d ≡ None)
 NoneButOf w a = ⊥
 
 abbrev pub OneActor : World → Who → Type 0

@@ -3,9 +3,9 @@ use Rattle.std.specs.Prelude.{◌≡◌, ℕ, ◌-◌, ◌^◌, ◌<◌, List, l
 use Rattle.ckpt_types.specs.declared.answers.Outcome.{Outcome}
 use Rattle.ckpt_types.specs.declared.answers.Outcome.TheVariants.{Done}
 use Rattle.ckpt_types.specs.declared.operation.Op.{Op}
+use Rattle.ckpt_types.specs.Limits.{handles_max, places_max}
 use Rattle.node_msgs.specs.declared.next.RecordStep.{RecordStep}
 use Rattle.node_msgs.specs.declared.next.RecordStep.TheVariants as events
-use Rattle.client_handles.specs.declared.client.TheConstants.{HANDLES_MAX}
 use Rattle.cluster_record.specs.LookUps.{creation_flags_of}
 use Rattle.cluster_record.specs.RecordState.{RecordState, entry_of}
 use Rattle.world_core.specs.Beginning.{opened_for, opened_place, closed_place}
@@ -48,20 +48,20 @@ looked end c op tables = tables
 -- there are a checkpoint and a place for a handle, and its client has room for it
 pub record CanGive (c : ℕ) (op : Op) (k : Option ℕ) (tables : List TableState) : Type 0 where
   pub ckpt : IsSome k
-  pub place : IsSomeAnd (opened_place op) (λ p. p < 100)
-  pub room : nat_lt (length (handles_in (slice_get tables c))) HANDLES_MAX ≡ true
+  pub place : IsSomeAnd (opened_place op) (λ p. p < places_max)
+  pub room : nat_lt (length (handles_in (slice_get tables c))) handles_max ≡ true
   pub number : last_in (slice_get tables c) < 2 ^ 32 - 1
 
 abbrev pub CanSettle : ℕ → Op → RecordStep → Option ℕ → List TableState → Type 0
 CanSettle c op events.Open k tables = CanGive c op k tables
 CanSettle c op events.Finish k tables = CanGive c op k tables
-CanSettle c op events.Close k tables = IfSome (closed_place op) (λ p. p < 100)
+CanSettle c op events.Close k tables = IfSome (closed_place op) (λ p. p < places_max)
 CanSettle c op step k tables = Unit {0}
 
 -- ---- what it finds
 
 -- a table in which a handle's place is set has 100 places
 abbrev pub HasPlaces : RecordStep → Option TableState → Type 0
-HasPlaces events.Open t = IsSomeAnd t (λ t. length t.client.places ≡ 100)
-HasPlaces events.Finish t = IsSomeAnd t (λ t. length t.client.places ≡ 100)
+HasPlaces events.Open t = IsSomeAnd t (λ t. length t.client.places ≡ places_max)
+HasPlaces events.Finish t = IsSomeAnd t (λ t. length t.client.places ≡ places_max)
 HasPlaces step t = Unit {0}

@@ -8,6 +8,7 @@ use Rattle.ckpt_types.specs.declared.operation.Op.TheVariants as ops
 use Rattle.ckpt_types.specs.declared.sections.Choice.{Choice}
 use Rattle.section_iter.specs.KeptIds.{KeptIds}
 use Rattle.ckpt_types.specs.Attributes.{is_malformed}
+use Rattle.ckpt_types.specs.Limits.{nodes_max, clients_max, checkpoints_max, name_max, places_max}
 use Rattle.node_msgs.specs.declared.requests.Request.{Request}
 use Rattle.node_msgs.specs.declared.requests.Request.TheVariants as requests
 use Rattle.node_msgs.specs.declared.next.RecordStep.{RecordStep}
@@ -223,9 +224,9 @@ IsFinishable m (Some making) = AllReserved m making.ckpt × IsSomeAnd (entry_of 
 
 -- what a due step of the record asks of it
 abbrev pub IsEventReady : Machine → CallState → Driver → RecordStep → Type 0
-IsEventReady m s (drivers.Enter r) events.Enter = (r < 8) × (length m.cluster.clients < 64)
-IsEventReady m s (drivers.Open o) events.Create = (length m.cluster.entries < 16) × IsSomeAnd o.ask.attrs (λ a. Unit {0}) × (named o.ask.name m.cluster.entries ≡ None) × (length o.ask.name ≤ 256)
-IsEventReady m s (drivers.Open o) events.Open = IsSomeAnd (named o.ask.name m.cluster.entries) (λ e. (e.making ≡ None) × (accepts o.ask.attrs e ≡ true)) × (length o.ask.name ≤ 256)
+IsEventReady m s (drivers.Enter r) events.Enter = (r < nodes_max) × (length m.cluster.clients < clients_max)
+IsEventReady m s (drivers.Open o) events.Create = (length m.cluster.entries < checkpoints_max) × IsSomeAnd o.ask.attrs (λ a. Unit {0}) × (named o.ask.name m.cluster.entries ≡ None) × (length o.ask.name ≤ name_max)
+IsEventReady m s (drivers.Open o) events.Open = IsSomeAnd (named o.ask.name m.cluster.entries) (λ e. (e.making ≡ None) × (accepts o.ask.attrs e ≡ true)) × (length o.ask.name ≤ name_max)
 IsEventReady m s (drivers.Open o) events.Finish = IsFinishable m o.making × IsMakingOf m.cluster o.ask.client (making_ckpt o.making)
 IsEventReady m s (drivers.Open o) events.Undo = IsSomeAnd o.making (λ making. Unit {0}) × IsMakingOf m.cluster o.ask.client (making_ckpt o.making)
 IsEventReady m s drivers.Leave events.Leave = Unit {0}
@@ -244,7 +245,7 @@ pub record Facts (m : Machine) : Type 0 where
   pub callers : (a : ActorName) (s : CallState) → m.in_hand a ≡ Some s → s.call.actor ≡ a
   pub rises : IdentitiesRise m.cluster.entries
   pub up_to : AllUpTo m.cluster.last_identity m.cluster.entries
-  pub ready : (a : ActorName) (s : CallState) (r : ℕ) (request : Request) → m.in_hand a ≡ Some s → due m s ≡ Serve r request → (r < 8) × IsServable m r request
+  pub ready : (a : ActorName) (s : CallState) (r : ℕ) (request : Request) → m.in_hand a ≡ Some s → due m s ≡ Serve r request → (r < nodes_max) × IsServable m r request
   -- a due stage has the moment of the slots that stand
   pub moments : (a : ActorName) (s : CallState) (r : ℕ) (call : CallId) (k : ℕ) (t : ℤ) → m.in_hand a ≡ Some s → due m s ≡ Serve r (requests.Stage call k t) → IsSomeAnd (m.replicas k r) IsFree → staged_moment m k ≡ t
   pub events : (a : ActorName) (s : CallState) (step : RecordStep) → m.in_hand a ≡ Some s → due m s ≡ Event step → IsEventReady m s (driver_of s) step
@@ -254,7 +255,7 @@ pub record Facts (m : Machine) : Type 0 where
   pub starts : (a : ActorName) (s : CallState) (r : ℕ) (call : CallId) (k : ℕ) (choice : Choice) → m.in_hand a ≡ Some s → due m s ≡ Serve r (requests.Iterate call k choice) → (s.kept.sections ≡ sections_declared m.cluster (Some k)) × IsIterOf choice s.op × IsSome (named_handle m a s.op) × IsActive (driver_of s)
   pub goes_on : (a : ActorName) (s : CallState) (r : ℕ) (call : CallId) (k : ℕ) → m.in_hand a ≡ Some s → due m s ≡ Serve r (requests.Next call k) → IsNextOf s.op × IsSome (named_handle m a s.op)
   -- a handle is there that is closed
-  pub closes : (a : ActorName) (s : CallState) (place : ℕ) → m.in_hand a ≡ Some s → closed_place s.op ≡ Some place → (place < 100) × IsSome (handle_in m (number_of a) (Some place))
+  pub closes : (a : ActorName) (s : CallState) (place : ℕ) → m.in_hand a ≡ Some s → closed_place s.op ≡ Some place → (place < places_max) × IsSome (handle_in m (number_of a) (Some place))
   -- the numbers of handles are from 1
   pub numbered : (c : ℕ) (h : HandleView) → Contains (m.handles c) h → 1 ≤ h.handle
 

@@ -17,6 +17,7 @@ use Rattle.ckpt_types.specs.declared.update.Update.{Update}
 use Rattle.ckpt_types.specs.Sections.{opening}
 use Rattle.ckpt_types.specs.Updates.{outcome}
 use Rattle.ckpt_types.specs.Reads.{NextGiven}
+use Rattle.ckpt_types.specs.Limits.{iterations_max, handles_max}
 use Rattle.node_msgs.specs.declared.requests.Request.{Request}
 use Rattle.node_msgs.specs.declared.requests.Request.TheVariants as requests
 use Rattle.node_msgs.specs.declared.replies.Reply.{Reply}
@@ -41,8 +42,6 @@ use Rattle.run_labels.specs.OpWord.{word_of_op}
 use Rattle.client_handles.specs.Numbered.{without, stands_for}
 use Rattle.client_handles.specs.ClientState.{handle_number, handle_numbered, iteration_number, goes_over, keeping}
 use Rattle.client_handles.specs.declared.begun.BegunIteration.{BegunIteration}
-use Rattle.client_handles.specs.declared.begun.TheConstants.{ITERATIONS_MAX}
-use Rattle.client_handles.specs.declared.client.TheConstants.{HANDLES_MAX}
 use Rattle.client_handles.specs.declared.handle_view.HandleView.{HandleView}
 use Rattle.world_core.specs.declared.drivers.Driver.{Driver}
 use Rattle.world_core.specs.declared.drivers.Rooms.{Rooms}
@@ -85,11 +84,11 @@ driver_of s = driver_state s.call s.op s.kept s.steps
 
 -- the client has a free place for a handle
 abbrev pub room_of : Machine → ℕ → Bool
-room_of m c = nat_lt (length (m.handles c)) HANDLES_MAX
+room_of m c = nat_lt (length (m.handles c)) handles_max
 
 -- what its tables have a free place for
 abbrev pub rooms_of : Machine → ℕ → Rooms
-rooms_of m c = record { handles = room_of m c; iterations = nat_lt (length (m.iterations c).begun) ITERATIONS_MAX }
+rooms_of m c = record { handles = room_of m c; iterations = nat_lt (length (m.iterations c).begun) iterations_max }
 
 abbrev pub due : Machine → CallState → Next
 due m s = driver_next m.cluster (rooms_of m (client_of s.call)) (driver_of s)

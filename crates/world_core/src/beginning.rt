@@ -4,15 +4,11 @@ ghost use Rattle.ckpt_types.specs.Attributes.{has_flag, has_bad_open_flags, is_m
 ghost use Rattle.world_core.specs.Beginning.{refused, version_is_bad, name_is_bad, attributes_are_bad, open_begin, vector_is_bad, update_is_bad, on_handle, may_write, may_read, may_always, choice_is_bad, choice_of, end_iteration, update_begin, begin_end, handle_place, closed_place, iteration_place, started_place, ended_place, takes_room, opened_place, no_flags, opened_for};
 ghost use Rattle.world_core.specs.Steps.{ckpt_of_handle};
 
-use crate::world::VECTOR_MAX;
 use ckpt_types::{
     AisError, Answer, Bytes, CHECKPOINT_CREATE, Cause, Choice, CkptId, CreationAttributes, Moment,
-    NAME_MAX, OPEN_FLAGS_ALL, Op, OpenFlags, Outcome, Update, Version,
+    NAME_MAX, OPEN_FLAGS_ALL, Op, OpenFlags, Outcome, RELEASE, Update, VECTOR_MAX, Version,
 };
 use client_handles::HandleView;
-
-/// The release of the service, the letter of its versions.
-pub const RELEASE: u8 = b'B';
 
 /// What a call answers at once, where its client is live or not, and its place stands for this handle; nothing
 /// where the call goes on.

@@ -1,6 +1,7 @@
 ghost use Rattle.std.specs.Prelude.{◌≡◌, ◌<◌, None, IfOk, OnErr};
 ghost use Rattle.ckpt_types.specs.declared.identities.ActorName.TheVariants.{Client};
 ghost use Rattle.ckpt_types.specs.declared.identities.Who.TheVariants.{Actor};
+ghost use Rattle.ckpt_types.specs.Limits.{client_numbers};
 ghost use Rattle.run_labels.specs.declared.words.LineWord.TheVariants as linewords;
 ghost use Rattle.run_labels.specs.declared.labels.Label.TheVariants as labels;
 ghost use Rattle.cluster_record.specs.RecordState.{empty_record};
@@ -34,7 +35,7 @@ impl World {
 
     /// A call of a client begins, or a word answers its line. Want of memory leaves the world as it was.
     pub fn begin(&mut self, alloc: Global, c: u8, op: &Op) -> Result<Label, AllocError>
-        requires client { c < 100 }
+        requires client { c < client_numbers }
         requires built { IsBuilt op.now }
         requires shown { IsShown self.old }
         requires roomy { IsRoomy self.old }
@@ -56,7 +57,7 @@ impl World {
     }
 
     fn begin_call(&mut self, alloc: Global, c: u8, op: &Op) -> Result<Label, AllocError>
-        requires client { c < 100 }
+        requires client { c < client_numbers }
         requires built { IsBuilt op.now }
         requires none { hand_at self.old.hands c ≡ None }
         requires may { MayBegin self.old.cluster c op.now }
@@ -93,7 +94,7 @@ impl World {
 
     // The handle that the operation is about: that of the place of a handle, or else of an iteration.
     fn named_handle(&self, c: u8, op: &Op) -> Option<HandleView>
-        requires client { c < 100 }
+        requires client { c < client_numbers }
         requires built { IsBuilt op.now }
         ensures { result ≡ handle_named self.now c (handle_place op.now) (iteration_place op.now) }
     {

@@ -1,4 +1,5 @@
 ghost use Rattle.std.specs.Prelude.{◌≡◌, ◌-◌, ◌^◌, ◌<◌, Some, IfOk};
+ghost use Rattle.ckpt_types.specs.Limits.{nodes_max};
 ghost use Rattle.node_msgs.specs.Requests.{ckpt_of};
 ghost use Rattle.node_msgs.specs.Steps.{verb_of, word_of, event_verb};
 ghost use Rattle.world_core.specs.Driving.{driver_next, driver_taken, driver_end, driver_start, on_kept, update_start, active_start, done_end, event_ckpt, event_node, event_end, opened_end, takes_memory, refused_cause};
@@ -14,9 +15,11 @@ use crate::one_step::{close_next, retain_next, unlink_next};
 use crate::open_call::OpenCall;
 use crate::reading::ActiveCall;
 use crate::update_call::UpdateCall;
-use ckpt_types::{AisError, Answer, Bytes, CallId, Cause, CkptId, NodeId, Op, OpenAsk, Outcome};
+use ckpt_types::{
+    AisError, Answer, Bytes, CLIENTS_MAX, CallId, Cause, CkptId, NodeId, Op, OpenAsk, Outcome,
+};
 use client_handles::HandleView;
-use cluster_record::{ActiveKind, CLIENTS_MAX, Record, number_of};
+use cluster_record::{ActiveKind, Record, number_of};
 use node_msgs::{Next, RecordStep, Reply, Request, StepReply};
 use std::alloc::AllocError;
 
@@ -129,7 +132,7 @@ impl Driver {
         request: &Request,
         reply: &Reply,
     ) -> Option<Outcome>
-        requires { r < 8 }
+        requires { r < nodes_max }
         ensures new { self.new ≡ driver_taken (done_of cluster.now (verb_of request.now) (Some (ckpt_of request.now)) (Some r) (word_of reply.now)) self.old }
         ensures end { result ≡ driver_end op.now (done_of cluster.now (verb_of request.now) (Some (ckpt_of request.now)) (Some r) (word_of reply.now)) reply.now self.new }
     {
@@ -138,7 +141,7 @@ impl Driver {
     }
 
     fn taken(&mut self, cluster: &Record, r: NodeId, request: &Request, word: StepReply)
-        requires { r < 8 }
+        requires { r < nodes_max }
         ensures { self.new ≡ driver_taken (done_of cluster.now (verb_of request.now) (Some (ckpt_of request.now)) (Some r) word) self.old }
     {
         match self {

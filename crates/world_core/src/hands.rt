@@ -5,6 +5,7 @@ ghost use Rattle.node_msgs.specs.Requests.{ckpt_of};
 ghost use Rattle.world_core.specs.Serving.{update_of, elements_of};
 ghost use Rattle.world_core.specs.Lending.{bytes_asked, IsLentRead, IsLentFor, IsLent};
 ghost use Rattle.ckpt_types.specs.declared.update.Update.TheVariants as updates;
+ghost use Rattle.ckpt_types.specs.Limits.{client_numbers, nodes_max};
 ghost use Rattle.node_msgs.specs.Steps.{verb_of, word_of, event_verb};
 ghost use Rattle.cluster_record.specs.StepDone.{done_of};
 ghost use Rattle.world_core.specs.HandSteps.{hand_taken, hand_end};
@@ -54,7 +55,7 @@ impl Model for Hands {
 
     ghost view = { λ hands. hands.list.items };
 
-    ghost invariant = { λ hands. length hands.list.items ≡ 100 };
+    ghost invariant = { λ hands. length hands.list.items ≡ client_numbers };
 }
 
 impl InHand {
@@ -85,7 +86,7 @@ impl InHand {
         request: &Request,
         reply: &Reply,
     ) -> Option<Outcome>
-        requires { r < 8 }
+        requires { r < nodes_max }
         ensures new { self.new ≡ hand_taken (done_of cluster.now (verb_of request.now) (Some (ckpt_of request.now)) (Some r) (word_of reply.now)) self.old }
         ensures end { result ≡ hand_end (done_of cluster.now (verb_of request.now) (Some (ckpt_of request.now)) (Some r) (word_of reply.now)) reply.now self.new }
     {
@@ -140,7 +141,7 @@ impl Hands {
         reply: &Reply,
     ) -> Option<Outcome>
         requires held { hand_at self.old c ≢ None }
-        requires node { r < 8 }
+        requires node { r < nodes_max }
         ensures new { (h : InHand) → hand_at self.old c ≡ Some h → self.new ≡ slice_set self.old c (left result (hand_taken (done_of cluster.now (verb_of request.now) (Some (ckpt_of request.now)) (Some r) (word_of reply.now)) h)) }
         ensures end { (h : InHand) → hand_at self.old c ≡ Some h → result ≡ hand_end (done_of cluster.now (verb_of request.now) (Some (ckpt_of request.now)) (Some r) (word_of reply.now)) reply.now (hand_taken (done_of cluster.now (verb_of request.now) (Some (ckpt_of request.now)) (Some r) (word_of reply.now)) h) }
     {
@@ -199,7 +200,7 @@ impl Hands {
 
     /// A client's call is in hand from now on, unless it has ended.
     pub fn begin(&mut self, c: u8, hand: InHand, end: &Option<Outcome>)
-        requires { c < 100 }
+        requires { c < client_numbers }
         ensures new { self.new ≡ slice_set self.old c (left end.now hand) }
         ensures within { c < length self.old }
     {
@@ -244,7 +245,7 @@ fn take_at(
     reply: &Reply,
 ) -> Option<Outcome>
     requires held { hand_at list.old c ≢ None }
-    requires node { r < 8 }
+    requires node { r < nodes_max }
     ensures new { (h : InHand) → hand_at list.old c ≡ Some h → list.new ≡ slice_set list.old c (left result (hand_taken (done_of cluster.now (verb_of request.now) (Some (ckpt_of request.now)) (Some r) (word_of reply.now)) h)) }
     ensures end { (h : InHand) → hand_at list.old c ≡ Some h → result ≡ hand_end (done_of cluster.now (verb_of request.now) (Some (ckpt_of request.now)) (Some r) (word_of reply.now)) reply.now (hand_taken (done_of cluster.now (verb_of request.now) (Some (ckpt_of request.now)) (Some r) (word_of reply.now)) h) }
 {
@@ -259,7 +260,7 @@ fn settle(
     reply: &Reply,
 ) -> Option<Outcome>
     requires held { slot.old ≢ None }
-    requires node { r < 8 }
+    requires node { r < nodes_max }
     ensures new { (h : InHand) → slot.old ≡ Some h → slot.new ≡ left result (hand_taken (done_of cluster.now (verb_of request.now) (Some (ckpt_of request.now)) (Some r) (word_of reply.now)) h) }
     ensures end { (h : InHand) → slot.old ≡ Some h → result ≡ hand_end (done_of cluster.now (verb_of request.now) (Some (ckpt_of request.now)) (Some r) (word_of reply.now)) reply.now (hand_taken (done_of cluster.now (verb_of request.now) (Some (ckpt_of request.now)) (Some r) (word_of reply.now)) h) }
 {

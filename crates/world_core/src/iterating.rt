@@ -1,4 +1,5 @@
 ghost use Rattle.std.specs.Prelude.{◌≡◌, ◌<◌, IfOk, OnErr};
+ghost use Rattle.ckpt_types.specs.Limits.{client_numbers};
 ghost use Rattle.node_msgs.specs.declared.next.Next.TheVariants as nexts;
 ghost use Rattle.node_msgs.specs.declared.requests.Request.TheVariants as requests;
 ghost use Rattle.world_core.specs.Shows.{IsShown, IsRoomy};
@@ -24,7 +25,7 @@ impl World {
         choice: Choice,
     ) -> Label
         requires next { IsNext self.old c (nexts.Serve r (requests.Iterate asked ckpt choice)) }
-        requires client { c < 100 }
+        requires client { c < client_numbers }
         requires shown { IsShown self.old }
         requires roomy { IsRoomy self.old }
         ensures { IsStep c self.old self.new result }
@@ -77,7 +78,7 @@ impl World {
         ckpt: CkptId,
     ) -> Result<Label, AllocError>
         requires next { IsNext self.old c (nexts.Serve r (requests.Next asked ckpt)) }
-        requires client { c < 100 }
+        requires client { c < client_numbers }
         requires shown { IsShown self.old }
         ensures ok { IfOk result (IsStep c self.old self.new) }
         ensures err { OnErr result (self.new ≡ self.old) }

@@ -27,4 +27,4 @@ pub use reading::ActiveCall;
 pub use replica::{RecordSeen, Replica, Slot};
 pub use tables::{Table, Tables};
 pub use update_call::UpdateCall;
-pub use world::{Event, VECTOR_MAX, World};
+pub use world::{Event, World};

@@ -1,7 +1,7 @@
 ghost use Rattle.std.specs.Prelude.{◌≡◌, ◌<◌, ◌≤◌, [], ◌++◌, ◌∷◌, false, Option, Some, None, IfOk, IfSome, IsSomeAnd, MatchOption, OnOk, OnErr, filter, length, replicate, slice_get};
-ghost use Rattle.ckpt_types.specs.declared.section_id.TheConstants.{SECTION_ID_MAX};
 ghost use Rattle.section_iter.specs.Next.{kept_after};
 ghost use Rattle.ckpt_types.specs.Attributes.{is_malformed};
+ghost use Rattle.ckpt_types.specs.Limits.{section_id_max, nodes_max};
 ghost use Rattle.cluster_record.specs.Places.{find_key, change_key, place_key};
 ghost use Rattle.node_msgs.specs.Requests.{ckpt_of};
 ghost use Rattle.world_core.specs.Serving.{record_seen, replica_key, replica_after, replica_in, reply_at, pieces_at, served, IsReadyAt, opened_replica, added, reserved_at, chosen_at, given_at, next_id, next_reply_at};
@@ -61,7 +61,7 @@ impl Model for Nodes {
 
     ghost view = { λ nodes. nodes.list.items };
 
-    ghost invariant = { λ nodes. length nodes.list.items ≡ 8 };
+    ghost invariant = { λ nodes. length nodes.list.items ≡ nodes_max };
 }
 
 impl Nodes {
@@ -84,7 +84,7 @@ impl Nodes {
         cluster: &Record,
         lent: &mut Lent,
     ) -> Reply
-        requires node { r < 8 }
+        requires node { r < nodes_max }
         requires ready { IsReadyAt request.now (replica_in self.old (ckpt_of request.now) r) }
         requires lent { IsLent request.now op.now lent.old }
         ensures reply { result ≡ reply_at request.now op.now (record_seen cluster.now (ckpt_of request.now)) (replica_in self.old (ckpt_of request.now) r) }
@@ -104,7 +104,7 @@ impl Nodes {
         choice: Choice,
         now: Moment,
     )
-        requires node { r < 8 }
+        requires node { r < nodes_max }
         requires room { IsSomeAnd (replica_in self.now ckpt r) (λ x. x.store.attributes.max_sections ≤ iteration.old.room) }
         ensures { iteration.new ≡ record iteration.old { ids = chosen_at choice now (replica_in self.now ckpt r) } }
     {
@@ -124,10 +124,10 @@ impl Nodes {
         now: Moment,
         out: &mut ReadBuf,
     ) -> Reply
-        requires node { r < 8 }
+        requires node { r < nodes_max }
         requires empty { out.old.pieces ≡ [] }
         requires places { 1 ≤ out.old.spare_pieces }
-        requires bytes { SECTION_ID_MAX ≤ out.old.spare_bytes }
+        requires bytes { section_id_max ≤ out.old.spare_bytes }
         ensures reply { result ≡ next_reply_at iteration.old.ids now (replica_in self.now ckpt r) }
         ensures pieces { pieces_told result out.new.pieces ≡ next_id (given_at iteration.old.ids now (replica_in self.now ckpt r)) }
         ensures new { iteration.new ≡ kept_after iteration.old (given_at iteration.old.ids now (replica_in self.now ckpt r)) }
@@ -147,7 +147,7 @@ impl Nodes {
         attributes: &CreationAttributes,
         made: Moment,
     ) -> Result<(), AllocError>
-        requires node { r < 8 }
+        requires node { r < nodes_max }
         requires well_formed { is_malformed attributes.now ≡ false }
         ensures ok { OnOk result (self.new ≡ reserved_at self.old r (opened_replica ckpt attributes.now made)) }
         ensures err { OnErr result (self.new ≡ self.old) }

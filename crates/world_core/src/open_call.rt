@@ -1,4 +1,5 @@
 ghost use Rattle.std.specs.Prelude.{◌≡◌, ◌<◌, Some, None};
+ghost use Rattle.ckpt_types.specs.Limits.{nodes_max};
 ghost use Rattle.cluster_record.specs.RecordState.{named};
 ghost use Rattle.node_msgs.specs.Requests.{ckpt_of};
 ghost use Rattle.node_msgs.specs.Steps.{verb_of, event_verb};
@@ -6,10 +7,10 @@ ghost use Rattle.cluster_record.specs.DueOpen.{open_begun, making_ckpt, in_time,
 ghost use Rattle.cluster_record.specs.StepDone.{done_of};
 
 use ckpt_types::{
-    AisError, CallId, Cause, CkptId, CreationAttributes, Moment, NodeId, OpenAsk, Outcome,
+    AisError, CHECKPOINTS_MAX, CallId, Cause, CkptId, CreationAttributes, HANDLES_MAX, Moment,
+    NodeId, OpenAsk, Outcome,
 };
-use client_handles::HANDLES_MAX;
-use cluster_record::{CHECKPOINTS_MAX, Entry, Making, Record, accepts, first_lacking};
+use cluster_record::{Entry, Making, Record, accepts, first_lacking};
 use moment_rules::reached;
 use node_msgs::{Next, RecordStep, Request, StepReply};
 use std::marker::Model;
@@ -89,7 +90,7 @@ impl OpenCall {
 
     /// It takes a node's answer.
     pub fn take(&mut self, cluster: &Record, r: NodeId, request: &Request, word: StepReply)
-        requires { r < 8 }
+        requires { r < nodes_max }
         ensures { self.new ≡ open_taken (done_of cluster.now (verb_of request.now) (Some (ckpt_of request.now)) (Some r) word) self.old }
     {
         let Request::Reserve(_) = request else {

@@ -1,8 +1,7 @@
 ghost use Rattle.std.specs.Prelude.{◌≡◌};
 ghost use Rattle.cluster_record.specs.DueActive.{active_begun, on_active, active_next, active_request, starts_iteration};
 
-use ckpt_types::{AisError, CallId, Cause, CkptId, NodeId, Outcome};
-use client_handles::ITERATIONS_MAX;
+use ckpt_types::{AisError, CallId, Cause, CkptId, ITERATIONS_MAX, NodeId, Outcome};
 use cluster_record::{ActiveKind, Record};
 use node_msgs::{Next, Request};
 use std::marker::Model;

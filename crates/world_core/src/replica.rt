@@ -5,7 +5,7 @@ ghost use Rattle.ckpt_types.specs.declared.answers.Answer.TheVariants as answers
 ghost use Rattle.ckpt_types.specs.declared.identities.CallId.{CallId};
 ghost use Rattle.ckpt_types.specs.Updates.{outcome};
 ghost use Rattle.ckpt_types.specs.Reads.{read, status, chosen, given};
-ghost use Rattle.ckpt_types.specs.declared.section_id.TheConstants.{SECTION_ID_MAX};
+ghost use Rattle.ckpt_types.specs.Limits.{section_id_max};
 ghost use Rattle.section_iter.specs.Next.{kept_after};
 ghost use Rattle.node_msgs.specs.Requests.{ckpt_of};
 ghost use Rattle.node_msgs.specs.declared.replies.Reply.TheVariants as replies;
@@ -141,7 +141,7 @@ impl Replica {
     pub fn next(&self, iteration: &mut Iteration, now: Moment, out: &mut ReadBuf) -> Reply
         requires empty { out.old.pieces ≡ [] }
         requires places { 1 ≤ out.old.spare_pieces }
-        requires bytes { SECTION_ID_MAX ≤ out.old.spare_bytes }
+        requires bytes { section_id_max ≤ out.old.spare_bytes }
         ensures reply { result ≡ next_reply (given iteration.old.ids now self.now.store.sections) }
         ensures pieces { pieces_told result out.new.pieces ≡ next_id (given iteration.old.ids now self.now.store.sections) }
         ensures new { iteration.new ≡ kept_after iteration.old (given iteration.old.ids now self.now.store.sections) }

@@ -15,6 +15,7 @@ ghost use Rattle.world_core.specs.Shows.{IsShown, IsRoomy, IsReservable};
 ghost use Rattle.world_core.specs.Happenings.{rooms_in, IsNext, IsStep, IsIdle};
 ghost use Rattle.ckpt_types.specs.declared.identities.CallId.{CallId};
 ghost use Rattle.ckpt_types.specs.declared.sections.Choice.{Choice};
+ghost use Rattle.ckpt_types.specs.Limits.{client_numbers, nodes_max, places_max};
 
 use crate::applying::apply;
 use crate::beginning::{closed_place, opened_for, opened_place};
@@ -35,7 +36,7 @@ impl World {
     // Put in line: a call would copy its label once more.
     #[inline(always)]
     pub fn step(&mut self, alloc: Global, c: u8, finish: bool) -> Result<Label, AllocError>
-        requires client { c < 100 }
+        requires client { c < client_numbers }
         requires shown { IsShown self.old }
         requires roomy { IsRoomy self.old }
         ensures ok { IfOk result (λ label. IsStep c self.old self.new label ⊎ IsIdle c finish self.old self.new label) }
@@ -59,7 +60,7 @@ impl World {
 
     // What the client's tables have a free place for.
     fn rooms(&self, c: u8) -> Rooms
-        requires { c < 100 }
+        requires { c < client_numbers }
         ensures { result ≡ rooms_in self.now c }
     {
         Rooms {
@@ -77,7 +78,7 @@ impl World {
         ckpt: CkptId,
     ) -> Result<Label, AllocError>
         requires next { IsNext self.old c (nexts.Serve r (requests.Reserve ckpt)) }
-        requires client { c < 100 }
+        requires client { c < client_numbers }
         requires shown { IsShown self.old }
         ensures ok { IfOk result (IsStep c self.old self.new) }
         ensures err { OnErr result (self.new ≡ self.old) }
@@ -114,7 +115,7 @@ impl World {
         requires reserves_none { (k : ℕ) → request.now ≢ requests.Reserve k }
         requires starts_none { (call : CallId) (k : ℕ) (choice : Choice) → request.now ≢ requests.Iterate call k choice }
         requires goes_on_with_none { (call : CallId) (k : ℕ) → request.now ≢ requests.Next call k }
-        requires client { c < 100 }
+        requires client { c < client_numbers }
         requires shown { IsShown self.old }
         requires roomy { IsRoomy self.old }
         ensures ok { IfOk result (IsStep c self.old self.new) }
@@ -146,7 +147,7 @@ impl World {
     // The call takes a step of the record; where its memory is refused, the call ends.
     fn record_step(&mut self, c: u8, step: RecordStep) -> Label
         requires next { IsNext self.old c (nexts.Event step) }
-        requires client { c < 100 }
+        requires client { c < client_numbers }
         requires shown { IsShown self.old }
         requires roomy { IsRoomy self.old }
         ensures { IsStep c self.old self.new result }
@@ -192,7 +193,7 @@ impl World {
     // The record alone decides how the call ends.
     fn look_step(&mut self, c: u8, end: Outcome) -> Label
         requires next { IsNext self.old c (nexts.End end) }
-        requires client { c < 100 }
+        requires client { c < client_numbers }
         requires shown { IsShown self.old }
         ensures { IsStep c self.old self.new result }
     {
@@ -218,7 +219,7 @@ impl World {
 
     // A node takes the storage of a replica of the checkpoint, which is in the making.
     fn reserve(&mut self, alloc: Global, r: NodeId, ckpt: CkptId) -> Reply
-        requires node { r < 8 }
+        requires node { r < nodes_max }
         requires ready { IsSomeAnd (entry_of ckpt self.old.cluster.entries) (λ e. IsReservable e r) }
         ensures reserved { IsReserved r ckpt self.old self.new result }
         ensures there { r < length self.old.nodes }
@@ -256,7 +257,7 @@ fn settle(
     step: &RecordStep,
     ckpt: Option<CkptId>,
 )
-    requires client { c < 100 }
+    requires client { c < client_numbers }
     requires can { CanSettle c op.now step.now ckpt tables.old }
     ensures new { tables.new ≡ settled cluster.now c op.now step.now ckpt tables.old }
     ensures places { HasPlaces step.now (slice_get tables.old c) }
@@ -271,8 +272,8 @@ fn settle(
 
 // Where the record alone says that a call is done, the handle that it closes is closed.
 fn settle_look(tables: &mut Tables, c: u8, op: &Op, end: &Outcome)
-    requires client { c < 100 }
-    requires place { IfSome (closed_place op.now) (λ p. p < 100) }
+    requires client { c < client_numbers }
+    requires place { IfSome (closed_place op.now) (λ p. p < places_max) }
     ensures { tables.new ≡ looked end.now c op.now tables.old }
 {
     match end {
@@ -283,8 +284,8 @@ fn settle_look(tables: &mut Tables, c: u8, op: &Op, end: &Outcome)
 
 // The handle at the place is closed, if there is a place.
 fn close(tables: &mut Tables, c: u8, place: Option<u8>)
-    requires client { c < 100 }
-    requires place { IfSome place (λ p. p < 100) }
+    requires client { c < client_numbers }
+    requires place { IfSome place (λ p. p < places_max) }
     ensures { tables.new ≡ closed_at c place tables.old }
 {
     if let Some(place) = place {
@@ -294,10 +295,10 @@ fn close(tables: &mut Tables, c: u8, place: Option<u8>)
 
 // The client gets a handle of the checkpoint, for which the place stands that the operation names.
 fn give(tables: &mut Tables, cluster: &Record, c: u8, op: &Op, ckpt: Option<CkptId>)
-    requires client { c < 100 }
+    requires client { c < client_numbers }
     requires can { CanGive c op.now ckpt tables.old }
     ensures new { tables.new ≡ given cluster.now c op.now ckpt (opened_place op.now) tables.old }
-    ensures places { IsSomeAnd (slice_get tables.old c) (λ t. length t.client.places ≡ 100) }
+    ensures places { IsSomeAnd (slice_get tables.old c) (λ t. length t.client.places ≡ places_max) }
 {
     let (Some(ckpt), Some(place)) = (ckpt, opened_place(op)) else {
         unreachable!()

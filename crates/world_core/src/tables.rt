@@ -1,11 +1,9 @@
 ghost use Rattle.std.specs.Prelude.{◌≡◌, ◌-◌, ◌^◌, ◌<◌, ◌≤◌, [], true, IfOk, IfSome, IsSome, IsSomeAnd, length, nat_lt, slice_get, slice_set, replicate};
+ghost use Rattle.ckpt_types.specs.Limits.{section_id_max, iterations_max, handles_max, places_max, nodes_max, client_numbers};
 ghost use Rattle.client_handles.specs.ClientState.{handle_at, handle_numbered, has_handle_room, has_iteration_room, iteration_at};
-ghost use Rattle.ckpt_types.specs.declared.section_id.TheConstants.{SECTION_ID_MAX};
-ghost use Rattle.client_handles.specs.declared.begun.TheConstants.{ITERATIONS_MAX};
 ghost use Rattle.world_core.specs.Serving.{replica_in, given_at, next_id, next_reply_at};
 ghost use Rattle.world_core.specs.Lending.{pieces_told};
 ghost use Rattle.world_core.specs.Steps.{handle_over, ids_of};
-ghost use Rattle.client_handles.specs.declared.client.TheConstants.{HANDLES_MAX};
 ghost use Rattle.world_core.specs.TableState.{with_handle, with_started_iteration, gone_on, kept_at, begun_with, with_closed, with_none};
 ghost use Rattle.world_core.specs.NewTable.{new_table};
 ghost use Rattle.world_core.specs.Shows.{next_in, handles_in, iterations_in, last_in, handle_in_place, handle_over_place};
@@ -85,7 +83,7 @@ impl Table {
 
     // The handle for which a place stands.
     fn handle(&self, place: u8) -> Option<HandleView>
-        requires { place < 100 }
+        requires { place < places_max }
         ensures { result ≡ handle_at place self.now.client }
     {
         self.client.handle(place).ok()
@@ -99,7 +97,7 @@ impl Table {
 
     // The handle over which the iteration goes for which a place stands.
     fn iteration_handle(&self, place: u8) -> Option<HandleView>
-        requires { place < 100 }
+        requires { place < places_max }
         ensures { result ≡ handle_over self.now.client.handles (iteration_at place self.now.client) }
     {
         self.client.iteration_handle(place).ok()
@@ -107,7 +105,7 @@ impl Table {
 
     // An iteration more over the handle of that number.
     fn start(&mut self, place: u8, handle: u32, iteration: Iteration)
-        requires place { place < 100 }
+        requires place { place < places_max }
         requires room { has_iteration_room self.old.client ≡ true }
         requires opened { IsSome (handle_numbered handle self.old.client.handles) }
         requires number { self.old.client.last_iteration < 2 ^ 32 - 1 }
@@ -128,12 +126,12 @@ impl Table {
         now: Moment,
         out: &mut ReadBuf,
     ) -> Reply
-        requires place { place < 100 }
-        requires node { r < 8 }
+        requires place { place < places_max }
+        requires node { r < nodes_max }
         requires there { IsSome (iteration_at place self.old.client) }
         requires empty { out.old.pieces ≡ [] }
         requires places { 1 ≤ out.old.spare_pieces }
-        requires bytes { SECTION_ID_MAX ≤ out.old.spare_bytes }
+        requires bytes { section_id_max ≤ out.old.spare_bytes }
         ensures reply { result ≡ next_reply_at (ids_of (kept_at place self.old)) now (replica_in nodes.now ckpt r) }
         ensures pieces { pieces_told result out.new.pieces ≡ next_id (given_at (ids_of (kept_at place self.old)) now (replica_in nodes.now ckpt r)) }
         ensures new { self.new ≡ gone_on place (given_at (ids_of (kept_at place self.old)) now (replica_in nodes.now ckpt r)) self.old }
@@ -149,7 +147,7 @@ impl Table {
     // One call more, which has ended the iteration of this place at once.
     fn begin(&mut self, ended: Option<u8>)
         requires number { self.old.next < 2 ^ 32 - 1 }
-        requires place { IfSome ended (λ p. (p < 100) × IsSome (iteration_at p self.old.client)) }
+        requires place { IfSome ended (λ p. (p < places_max) × IsSome (iteration_at p self.old.client)) }
         ensures { self.new ≡ begun_with ended self.old }
     {
         if let Some(place) = ended {
@@ -163,7 +161,7 @@ impl Table {
     fn add(&mut self, id: CkptId, flags: OpenFlags, creation_flags: u32, place: u8)
         requires room { has_handle_room self.old.client ≡ true }
         requires number { self.old.client.last_number < 2 ^ 32 - 1 }
-        requires place { place < 100 }
+        requires place { place < places_max }
         ensures new { self.new ≡ with_handle id flags creation_flags place self.old }
         ensures places { length self.old.client.places ≡ 100 }
     {
@@ -175,7 +173,7 @@ impl Table {
 
     // The handle for which a place stands is closed, and the iterations over it end.
     fn close(&mut self, place: u8)
-        requires { place < 100 }
+        requires { place < places_max }
         ensures { self.new ≡ with_closed place self.old }
     {
         let _closed = self.client.drop_handle(place);
@@ -201,7 +199,7 @@ impl Tables {
 
     /// The number of a client's next call.
     pub fn number(&self, c: u8) -> u32
-        requires { c < 100 }
+        requires { c < client_numbers }
         ensures value { result ≡ next_in (slice_get self.now c) }
         ensures within { c < length self.now }
     {
@@ -210,8 +208,8 @@ impl Tables {
 
     /// The handle for which a place of a client stands.
     pub fn handle(&self, c: u8, place: u8) -> Option<HandleView>
-        requires client { c < 100 }
-        requires place { place < 100 }
+        requires client { c < client_numbers }
+        requires place { place < places_max }
         ensures { result ≡ handle_in_place (slice_get self.now c) place }
     {
         self.list[c as usize].handle(place)
@@ -219,24 +217,24 @@ impl Tables {
 
     /// Whether a client has a free place for a handle.
     pub fn has_room(&self, c: u8) -> bool
-        requires { c < 100 }
-        ensures { result ≡ nat_lt (length (handles_in (slice_get self.now c))) HANDLES_MAX }
+        requires { c < client_numbers }
+        ensures { result ≡ nat_lt (length (handles_in (slice_get self.now c))) handles_max }
     {
         self.list[c as usize].has_room()
     }
 
     /// Whether a client has a free place for an iteration.
     pub fn has_iteration_room(&self, c: u8) -> bool
-        requires { c < 100 }
-        ensures { result ≡ nat_lt (length (iterations_in (slice_get self.now c)).begun) ITERATIONS_MAX }
+        requires { c < client_numbers }
+        ensures { result ≡ nat_lt (length (iterations_in (slice_get self.now c)).begun) iterations_max }
     {
         self.list[c as usize].has_iteration_room()
     }
 
     /// The handle over which the iteration goes for which a place of a client stands.
     pub fn iteration_handle(&self, c: u8, place: u8) -> Option<HandleView>
-        requires client { c < 100 }
-        requires place { place < 100 }
+        requires client { c < client_numbers }
+        requires place { place < places_max }
         ensures { result ≡ handle_over_place (slice_get self.now c) place }
     {
         self.list[c as usize].iteration_handle(place)
@@ -244,9 +242,9 @@ impl Tables {
 
     /// A client starts an iteration over one of its handles, and the place stands for it. It takes no memory.
     pub fn start(&mut self, c: u8, place: u8, handle: u32, iteration: Iteration)
-        requires client { c < 100 }
-        requires place { place < 100 }
-        requires room { nat_lt (length (iterations_in (slice_get self.old c)).begun) ITERATIONS_MAX ≡ true }
+        requires client { c < client_numbers }
+        requires place { place < places_max }
+        requires room { nat_lt (length (iterations_in (slice_get self.old c)).begun) iterations_max ≡ true }
         requires opened { IsSome (handle_numbered handle (handles_in (slice_get self.old c))) }
         requires number { (iterations_in (slice_get self.old c)).last < 2 ^ 32 - 1 }
         ensures { IsSomeAnd (slice_get self.old c) (λ table. self.new ≡ slice_set self.old c (with_started_iteration place handle iteration table)) }
@@ -272,13 +270,13 @@ impl Tables {
         now: Moment,
         out: &mut ReadBuf,
     ) -> Reply
-        requires client { c < 100 }
-        requires place { place < 100 }
-        requires node { r < 8 }
+        requires client { c < client_numbers }
+        requires place { place < places_max }
+        requires node { r < nodes_max }
         requires there { IsSomeAnd (slice_get self.old c) (λ table. IsSome (iteration_at place table.client)) }
         requires empty { out.old.pieces ≡ [] }
         requires places { 1 ≤ out.old.spare_pieces }
-        requires bytes { SECTION_ID_MAX ≤ out.old.spare_bytes }
+        requires bytes { section_id_max ≤ out.old.spare_bytes }
         ensures reply { IsSomeAnd (slice_get self.old c) (λ table. result ≡ next_reply_at (ids_of (kept_at place table)) now (replica_in nodes.now ckpt r)) }
         ensures pieces { IsSomeAnd (slice_get self.old c) (λ table. pieces_told result out.new.pieces ≡ next_id (given_at (ids_of (kept_at place table)) now (replica_in nodes.now ckpt r))) }
         ensures new { IsSomeAnd (slice_get self.old c) (λ table. self.new ≡ slice_set self.old c (gone_on place (given_at (ids_of (kept_at place table)) now (replica_in nodes.now ckpt r)) table)) }
@@ -297,9 +295,9 @@ impl Tables {
 
     /// A client begins one call more, which has ended the iteration of this place at once, if it names one.
     pub fn begin(&mut self, c: u8, ended: Option<u8>)
-        requires client { c < 100 }
+        requires client { c < client_numbers }
         requires number { next_in (slice_get self.old c) < 2 ^ 32 - 1 }
-        requires place { IfSome ended (λ p. (p < 100) × IsSomeAnd (slice_get self.old c) (λ table. IsSome (iteration_at p table.client))) }
+        requires place { IfSome ended (λ p. (p < places_max) × IsSomeAnd (slice_get self.old c) (λ table. IsSome (iteration_at p table.client))) }
         ensures { IsSomeAnd (slice_get self.old c) (λ table. self.new ≡ slice_set self.old c (begun_with ended table)) }
     {
         begin_at(self.list.as_mut_slice(), c as usize, ended);
@@ -308,10 +306,10 @@ impl Tables {
     /// A client gets a handle of a checkpoint, of the number after its last one, and the place stands for
     /// it. It takes no memory.
     pub fn add(&mut self, c: u8, id: CkptId, flags: OpenFlags, creation_flags: u32, place: u8)
-        requires client { c < 100 }
-        requires room { nat_lt (length (handles_in (slice_get self.old c))) HANDLES_MAX ≡ true }
+        requires client { c < client_numbers }
+        requires room { nat_lt (length (handles_in (slice_get self.old c))) handles_max ≡ true }
         requires number { last_in (slice_get self.old c) < 2 ^ 32 - 1 }
-        requires place { place < 100 }
+        requires place { place < places_max }
         ensures new { IsSomeAnd (slice_get self.old c) (λ table. self.new ≡ slice_set self.old c (with_handle id flags creation_flags place table)) }
         ensures places { IsSomeAnd (slice_get self.old c) (λ table. length table.client.places ≡ 100) }
     {
@@ -328,8 +326,8 @@ impl Tables {
     /// The handle for which a place of a client stands is closed, and the iterations over it end. Where it
     /// stands for none nothing changes. It takes no memory.
     pub fn close(&mut self, c: u8, place: u8)
-        requires client { c < 100 }
-        requires place { place < 100 }
+        requires client { c < client_numbers }
+        requires place { place < places_max }
         ensures { IsSomeAnd (slice_get self.old c) (λ table. self.new ≡ slice_set self.old c (with_closed place table)) }
     {
         close_at(self.list.as_mut_slice(), c as usize, place);
@@ -338,7 +336,7 @@ impl Tables {
     /// All handles of a client are closed, and all its iterations end. Its places then stand for none, and
     /// no number is given again. It takes no memory.
     pub fn leave(&mut self, c: u8)
-        requires { c < 100 }
+        requires { c < client_numbers }
         ensures { IsSomeAnd (slice_get self.old c) (λ table. self.new ≡ slice_set self.old c (with_none table)) }
     {
         leave_at(self.list.as_mut_slice(), c as usize);
@@ -358,7 +356,7 @@ fn new_tables(alloc: Global) -> Result<Vec<Table>, AllocError>
 fn begin_at(tables: &mut [Table], c: usize, ended: Option<u8>)
     requires client { c < length tables.old }
     requires number { next_in (slice_get tables.old c) < 2 ^ 32 - 1 }
-    requires place { IfSome ended (λ p. (p < 100) × IsSomeAnd (slice_get tables.old c) (λ table. IsSome (iteration_at p table.client))) }
+    requires place { IfSome ended (λ p. (p < places_max) × IsSomeAnd (slice_get tables.old c) (λ table. IsSome (iteration_at p table.client))) }
     ensures { IsSomeAnd (slice_get tables.old c) (λ table. tables.new ≡ slice_set tables.old c (begun_with ended table)) }
 {
     let table = &mut tables[c];
@@ -367,8 +365,8 @@ fn begin_at(tables: &mut [Table], c: usize, ended: Option<u8>)
 
 fn start_at(tables: &mut [Table], c: usize, place: u8, handle: u32, iteration: Iteration)
     requires client { c < length tables.old }
-    requires place { place < 100 }
-    requires room { nat_lt (length (iterations_in (slice_get tables.old c)).begun) ITERATIONS_MAX ≡ true }
+    requires place { place < places_max }
+    requires room { nat_lt (length (iterations_in (slice_get tables.old c)).begun) iterations_max ≡ true }
     requires opened { IsSome (handle_numbered handle (handles_in (slice_get tables.old c))) }
     requires number { (iterations_in (slice_get tables.old c)).last < 2 ^ 32 - 1 }
     ensures { IsSomeAnd (slice_get tables.old c) (λ table. tables.new ≡ slice_set tables.old c (with_started_iteration place handle iteration table)) }
@@ -388,12 +386,12 @@ fn go_on_at(
     out: &mut ReadBuf,
 ) -> Reply
     requires client { c < length tables.old }
-    requires place { place < 100 }
-    requires node { r < 8 }
+    requires place { place < places_max }
+    requires node { r < nodes_max }
     requires there { IsSomeAnd (slice_get tables.old c) (λ table. IsSome (iteration_at place table.client)) }
     requires empty { out.old.pieces ≡ [] }
     requires places { 1 ≤ out.old.spare_pieces }
-    requires bytes { SECTION_ID_MAX ≤ out.old.spare_bytes }
+    requires bytes { section_id_max ≤ out.old.spare_bytes }
     ensures reply { IsSomeAnd (slice_get tables.old c) (λ table. result ≡ next_reply_at (ids_of (kept_at place table)) now (replica_in nodes.now ckpt r)) }
     ensures pieces { IsSomeAnd (slice_get tables.old c) (λ table. pieces_told result out.new.pieces ≡ next_id (given_at (ids_of (kept_at place table)) now (replica_in nodes.now ckpt r))) }
     ensures new { IsSomeAnd (slice_get tables.old c) (λ table. tables.new ≡ slice_set tables.old c (gone_on place (given_at (ids_of (kept_at place table)) now (replica_in nodes.now ckpt r)) table)) }
@@ -411,9 +409,9 @@ fn add_at(
     place: u8,
 )
     requires client { c < length tables.old }
-    requires room { nat_lt (length (handles_in (slice_get tables.old c))) HANDLES_MAX ≡ true }
+    requires room { nat_lt (length (handles_in (slice_get tables.old c))) handles_max ≡ true }
     requires number { last_in (slice_get tables.old c) < 2 ^ 32 - 1 }
-    requires place { place < 100 }
+    requires place { place < places_max }
     ensures new { IsSomeAnd (slice_get tables.old c) (λ table. tables.new ≡ slice_set tables.old c (with_handle id flags creation_flags place table)) }
     ensures places { IsSomeAnd (slice_get tables.old c) (λ table. length table.client.places ≡ 100) }
 {
@@ -423,7 +421,7 @@ fn add_at(
 
 fn close_at(tables: &mut [Table], c: usize, place: u8)
     requires client { c < length tables.old }
-    requires place { place < 100 }
+    requires place { place < places_max }
     ensures { IsSomeAnd (slice_get tables.old c) (λ table. tables.new ≡ slice_set tables.old c (with_closed place table)) }
 {
     let table = &mut tables[c];

@@ -1,4 +1,5 @@
 ghost use Rattle.std.specs.Prelude.{◌≡◌, ◌<◌, Some};
+ghost use Rattle.ckpt_types.specs.Limits.{nodes_max};
 ghost use Rattle.node_msgs.specs.declared.steps.StepReply.TheVariants as words;
 ghost use Rattle.node_msgs.specs.Requests.{ckpt_of};
 ghost use Rattle.node_msgs.specs.Steps.{verb_of};
@@ -93,7 +94,7 @@ impl UpdateCall {
 
     /// It takes a node's answer.
     pub fn take(&mut self, cluster: &Record, r: NodeId, request: &Request, word: StepReply)
-        requires { r < 8 }
+        requires { r < nodes_max }
         ensures { self.new ≡ update_taken (done_of cluster.now (verb_of request.now) (Some (ckpt_of request.now)) (Some r) word) self.old }
     {
         let StepReply::Ok = word else {

@@ -12,9 +12,6 @@ use cluster_record::Record;
 use run_labels::{Label, RunLog};
 use std::alloc::{AllocError, Global};
 
-/// How many elements a vector has at most.
-pub const VECTOR_MAX: usize = 64;
-
 /// What may happen to the cluster.
 #[derive(Debug, Drop)]
 pub enum Event {

@@ -1,4 +1,5 @@
 ghost use Rattle.std.specs.Prelude.{◌≡◌, ◌+◌, ◌-◌, ◌^◌, ◌<◌, ◌≤◌, length, IfSome};
+ghost use Rattle.ckpt_types.specs.Limits.{places_max};
 ghost use Rattle.client_handles.specs.ClientState.{IsLent, NoneLent};
 
 use super::{NO_CALLBACKS, READS};
@@ -61,7 +62,7 @@ fn open(client: &mut Client, from: u8) -> Option<u32>
 }
 
 fn begin_at(client: &mut Client, place: u8, from: u8, iteration: Iteration) -> Option<u32>
-    requires place { place < 100 }
+    requires place { place < places_max }
     requires from { from < 100 }
     requires iterations { client.old.last_iteration < 1000 }
     requires kept { NoneLent client.old }
@@ -80,7 +81,7 @@ fn begin_at(client: &mut Client, place: u8, from: u8, iteration: Iteration) -> O
 }
 
 fn whose(client: &Client, place: u8) -> Option<u32>
-    requires { place < 100 }
+    requires { place < places_max }
 {
     match client.iteration_handle(place) {
         Ok(handle) => Some(handle.handle),
@@ -89,7 +90,7 @@ fn whose(client: &Client, place: u8) -> Option<u32>
 }
 
 fn pass_at(client: &mut Client, place: u8) -> Option<u32>
-    requires place { place < 100 }
+    requires place { place < places_max }
     requires kept { NoneLent client.old }
     ensures handles { client.new.last_number ≡ client.old.last_number }
     ensures iterations { client.new.last_iteration ≡ client.old.last_iteration }
@@ -104,7 +105,7 @@ fn pass_at(client: &mut Client, place: u8) -> Option<u32>
 }
 
 fn end_at(client: &mut Client, place: u8) -> Option<u32>
-    requires place { place < 100 }
+    requires place { place < places_max }
     requires kept { NoneLent client.old }
     ensures handles { client.new.last_number ≡ client.old.last_number }
     ensures iterations { client.new.last_iteration ≡ client.old.last_iteration }
@@ -135,7 +136,7 @@ fn do_at(
     place: u8,
     what: Act,
 ) -> Result<Option<u32>, AllocError>
-    requires place { place < 100 }
+    requires place { place < places_max }
     requires handles { client.old.last_number < 1000 }
     requires iterations { client.old.last_iteration < 1000 }
     requires kept { NoneLent client.old }
@@ -294,7 +295,7 @@ fn the_iterations_of_a_handle_end_with_it(rt: HostRuntime) -> Result<(), Fail> {
 
 /// Begins an iteration over the handle of a place, and lends it.
 fn lend_new(client: &mut Client, place: u8, from: u8, iteration: Iteration) -> Option<Iteration>
-    requires place { place < 100 }
+    requires place { place < places_max }
     requires from { from < 100 }
     requires iterations { client.old.last_iteration < 1000 }
     requires kept { NoneLent client.old }

@@ -1,7 +1,6 @@
 use Rattle.std.proofs.Common.{◌≡◌, ℕ, List, [], ◌∷◌, Ok, pos, ℤ, ap, ◌∙◌, sym, subst, refl}
 use Rattle.std.specs.Prelude.{IsOk}
 use Rattle.ckpt_types.specs.declared.attributes.CreationAttributes.{CreationAttributes}
-use Rattle.ckpt_types.specs.declared.identities.TheConstants.{NEVER}
 use Rattle.ckpt_types.specs.declared.sections.SectionState.TheVariants.{Valid}
 use Rattle.ckpt_types.specs.declared.update.NewId.TheVariants.{Generated}
 use Rattle.ckpt_types.specs.declared.update.Update.{Update}
@@ -9,6 +8,7 @@ use Rattle.ckpt_types.specs.declared.update.Update.TheVariants.{Create}
 use Rattle.ckpt_types.specs.Sections.{Section}
 use Rattle.ckpt_types.specs.Updates.{outcome}
 use Rattle.ckpt_types.proofs.Accepted.{same_Ok}
+use Rattle.ckpt_types.specs.Limits.{end_of_time}
 use Rattle.section_store.specs.StoreState.{StoreState}
 use Rattle.section_store.proofs.tests.what_has_expired_makes_room_in_a_full_store.Goals as goal
 
@@ -20,7 +20,7 @@ abbrev section : ℕ → ℤ → List ℕ → Section
 section number expiration bytes = record { id = 0 ∷ 0 ∷ 0 ∷ 0 ∷ 0 ∷ 0 ∷ 0 ∷ number ∷ []; bytes = bytes; expiration = expiration; state = Valid; last_update = pos 6 }
 
 abbrev first : Section
-first = section 1 NEVER (97 ∷ 98 ∷ 99 ∷ 100 ∷ [])
+first = section 1 end_of_time (97 ∷ 98 ∷ 99 ∷ 100 ∷ [])
 
 abbrev second : Section
 second = section 2 (pos 10) (101 ∷ 102 ∷ 103 ∷ 104 ∷ [])
@@ -36,10 +36,10 @@ leaves before after known update known_update t left same same_update is attribu
 
 pub apply-requires-3 : goal.apply-requires-3
 apply-requires-3 g c =
-    let one = leaves c.in_ok-store.store c.apply.new.self (record { attributes = attributes; sections = [] }) c.in_ok-first.first (Create Generated NEVER first.bytes) (pos 6) (first ∷ [])
+    let one = leaves c.in_ok-store.store c.apply.new.self (record { attributes = attributes; sections = [] }) c.in_ok-first.first (Create Generated end_of_time first.bytes) (pos 6) (first ∷ [])
     c.in_ok-store.ensures c.in_ok-first.ensures refl c.apply.ensures.attributes c.apply.ensures.sections in
     let two = leaves c.apply.new.self c.apply-2.new.self (record { attributes = attributes; sections = first ∷ [] }) c.in_ok-second.second (Create Generated (pos 10) second.bytes) (pos 6) (first ∷ second ∷ [])
     one c.in_ok-second.ensures refl c.apply-2.ensures.attributes c.apply-2.ensures.sections in
-    let accepted : IsOk (outcome attributes (Create Generated NEVER (105 ∷ 106 ∷ 107 ∷ 108 ∷ [])) (pos 10) (first ∷ second ∷ [])) = refl in
+    let accepted : IsOk (outcome attributes (Create Generated end_of_time (105 ∷ 106 ∷ 107 ∷ 108 ∷ [])) (pos 10) (first ∷ second ∷ [])) = refl in
     subst (λ s. IsOk (outcome s.attributes c.in_ok-third.third (pos 10) s.sections)) (sym two)
     (subst (λ u. IsOk (outcome attributes u (pos 10) (first ∷ second ∷ []))) (sym c.in_ok-third.ensures) accepted)

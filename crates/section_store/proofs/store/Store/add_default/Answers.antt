@@ -2,10 +2,10 @@ use Rattle.std.proofs.Common.{◌≡◌, ◌≤ℤ◌, rules, ◌≤◌, ◌∙�
 use Rattle.std.proofs.lemmas.Int.{ints, to_z-of_z}
 use Rattle.std.proofs.lemmas.List.Elements.{All-nil}
 use Rattle.std.specs.Prelude.{insert}
-use Rattle.ckpt_types.specs.declared.identities.TheConstants.{NEVER}
 use Rattle.ckpt_types.specs.declared.sections.SectionState.TheVariants.{Valid}
 use Rattle.ckpt_types.specs.Sections.{Rises, Fits, default_section}
 use Rattle.ckpt_types.proofs.Fitting.{Fits-default_section}
+use Rattle.ckpt_types.specs.Limits.{end_of_time}
 use Rattle.section_store.specs.Stored.{sections_of, ExpireFrom}
 use Rattle.section_store.proofs.Expiring.{ExpireFrom-cons}
 use Rattle.section_store.proofs.Reserved.{IsReserved-Replaces}
@@ -16,14 +16,14 @@ left : (c : goal.After-put_in) → sections_of c.put_in.new.kept.items ≡ defau
 left c =
     let moment : to_z w64 (of_z w64 c.args.made) ≡ c.args.made = to_z-of_z w64 c.args.made c.ranges.made in
     let none : sections_of c.self.inside.kept.items ≡ [] = rw (← c.self.view_is) at c.requires.none in
-    c.put_in.ensures.sections ∙ (λ i. insert (none i) 0 (record { id = c.default.ensures i; bytes = []; expiration = NEVER; state = Valid; last_update = moment i }))
+    c.put_in.ensures.sections ∙ (λ i. insert (none i) 0 (record { id = c.default.ensures i; bytes = []; expiration = end_of_time; state = Valid; last_update = moment i }))
 
 pub invariant_of-self : goal.invariant_of-self
 invariant_of-self c =
     let attributes = c.self.inside.attributes in
     let one : attributes.max_sections ≡ 1 = rw (← c.self.view_is) at c.requires.one in
     let some : 1 ≤ attributes.max_sections = omega arith in
-    let last : c.self.inside.earliest ≤ℤ NEVER = search (rules, arith, ints) in
+    let last : c.self.inside.earliest ≤ℤ end_of_time = search (rules, arith, ints) in
     IsReserved-Replaces c.self.inside _ refl c.self.invariant (record {
       rises = subst Rises (sym (left c)) (tt, tt);
       fits = subst (Fits attributes) (sym (left c)) (Fits-default_section attributes c.args.made some);
