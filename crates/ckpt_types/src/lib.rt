@@ -14,8 +14,6 @@ mod read_buf;
 mod section_id;
 mod sections;
 mod shared;
-#[cfg(test)]
-mod tests;
 mod update;
 mod vector;
 

@@ -5,8 +5,6 @@ mod begun;
 mod client;
 mod handle_view;
 mod kept;
-#[cfg(test)]
-mod tests;
 
 pub use client::Client;
 pub use handle_view::HandleView;

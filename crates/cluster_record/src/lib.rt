@@ -7,8 +7,6 @@ mod clients;
 mod entries;
 mod opening;
 mod record;
-#[cfg(test)]
-mod tests;
 
 pub use by_node::{first_lacking, last_having};
 pub use calls::{ActiveKind, Making, UpdatePhase};

@@ -3,7 +3,5 @@
 
 mod moves;
 mod names;
-#[cfg(test)]
-mod tests;
 
 pub use names::Names;

@@ -9,8 +9,6 @@ mod outcomes;
 mod shown;
 mod shows;
 mod steps;
-#[cfg(test)]
-mod tests;
 mod texts;
 mod words;
 

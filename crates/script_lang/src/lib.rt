@@ -11,8 +11,6 @@ mod marks;
 mod parser;
 mod printing;
 mod reading;
-#[cfg(test)]
-mod tests;
 
 pub use faults::{ParseError, ScriptFault};
 pub use lines::{Line, Script};

@@ -4,8 +4,6 @@
 mod digits;
 mod reading;
 mod reason;
-#[cfg(test)]
-mod tests;
 mod writing;
 
 pub use reading::{

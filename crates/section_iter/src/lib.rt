@@ -4,7 +4,5 @@
 mod choices;
 mod iteration;
 mod present;
-#[cfg(test)]
-mod tests;
 
 pub use iteration::{Iteration, NoSections};

@@ -7,7 +7,5 @@ mod order;
 mod reads;
 mod store;
 mod stored;
-#[cfg(test)]
-mod tests;
 
 pub use store::Store;

@@ -4,8 +4,6 @@
 mod present;
 mod reads;
 mod refused;
-#[cfg(test)]
-mod tests;
 mod updates;
 mod writes;
 

@@ -1,0 +1,304 @@
+mod iterations;
+
+ghost use Rattle.std.specs.Prelude.{◌≡◌, ◌+◌, ◌-◌, ◌^◌, ◌<◌, ◌≤◌, length};
+ghost use Rattle.ckpt_types.specs.Limits.{places_max};
+
+use ckpt_types::{AisError, CallbackSet, CkptId, Count, OpenFlags, PLACES_MAX, WR_ALL_REPLICAS};
+use client_handles::{Client, HandleView};
+use std::test::Fail;
+
+const NO_CALLBACKS: CallbackSet = CallbackSet {
+    opens: false,
+    syncs: false,
+};
+
+const READS: OpenFlags = OpenFlags {
+    read: true,
+    write: false,
+    create: false,
+};
+
+/// What is done at a place.
+#[derive(Clone, Copy)]
+enum Act {
+    /// A handle of this checkpoint is opened, and the place set to it.
+    Open(CkptId),
+    /// The place is set to the handle for which this other place stands.
+    Set(u8),
+    /// The handle of the place is asked for.
+    Look,
+    /// The handle of the place is closed.
+    Close,
+}
+
+/// What a row shows, its place, what is done there, and the checkpoint and number of the handle that it
+/// tells of: none where the place stands for none, or no handle is left.
+type Row<'a> = (&'a str, u8, Act, Option<(CkptId, u32)>);
+
+fn told(answer: Result<HandleView, AisError>) -> Option<(CkptId, u32)> {
+    match answer {
+        Ok(handle) => Some((handle.id, handle.handle)),
+        Err(_refused) => None,
+    }
+}
+
+/// The checkpoint of the handle of that number.
+fn told_by_number(client: &Client, number: u32) -> Option<CkptId> {
+    Some(client.handle_numbered(number)?.id)
+}
+
+fn open_at(client: &mut Client, place: u8, id: CkptId) -> Option<(CkptId, u32)>
+    requires place { place < places_max }
+    requires number { client.old.last_number < 2 ^ 32 - 1 }
+    ensures { client.new.last_number ≤ client.old.last_number + 1 }
+{
+    let _room = client.handle_room();
+    let Ok(number) = client.take_handle(id, READS, WR_ALL_REPLICAS) else {
+        return None;
+    };
+    client.bind(place, number);
+    Some((id, number))
+}
+
+fn set_at(client: &mut Client, place: u8, from: u8) -> Option<(CkptId, u32)>
+    requires { place < places_max }
+    ensures { client.new.last_number ≡ client.old.last_number }
+{
+    let Ok(handle) = client.handle(from) else {
+        return None;
+    };
+    client.bind(place, handle.handle);
+    Some((handle.id, handle.handle))
+}
+
+fn do_at(client: &mut Client, place: u8, what: Act) -> Option<(CkptId, u32)>
+    requires { client.old.last_number < 2 ^ 32 - 1 }
+    ensures { client.new.last_number ≤ client.old.last_number + 1 }
+{
+    match what {
+        Act::Open(id) if (place as usize) < PLACES_MAX => open_at(client, place, id),
+        Act::Set(from) if (place as usize) < PLACES_MAX => set_at(client, place, from),
+        Act::Open(_) | Act::Set(_) => None,
+        Act::Look => told(client.handle(place)),
+        Act::Close => told(client.drop_handle(place)),
+    }
+}
+
+/// Goes through the rows, and fails with the words of the first that tells something else.
+fn play(client: &mut Client, rows: &[Row<'_>]) -> Result<(), Fail>
+    requires { client.old.last_number + length rows.now < 2 ^ 32 - 1 }
+    ensures { client.new.last_number ≤ client.old.last_number + length rows.now }
+{
+    for (says, place, what, wanted) in rows {
+        if do_at(client, *place, *what) != *wanted {
+            return Err(Fail::new(*says));
+        }
+    }
+    Ok(())
+}
+
+/// Opens handles of the checkpoint 7 at the places from 0 on, with the numbers from 1 on.
+fn fill(client: &mut Client, count: u8) -> Result<(), Fail>
+    requires count { count ≤ places_max }
+    requires number { client.old.last_number ≡ 0 }
+    ensures { client.new.last_number ≤ count }
+{
+    for place in 0..count {
+        if open_at(client, place, 7) != Some((7, place as u32 + 1)) {
+            return Err(Fail::new(format_args!("no handle at the place {place}")));
+        }
+    }
+    Ok(())
+}
+
+#[test]
+fn thirty_two_handles_are_open_at_most(rt: HostRuntime) -> Result<(), Fail> {
+    let mut client = Client::new(rt.alloc(), NO_CALLBACKS)?;
+    assert!(rt; client.iteration_room());
+    fill(&mut client, 31)?;
+    assert!(rt; client.handle_room(), "the 32nd may still be taken");
+    play(
+        &mut client,
+        &[("the 32nd is given", 31, Act::Open(7), Some((7, 32)))],
+    )?;
+    assert!(rt; !client.handle_room(), "32 are open");
+    assert!(rt; client.handle_numbers_left(), "though there are numbers");
+    assert_eq!(rt; client.take_handle(9, READS, 1), Err(Count { count: 32 }));
+    play(
+        &mut client,
+        &[
+            ("the 33rd is refused", 40, Act::Open(9), None),
+            ("its place stands for none", 40, Act::Look, None),
+            ("the first is open still", 0, Act::Look, Some((7, 1))),
+            ("the last is, too", 31, Act::Look, Some((7, 32))),
+            ("one is closed", 5, Act::Close, Some((7, 6))),
+            ("then one is given", 40, Act::Open(9), Some((9, 33))),
+            ("the other stays closed", 5, Act::Look, None),
+            ("again there is no more", 41, Act::Open(9), None),
+        ],
+    )
+}
+
+#[test]
+fn a_place_stands_for_the_handle_that_it_was_set_to_last(rt: HostRuntime) -> Result<(), Fail> {
+    let mut client = Client::new(rt.alloc(), NO_CALLBACKS)?;
+    play(
+        &mut client,
+        &[
+            ("h0 was never set", 0, Act::Look, None),
+            ("nor was h99", 99, Act::Look, None),
+            ("nothing is closed at h0", 0, Act::Close, None),
+            ("h0 gets the first handle", 0, Act::Open(3), Some((3, 1))),
+            ("h99 the second", 99, Act::Open(4), Some((4, 2))),
+            ("h0 stands for the first", 0, Act::Look, Some((3, 1))),
+            ("h99 for the second", 99, Act::Look, Some((4, 2))),
+            ("h1 for none", 1, Act::Look, None),
+            ("h98 for none", 98, Act::Look, None),
+            ("there is no h100", 100, Act::Look, None),
+            ("nothing is closed there", 100, Act::Close, None),
+            ("nor is there a last one", 255, Act::Look, None),
+            ("h50 is not set to it", 50, Act::Set(100), None),
+            (
+                "h50 is set to the first, too",
+                50,
+                Act::Set(0),
+                Some((3, 1)),
+            ),
+            ("h0 is set again", 0, Act::Open(5), Some((5, 3))),
+            ("the first is still open", 50, Act::Look, Some((3, 1))),
+            ("h0 stands for the third", 0, Act::Look, Some((5, 3))),
+            ("the third is closed", 0, Act::Close, Some((5, 3))),
+            ("h0 stands for none", 0, Act::Look, None),
+            ("the first is closed", 50, Act::Close, Some((3, 1))),
+            ("the second is open still", 99, Act::Close, Some((4, 2))),
+            ("it is closed once", 99, Act::Close, None),
+        ],
+    )
+}
+
+#[test]
+fn a_closed_place_stands_for_none_though_its_slot_is_used_again(
+    rt: HostRuntime,
+) -> Result<(), Fail> {
+    let mut client = Client::new(rt.alloc(), NO_CALLBACKS)?;
+    play(
+        &mut client,
+        &[
+            ("a handle at h3", 3, Act::Open(1), Some((1, 1))),
+            ("and at h8", 8, Act::Set(3), Some((1, 1))),
+            ("is closed", 3, Act::Close, Some((1, 1))),
+            ("the next at h4", 4, Act::Open(2), Some((2, 2))),
+            ("h3 stands for none", 3, Act::Look, None),
+            ("h8 stands for none", 8, Act::Look, None),
+            ("nothing is closed at h8", 8, Act::Close, None),
+            ("h4 stands for the second", 4, Act::Look, Some((2, 2))),
+            ("h3 may be set again", 3, Act::Set(4), Some((2, 2))),
+            ("the second is closed there", 3, Act::Close, Some((2, 2))),
+            ("so h4 stands for none", 4, Act::Look, None),
+        ],
+    )
+}
+
+#[test]
+fn a_handle_that_was_given_back_is_gone_and_its_number_too(rt: HostRuntime) -> Result<(), Fail> {
+    let mut client = Client::new(rt.alloc(), NO_CALLBACKS)?;
+    fill(&mut client, 2)?;
+    assert_eq!(rt; client.take_handle(9, READS, WR_ALL_REPLICAS), Ok(3));
+    assert_eq!(rt; told_by_number(&client, 3), Some(9));
+    client.release(3);
+    assert_eq!(rt; told_by_number(&client, 3), None);
+    assert_eq!(rt; told_by_number(&client, 2), Some(7));
+    client.release(4);
+    client.release(0);
+    play(
+        &mut client,
+        &[
+            ("the first is open", 0, Act::Look, Some((7, 1))),
+            ("the second is open", 1, Act::Look, Some((7, 2))),
+            ("the next has another number", 2, Act::Open(8), Some((8, 4))),
+        ],
+    )
+}
+
+#[test]
+fn a_handle_tells_what_it_was_taken_with(rt: HostRuntime) -> Result<(), Fail> {
+    let callbacks = CallbackSet {
+        opens: true,
+        syncs: false,
+    };
+    let mut client = Client::new(rt.alloc(), callbacks)?;
+    assert_eq!(rt; client.callbacks(), callbacks);
+    let flags = OpenFlags {
+        read: false,
+        write: true,
+        create: true,
+    };
+    let _room = client.handle_room();
+    if let Ok(number) = client.take_handle(6, flags, 12) {
+        client.bind(7, number);
+    }
+    let wanted = HandleView {
+        id: 6,
+        flags,
+        creation_flags: 12,
+        handle: 1,
+    };
+    assert_eq!(rt; client.handle(7), Ok(wanted));
+    assert_eq!(rt; client.drop_handle(7), Ok(wanted));
+    assert_eq!(rt; client.handle(7), Err(AisError::BadHandle));
+    assert_eq!(rt; client.drop_handle(7), Err(AisError::BadHandle));
+    Ok(())
+}
+
+/// What comes after 30 handles of `fill`, of which the fifth was closed, and one more at h60.
+fn goes_on(client: &mut Client) -> Result<(), Fail>
+    requires { client.old.last_number ≤ 1000 }
+{
+    play(
+        client,
+        &[
+            ("the first is there", 0, Act::Close, Some((7, 1))),
+            ("the closed one is not", 4, Act::Look, None),
+            ("the last is", 60, Act::Look, Some((8, 31))),
+            ("the next number is given", 61, Act::Open(9), Some((9, 32))),
+            ("one more", 62, Act::Open(9), Some((9, 33))),
+            ("and one more", 63, Act::Open(9), Some((9, 34))),
+            ("then 32 are open", 64, Act::Open(9), None),
+        ],
+    )
+}
+
+#[test]
+fn a_copy_goes_on_by_itself(rt: HostRuntime) -> Result<(), Fail> {
+    let mut client = Client::new(rt.alloc(), NO_CALLBACKS)?;
+    fill(&mut client, 30)?;
+    play(
+        &mut client,
+        &[
+            ("one is closed", 4, Act::Close, Some((7, 5))),
+            ("one is given", 60, Act::Open(8), Some((8, 31))),
+        ],
+    )?;
+    let mut copy = client.copy(rt.alloc())?;
+    goes_on(&mut client)?;
+    goes_on(&mut copy)
+}
+
+#[test]
+fn many_handles_may_come_and_go(rt: HostRuntime) -> Result<(), Fail> {
+    let mut client = Client::new(rt.alloc(), NO_CALLBACKS)?;
+    for round in 0..5_000u32 {
+        let place = (round % 100) as u8;
+        assert_eq!(rt;
+            open_at(&mut client, place, round),
+            Some((round, round + 1))
+        );
+        if round >= 20 {
+            let older = ((round - 20) % 100) as u8;
+            let gone = client.drop_handle(older);
+            assert_eq!(rt; told(gone), Some((round - 20, round - 19)));
+            assert_eq!(rt; client.handle(older), Err(AisError::BadHandle));
+        }
+    }
+    Ok(())
+}

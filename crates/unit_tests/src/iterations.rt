@@ -1,0 +1,171 @@
+use crate::listed::{Kept, Listed};
+use ckpt_types::{
+    Bytes, Choice, CreationAttributes, Moment, NEVER, SECTIONS_ANY, SECTIONS_CORRUPTED,
+    SECTIONS_FOREVER, SECTIONS_GEQ_EXPIRATION_TIME, SECTIONS_LEQ_EXPIRATION_TIME, SectionId,
+    SectionState, Sections, WR_ALL_REPLICAS,
+};
+use section_iter::{Iteration, NoSections};
+use std::alloc::Global;
+use std::test::Fail;
+
+const EIGHT: CreationAttributes = CreationAttributes {
+    creation_flags: WR_ALL_REPLICAS,
+    checkpoint_size: 64,
+    retention_duration: 0,
+    max_sections: 8,
+    max_section_size: 8,
+    max_section_id_size: 8,
+};
+
+/// Identifier, bytes, expiration and state of a section.
+type Given<'a> = (&'a str, &'a str, Moment, SectionState);
+
+fn id_of(text: &str) -> SectionId {
+    SectionId::from_slice(text.as_bytes()).unwrap_or(SectionId::default())
+}
+
+fn kept(alloc: Global, given: &[Given<'_>]) -> Result<Vec<Kept>, Fail> {
+    let mut items = Vec::new(alloc);
+    for (id, bytes, expiration, state) in given {
+        items.push(Kept {
+            id: id_of(id),
+            bytes: Bytes::from_slice(alloc, bytes.as_bytes())?,
+            expiration: *expiration,
+            state: *state,
+        })?;
+    }
+    Ok(items)
+}
+
+/// Begins an iteration over these sections.
+fn start(
+    alloc: Global,
+    it: &mut Iteration,
+    given: &[Given<'_>],
+    choice: Choice,
+    now: Moment,
+) -> Result<(), Fail> {
+    let items = kept(alloc, given)?;
+    let Some(sections) = Listed::new(items.as_slice()) else {
+        return Err(Fail::new("the identifiers do not rise"));
+    };
+    if sections.len() > it.room() as usize {
+        return Err(Fail::new("more sections than room"));
+    }
+    it.start(&sections, choice, now);
+    Ok(())
+}
+
+/// Checks the next answers over these sections: identifier and size, or none.
+fn gives(
+    alloc: Global,
+    it: &mut Iteration,
+    given: &[Given<'_>],
+    now: Moment,
+    wanted: &[Option<(&str, u64)>],
+) -> Result<(), Fail> {
+    let items = kept(alloc, given)?;
+    let Some(sections) = Listed::new(items.as_slice()) else {
+        return Err(Fail::new("the identifiers do not rise"));
+    };
+    for want in wanted {
+        let fits = match (it.next(&sections, now), want) {
+            (Ok(section), Some((id, size))) => {
+                section.id.as_slice() == id.as_bytes() && section.size == *size
+            }
+            (Err(NoSections), None) => true,
+            _ => false,
+        };
+        if !fits {
+            return Err(Fail::new(format_args!("not {want:?}")));
+        }
+    }
+    Ok(())
+}
+
+#[test]
+fn sections_are_told_by_the_identifiers_kept(rt: HostRuntime) -> Result<(), Fail> {
+    let alloc = rt.alloc();
+    let ok = SectionState::Valid;
+    let mut it = Iteration::reserve(alloc, &EIGHT)?;
+    let first = [
+        ("a", "", NEVER, ok),
+        ("b", "", NEVER, ok),
+        ("c", "", NEVER, ok),
+        ("d", "", NEVER, ok),
+    ];
+    let any = Choice {
+        chosen: SECTIONS_ANY,
+        time: 0,
+    };
+    start(alloc, &mut it, &first, any, 0)?;
+    gives(alloc, &mut it, &first, 0, &[Some(("a", 0))])?;
+    let mut again = it.copy(alloc)?;
+    let later = [
+        ("a", "", NEVER, ok),
+        ("c", "q", NEVER, ok),
+        ("d", "", NEVER, ok),
+        ("e", "", NEVER, ok),
+    ];
+    gives(
+        alloc,
+        &mut it,
+        &later,
+        0,
+        &[Some(("c", 1)), Some(("d", 0)), None, None],
+    )?;
+    gives(
+        alloc,
+        &mut again,
+        &later,
+        0,
+        &[Some(("c", 1)), Some(("d", 0)), None],
+    )
+}
+
+#[test]
+fn nothing_given_drops_nothing(rt: HostRuntime) -> Result<(), Fail> {
+    let alloc = rt.alloc();
+    let ok = SectionState::Valid;
+    let mut it = Iteration::reserve(alloc, &EIGHT)?;
+    let any = Choice {
+        chosen: SECTIONS_ANY,
+        time: 0,
+    };
+    let both = [("a", "x", 20, ok), ("b", "y", 20, ok)];
+    start(alloc, &mut it, &both, any, 0)?;
+    gives(alloc, &mut it, &both, 20, &[None, None])?;
+    gives(
+        alloc,
+        &mut it,
+        &both,
+        19,
+        &[Some(("a", 1)), Some(("b", 1)), None],
+    )
+}
+
+#[test]
+fn a_choice_takes_by_expiration_and_state(rt: HostRuntime) -> Result<(), Fail> {
+    let alloc = rt.alloc();
+    let ok = SectionState::Valid;
+    let given = [
+        ("a", "", NEVER, ok),
+        ("b", "", 20, SectionState::Corrupted),
+        ("c", "", 30, ok),
+        ("d", "", 10, ok),
+    ];
+    let (a, b, c) = (Some(("a", 0)), Some(("b", 0)), Some(("c", 0)));
+    for (chosen, time, wanted) in [
+        (SECTIONS_FOREVER, 0, [a, None, None]),
+        (SECTIONS_LEQ_EXPIRATION_TIME, 20, [b, None, None]),
+        (SECTIONS_GEQ_EXPIRATION_TIME, 30, [a, c, None]),
+        (SECTIONS_CORRUPTED, 0, [b, None, None]),
+        (SECTIONS_ANY, 0, [a, b, c]),
+        (6, 0, [None, None, None]),
+    ] {
+        let mut it = Iteration::reserve(alloc, &EIGHT)?;
+        start(alloc, &mut it, &given, Choice { chosen, time }, 10)?;
+        gives(alloc, &mut it, &given, 10, &wanted)?;
+    }
+    Ok(())
+}

@@ -1,0 +1,25 @@
+//! The tests of the libraries: each public call at work, and what no clause says, as printed text.
+#![tactic(auto)]
+
+#[cfg(test)]
+mod cluster;
+#[cfg(test)]
+mod handles;
+#[cfg(test)]
+mod iterations;
+#[cfg(test)]
+mod labels;
+#[cfg(test)]
+mod listed;
+#[cfg(test)]
+mod names;
+#[cfg(test)]
+mod rules;
+#[cfg(test)]
+mod scripts;
+#[cfg(test)]
+mod store;
+#[cfg(test)]
+mod types;
+#[cfg(test)]
+mod words;

@@ -1,0 +1,255 @@
+use ckpt_types::{
+    AisError, Bytes, CHECKPOINT_COLLOCATED, CreationAttributes, IoElement, Op, OpenFlags, Pieces,
+    ReadBuf, ReadElement, SectionId, SharedReads, SharedUpdate, Update, Vector, WR_ACTIVE_REPLICA,
+    WR_ACTIVE_REPLICA_WEAK, WR_ALL_REPLICAS, name_fits,
+};
+use std::test::Fail;
+
+const ATTRIBUTES: CreationAttributes = CreationAttributes {
+    creation_flags: WR_ALL_REPLICAS,
+    checkpoint_size: 16,
+    retention_duration: 0,
+    max_sections: 2,
+    max_section_size: 8,
+    max_section_id_size: 8,
+};
+
+#[test]
+fn copies_and_shares_give_the_value(rt: HostRuntime) -> Result<(), Fail> {
+    let alloc = rt.alloc();
+    let name = Bytes::from_slice(alloc, b"calls")?;
+    assert_eq!(rt; name.clone()?.as_slice(), b"calls".as_slice());
+    let mut elements = Vec::new(alloc);
+    elements.push(IoElement {
+        id: SectionId::default(),
+        offset: 3,
+        bytes: name,
+    })?;
+    let write = SharedUpdate::new(alloc, Update::Write(Vector::from_vec(elements)))?;
+    let op = Op::Write(7, write.share()?);
+    let Op::Write(place, share) = op.clone()? else {
+        return Err(Fail::new("another operation"));
+    };
+    let Update::Write(vector) = share.value() else {
+        return Err(Fail::new("another update"));
+    };
+    let element = vector.as_slice().first().ok_or("no element")?;
+    assert_eq!(rt; (place, element.offset), (7, 3));
+    assert_eq!(rt; element.bytes.as_slice(), b"calls".as_slice());
+    Ok(())
+}
+
+#[test]
+fn the_elements_of_a_read_are_shared(rt: HostRuntime) -> Result<(), Fail> {
+    let alloc = rt.alloc();
+    let id = SectionId::from_slice(b"s63").ok_or("too long")?;
+    let mut elements = Vec::new(alloc);
+    elements.push(ReadElement {
+        id,
+        offset: 2,
+        len: 16,
+    })?;
+    let reads = SharedReads::new(alloc, Vector::from_vec(elements))?;
+    let again = reads.share()?;
+    let element = again.value().as_slice().first().ok_or("no element")?;
+    assert_eq!(rt; (element.offset, element.len), (2, 16));
+    assert_eq!(rt; element.id.as_slice(), b"s63".as_slice());
+    Ok(())
+}
+
+#[test]
+fn a_buffer_gives_back_its_pieces(rt: HostRuntime) -> Result<(), Fail> {
+    let mut buf = ReadBuf::reserve(rt.alloc(), 3, 5)?;
+    assert_eq!(rt; buf.spare(), (3, 5));
+    for piece in [b"abc".as_slice(), b"", b"de"] {
+        let (pieces, bytes) = buf.spare();
+        assert!(rt; 1 <= pieces && piece.len() <= bytes, "no room");
+        buf.push(piece);
+    }
+    assert_eq!(rt; buf.spare(), (0, 0));
+    let pieces = Pieces::from_buf(buf);
+    assert_eq!(rt; pieces.len(), 3);
+    assert_eq!(rt; pieces.piece(0), b"abc".as_slice());
+    assert_eq!(rt; pieces.piece(1), b"".as_slice());
+    assert_eq!(rt; pieces.piece(2), b"de".as_slice());
+    Ok(())
+}
+
+#[test]
+fn each_rule_refuses_its_attributes(rt: HostRuntime) {
+    let a = ATTRIBUTES;
+    let flagged = |flags: u32| CreationAttributes {
+        creation_flags: flags,
+        ..a
+    };
+    let rows = [
+        ("well formed", a, true),
+        ("active", flagged(WR_ACTIVE_REPLICA), true),
+        (
+            "weak, collocated",
+            flagged(WR_ACTIVE_REPLICA_WEAK | CHECKPOINT_COLLOCATED),
+            true,
+        ),
+        ("no option", flagged(CHECKPOINT_COLLOCATED), false),
+        (
+            "two options",
+            flagged(WR_ALL_REPLICAS | WR_ACTIVE_REPLICA),
+            false,
+        ),
+        ("an unknown flag", flagged(WR_ACTIVE_REPLICA | 16), false),
+        (
+            "all, collocated",
+            flagged(WR_ALL_REPLICAS | CHECKPOINT_COLLOCATED),
+            false,
+        ),
+        (
+            "no bytes",
+            CreationAttributes {
+                checkpoint_size: 0,
+                ..a
+            },
+            false,
+        ),
+        (
+            "no sections",
+            CreationAttributes {
+                max_sections: 0,
+                ..a
+            },
+            false,
+        ),
+        (
+            "one byte too many",
+            CreationAttributes {
+                checkpoint_size: 17,
+                ..a
+            },
+            false,
+        ),
+        (
+            "a negative retention",
+            CreationAttributes {
+                retention_duration: -1,
+                ..a
+            },
+            false,
+        ),
+        (
+            "64 bytes of identifiers",
+            CreationAttributes {
+                max_section_id_size: 64,
+                ..a
+            },
+            true,
+        ),
+        (
+            "65 bytes of identifiers",
+            CreationAttributes {
+                max_section_id_size: 65,
+                ..a
+            },
+            false,
+        ),
+        (
+            "1,024 sections of 1,024 bytes",
+            CreationAttributes {
+                max_sections: 1024,
+                max_section_size: 1024,
+                ..a
+            },
+            true,
+        ),
+        (
+            "1,025 sections",
+            CreationAttributes {
+                max_sections: 1025,
+                ..a
+            },
+            false,
+        ),
+        (
+            "a product of 96 bits",
+            CreationAttributes {
+                max_sections: 1024,
+                max_section_size: u64::MAX,
+                ..a
+            },
+            false,
+        ),
+    ];
+    for (what, attributes, passes) in rows {
+        let want = if passes {
+            Ok(())
+        } else {
+            Err(AisError::InvalidParam)
+        };
+        assert_eq!(rt; attributes.check(), want, "{what}");
+    }
+    assert!(rt;
+        a.same_but_retention(&CreationAttributes {
+            retention_duration: 9,
+            ..a
+        })
+    );
+    assert!(rt;
+        !a.same_but_retention(&CreationAttributes {
+            checkpoint_size: 15,
+            ..a
+        })
+    );
+}
+
+#[test]
+fn open_flags_are_the_bits_1_2_and_4(rt: HostRuntime) {
+    assert_eq!(rt; OpenFlags::from_bits(0), Err(AisError::BadFlags));
+    assert_eq!(rt; OpenFlags::from_bits(8), Err(AisError::BadFlags));
+    let write_and_create = OpenFlags {
+        read: false,
+        write: true,
+        create: true,
+    };
+    assert_eq!(rt; OpenFlags::from_bits(6), Ok(write_and_create));
+}
+
+#[test]
+fn identifiers_are_ordered_by_bytes_and_at_most_256_long(rt: HostRuntime) -> Result<(), Fail> {
+    let long = [7; 257];
+    assert!(rt; SectionId::from_slice(&long).is_none());
+    assert!(rt; SectionId::from_slice(&long[..256]).is_some());
+    let ids = [b"".as_slice(), b"a", b"ab", b"b"];
+    for pair in ids.windows(2) {
+        if let [low, high] = pair {
+            let low = SectionId::from_slice(low).ok_or("too long")?;
+            let high = SectionId::from_slice(high).ok_or("too long")?;
+            assert!(rt; low < high && low != high);
+        }
+    }
+    Ok(())
+}
+
+#[test]
+fn names_have_1_to_256_bytes(rt: HostRuntime) -> Result<(), Fail> {
+    let bytes = [7; 257];
+    for (len, fits) in [(0, false), (1, true), (256, true), (257, false)] {
+        let name = Bytes::from_slice(rt.alloc(), &bytes[..len])?;
+        assert_eq!(rt; name_fits(&name), fits, "{len} bytes");
+    }
+    Ok(())
+}
+
+#[test]
+fn codes_are_those_of_the_standard(rt: HostRuntime) {
+    let rows = [
+        (AisError::Ok, 1, "OK"),
+        (AisError::TryAgain, 6, "TRY_AGAIN"),
+        (AisError::InvalidParam, 7, "INVALID_PARAM"),
+        (AisError::NotExist, 12, "NOT_EXIST"),
+        (AisError::NoSpace, 15, "NO_SPACE"),
+        (AisError::NoResources, 18, "NO_RESOURCES"),
+        (AisError::NoSections, 27, "NO_SECTIONS"),
+    ];
+    for (error, code, word) in rows {
+        assert_eq!(rt; error.code(), code);
+        assert_eq!(rt; error.word(), word);
+    }
+}
