@@ -24,10 +24,10 @@ pub record IsMakingBy (call : CallId) (e : Entry) : Type 0 where
   pub references : e.references ≡ no_references
   pub hold : e.hold ≡ None
 
--- the node is complete for the checkpoint
-pub record IsCompleteOn (r : ℕ) (e : Entry) : Type 0 where
+-- by node, the incarnations with which nodes are complete: this one is
+pub record IsComplete (r : ℕ) (complete : List ℕ) : Type 0 where
   pub node : r < nodes_max
-  pub incarnation : 1 ≤ slice_index e.complete r
+  pub incarnation : 1 ≤ slice_index complete r
 
 -- what is so of each checkpoint at the moment t
 pub record IsKeptEntry (t : ℤ) (e : Entry) : Type 0 where
@@ -42,7 +42,7 @@ pub record IsKeptEntry (t : ℤ) (e : Entry) : Type 0 where
   -- for each node its incarnation, and for each client its references
   pub complete : length e.complete ≡ nodes_max
   pub references : length e.references ≡ client_numbers
-  pub active : IfSome e.active (λ r. IsCompleteOn r e)
+  pub active : IfSome e.active (λ r. IsComplete r e.complete)
   pub generation : 1 ≤ e.generation
   pub making : IfSome e.making (λ call. IsMakingBy call e)
 

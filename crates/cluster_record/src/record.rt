@@ -1,4 +1,4 @@
-ghost use Rattle.std.specs.Prelude.{◌≡◌, ℕ, ◌-◌, ◌^◌, ◌≤◌, ◌<◌, None, Some, true, slice_get, IfOk, OnOk, OnErr, IfErr, MatchOption, length, nat_lt, pos, ◌≤ℤ◌, if◌then◌else◌};
+ghost use Rattle.std.specs.Prelude.{◌≡◌, ℕ, List, ◌-◌, ◌^◌, ◌≤◌, ◌<◌, None, Some, true, slice_get, IfSome, IfOk, OnOk, OnErr, IfErr, MatchOption, length, nat_lt, pos, ◌≤ℤ◌, if◌then◌else◌};
 ghost use Rattle.moment_rules.specs.Times.{sum_until_end};
 ghost use Rattle.cluster_record.specs.LookUps.{node_in, life_of, up_as, declared_in, identity_in, at_ckpt};
 ghost use Rattle.cluster_record.specs.Identities.{IdentitiesRise, AllUpTo};
@@ -362,7 +362,7 @@ impl Record {
     // A client has a checkpoint open once more.
     fn refer(&mut self, identity: CkptId, client: u8)
         requires can { CanRefer client (entry_of identity self.old.entries) }
-        requires made { making_call (entry_of identity self.old.entries) ≡ None }
+        requires made { (name : List ℕ) × (identity_in (named name self.old.entries) ≡ Some identity) × (making_call (named name self.old.entries) ≡ None) }
         ensures { self.new ≡ opened identity client self.old }
     {
         change_entry(&mut self.entries, identity, Change::Referred(client));
