@@ -1,5 +1,5 @@
 -- What the words of each class can say.
-use Rattle.std.specs.Prelude.{◌-◌, ◌^◌, ◌<◌, ◌≤◌, ⊤, length, ℤ, pos, negsuc}
+use Rattle.std.specs.Prelude.{◌^◌, ◌<◌, ◌≤◌, ⊤, length, ℤ, pos, negsuc, nat_abs}
 use Rattle.hex.specs.Hex.{IsBytes}
 use Rattle.ckpt_types.specs.declared.calls.Version.{Version}
 use Rattle.ckpt_types.specs.declared.identities.ActorName.{ActorName}
@@ -8,7 +8,7 @@ use Rattle.ckpt_types.specs.declared.identities.Who.{Who}
 use Rattle.ckpt_types.specs.declared.identities.Who.TheVariants as whose
 use Rattle.ckpt_types.specs.declared.update.NewId.{NewId}
 use Rattle.ckpt_types.specs.declared.update.NewId.TheVariants as new_ids
-use Rattle.ckpt_types.specs.Limits.{client_numbers, nodes_max, places_max, section_id_max}
+use Rattle.ckpt_types.specs.Limits.{client_numbers, end_of_time, nodes_max, places_max, section_id_max}
 use Rattle.script_words.specs.Words.{Class, a_client, a_node, a_place, an_iteration, a_ckpt, a_number, a_time, a_moment, some_bytes, an_id, a_new_id, a_version, the_callbacks, a_who, Meaning, ckpt_numbers}
 
 -- from -2^63 to 2^63-1
@@ -16,9 +16,9 @@ abbrev pub IsTime : ℤ → Type 0
 IsTime (pos n) = n < 2 ^ 63
 IsTime (negsuc n) = n < 2 ^ 63
 
--- from 0 to 2^63-2
+-- from 0 on, before the end of time
 abbrev pub IsMoment : ℤ → Type 0
-IsMoment (pos n) = n < 2 ^ 63 - 1
+IsMoment (pos n) = n < nat_abs end_of_time
 IsMoment (negsuc n) = ⊥
 
 -- a release from A to Z, and two numbers up to 255

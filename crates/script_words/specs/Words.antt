@@ -1,5 +1,5 @@
 -- The classes of words: how the words of each are spelled, and what they say.
-use Rattle.std.specs.Prelude.{ℕ, ◌^◌, ◌-◌, Bool, true, false, not, ◌&&◌, ◌||◌, List, [], ◌∷◌, length, ℤ, pos, neg_ℤ, codes, Option, Some, None, option_map, option_and_then, Result, nat_le, ◌==◌, if◌then◌else◌, bytes_eq}
+use Rattle.std.specs.Prelude.{ℕ, ◌^◌, ◌-◌, Bool, true, false, not, ◌&&◌, ◌||◌, List, [], ◌∷◌, length, ℤ, pos, neg_ℤ, nat_abs, codes, Option, Some, None, option_map, option_and_then, Result, nat_le, ◌==◌, if◌then◌else◌, bytes_eq}
 use Rattle.std.specs.Str.{all_ascii_digits}
 use Rattle.std.specs.Str.Parse.{digits_value}
 use Rattle.std.specs.List.{list_all, before_first, after_first}
@@ -40,13 +40,13 @@ lettered letter low end (c ∷ w) = if c == letter then number low (end - 1) w e
 abbrev pub ckpt_numbers : ℕ
 ckpt_numbers = 10000
 
--- `end`, which is 2^63-1; a number from 0; or a minus and a number from 1
+-- `end`, which is the end of time; a number from 0 to it; or a minus and a number from 1
 unfoldable pub time_of : List ℕ → Option ℤ
 time_of [] = None
 time_of (c ∷ w) =
     if bytes_eq (c ∷ w) (codes "end") then Some end_of_time
     else if c == 45 then option_map (λ n. neg_ℤ (pos n)) (number 1 (2 ^ 63) w)
-    else option_map pos (number 0 (2 ^ 63 - 1) (c ∷ w))
+    else option_map pos (number 0 (nat_abs end_of_time) (c ∷ w))
 
 -- a byte from `!` to `~`
 abbrev pub is_graphic : ℕ → Bool
@@ -159,7 +159,7 @@ read an_iteration w = or_reason reasons.Word (lettered 105 0 places_max w)
 read a_ckpt w = or_reason reasons.Word (lettered 75 1 ckpt_numbers w)
 read (a_number low high) w = or_reason reasons.Number (number low high w)
 read a_time w = or_reason reasons.Number (time_of w)
-read a_moment w = or_reason reasons.Number (option_map pos (number 0 (2 ^ 63 - 2) w))
+read a_moment w = or_reason reasons.Number (option_map pos (number 0 (nat_abs end_of_time - 1) w))
 read some_bytes w = or_reason reasons.Bytes (bytes_of w)
 read an_id w = or_reason reasons.Bytes (id_of w)
 read a_new_id w = or_reason reasons.Bytes (new_id_of w)

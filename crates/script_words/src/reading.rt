@@ -94,19 +94,19 @@ pub fn time(word: &[u8]) -> Result<Moment, LineError>
             Some(n) => Ok(-((n - 1) as i64) - 1),
             None => Err(LineError::Fault(Reason::Number)),
         },
-        _ => match number_of(0, 9_223_372_036_854_775_807, word) {
+        _ => match number_of(0, NEVER as u64, word) {
             Some(n) => Ok(n as i64),
             None => Err(LineError::Fault(Reason::Number)),
         },
     }
 }
 
-/// A moment, from 0 to 2^63-2.
+/// A moment, from 0 on and before the end of time.
 #[tactic(auto, unfolding(crate::specs::Words::read))]
 pub fn moment(word: &[u8]) -> Result<Moment, LineError>
     ensures { Reads result (read a_moment word.now) }
 {
-    match number_of(0, 9_223_372_036_854_775_806, word) {
+    match number_of(0, NEVER as u64 - 1, word) {
         Some(n) => Ok(n as i64),
         None => Err(LineError::Fault(Reason::Number)),
     }
