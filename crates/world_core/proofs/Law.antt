@@ -21,7 +21,8 @@ use Rattle.cluster_record.specs.StepDone.{done_of}
 use Rattle.world_core.specs.Machine.{Machine, CallState, empty_cluster}
 use Rattle.world_core.specs.Steps.{Told, IsDone, IsDueStep, IsDue, driver_of, rooms_of, due, step_of, after}
 use Rattle.world_core.specs.Guards.{IsAllowedStep, Allowed}
-use Rattle.world_core.specs.Runs.{Counts, steps_left}
+use Rattle.world_core.specs.Runs.{Counts}
+use Rattle.world_core.specs.StepsLeft.{steps_left}
 use Rattle.world_core.specs.Invariant.{Working, IsAt, IsWorking, Alone, InvariantWith, Invariant}
 use Rattle.world_core.proofs.LawMoves.{Goes, in_hand_of-Some, Counts-hands}
 use Rattle.world_core.proofs.LawEnds.{is_up-none}

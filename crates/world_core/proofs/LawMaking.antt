@@ -29,7 +29,7 @@ use Rattle.world_core.specs.Driving.{driver_next, driver_taken, event_after}
 use Rattle.world_core.specs.Machine.{Machine, CallState}
 use Rattle.world_core.specs.Steps.{Told, IsDone, IsServed, IsEvent, opened_state, replica_under, replicas_under, with_record, with_opened, with_handle_at, new_handle, stepped}
 use Rattle.world_core.specs.Guards.{IsMadeBy, IsInTime}
-use Rattle.world_core.specs.Runs.{lacking}
+use Rattle.world_core.specs.StepsLeft.{lacking}
 use Rattle.world_core.specs.Invariant.{maker_by, IsMakingEntry, IsGoodEntry, WasMade, AllStay, InvariantWith}
 use Rattle.cluster_record.proofs.IdentityLaws.{AllUpTo-change_key, IdentitiesRise-change_key, AllUpTo-filter, IdentitiesRise-filter}
 use Rattle.world_core.proofs.LawLists.{entry_of-given, find_key-without, find_key-change_key, AllStay-change_key, AllStay-filter, open-stays, list_any-first}

@@ -37,7 +37,7 @@ use Rattle.cluster_record.specs.LookUps.{at_ckpt, identity_in}
 use Rattle.world_core.specs.Machine.{Machine, CallState}
 use Rattle.world_core.specs.Steps.{Told, IsDone, IsEvent, driver_of, room_of, with_record, with_opened, with_handle_at, new_handle, replicas_under, stepped}
 use Rattle.world_core.specs.Guards.{IsInTime, MayCreate, CreateRow, CanOpen, MayOpen, OpenRow, MayExist, IsAccepted, OpenLook, LookRefused}
-use Rattle.world_core.specs.Runs.{steps_left, lacking}
+use Rattle.world_core.specs.StepsLeft.{steps_left, lacking}
 use Rattle.world_core.specs.Invariant.{maker_by, IsGoodEntry, WasMade, OpensAs, AreGoodAttributes, AllStay, InvariantWith}
 use Rattle.world_core.proofs.Deadlines.{in_time-cases}
 use Rattle.cluster_record.proofs.IdentityLaws.{entry_of-beyond, entry_of-find, AllUpTo-change_key, IdentitiesRise-change_key, AllUpTo-push, IdentitiesRise-push}

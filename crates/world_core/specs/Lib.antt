@@ -17,5 +17,6 @@ pub mod Settling
 pub mod Guards
 pub mod Invariant
 pub mod Runs
+pub mod StepsLeft
 pub mod Refusals
 pub mod Happenings

@@ -24,7 +24,7 @@ use std::alloc::{AllocError, Global};
 
 impl World {
     /// The first nodes come up.
-    pub fn bring_up(&mut self, n: u8) -> Label
+    pub(crate) fn bring_up(&mut self, n: u8) -> Label
         requires first { n ≡ 1 }
         requires empty { self.old.cluster ≡ empty_record }
         ensures { BringsUp n self.old self.new result }
@@ -34,7 +34,7 @@ impl World {
     }
 
     /// A call of a client begins, or a word answers its line. Want of memory leaves the world as it was.
-    pub fn begin(&mut self, alloc: Global, c: u8, op: &Op) -> Result<Label, AllocError>
+    pub(crate) fn begin(&mut self, alloc: Global, c: u8, op: &Op) -> Result<Label, AllocError>
         requires client { c < client_numbers }
         requires built { IsBuilt op.now }
         requires shown { IsShown self.old }

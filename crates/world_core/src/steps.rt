@@ -35,7 +35,7 @@ impl World {
     /// the world as it was; where the step's own memory is refused, the call is told so instead.
     // Put in line: a call would copy its label once more.
     #[inline(always)]
-    pub fn step(&mut self, alloc: Global, c: u8, finish: bool) -> Result<Label, AllocError>
+    pub(crate) fn step(&mut self, alloc: Global, c: u8, finish: bool) -> Result<Label, AllocError>
         requires client { c < client_numbers }
         requires shown { IsShown self.old }
         requires roomy { IsRoomy self.old }
