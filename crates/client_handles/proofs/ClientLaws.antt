@@ -1,19 +1,20 @@
 -- What always holds of a client, and what a new handle changes and leaves.
 use Rattle.std.proofs.Common.{◌≡◌, ◌≢◌, ℕ, ◌+◌, ◌<◌, ◌≤◌, ◌==◌, Bool, true, false, not, cond, List, [], ◌∷◌, ◌++◌, length, Some, None, IsSome, Result, Ok, Err, slice_index, slice_set, refl, sym, ap, ◌∙◌, inl, inr, arith, length-append, length-set}
 use Rattle.std.proofs.lemmas.Bool.{cases_eq, ltb-true, lt-ltb}
-use Rattle.std.proofs.lemmas.List.{get_or-set_same, get_or-set_other}
+use Rattle.std.proofs.lemmas.List.{get_or-set_same, get_or-set_other, get_or_past}
 use Rattle.ckpt_types.specs.declared.calls.CallbackSet.{CallbackSet}
 use Rattle.ckpt_types.specs.declared.calls.Count.{Count}
 use Rattle.ckpt_types.specs.declared.open_flags.OpenFlags.{OpenFlags}
+use Rattle.ckpt_types.specs.Limits.{handles_max, places_max, iterations_max}
 use Rattle.section_iter.specs.KeptIds.{KeptIds}
-use Rattle.client_handles.specs.ClientState.{ClientState, new_client, handle_number, goes_over, handle_numbered, handle_at, has_handle_room, next_handle, taken, taken_number, released, bound, dropped, emptied, has_iteration_room, added, added_answer, lent, returned, ended, HasIterations, IsValid}
-use Rattle.client_handles.specs.Numbered.{without}
+use Rattle.client_handles.specs.ClientState.{ClientState, new_client, handle_number, iteration_number, goes_over, handle_numbered, handle_at, iteration_at, has_handle_room, next_handle, taken, taken_number, released, bound, dropped, emptied, has_iteration_room, added, added_answer, lent, returned, ended, HasIterations, IsValid}
+use Rattle.client_handles.specs.Numbered.{numbered, without}
 use Rattle.client_handles.specs.declared.begun.BegunIteration.{BegunIteration}
 use Rattle.client_handles.specs.declared.handle_view.HandleView.{HandleView}
 use Rattle.client_handles.proofs.HandleLaws.{handle_at-bound_same, handle_at-bound_other}
 use Rattle.client_handles.proofs.IterationLaws.{HasIterations-new, HasIterations-taken, HasIterations-bound, HasIterations-released, HasIterations-emptied, HasIterations-added, HasIterations-keeping, HasIterations-ended, iterations-released_absent}
 use Rattle.client_handles.proofs.NumberedLaws.{slice_index-new, without-absent, numbered-push_same, numbered-push_other, without-push}
-use Rattle.client_handles.proofs.RisingLaws.{RiseWithin-found, RiseWithin-push, RiseWithin-filter, numbered-high, length-without, length-filter_le}
+use Rattle.client_handles.proofs.RisingLaws.{RiseWithin-found, RiseWithin-push, RiseWithin-filter, numbered-low, numbered-high, length-without, length-filter_le}
 
 -- ---- it always holds
 
@@ -31,7 +32,7 @@ IsValid-new callbacks = record {
 pub IsValid-taken : (id : ℕ) (flags : OpenFlags) (creation_flags : ℕ) (s : ClientState) → has_handle_room s ≡ true → IsValid s → IsValid (taken id flags creation_flags s)
 IsValid-taken id flags creation_flags s room is =
     let h : HandleView = next_handle id flags creation_flags s in
-    let few : length s.handles < 32 = ltb-true (length s.handles) 32 room in
+    let few : length s.handles < handles_max = ltb-true (length s.handles) handles_max room in
     record {
       few = omega (arith, length-append s.handles (h ∷ []));
       numbers = RiseWithin-push handle_number 0 s.last_number (s.last_number + 1) s.handles h (omega arith) (omega arith) (omega arith) is.numbers;
@@ -44,7 +45,7 @@ IsValid-taken id flags creation_flags s room is =
 pub IsValid-released : (number : ℕ) (s : ClientState) → IsValid s → IsValid (released number s)
 IsValid-released number s is =
     let keeps : HandleView → Bool = λ h. not (handle_number h == number) in
-    let few : length s.handles ≤ 32 = is.few in
+    let few : length s.handles ≤ handles_max = is.few in
     record {
       few = omega (arith, length-filter_le handle_number keeps s.handles);
       numbers = RiseWithin-filter handle_number keeps 0 s.last_number s.handles is.numbers;
@@ -68,9 +69,9 @@ IsValid-emptied s is = record {
 }
 
 -- with a place set to a number that was given
-pub IsValid-bound : (place number : ℕ) (s : ClientState) → place < 100 → number ≤ s.last_number → IsValid s → IsValid (bound place number s)
+pub IsValid-bound : (place number : ℕ) (s : ClientState) → place < places_max → number ≤ s.last_number → IsValid s → IsValid (bound place number s)
 IsValid-bound place number s within low is =
-    let all : length s.places ≡ 100 = is.places in
+    let all : length s.places ≡ places_max = is.places in
     record {
       few = is.few;
       numbers = is.numbers;
@@ -87,7 +88,7 @@ pub number-given : (number : ℕ) (s : ClientState) (h : HandleView) → IsValid
 number-given number s h is found = RiseWithin-found handle_number number 0 s.last_number s.handles h is.numbers found
 
 -- with a place set to a handle that is open
-pub IsValid-bound_open : (place number : ℕ) (s : ClientState) (h : HandleView) → place < 100 → handle_numbered number s.handles ≡ Some h → IsValid s → IsValid (bound place number s)
+pub IsValid-bound_open : (place number : ℕ) (s : ClientState) (h : HandleView) → place < places_max → handle_numbered number s.handles ≡ Some h → IsValid s → IsValid (bound place number s)
 IsValid-bound_open place number s h within found is = IsValid-bound place number s within (number-given number s h is found).1 is
 
 -- with other iterations, of which the same holds
@@ -96,7 +97,7 @@ pub IsValid-iterations : (s : ClientState) (last : ℕ) (iterations : List Begun
 IsValid-iterations s last iterations places is has = record { few = is.few; numbers = is.numbers; places = is.places; given = is.given; iterations = has }
 
 -- with an iteration more
-pub IsValid-added : (place handle : ℕ) (kept : KeptIds) (s : ClientState) → place < 100 → IsSome (handle_numbered handle s.handles) → has_iteration_room s ≡ true → IsValid s → IsValid (added place handle kept s)
+pub IsValid-added : (place handle : ℕ) (kept : KeptIds) (s : ClientState) → place < places_max → IsSome (handle_numbered handle s.handles) → has_iteration_room s ≡ true → IsValid s → IsValid (added place handle kept s)
 IsValid-added place handle kept s within opened room is = IsValid-iterations s _ _ _ is (HasIterations-added place handle kept s within opened room is.iterations)
 
 -- with one lent, returned or ended
@@ -108,6 +109,21 @@ IsValid-returned place kept s is = IsValid-iterations s _ _ _ is (HasIterations-
 
 pub IsValid-ended : (place : ℕ) (s : ClientState) → IsValid s → IsValid (ended place s)
 IsValid-ended place s is = IsValid-iterations s _ _ _ is (HasIterations-ended place s is.iterations)
+
+-- ---- no place
+
+-- past the last place there is none that could stand for a handle
+pub handle_at-past : (place : ℕ) (s : ClientState) → places_max ≤ place → IsValid s → handle_at place s ≡ None
+handle_at-past place s past is =
+    let all : length s.places ≡ places_max = is.places in
+    ap (λ n. handle_numbered n s.handles) (get_or_past s.places place 0 (omega arith)) ∙ numbered-low handle_number 0 0 s.last_number s.handles (omega arith) is.numbers
+
+-- nor for an iteration
+pub iteration_at-past : (place : ℕ) (s : ClientState) → places_max ≤ place → IsValid s → iteration_at place s ≡ None
+iteration_at-past place s past is =
+    let has : HasIterations s = is.iterations in
+    let all : length s.iteration_places ≡ places_max = has.places in
+    ap (λ n. numbered iteration_number n s.iterations) (get_or_past s.iteration_places place 0 (omega arith)) ∙ numbered-low iteration_number 0 0 s.last_iteration s.iterations (omega arith) has.numbers
 
 -- ---- one handle more
 
@@ -131,9 +147,9 @@ module _ (id : ℕ) (flags : OpenFlags) (creation_flags : ℕ) (s : ClientState)
   handle_at-taken place = handle_numbered-taken_other (slice_index s.places place) (λ e. let low : slice_index s.places place ≤ s.last_number = is.given place in omega arith)
 
   -- once a place is set to the new handle, it stands for it
-  pub handle_at-taken_bound : (place : ℕ) → place < 100 → handle_at place (bound place (s.last_number + 1) (taken id flags creation_flags s)) ≡ Some (next_handle id flags creation_flags s)
+  pub handle_at-taken_bound : (place : ℕ) → place < places_max → handle_at place (bound place (s.last_number + 1) (taken id flags creation_flags s)) ≡ Some (next_handle id flags creation_flags s)
   handle_at-taken_bound place within =
-      let all : length s.places ≡ 100 = is.places in
+      let all : length s.places ≡ places_max = is.places in
       handle_at-bound_same place (s.last_number + 1) (taken id flags creation_flags s) (omega arith) ∙ handle_numbered-taken
 
   -- and each other place for what it did
@@ -167,9 +183,9 @@ length-released number s h is found = length-without handle_number number 0 s.la
 -- so there is room for another
 pub has_handle_room-released : (number : ℕ) (s : ClientState) (h : HandleView) → IsValid s → handle_numbered number s.handles ≡ Some h → has_handle_room (released number s) ≡ true
 has_handle_room-released number s h is found =
-    let few : length s.handles ≤ 32 = is.few in
+    let few : length s.handles ≤ handles_max = is.few in
     let fewer : length (released number s).handles + 1 ≡ length s.handles = length-released number s h is found in
-    lt-ltb (length (released number s).handles) 32 (omega arith)
+    lt-ltb (length (released number s).handles) handles_max (omega arith)
 
 -- after a place's handle is closed there is room for another
 pub has_handle_room-dropped : (place : ℕ) (s : ClientState) (h : HandleView) → IsValid s → handle_at place s ≡ Some h → has_handle_room (dropped place s) ≡ true
@@ -183,15 +199,15 @@ number_case false number n count e = absurd (cc e)
 
 -- a number is given where there was room, and it is the next one
 pub taken_number-Ok : (number : ℕ) (s : ClientState) → Ok number ≡ taken_number s → (has_handle_room s ≡ true) × (number ≡ s.last_number + 1)
-taken_number-Ok number s e = number_case (has_handle_room s) number (s.last_number + 1) (record { count = 32 }) e
+taken_number-Ok number s e = number_case (has_handle_room s) number (s.last_number + 1) (record { count = handles_max }) e
 
 count_case : (b : Bool) (n : ℕ) (told count : Count) → ◌≡◌ {A = Result ℕ Count} (Err told) (cond b (Ok n) (Err count)) → (b ≡ false) × (told ≡ count)
 count_case true n told count e = absurd (cc e)
 count_case false n told count e = (refl, cc e)
 
 -- the count of 32 is told where there was none
-pub taken_number-Err : (count : Count) (s : ClientState) → Err count ≡ taken_number s → (has_handle_room s ≡ false) × (count ≡ record { count = 32 })
-taken_number-Err count s e = count_case (has_handle_room s) (s.last_number + 1) count (record { count = 32 }) e
+pub taken_number-Err : (count : Count) (s : ClientState) → Err count ≡ taken_number s → (has_handle_room s ≡ false) × (count ≡ record { count = handles_max })
+taken_number-Err count s e = count_case (has_handle_room s) (s.last_number + 1) count (record { count = handles_max }) e
 
 -- a handle of the number that was told is open
 pub handle_numbered-told : (id : ℕ) (flags : OpenFlags) (creation_flags number : ℕ) (s new : ClientState) → IsValid s → Ok number ≡ taken_number s → new ≡ taken id flags creation_flags s → handle_numbered number new.handles ≡ Some (next_handle id flags creation_flags s)
@@ -204,12 +220,12 @@ unit_case false count e = absurd (cc e)
 
 -- an iteration is added where there was room
 pub added_answer-Ok : (s : ClientState) → Ok tt ≡ added_answer s → has_iteration_room s ≡ true
-added_answer-Ok s e = unit_case (has_iteration_room s) (record { count = 8 }) e
+added_answer-Ok s e = unit_case (has_iteration_room s) (record { count = iterations_max }) e
 
 full_case : (b : Bool) (told count : Count) → ◌≡◌ {A = Result (Unit {0}) Count} (Err told) (cond b (Ok tt) (Err count)) → (b ≡ false) × (told ≡ count)
 full_case true told count e = absurd (cc e)
 full_case false told count e = (refl, cc e)
 
 -- the count of 8 is told where there was none
-pub added_answer-Err : (count : Count) (s : ClientState) → Err count ≡ added_answer s → (has_iteration_room s ≡ false) × (count ≡ record { count = 8 })
-added_answer-Err count s e = full_case (has_iteration_room s) count (record { count = 8 }) e
+pub added_answer-Err : (count : Count) (s : ClientState) → Err count ≡ added_answer s → (has_iteration_room s ≡ false) × (count ≡ record { count = iterations_max })
+added_answer-Err count s e = full_case (has_iteration_room s) count (record { count = iterations_max }) e

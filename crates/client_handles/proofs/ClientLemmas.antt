@@ -1,7 +1,7 @@
 -- What each call makes of the inside of a client: it stays sound, and shows what the definitions say.
-use Rattle.std.proofs.Common.{◌≡◌, ◌≢◌, ℕ, zero, suc, ◌+◌, ◌<◌, ◌≤◌, List, [], ◌∷◌, ◌++◌, length, map, Option, Some, None, IsSome, Ok, true, slice_get, get_or, set, replicate, vec_capacity, count_by, is_some, refl, sym, ap, subst, ◌∙◌, ◌⊎◌, inl, inr, arith, length-append}
+use Rattle.std.proofs.Common.{◌≡◌, ◌≢◌, ℕ, zero, suc, ◌+◌, ◌<◌, ◌≤◌, List, [], ◌∷◌, ◌++◌, length, map, Option, Some, None, IsSome, Ok, true, false, slice_get, get_or, set, replicate, vec_capacity, count_by, is_some, refl, sym, ap, subst, ◌∙◌, ◌⊎◌, inl, inr, arith, length-append}
 use Rattle.std.specs.List.{remove}
-use Rattle.std.specs.Option.{IfSome, IsSomeAnd, option_map, option_and_then, ok_or}
+use Rattle.std.specs.Option.{is_none, IfSome, IfNone, IsSomeAnd, option_map, option_and_then, ok_or}
 use Rattle.std.proofs.lemmas.Bool.{cases_eq, cases_lt}
 use Rattle.std.proofs.lemmas.List.{get_or-map, get_or-set_same, get_or-set_other, get_or_past, length-map, length-set}
 use Rattle.std.proofs.lemmas.Option.{none-some, same_Some}
@@ -11,8 +11,9 @@ use Rattle.section_iter.specs.KeptIds.{KeptIds}
 use Rattle.ckpt_types.specs.declared.ais_error.AisError.TheVariants.{BadHandle}
 use Rattle.slab.specs.Slab.{Slab, get, slab_len, Updates}
 use Rattle.ckpt_types.specs.declared.calls.CallbackSet.{CallbackSet}
+use Rattle.ckpt_types.specs.Limits.{places_max, handles_max, iterations_max}
 use Rattle.client_handles.specs.Client.{number_of, client_of, IsSound}
-use Rattle.client_handles.specs.ClientState.{ClientState, handle_number, iteration_number, goes_over, handle_numbered, handle_at, iteration_at, iterated_handle, kept_iteration, ended_answer, has_iteration_room, IsNotLent, new_client, released, emptied, next_iteration, added, with_kept, keeping, ended, IsOver, HasIterations, IsValid}
+use Rattle.client_handles.specs.ClientState.{ClientState, handle_number, iteration_number, goes_over, handle_numbered, handle_at, iteration_at, iterated_handle, kept_iteration, ended_answer, has_iteration_room, is_out, IsNotLent, new_client, released, emptied, next_iteration, added, with_kept, keeping, ended, IsOver, HasIterations, IsValid}
 use Rattle.client_handles.specs.Kept.{where_numbered, kept_numbered, handles_up_to, IsKey, HaveKeys}
 use Rattle.client_handles.specs.Numbered.{without}
 use Rattle.client_handles.specs.declared.begun.BegunIteration.{BegunIteration}
@@ -42,23 +43,31 @@ not_none : {A : Type 0} (o : Option A) → IsSome o → o ≡ None → ⊥
 not_none None some none = cc
 not_none (Some x) some none = cc
 
+not_out : {A : Type 0} (o : Option A) → is_none o ≡ false → o ≡ None → ⊥
+not_out None kept none = cc
+not_out (Some x) kept none = cc
+
 module _ (c : Inside) (sound : IsSound c) where
   -- ---- look-ups
 
-  number_at : (place : ℕ) → place < 100 → get_or (map number_of c.places) place 0 ≡ number_of (get_or c.places place None)
-  number_at place within = let all : length c.places ≡ 100 = sound.places in get_or-map number_of c.places place None 0 (omega arith)
+  number_case : (place : ℕ) → (place < length c.places) ⊎ (length c.places ≤ place) → get_or (map number_of c.places) place 0 ≡ number_of (get_or c.places place None)
+  number_case place (inl within) = get_or-map number_of c.places place None 0 within
+  number_case place (inr past) = get_or_past (map number_of c.places) place 0 (omega (arith, length-map c.places number_of)) ∙ sym (ap number_of (get_or_past c.places place None past))
+
+  number_at : (place : ℕ) → get_or (map number_of c.places) place 0 ≡ number_of (get_or c.places place None)
+  number_at place = number_case place (cases_lt place (length c.places))
 
   -- a place that was not set stands for none
-  pub handle_at-unset : (place : ℕ) → place < 100 → get_or c.places place None ≡ None → handle_at place (client_of c) ≡ None
-  handle_at-unset place within unset =
-      ap (λ n. handle_numbered n (handles_up_to c.last_number c.handles.slots)) (number_at place within ∙ ap number_of unset)
+  pub handle_at-unset : (place : ℕ) → get_or c.places place None ≡ None → handle_at place (client_of c) ≡ None
+  handle_at-unset place unset =
+      ap (λ n. handle_numbered n (handles_up_to c.last_number c.handles.slots)) (number_at place ∙ ap number_of unset)
       ∙ handle_numbered-zero c.last_number c.handles.slots
 
   -- a place that was set stands for the handle under its key, where that has the number
-  pub handle_at-set : (place : ℕ) (key : Bound) → place < 100 → get_or c.places place None ≡ Some key → handle_at place (client_of c) ≡ where_numbered key.number (get c.handles key.key)
-  handle_at-set place key within is_set =
+  pub handle_at-set : (place : ℕ) (key : Bound) → get_or c.places place None ≡ Some key → handle_at place (client_of c) ≡ where_numbered key.number (get c.handles key.key)
+  handle_at-set place key is_set =
       let keyed = sound.keys place key is_set in
-      ap (λ n. handle_numbered n (handles_up_to c.last_number c.handles.slots)) (number_at place within ∙ ap number_of is_set)
+      ap (λ n. handle_numbered n (handles_up_to c.last_number c.handles.slots)) (number_at place ∙ ap number_of is_set)
       ∙ handle_numbered-kept key.number c.last_number c.handles.slots keyed.from_one keyed.to_last
       ∙ kept_numbered-under c.last_number c.handles sound.numbers key keyed
 
@@ -88,7 +97,7 @@ module _ (c : Inside) (sound : IsSound c) where
   -- it holds of what is shown
   pub IsValid-shown : IsValid (client_of c)
   IsValid-shown =
-      let few : slab_len c.handles ≤ 32 = sound.few in
+      let few : slab_len c.handles ≤ handles_max = sound.few in
       record {
         few = omega (arith, sound.counted);
         numbers = RiseWithin-handles_up_to c.last_number c.handles.slots;
@@ -109,9 +118,9 @@ module _ (c : Inside) (sound : IsSound c) where
         (kept_numbered-more c.last_number c.handles new key h sound.numbers vacant updates is_next)
         (kept_numbered-others c.last_number c.handles new key h sound.numbers vacant updates is_next)
 
-    pub IsSound-inserted : new.capacity ≡ c.handles.capacity → slab_len new ≡ slab_len c.handles + 1 → slab_len c.handles < 32 → IsSound more
+    pub IsSound-inserted : new.capacity ≡ c.handles.capacity → slab_len new ≡ slab_len c.handles + 1 → slab_len c.handles < handles_max → IsSound more
     IsSound-inserted capacity len room =
-        let kept : 32 ≤ c.handles.capacity = sound.room in
+        let kept : handles_max ≤ c.handles.capacity = sound.room in
         let counted : slab_len c.handles ≡ length (handles_up_to c.last_number c.handles.slots) = sound.counted in
         let listed : length (handles_up_to (c.last_number + 1) new.slots) ≡ length (handles_up_to c.last_number c.handles.slots ++ h ∷ []) = ap length handles_up_to-inserted in
         record {
@@ -147,9 +156,9 @@ module _ (c : Inside) (sound : IsSound c) where
 
     pub IsSound-removed : new.capacity ≡ c.handles.capacity → slab_len new + 1 ≡ slab_len c.handles → vec_capacity its ≡ vec_capacity c.iterations → IsSound fewer
     IsSound-removed capacity len iteration_capacity =
-        let begun : 8 ≤ vec_capacity c.iterations = sound.iteration_room in
-        let kept : 32 ≤ c.handles.capacity = sound.room in
-        let few : slab_len c.handles ≤ 32 = sound.few in
+        let begun : iterations_max ≤ vec_capacity c.iterations = sound.iteration_room in
+        let kept : handles_max ≤ c.handles.capacity = sound.room in
+        let few : slab_len c.handles ≤ handles_max = sound.few in
         let counted : slab_len c.handles ≡ length (handles_up_to c.last_number c.handles.slots) = sound.counted in
         let one_less : length (handles_up_to c.last_number new.slots) + 1 ≡ length (handles_up_to c.last_number c.handles.slots) =
         length-handles_up_to-gone h.handle c.handles.slots new.slots
@@ -183,9 +192,9 @@ module _ (c : Inside) (sound : IsSound c) where
         under = λ other x there same. sound.numbers.apart other key x h there at (same ∙ sym is);
       }
 
-  HaveKeys-set : (place key : ℕ) (h : HandleView) (number : ℕ) → place < 100 → get c.handles key ≡ Some h → h.handle ≡ number → HaveKeys c.last_number c.handles (set c.places place (Some (record { key = key; number = number })))
+  HaveKeys-set : (place key : ℕ) (h : HandleView) (number : ℕ) → place < places_max → get c.handles key ≡ Some h → h.handle ≡ number → HaveKeys c.last_number c.handles (set c.places place (Some (record { key = key; number = number })))
   HaveKeys-set place key h number within at is other b there =
-      let all : length c.places ≡ 100 = sound.places in
+      let all : length c.places ≡ places_max = sound.places in
       let inside : place < length c.places = omega arith in
       elim (cases_eq other place) [
         | inl same ↦
@@ -196,7 +205,7 @@ module _ (c : Inside) (sound : IsSound c) where
         | inr differs ↦ sound.keys other b (sym (get_or-set_other c.places place other (Some (record { key = key; number = number })) None differs) ∙ there)
       ]
 
-  pub IsSound-set : (place key : ℕ) (h : HandleView) (number : ℕ) → place < 100 → get c.handles key ≡ Some h → h.handle ≡ number → IsSound (record c { places = set c.places place (Some (record { key = key; number = number })) })
+  pub IsSound-set : (place key : ℕ) (h : HandleView) (number : ℕ) → place < places_max → get c.handles key ≡ Some h → h.handle ≡ number → IsSound (record c { places = set c.places place (Some (record { key = key; number = number })) })
   IsSound-set place key h number within at is = record {
     room = sound.room;
     few = sound.few;
@@ -216,6 +225,13 @@ module _ (c : Inside) (sound : IsSound c) where
       let from_one : 1 ≤ h.handle = sound.numbers.from_one key h at in
       let to_last : h.handle ≤ c.last_number = sound.numbers.to_last key h at in
       handle_numbered-kept number c.last_number c.handles.slots (omega arith) (omega arith) ∙ kept_numbered-at c.last_number c.handles sound.numbers number key h at is
+
+  -- so what the slab has of a number is what is shown of it
+  pub handle_numbered-told : (number : ℕ) (o : Option HandleView) → IfSome o (λ h. (key : ℕ) × (get c.handles key ≡ Some h) × (h.handle ≡ number)) → IfNone o ((key : ℕ) (h : HandleView) → get c.handles key ≡ Some h → h.handle ≢ number) → o ≡ handle_numbered number (client_of c).handles
+  handle_numbered-told number None found absent = sym (handle_numbered-absent number absent)
+  handle_numbered-told number (Some h) found absent =
+      let (key, at, is) = found in
+      sym (handle_numbered-found number key h at is)
 
   module _ (place handle : ℕ) (over : Some handle ≡ option_map goes_over (iteration_at place (client_of c))) where
     over_case : (o : Option BegunIteration) → Some handle ≡ option_map goes_over o → (it : BegunIteration) × (o ≡ Some it) × (it.handle ≡ handle)
@@ -241,7 +257,7 @@ module _ (c : Inside) (sound : IsSound c) where
   pub IsSound-iterations : (last : ℕ) (its : Vec BegunIteration Global) (places : List ℕ) (s : ClientState) → vec_capacity its ≡ vec_capacity c.iterations → client_of (record c { last_iteration = last; iterations = its; iteration_places = places }) ≡ s → HasIterations s →
       IsSound (record c { last_iteration = last; iterations = its; iteration_places = places })
   IsSound-iterations last its places s capacity shown has =
-      let kept : 8 ≤ vec_capacity c.iterations = sound.iteration_room in
+      let kept : iterations_max ≤ vec_capacity c.iterations = sound.iteration_room in
       record {
         room = sound.room;
         few = sound.few;
@@ -255,7 +271,7 @@ module _ (c : Inside) (sound : IsSound c) where
 
   -- with one more
   pub IsSound-added : (place handle : ℕ) (kept : KeptIds) (its : Vec BegunIteration Global) → its.items ≡ c.iterations.items ++ next_iteration handle kept (client_of c) ∷ [] → vec_capacity its ≡ vec_capacity c.iterations →
-      place < 100 → IsSome (handle_numbered handle (client_of c).handles) → has_iteration_room (client_of c) ≡ true →
+      place < places_max → IsSome (handle_numbered handle (client_of c).handles) → has_iteration_room (client_of c) ≡ true →
       IsSound (record c { last_iteration = c.last_iteration + 1; iterations = its; iteration_places = set c.iteration_places place (c.last_iteration + 1) })
   IsSound-added place handle kept its items capacity within opened room =
       IsSound-iterations (c.last_iteration + 1) its (set c.iteration_places place (c.last_iteration + 1)) (added place handle kept (client_of c)) capacity
@@ -297,7 +313,7 @@ module _ (c : Inside) (sound : IsSound c) where
 
       -- and where it is not lent, there is something
       pub kept-not_lent : IsNotLent place (client_of c) → result ≡ None → ⊥
-      kept-not_lent not_lent none = not_none there.0.kept (subst (λ (o : Option BegunIteration). IfSome o (λ it. IsSome it.kept)) stands not_lent) (sym is_kept ∙ none)
+      kept-not_lent not_lent none = not_out there.0.kept (sym (ap is_out stands) ∙ not_lent) (sym is_kept ∙ none)
 
     module _ (kept : Option KeptIds) (its : Vec BegunIteration Global) (changed : IsSomeAnd (slice_get c.iterations.items at) (λ it. its.items ≡ set c.iterations.items at (with_kept kept it))) where
       -- this is kept of it
@@ -327,8 +343,8 @@ module _ (c : Inside) (sound : IsSound c) where
 
     pub IsSound-emptied : handles.capacity ≡ c.handles.capacity → vec_capacity its ≡ vec_capacity c.iterations → IsSound (record c { handles = handles; iterations = its })
     IsSound-emptied capacity iteration_capacity =
-        let kept : 32 ≤ c.handles.capacity = sound.room in
-        let begun : 8 ≤ vec_capacity c.iterations = sound.iteration_room in
+        let kept : handles_max ≤ c.handles.capacity = sound.room in
+        let begun : iterations_max ≤ vec_capacity c.iterations = sound.iteration_room in
         let empty : slab_len handles ≡ 0 = ap (count_by is_some) no_handle in
         record {
           room = omega arith;
@@ -359,10 +375,10 @@ module _ (c : Inside) (sound : IsSound c) where
     same_get : (key : ℕ) → get c.handles key ≡ get handles key
     same_get key = ap (λ slots. get_or slots key None) (sym same)
 
-    pub IsSound-copied : 32 ≤ handles.capacity → 8 ≤ vec_capacity its → IsSound (record c { handles = handles; iterations = its })
+    pub IsSound-copied : handles_max ≤ handles.capacity → iterations_max ≤ vec_capacity its → IsSound (record c { handles = handles; iterations = its })
     IsSound-copied room iteration_room =
         let as_many : slab_len handles ≡ slab_len c.handles = ap (count_by is_some) same in
-        let few : slab_len c.handles ≤ 32 = sound.few in
+        let few : slab_len c.handles ≤ handles_max = sound.few in
         record {
           room = room;
           few = omega arith;
@@ -389,9 +405,9 @@ none_at zero place = refl
 none_at (suc n) zero = refl
 none_at (suc n) (suc place) = none_at n place
 
-module _ (callbacks : CallbackSet) (handles : Slab HandleView) (places : List (Option Bound)) (its : Vec BegunIteration Global) (no_handle : handles.slots ≡ []) (no_place : places ≡ replicate 100 None) (no_iteration : its.items ≡ []) where
+module _ (callbacks : CallbackSet) (handles : Slab HandleView) (places : List (Option Bound)) (its : Vec BegunIteration Global) (no_handle : handles.slots ≡ []) (no_place : places ≡ replicate places_max None) (no_iteration : its.items ≡ []) where
   abbrev first : Inside
-  first = record { callbacks = callbacks; last_number = 0; handles = handles; places = places; last_iteration = 0; iterations = its; iteration_places = replicate 100 0 }
+  first = record { callbacks = callbacks; last_number = 0; handles = handles; places = places; last_iteration = 0; iterations = its; iteration_places = replicate places_max 0 }
 
   -- a new client is shown
   pub client_of-new : client_of first ≡ new_client callbacks
@@ -400,7 +416,7 @@ module _ (callbacks : CallbackSet) (handles : Slab HandleView) (places : List (O
   no_handle_at : (key : ℕ) → get handles key ≡ None
   no_handle_at key = ap (λ slots. get_or slots key None) no_handle
 
-  pub IsSound-new : 32 ≤ handles.capacity → 8 ≤ vec_capacity its → IsSound first
+  pub IsSound-new : handles_max ≤ handles.capacity → iterations_max ≤ vec_capacity its → IsSound first
   IsSound-new room iteration_room =
       let empty : slab_len handles ≡ 0 = ap (count_by is_some) no_handle in
       record {
@@ -412,7 +428,7 @@ module _ (callbacks : CallbackSet) (handles : Slab HandleView) (places : List (O
           to_last = λ key h at. absurd (none-some h (sym (no_handle_at key) ∙ at));
           apart = λ key other h o at there same. absurd (none-some h (sym (no_handle_at key) ∙ at));
         };
-        keys = λ place key at. absurd (none-some key (sym (none_at 100 place) ∙ sym (ap (λ ps. get_or ps place None) no_place) ∙ at));
+        keys = λ place key at. absurd (none-some key (sym (none_at places_max place) ∙ sym (ap (λ ps. get_or ps place None) no_place) ∙ at));
         places = ap length no_place;
         iteration_room = iteration_room;
         iterations = subst HasIterations (sym client_of-new) (HasIterations-new callbacks);

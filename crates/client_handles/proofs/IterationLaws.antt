@@ -1,15 +1,16 @@
 -- For which iteration a place stands after each call, and what always holds of iterations.
 use Rattle.std.proofs.Common.{◌≡◌, ◌≢◌, ℕ, ◌+◌, ◌<◌, ◌≤◌, ◌==◌, Bool, true, false, not, cond, List, [], ◌∷◌, ◌++◌, length, Option, Some, None, IsSome, Result, Ok, Err, slice_index, slice_set, refl, sym, ap, subst, ◌∙◌, inl, inr, arith, length-append, length-set}
 use Rattle.std.specs.List.{All}
-use Rattle.std.specs.Option.{option_map, option_and_then, ok_or, IsSomeAnd}
+use Rattle.std.specs.Option.{option_map, option_and_then, ok_or}
 use Rattle.std.proofs.lemmas.Bool.{cases_eq, eqb-true, eq-eqb, ne_eqb, ltb-true}
 use Rattle.std.proofs.lemmas.List.{length-map, get_or-set_same, get_or-set_other}
 use Rattle.std.proofs.lemmas.List.Elements.{All-filter, All-head, All-map, All-nil, All-push, All-tail, All-weaker, filter_passes}
 use Rattle.ckpt_types.specs.declared.ais_error.AisError.{AisError}
 use Rattle.ckpt_types.specs.declared.ais_error.AisError.TheVariants.{BadHandle}
 use Rattle.ckpt_types.specs.declared.calls.CallbackSet.{CallbackSet}
+use Rattle.ckpt_types.specs.Limits.{places_max, iterations_max}
 use Rattle.section_iter.specs.KeptIds.{KeptIds}
-use Rattle.client_handles.specs.ClientState.{ClientState, new_client, handle_number, iteration_number, goes_over, handle_numbered, iteration_at, iterated_handle, kept_iteration, has_iteration_room, IsLent, released, emptied, next_iteration, added, with_kept, keeping, lent, returned, ended, IsOver, HasIterations}
+use Rattle.client_handles.specs.ClientState.{ClientState, new_client, handle_number, iteration_number, goes_over, handle_numbered, iteration_at, iterated_handle, kept_iteration, has_iteration_room, is_out, IsLent, released, emptied, next_iteration, added, with_kept, keeping, lent, returned, ended, IsOver, HasIterations}
 use Rattle.client_handles.specs.Numbered.{numbered, without}
 use Rattle.client_handles.specs.declared.begun.BegunIteration.{BegunIteration}
 use Rattle.client_handles.specs.declared.handle_view.HandleView.{HandleView}
@@ -62,9 +63,9 @@ kept_iteration-Ok place s kept told = kept_of kept (iteration_at place s) told
 
 module _ (place handle : ℕ) (kept : KeptIds) (s : ClientState) (has : HasIterations s) where
   -- the place stands for the new iteration
-  pub iteration_at-added_same : place < 100 → iteration_at place (added place handle kept s) ≡ Some (next_iteration handle kept s)
+  pub iteration_at-added_same : place < places_max → iteration_at place (added place handle kept s) ≡ Some (next_iteration handle kept s)
   iteration_at-added_same within =
-      let all : length s.iteration_places ≡ 100 = has.places in
+      let all : length s.iteration_places ≡ places_max = has.places in
       stands_for-set_same iteration_number s.iteration_places (added place handle kept s).iterations place (s.last_iteration + 1) (omega arith)
       ∙ numbered-push_same iteration_number (s.last_iteration + 1) s.iterations (next_iteration handle kept s) refl (numbered-high iteration_number (s.last_iteration + 1) 0 s.last_iteration s.iterations (omega arith) has.numbers)
 
@@ -171,7 +172,7 @@ iteration_at-returned_other place other kept s differs = numbered-keeping_other 
 pub IsLent-lent : (place : ℕ) (s : ClientState) (kept : KeptIds) → Ok kept ≡ kept_iteration place s → IsLent place (lent place s)
 IsLent-lent place s kept told =
     let (it, stands, is) = kept_iteration-Ok place s kept told in
-    subst (λ (o : Option BegunIteration). IsSomeAnd o (λ x. x.kept ≡ None)) (sym (iteration_at-lent place s ∙ ap (option_map (with_kept None)) stands)) refl
+    ap is_out (iteration_at-lent place s ∙ ap (option_map (with_kept None)) stands)
 
 -- ---- it always holds
 
@@ -206,7 +207,7 @@ differs_of a b passes e = let bad : false ≡ true = sym (ap not (eq-eqb a b e))
 pub HasIterations-released : (number : ℕ) (s : ClientState) → HasIterations s → HasIterations (released number s)
 HasIterations-released number s has =
     let keeps : BegunIteration → Bool = λ it. not (goes_over it == number) in
-    let few : length s.iterations ≤ 8 = has.few in
+    let few : length s.iterations ≤ iterations_max = has.few in
     record {
       few = omega (arith, length-filter_le iteration_number keeps s.iterations);
       numbers = RiseWithin-filter iteration_number keeps 0 s.last_iteration s.iterations has.numbers;
@@ -223,11 +224,11 @@ pub HasIterations-emptied : (s : ClientState) → HasIterations s → HasIterati
 HasIterations-emptied s has = record { few = omega arith; numbers = tt; over_open = All-nil (IsOver []); places = has.places; given = has.given }
 
 -- with an iteration more, where there was room, over an open handle
-pub HasIterations-added : (place handle : ℕ) (kept : KeptIds) (s : ClientState) → place < 100 → IsSome (handle_numbered handle s.handles) → has_iteration_room s ≡ true → HasIterations s → HasIterations (added place handle kept s)
+pub HasIterations-added : (place handle : ℕ) (kept : KeptIds) (s : ClientState) → place < places_max → IsSome (handle_numbered handle s.handles) → has_iteration_room s ≡ true → HasIterations s → HasIterations (added place handle kept s)
 HasIterations-added place handle kept s within opened room has =
     let it : BegunIteration = next_iteration handle kept s in
-    let few : length s.iterations < 8 = ltb-true (length s.iterations) 8 room in
-    let all : length s.iteration_places ≡ 100 = has.places in
+    let few : length s.iterations < iterations_max = ltb-true (length s.iterations) iterations_max room in
+    let all : length s.iteration_places ≡ places_max = has.places in
     record {
       few = omega (arith, length-append s.iterations (it ∷ []));
       numbers = RiseWithin-push iteration_number 0 s.last_iteration (s.last_iteration + 1) s.iterations it (omega arith) (omega arith) (omega arith) has.numbers;
@@ -242,7 +243,7 @@ HasIterations-added place handle kept s within opened room has =
 -- whatever is kept of the iteration of a number
 pub HasIterations-keeping : (kept : Option KeptIds) (number : ℕ) (s : ClientState) → HasIterations s → HasIterations (record s { iterations = keeping kept number s.iterations })
 HasIterations-keeping kept number s has =
-    let few : length s.iterations ≤ 8 = has.few in
+    let few : length s.iterations ≤ iterations_max = has.few in
     record {
       few = omega (arith, length-map s.iterations (changed_kept kept number));
       numbers = RiseWithin-map iteration_number (changed_kept kept number) (same_number kept number) 0 s.last_iteration s.iterations has.numbers;
@@ -256,7 +257,7 @@ HasIterations-keeping kept number s has =
 pub HasIterations-ended : (place : ℕ) (s : ClientState) → HasIterations s → HasIterations (ended place s)
 HasIterations-ended place s has =
     let keeps : BegunIteration → Bool = λ it. not (iteration_number it == slice_index s.iteration_places place) in
-    let few : length s.iterations ≤ 8 = has.few in
+    let few : length s.iterations ≤ iterations_max = has.few in
     record {
       few = omega (arith, length-filter_le iteration_number keeps s.iterations);
       numbers = RiseWithin-filter iteration_number keeps 0 s.last_iteration s.iterations has.numbers;

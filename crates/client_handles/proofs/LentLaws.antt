@@ -1,10 +1,9 @@
 -- No iteration is lent, before and after each call, and after one was lent and returned.
-use Rattle.std.proofs.Common.{◌≡◌, ℕ, ◌==◌, Bool, true, false, cond, Option, Some, None, IsSome, slice_index, refl, sym, subst}
-use Rattle.std.specs.Option.{IfSome}
+use Rattle.std.proofs.Common.{◌≡◌, ℕ, ◌==◌, Bool, true, false, not, cond, Option, Some, None, IsSome, slice_index, refl, sym, ap, subst}
 use Rattle.std.proofs.lemmas.List.Elements.{All-filter, All-map, All-nil, All-push, All-weaker}
 use Rattle.ckpt_types.specs.declared.calls.CallbackSet.{CallbackSet}
 use Rattle.section_iter.specs.KeptIds.{KeptIds}
-use Rattle.client_handles.specs.ClientState.{ClientState, new_client, iteration_number, iteration_at, next_iteration, released, emptied, added, with_kept, keeping, lent, returned, ended, IsNotLent, NoneLent}
+use Rattle.client_handles.specs.ClientState.{ClientState, new_client, iteration_number, iteration_at, next_iteration, released, emptied, added, with_kept, keeping, lent, returned, ended, is_out, IsNotLent, NoneLent}
 use Rattle.client_handles.specs.declared.begun.BegunIteration.{BegunIteration}
 use Rattle.client_handles.proofs.NumberedLaws.{numbered-All}
 
@@ -26,13 +25,13 @@ NoneLent-ended place s none = All-filter _ IsKept s.iterations none
 pub NoneLent-added : (place handle : ℕ) (kept : KeptIds) (s : ClientState) → NoneLent s → NoneLent (added place handle kept s)
 NoneLent-added place handle kept s none = All-push IsKept s.iterations (next_iteration handle kept s) none refl
 
-if_some : (o : Option BegunIteration) → ((it : BegunIteration) → o ≡ Some it → IsKept it) → IfSome o IsKept
-if_some None found = tt
-if_some (Some it) found = found it refl
+is_out-kept : (o : Option BegunIteration) → ((it : BegunIteration) → o ≡ Some it → IsKept it) → is_out o ≡ false
+is_out-kept None found = refl
+is_out-kept (Some it) found = ap not (found it refl)
 
 -- so each may be lent
 pub IsNotLent-none : (place : ℕ) (s : ClientState) → NoneLent s → IsNotLent place s
-IsNotLent-none place s none = if_some (iteration_at place s) (λ it found. numbered-All iteration_number IsKept (slice_index s.iteration_places place) s.iterations it none found)
+IsNotLent-none place s none = is_out-kept (iteration_at place s) (λ it found. numbered-All iteration_number IsKept (slice_index s.iteration_places place) s.iterations it none found)
 
 kept_again : (kept : KeptIds) (number : ℕ) (it : BegunIteration) → IsKept it → (b : Bool) → (it.number == number) ≡ b →
     IsKept (cond (iteration_number (cond b (with_kept None it) it) == number) (with_kept (Some kept) (cond b (with_kept None it) it)) (cond b (with_kept None it) it))

@@ -7,6 +7,7 @@ use Rattle.std.proofs.lemmas.List.{append-nil, get_or-set_same, get_or-set_other
 use Rattle.std.proofs.lemmas.List.Elements.{All-head, All-tail, filter-append}
 use Rattle.std.proofs.lemmas.List.Folds.{find-append}
 use Rattle.std.proofs.lemmas.Option.{none-some, same_Some}
+use Rattle.ckpt_types.specs.Limits.{places_max}
 use Rattle.client_handles.specs.Numbered.{numbered, without, stands_for}
 
 or_none : {A : Type 0} (o : Option A) → option_or o None ≡ o
@@ -19,8 +20,8 @@ no_number (suc n) zero = refl
 no_number (suc n) (suc place) = no_number n place
 
 -- a place that was never set has the number 0
-pub slice_index-new : (place : ℕ) → slice_index (replicate 100 0) place ≡ 0
-slice_index-new place = no_number 100 place
+pub slice_index-new : (place : ℕ) → slice_index (replicate places_max 0) place ≡ 0
+slice_index-new place = no_number places_max place
 
 module _ {A : Type 0} (number_of : A → ℕ) where
   -- ---- by number

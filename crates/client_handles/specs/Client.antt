@@ -1,7 +1,7 @@
 -- How a client keeps its handles: in a slab, where each place has the key and the number of one; and its
 -- iterations: in a list, where each place has the number of one.
 use Rattle.std.specs.Prelude.{◌≡◌, ℕ, ◌≤◌, length, map, Option, Some, None, vec_capacity}
-use Rattle.ckpt_types.specs.Limits.{handles_max, places_max}
+use Rattle.ckpt_types.specs.Limits.{handles_max, places_max, iterations_max}
 use Rattle.slab.specs.Slab.{slab_len}
 use Rattle.client_handles.specs.ClientState.{ClientState, HasIterations}
 use Rattle.client_handles.specs.Kept.{handles_up_to, AreNumbered, HaveKeys}
@@ -24,13 +24,13 @@ client_of c = record {
   iteration_places = c.iteration_places;
 }
 
--- there is room for 32 handles and 8 iterations, and handles and places have their numbers and keys
+-- there is room for all handles and iterations that a client may have, and handles and places have their numbers and keys
 pub record IsSound (c : Inside) : Type 0 where
-  pub room : 32 ≤ c.handles.capacity
+  pub room : handles_max ≤ c.handles.capacity
   pub few : slab_len c.handles ≤ handles_max
   pub counted : slab_len c.handles ≡ length (handles_up_to c.last_number c.handles.slots)
   pub numbers : AreNumbered c.last_number c.handles
   pub keys : HaveKeys c.last_number c.handles c.places
   pub places : length c.places ≡ places_max
-  pub iteration_room : 8 ≤ vec_capacity c.iterations
+  pub iteration_room : iterations_max ≤ vec_capacity c.iterations
   pub iterations : HasIterations (client_of c)

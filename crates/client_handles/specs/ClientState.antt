@@ -1,5 +1,5 @@
 -- What a client keeps, as its callers see it, and what each call makes of it.
-use Rattle.std.specs.Prelude.{◌≡◌, ℕ, ◌+◌, ◌≤◌, Bool, ◌==◌, nat_lt, if◌then◌else◌, List, [], ◌∷◌, ◌++◌, length, map, replicate, slice_index, slice_set, Option, Some, None, IsSome, IfSome, IsSomeAnd, Result, Ok, Err}
+use Rattle.std.specs.Prelude.{◌≡◌, ℕ, ◌+◌, ◌-◌, ◌^◌, ◌≤◌, Bool, false, IsTrue, IsFalse, ◌==◌, nat_lt, if◌then◌else◌, List, [], ◌∷◌, ◌++◌, length, map, replicate, slice_index, slice_set, Option, Some, None, is_none, IsSome, Result, Ok, Err}
 use Rattle.std.specs.List.{All}
 use Rattle.std.specs.Option.{option_map, option_and_then, ok_or}
 use Rattle.ckpt_types.specs.declared.ais_error.AisError.{AisError}
@@ -34,10 +34,10 @@ new_client callbacks = record {
   callbacks = callbacks;
   last_number = 0;
   handles = [];
-  places = replicate 100 0;
+  places = replicate places_max 0;
   last_iteration = 0;
   iterations = [];
-  iteration_places = replicate 100 0;
+  iteration_places = replicate places_max 0;
 }
 
 -- the numbers by which they are told apart
@@ -57,7 +57,7 @@ goes_over it = it.handle
 abbrev pub handle_numbered : ℕ → List HandleView → Option HandleView
 handle_numbered number handles = numbered handle_number number handles
 
--- the handle for which a place stands: none where it was never set, or the handle was closed
+-- the handle for which a place stands: none where there is no such place, it was never set, or the handle was closed
 abbrev pub handle_at : ℕ → ClientState → Option HandleView
 handle_at place s = stands_for handle_number s.places s.handles place
 
@@ -65,17 +65,21 @@ handle_at place s = stands_for handle_number s.places s.handles place
 abbrev pub named_handle : ℕ → ClientState → Result HandleView AisError
 named_handle place s = ok_or (handle_at place s) BadHandle
 
--- fewer than 32 handles are open
+-- fewer handles are open than a client may have
 abbrev pub has_handle_room : ClientState → Bool
-has_handle_room s = nat_lt (length s.handles) 32
+has_handle_room s = nat_lt (length s.handles) handles_max
+
+-- the number after the last one has 32 bits, so one handle more may be taken
+abbrev pub has_handle_numbers : ClientState → Bool
+has_handle_numbers s = nat_lt s.last_number (2 ^ 32 - 1)
 
 -- the number after the last one, else the count of those that are open
 abbrev pub taken_number : ClientState → Result ℕ Count
-taken_number s = if has_handle_room s then Ok (s.last_number + 1) else Err (record { count = 32 })
+taken_number s = if has_handle_room s then Ok (s.last_number + 1) else Err (record { count = handles_max })
 
 -- ---- what is told of iterations
 
--- the iteration for which a place stands: none where it was never set, or the iteration has ended
+-- the iteration for which a place stands: none where there is no such place, it was never set, or the iteration has ended
 abbrev pub iteration_at : ℕ → ClientState → Option BegunIteration
 iteration_at place s = stands_for iteration_number s.iteration_places s.iterations place
 
@@ -87,25 +91,38 @@ iterated_handle place s = ok_or (option_and_then (λ (it : BegunIteration). hand
 abbrev pub kept_iteration : ℕ → ClientState → Result KeptIds AisError
 kept_iteration place s = ok_or (option_and_then (λ (it : BegunIteration). it.kept) (iteration_at place s)) BadHandle
 
--- nothing of it is kept: it is lent
-abbrev pub IsLent : ℕ → ClientState → Type 0
-IsLent place s = IsSomeAnd (iteration_at place s) (λ it. it.kept ≡ None)
+-- it is there, and nothing of it is kept: it is lent
+abbrev pub is_out : Option BegunIteration → Bool
+is_out None = false
+is_out (Some it) = is_none it.kept
 
--- where the place stands for an iteration, that one is kept
+-- the place stands for an iteration that is lent
+abbrev pub is_lent : ℕ → ClientState → Bool
+is_lent place s = is_out (iteration_at place s)
+
+-- it does
+abbrev pub IsLent : ℕ → ClientState → Type 0
+IsLent place s = IsTrue (is_lent place s)
+
+-- it does not: the place stands for none, or for one that is kept
 abbrev pub IsNotLent : ℕ → ClientState → Type 0
-IsNotLent place s = IfSome (iteration_at place s) (λ it. IsSome it.kept)
+IsNotLent place s = IsFalse (is_lent place s)
 
 -- no iteration is lent
 abbrev pub NoneLent : ClientState → Type 0
 NoneLent s = All (λ (it : BegunIteration). IsSome it.kept) s.iterations
 
--- fewer than 8 iterations were begun
+-- fewer iterations were begun than a client may have
 abbrev pub has_iteration_room : ClientState → Bool
-has_iteration_room s = nat_lt (length s.iterations) 8
+has_iteration_room s = nat_lt (length s.iterations) iterations_max
+
+-- the number after the last one has 32 bits, so one iteration more may be begun
+abbrev pub has_iteration_numbers : ClientState → Bool
+has_iteration_numbers s = nat_lt s.last_iteration (2 ^ 32 - 1)
 
 -- one more was begun, else the count of those that were
 abbrev pub added_answer : ClientState → Result (Unit {0}) Count
-added_answer s = if has_iteration_room s then Ok tt else Err (record { count = 8 })
+added_answer s = if has_iteration_room s then Ok tt else Err (record { count = iterations_max })
 
 -- the place stood for an iteration, else BAD_HANDLE
 abbrev pub ended_answer : ℕ → ClientState → Result (Unit {0}) AisError
@@ -180,7 +197,7 @@ ended place s = record s { iterations = without iteration_number (slice_index s.
 abbrev pub IsOver : List HandleView → BegunIteration → Type 0
 IsOver handles it = IsSome (handle_numbered (goes_over it) handles)
 
--- at most 8 iterations were begun, each later than those before it, over handles that are open; a place
+-- no more iterations were begun than a client may have, each later than those before it, over handles that are open; a place
 -- was set to no number that was not given
 pub record HasIterations (s : ClientState) : Type 0 where
   pub few : length s.iterations ≤ iterations_max
@@ -189,7 +206,7 @@ pub record HasIterations (s : ClientState) : Type 0 where
   pub places : length s.iteration_places ≡ places_max
   pub given : (place : ℕ) → slice_index s.iteration_places place ≤ s.last_iteration
 
--- at most 32 handles are open, each taken later than those before it; a place was set to no number that
+-- no more handles are open than a client may have, each taken later than those before it; a place was set to no number that
 -- was not given; and so it is with iterations
 pub record IsValid (s : ClientState) : Type 0 where
   pub few : length s.handles ≤ handles_max

@@ -1,7 +1,7 @@
 ghost use Rattle.std.specs.Prelude.{◌≡◌, ◌<◌, ◌≤◌, [], None, Some, IfNone, IfOk, IfSome, IsSomeAnd, length, slice_get, slice_set, vec_capacity};
 ghost use Rattle.std.specs.Option.{option_map};
 ghost use Rattle.ckpt_types.specs.Limits.{iterations_max};
-ghost use Rattle.client_handles.specs.ClientState.{iteration_number, goes_over, with_kept};
+ghost use Rattle.client_handles.specs.ClientState.{iteration_number, goes_over, is_out, with_kept};
 ghost use Rattle.client_handles.specs.Numbered.{numbered, without};
 
 use ckpt_types::ITERATIONS_MAX;
@@ -45,6 +45,18 @@ pub(crate) fn handle_over(begun: &[BegunIteration], number: u32) -> Option<u32>
     None
 }
 
+/// Whether the iteration of that number is there, and nothing of it is kept.
+pub(crate) fn out_of(begun: &[BegunIteration], number: u32) -> bool
+    ensures { result ≡ is_out (numbered iteration_number number begun.now) }
+{
+    for it in begun {
+        if it.number == number {
+            return it.kept.is_none();
+        }
+    }
+    false
+}
+
 /// Takes out what is kept there, and keeps nothing.
 pub(crate) fn take_kept(begun: &mut Vec<BegunIteration>, at: usize) -> Option<Iteration>
     requires { at < length begun.old.items }
@@ -82,14 +94,14 @@ pub(crate) fn end_all(begun: &mut Vec<BegunIteration>)
     begun.clear();
 }
 
-/// A copy of them, with room for 8.
+/// A copy of them, with room for all that a client may have.
 pub(crate) fn copy_of_begun(
     alloc: Global,
     begun: &[BegunIteration],
 ) -> Result<Vec<BegunIteration>, AllocError>
     requires { length begun.now ≤ iterations_max }
     ensures items { IfOk result (λ copy. copy.items ≡ begun.now) }
-    ensures capacity { IfOk result (λ copy. 8 ≤ vec_capacity copy) }
+    ensures capacity { IfOk result (λ copy. iterations_max ≤ vec_capacity copy) }
 {
     let mut copy = Vec::with_capacity(alloc, ITERATIONS_MAX)?;
     for it in begun {

@@ -1,13 +1,14 @@
-ghost use Rattle.std.specs.Prelude.{◌≡◌, ◌-◌, ◌^◌, ◌<◌, IfOk, OnOk, OnErr, IsSome};
+ghost use Rattle.std.specs.Prelude.{◌≡◌, ◌<◌, IfOk, OnOk, OnErr, IsSome, IsTrue};
 ghost use Rattle.ckpt_types.specs.Limits.{places_max};
-ghost use Rattle.client_handles.specs.ClientState.{handle_numbered, named_handle, has_handle_room, new_client, taken, taken_number, released, bound, dropped, emptied, IsValid};
-ghost use Rattle.client_handles.specs.ClientState.{iterated_handle, kept_iteration, IsLent, IsNotLent, has_iteration_room, added, added_answer, lent, returned, ended, ended_answer};
+ghost use Rattle.client_handles.specs.ClientState.{handle_numbered, named_handle, has_handle_room, has_handle_numbers, new_client, taken, taken_number, released, bound, dropped, emptied, IsValid};
+ghost use Rattle.client_handles.specs.ClientState.{iterated_handle, kept_iteration, IsLent, IsNotLent, is_lent, has_iteration_room, has_iteration_numbers, added, added_answer, lent, returned, ended, ended_answer};
 
 use crate::begun::{
-    BegunIteration, copy_of_begun, end_all, end_over, handle_over, keep, place_of, take_kept,
+    BegunIteration, copy_of_begun, end_all, end_over, handle_over, keep, out_of, place_of,
+    take_kept,
 };
 use crate::handle_view::HandleView;
-use crate::kept::{Bound, copy_of, handle_of, handle_under, key_of, no_places};
+use crate::kept::{Bound, copy_of, handle_of, handle_under, key_of, no_places, number_at, set_at};
 use ckpt_types::{
     AisError, CallbackSet, CkptId, Count, HANDLES_MAX, ITERATIONS_MAX, OpenFlags, PLACES_MAX,
 };
@@ -46,8 +47,8 @@ impl Model for Client {
 }
 
 impl Client {
-    /// A client with no handle, with room for 32 handles and 8 iterations. Of the later calls only `copy`
-    /// takes memory.
+    /// A client with no handle, with room for `HANDLES_MAX` handles and `ITERATIONS_MAX` iterations. Of the
+    /// later calls only `copy` takes memory.
     pub fn new(alloc: Global, callbacks: CallbackSet) -> Result<Client, AllocError>
         ensures { IfOk result (λ client. client ≡ new_client callbacks) }
     {
@@ -69,20 +70,26 @@ impl Client {
         self.callbacks
     }
 
-    /// The handle for which a place stands. `BadHandle` where the place was never set, or the handle was
-    /// closed.
+    /// The handle for which a place stands. `BadHandle` where there is no such place, it was never set, or
+    /// the handle was closed.
     pub fn handle(&self, place: u8) -> Result<HandleView, AisError>
-        requires { place < places_max }
         ensures answer { result ≡ named_handle place self.now }
         ensures valid { IsValid self.now }
     {
-        let Some(set) = self.places[place as usize] else {
+        let Some(set) = set_at(&self.places, place) else {
             return Err(AisError::BadHandle);
         };
         match handle_under(&self.handles, set.key, set.number) {
             Some(handle) => Ok(handle),
             None => Err(AisError::BadHandle),
         }
+    }
+
+    /// The open handle of that number.
+    pub fn handle_numbered(&self, handle: u32) -> Option<HandleView>
+        ensures { result ≡ handle_numbered handle self.now.handles }
+    {
+        handle_of(&self.handles, handle)
     }
 
     /// Whether one handle more may be open.
@@ -93,6 +100,13 @@ impl Client {
         self.handles.len() < HANDLES_MAX
     }
 
+    /// Whether one handle more has a number: none is given twice.
+    pub fn handle_numbers_left(&self) -> bool
+        ensures { result ≡ has_handle_numbers self.now }
+    {
+        self.last_number < u32::MAX
+    }
+
     /// Whether one iteration more may be begun.
     pub fn iteration_room(&self) -> bool
         ensures { result ≡ has_iteration_room self.now }
@@ -100,15 +114,22 @@ impl Client {
         self.iterations.len() < ITERATIONS_MAX
     }
 
-    /// Opens one handle more, for which no place stands yet, and tells its number, the next one. Where 32
-    /// are open the answer is that count, and nothing changes.
+    /// Whether one iteration more has a number: none is given twice.
+    pub fn iteration_numbers_left(&self) -> bool
+        ensures { result ≡ has_iteration_numbers self.now }
+    {
+        self.last_iteration < u32::MAX
+    }
+
+    /// Opens one handle more, for which no place stands yet, and tells its number, the next one. Where
+    /// `HANDLES_MAX` are open the answer is that count, and nothing changes.
     pub fn take_handle(
         &mut self,
         id: CkptId,
         flags: OpenFlags,
         creation_flags: u32,
     ) -> Result<u32, Count>
-        requires { self.old.last_number < 2 ^ 32 - 1 }
+        requires { IsTrue (has_handle_numbers self.old) }
         ensures answer { result ≡ taken_number self.old }
         ensures taken { OnOk result (self.new ≡ taken id flags creation_flags self.old) }
         ensures unchanged { OnErr result (self.new ≡ self.old) }
@@ -157,7 +178,6 @@ impl Client {
     /// Closes the handle for which a place stands, tells it, and ends the iterations over it. `BadHandle`
     /// where it stands for none, and then nothing changes.
     pub fn drop_handle(&mut self, place: u8) -> Result<HandleView, AisError>
-        requires { place < places_max }
         ensures answer { result ≡ named_handle place self.old }
         ensures dropped { self.new ≡ dropped place self.old }
     {
@@ -166,14 +186,13 @@ impl Client {
         Ok(handle)
     }
 
-    /// The handle over which the iteration goes for which a place stands. `BadHandle` where the place was
-    /// never set, or the iteration has ended.
+    /// The handle over which the iteration goes for which a place stands. `BadHandle` where there is no such
+    /// place, it was never set, or the iteration has ended.
     pub fn iteration_handle(&self, place: u8) -> Result<HandleView, AisError>
-        requires { place < places_max }
         ensures answer { result ≡ iterated_handle place self.now }
         ensures valid { IsValid self.now }
     {
-        let number = self.iteration_places[place as usize];
+        let number = number_at(&self.iteration_places, place);
         let Some(handle) = handle_over(self.iterations.as_slice(), number) else {
             return Err(AisError::BadHandle);
         };
@@ -183,16 +202,23 @@ impl Client {
         Ok(opened)
     }
 
+    /// Whether a place stands for an iteration that is lent.
+    pub fn is_lent(&self, place: u8) -> bool
+        ensures { result ≡ is_lent place self.now }
+    {
+        let number = number_at(&self.iteration_places, place);
+        out_of(self.iterations.as_slice(), number)
+    }
+
     /// Lends the iteration for which a place stands, and which is not lent. The place goes on to stand for
     /// it. `BadHandle` where the place stands for none, and then nothing changes.
     pub fn lend_iteration(&mut self, place: u8) -> Result<Iteration, AisError>
-        requires place { place < places_max }
         requires not_lent { IsNotLent place self.old }
         ensures answer { result ≡ kept_iteration place self.old }
         ensures lent { OnOk result (self.new ≡ lent place self.old) }
         ensures unchanged { OnErr result (self.new ≡ self.old) }
     {
-        let number = self.iteration_places[place as usize];
+        let number = number_at(&self.iteration_places, place);
         let Some(at) = place_of(self.iterations.as_slice(), number) else {
             return Err(AisError::BadHandle);
         };
@@ -216,7 +242,8 @@ impl Client {
     }
 
     /// Begins one iteration more, over an open handle, and lets a place stand for it. Another iteration for
-    /// which it stood before goes on. Where 8 were begun the answer is that count, and nothing changes.
+    /// which it stood before goes on. Where `ITERATIONS_MAX` were begun the answer is that count, and nothing
+    /// changes.
     pub fn add_iteration(
         &mut self,
         place: u8,
@@ -225,7 +252,7 @@ impl Client {
     ) -> Result<(), Count>
         requires place { place < places_max }
         requires opened { IsSome (handle_numbered handle self.old.handles) }
-        requires number { self.old.last_iteration < 2 ^ 32 - 1 }
+        requires number { IsTrue (has_iteration_numbers self.old) }
         ensures answer { result ≡ added_answer self.old }
         ensures added { OnOk result (self.new ≡ added place handle iteration self.old) }
         ensures unchanged { OnErr result (self.new ≡ self.old) }
@@ -248,12 +275,11 @@ impl Client {
     /// Ends the iteration for which a place stands. `BadHandle` where it stands for none, and then nothing
     /// changes.
     pub fn end_iteration(&mut self, place: u8) -> Result<(), AisError>
-        requires { place < places_max }
         ensures answer { result ≡ ended_answer place self.old }
         ensures ended { OnOk result (self.new ≡ ended place self.old) }
         ensures unchanged { OnErr result (self.new ≡ self.old) }
     {
-        let number = self.iteration_places[place as usize];
+        let number = number_at(&self.iteration_places, place);
         let Some(at) = place_of(self.iterations.as_slice(), number) else {
             return Err(AisError::BadHandle);
         };

@@ -1,4 +1,5 @@
-ghost use Rattle.std.specs.Prelude.{◌≡◌, ◌≢◌, ◌≤◌, ℕ, None, Some, replicate, IfNone, IfOk, IfSome, IsSomeAnd};
+ghost use Rattle.std.specs.Prelude.{◌≡◌, ◌≢◌, ◌≤◌, ℕ, None, Some, replicate, slice_index, slice_index_or, IfNone, IfOk, IfSome, IsSomeAnd};
+ghost use Rattle.ckpt_types.specs.Limits.{places_max};
 ghost use Rattle.slab.specs.Slab.{get, slab_len};
 ghost use Rattle.client_handles.specs.Kept.{where_numbered};
 ghost use Rattle.client_handles.specs.declared.handle_view.HandleView.{HandleView};
@@ -20,9 +21,31 @@ pub(crate) struct Bound {
 
 /// Places of which none was set.
 pub(crate) fn no_places() -> [Option<Bound>; PLACES_MAX]
-    ensures { result ≡ replicate 100 None }
+    ensures { result ≡ replicate places_max None }
 {
     [None; PLACES_MAX]
+}
+
+/// To what a place was set. None where there is no such place.
+pub(crate) fn set_at(places: &[Option<Bound>; PLACES_MAX], place: u8) -> Option<Bound>
+    ensures { result ≡ slice_index_or places.now place None }
+{
+    if (place as usize) < PLACES_MAX {
+        places[place as usize]
+    } else {
+        None
+    }
+}
+
+/// The number to which a place was set. 0 where there is no such place.
+pub(crate) fn number_at(numbers: &[u32; PLACES_MAX], place: u8) -> u32
+    ensures { result ≡ slice_index numbers.now place }
+{
+    if (place as usize) < PLACES_MAX {
+        numbers[place as usize]
+    } else {
+        0
+    }
 }
 
 /// The handle under a key, where it has that number.

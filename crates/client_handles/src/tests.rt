@@ -4,7 +4,7 @@ ghost use Rattle.std.specs.Prelude.{◌≡◌, ◌+◌, ◌-◌, ◌^◌, ◌<�
 ghost use Rattle.ckpt_types.specs.Limits.{places_max};
 
 use crate::{Client, HandleView};
-use ckpt_types::{AisError, CallbackSet, CkptId, Count, OpenFlags, WR_ALL_REPLICAS};
+use ckpt_types::{AisError, CallbackSet, CkptId, Count, OpenFlags, PLACES_MAX, WR_ALL_REPLICAS};
 use std::test::Fail;
 
 const NO_CALLBACKS: CallbackSet = CallbackSet {
@@ -42,6 +42,11 @@ fn told(answer: Result<HandleView, AisError>) -> Option<(CkptId, u32)> {
     }
 }
 
+/// The checkpoint of the handle of that number.
+fn told_by_number(client: &Client, number: u32) -> Option<CkptId> {
+    Some(client.handle_numbered(number)?.id)
+}
+
 fn open_at(client: &mut Client, place: u8, id: CkptId) -> Option<(CkptId, u32)>
     requires place { place < places_max }
     requires number { client.old.last_number < 2 ^ 32 - 1 }
@@ -56,8 +61,7 @@ fn open_at(client: &mut Client, place: u8, id: CkptId) -> Option<(CkptId, u32)>
 }
 
 fn set_at(client: &mut Client, place: u8, from: u8) -> Option<(CkptId, u32)>
-    requires place { place < places_max }
-    requires from { from < 100 }
+    requires { place < places_max }
     ensures { client.new.last_number ≡ client.old.last_number }
 {
     let Ok(handle) = client.handle(from) else {
@@ -68,14 +72,13 @@ fn set_at(client: &mut Client, place: u8, from: u8) -> Option<(CkptId, u32)>
 }
 
 fn do_at(client: &mut Client, place: u8, what: Act) -> Option<(CkptId, u32)>
-    requires place { place < places_max }
-    requires number { client.old.last_number < 2 ^ 32 - 1 }
+    requires { client.old.last_number < 2 ^ 32 - 1 }
     ensures { client.new.last_number ≤ client.old.last_number + 1 }
 {
     match what {
-        Act::Open(id) => open_at(client, place, id),
-        Act::Set(from) if from < 100 => set_at(client, place, from),
-        Act::Set(_from) => None,
+        Act::Open(id) if (place as usize) < PLACES_MAX => open_at(client, place, id),
+        Act::Set(from) if (place as usize) < PLACES_MAX => set_at(client, place, from),
+        Act::Open(_) | Act::Set(_) => None,
         Act::Look => told(client.handle(place)),
         Act::Close => told(client.drop_handle(place)),
     }
@@ -87,7 +90,7 @@ fn play(client: &mut Client, rows: &[Row<'_>]) -> Result<(), Fail>
     ensures { client.new.last_number ≤ client.old.last_number + length rows.now }
 {
     for (says, place, what, wanted) in rows {
-        if *place >= 100 || do_at(client, *place, *what) != *wanted {
+        if do_at(client, *place, *what) != *wanted {
             return Err(Fail::new(*says));
         }
     }
@@ -96,7 +99,7 @@ fn play(client: &mut Client, rows: &[Row<'_>]) -> Result<(), Fail>
 
 /// Opens handles of the checkpoint 7 at the places from 0 on, with the numbers from 1 on.
 fn fill(client: &mut Client, count: u8) -> Result<(), Fail>
-    requires count { count ≤ 100 }
+    requires count { count ≤ places_max }
     requires number { client.old.last_number ≡ 0 }
     ensures { client.new.last_number ≤ count }
 {
@@ -119,6 +122,7 @@ fn thirty_two_handles_are_open_at_most(rt: HostRuntime) -> Result<(), Fail> {
         &[("the 32nd is given", 31, Act::Open(7), Some((7, 32)))],
     )?;
     assert!(rt; !client.handle_room(), "32 are open");
+    assert!(rt; client.handle_numbers_left(), "though there are numbers");
     assert_eq!(rt; client.take_handle(9, READS, 1), Err(Count { count: 32 }));
     play(
         &mut client,
@@ -150,6 +154,10 @@ fn a_place_stands_for_the_handle_that_it_was_set_to_last(rt: HostRuntime) -> Res
             ("h99 for the second", 99, Act::Look, Some((4, 2))),
             ("h1 for none", 1, Act::Look, None),
             ("h98 for none", 98, Act::Look, None),
+            ("there is no h100", 100, Act::Look, None),
+            ("nothing is closed there", 100, Act::Close, None),
+            ("nor is there a last one", 255, Act::Look, None),
+            ("h50 is not set to it", 50, Act::Set(100), None),
             (
                 "h50 is set to the first, too",
                 50,
@@ -196,7 +204,10 @@ fn a_handle_that_was_given_back_is_gone_and_its_number_too(rt: HostRuntime) -> R
     let mut client = Client::new(rt.alloc(), NO_CALLBACKS)?;
     fill(&mut client, 2)?;
     assert_eq!(rt; client.take_handle(9, READS, WR_ALL_REPLICAS), Ok(3));
+    assert_eq!(rt; told_by_number(&client, 3), Some(9));
     client.release(3);
+    assert_eq!(rt; told_by_number(&client, 3), None);
+    assert_eq!(rt; told_by_number(&client, 2), Some(7));
     client.release(4);
     client.release(0);
     play(
@@ -241,7 +252,7 @@ fn a_handle_tells_what_it_was_taken_with(rt: HostRuntime) -> Result<(), Fail> {
 
 /// What comes after 30 handles of `fill`, of which the fifth was closed, and one more at h60.
 fn goes_on(client: &mut Client) -> Result<(), Fail>
-    requires { client.old.last_number ≤ 100 }
+    requires { client.old.last_number ≤ 1000 }
 {
     play(
         client,

@@ -4,7 +4,7 @@ ghost use Rattle.client_handles.specs.ClientState.{IsLent, NoneLent};
 
 use super::{NO_CALLBACKS, READS};
 use crate::Client;
-use ckpt_types::{AisError, Count, CreationAttributes, WR_ALL_REPLICAS};
+use ckpt_types::{AisError, Count, CreationAttributes, PLACES_MAX, WR_ALL_REPLICAS};
 use section_iter::Iteration;
 use std::alloc::{AllocError, Global};
 use std::test::Fail;
@@ -46,7 +46,7 @@ fn iteration_of(alloc: Global, room: u32) -> Result<Iteration, AllocError> {
 }
 
 fn open(client: &mut Client, from: u8) -> Option<u32>
-    requires place { from < 100 }
+    requires place { from < places_max }
     requires handles { client.old.last_number < 1000 }
     requires kept { NoneLent client.old }
     ensures handles { client.new.last_number ≤ client.old.last_number + 1 }
@@ -63,7 +63,6 @@ fn open(client: &mut Client, from: u8) -> Option<u32>
 
 fn begin_at(client: &mut Client, place: u8, from: u8, iteration: Iteration) -> Option<u32>
     requires place { place < places_max }
-    requires from { from < 100 }
     requires iterations { client.old.last_iteration < 1000 }
     requires kept { NoneLent client.old }
     ensures handles { client.new.last_number ≡ client.old.last_number }
@@ -80,9 +79,7 @@ fn begin_at(client: &mut Client, place: u8, from: u8, iteration: Iteration) -> O
     }
 }
 
-fn whose(client: &Client, place: u8) -> Option<u32>
-    requires { place < places_max }
-{
+fn whose(client: &Client, place: u8) -> Option<u32> {
     match client.iteration_handle(place) {
         Ok(handle) => Some(handle.handle),
         Err(_none) => None,
@@ -90,8 +87,7 @@ fn whose(client: &Client, place: u8) -> Option<u32>
 }
 
 fn pass_at(client: &mut Client, place: u8) -> Option<u32>
-    requires place { place < places_max }
-    requires kept { NoneLent client.old }
+    requires { NoneLent client.old }
     ensures handles { client.new.last_number ≡ client.old.last_number }
     ensures iterations { client.new.last_iteration ≡ client.old.last_iteration }
     ensures kept { NoneLent client.new }
@@ -105,8 +101,7 @@ fn pass_at(client: &mut Client, place: u8) -> Option<u32>
 }
 
 fn end_at(client: &mut Client, place: u8) -> Option<u32>
-    requires place { place < places_max }
-    requires kept { NoneLent client.old }
+    requires { NoneLent client.old }
     ensures handles { client.new.last_number ≡ client.old.last_number }
     ensures iterations { client.new.last_iteration ≡ client.old.last_iteration }
     ensures kept { NoneLent client.new }
@@ -118,8 +113,7 @@ fn end_at(client: &mut Client, place: u8) -> Option<u32>
 }
 
 fn close_at(client: &mut Client, from: u8) -> Option<u32>
-    requires place { from < 100 }
-    requires kept { NoneLent client.old }
+    requires { NoneLent client.old }
     ensures handles { client.new.last_number ≡ client.old.last_number }
     ensures iterations { client.new.last_iteration ≡ client.old.last_iteration }
     ensures kept { NoneLent client.new }
@@ -136,7 +130,6 @@ fn do_at(
     place: u8,
     what: Act,
 ) -> Result<Option<u32>, AllocError>
-    requires place { place < places_max }
     requires handles { client.old.last_number < 1000 }
     requires iterations { client.old.last_iteration < 1000 }
     requires kept { NoneLent client.old }
@@ -145,11 +138,11 @@ fn do_at(
     ensures kept { NoneLent client.new }
 {
     match what {
-        Act::Open(from) if from < 100 => Ok(open(client, from)),
-        Act::Begin(from, room) if from < 100 => {
+        Act::Open(from) if (from as usize) < PLACES_MAX => Ok(open(client, from)),
+        Act::Begin(from, room) if (place as usize) < PLACES_MAX => {
             Ok(begin_at(client, place, from, iteration_of(alloc, room)?))
         }
-        Act::Close(from) if from < 100 => Ok(close_at(client, from)),
+        Act::Close(from) => Ok(close_at(client, from)),
         Act::Whose => Ok(whose(client, place)),
         Act::Pass => Ok(pass_at(client, place)),
         Act::End => Ok(end_at(client, place)),
@@ -167,7 +160,7 @@ fn play(alloc: Global, client: &mut Client, rows: &[Row<'_>]) -> Result<(), Fail
     ensures kept { NoneLent client.new }
 {
     for (says, place, what, wanted) in rows {
-        if *place >= 100 || do_at(alloc, client, *place, *what)? != *wanted {
+        if do_at(alloc, client, *place, *what)? != *wanted {
             return Err(Fail::new(*says));
         }
     }
@@ -198,6 +191,7 @@ fn eight_iterations_are_begun_at_most(rt: HostRuntime) -> Result<(), Fail> {
         &[("the eighth", 7, Act::Begin(0, 8), Some(8))],
     )?;
     assert!(rt; !client.iteration_room(), "8 were begun");
+    assert!(rt; client.iteration_numbers_left(), "though there are numbers");
     play(
         rt.alloc(),
         &mut client,
@@ -230,6 +224,9 @@ fn an_iteration_whose_place_was_set_again_still_counts(rt: HostRuntime) -> Resul
             ("i99 was never set", 99, Act::Whose, None),
             ("nothing is ended there", 99, Act::End, None),
             ("nothing is lent there", 99, Act::Pass, None),
+            ("there is no i100", 100, Act::Whose, None),
+            ("nothing is ended there", 100, Act::End, None),
+            ("nor lent", 100, Act::Pass, None),
             ("the first at i99", 99, Act::Begin(0, 1), Some(1)),
             ("the second", 99, Act::Begin(1, 2), Some(2)),
             ("i99 stands for it", 99, Act::Whose, Some(2)),
@@ -296,7 +293,6 @@ fn the_iterations_of_a_handle_end_with_it(rt: HostRuntime) -> Result<(), Fail> {
 /// Begins an iteration over the handle of a place, and lends it.
 fn lend_new(client: &mut Client, place: u8, from: u8, iteration: Iteration) -> Option<Iteration>
     requires place { place < places_max }
-    requires from { from < 100 }
     requires iterations { client.old.last_iteration < 1000 }
     requires kept { NoneLent client.old }
     ensures lent { IfSome result (λ it. IsLent place client.new) }
@@ -317,11 +313,15 @@ fn a_place_stands_for_an_iteration_that_is_lent(rt: HostRuntime) -> Result<(), F
         return Err(Fail::new("none was lent"));
     };
     assert_eq!(rt; lent.room(), 5);
+    assert!(rt; client.is_lent(3), "i3 is lent");
+    assert!(rt; !client.is_lent(4), "i4 stands for none");
+    assert!(rt; !client.is_lent(103), "there is no i103");
     assert_eq!(rt; whose(&client, 3), Some(1));
     assert_eq!(rt; whose(&client, 4), None);
     let mut copy = client.copy(rt.alloc())?;
     let again = lent.copy(rt.alloc())?;
     client.return_iteration(3, lent);
+    assert!(rt; !client.is_lent(3), "i3 was returned");
     assert_eq!(rt; whose(&client, 3), Some(1));
     copy.return_iteration(3, again);
     assert_eq!(rt; whose(&copy, 3), Some(1));

@@ -6,17 +6,17 @@ use Rattle.client_handles.proofs.client.Client.handle.Goals as goal
 
 pub returns-in_default-clause-answer : goal.returns-in_default-clause-answer
 returns-in_default-clause-answer c =
-    rw (← c.self.view_is) (ap (λ o. ok_or o BadHandle) (sym (handle_at-unset c.self.inside c.self.invariant c.args.place c.requires c.in_default.is)))
+    rw (← c.self.view_is) (ap (λ o. ok_or o BadHandle) (sym (handle_at-unset c.self.inside c.self.invariant c.args.place (sym c.set_at.ensures ∙ c.in_default.is))))
 
 pub returns-in-Some-handle_under-clause-answer : goal.returns-in-Some-handle_under-clause-answer
 returns-in-Some-handle_under-clause-answer c =
     rw (← c.self.view_is)
-    (ap (λ o. ok_or o BadHandle) (c.in-Some-handle_under.ensures ∙ sym (handle_at-set c.self.inside c.self.invariant c.args.place c.in-Some.set c.requires c.in-Some.is)))
+    (ap (λ o. ok_or o BadHandle) (c.in-Some-handle_under.ensures ∙ sym (handle_at-set c.self.inside c.self.invariant c.args.place c.in-Some.set (sym c.set_at.ensures ∙ c.in-Some.is))))
 
 pub returns-in-None-clause-answer : goal.returns-in-None-clause-answer
 returns-in-None-clause-answer c =
     rw (← c.self.view_is)
-    (ap (λ o. ok_or o BadHandle) (c.in-None.ensures ∙ sym (handle_at-set c.self.inside c.self.invariant c.args.place c.in-Some.set c.requires c.in-Some.is)))
+    (ap (λ o. ok_or o BadHandle) (c.in-None.ensures ∙ sym (handle_at-set c.self.inside c.self.invariant c.args.place c.in-Some.set (sym c.set_at.ensures ∙ c.in-Some.is))))
 
 pub returns-in_default-clause-valid : goal.returns-in_default-clause-valid
 returns-in_default-clause-valid c = rw (← c.self.view_is) (IsValid-shown c.self.inside c.self.invariant)

@@ -7,20 +7,20 @@ use Rattle.client_handles.proofs.client.Client.lend_iteration.Goals as goal
 
 pub unreachable-requires : goal.unreachable-requires
 unreachable-requires c =
-    let found = rw c.as_slice.ensures.value at c.in-Some.ensures.found in
+    let found = rw c.number_at-number.ensures at (rw c.as_slice.ensures.value at c.in-Some.ensures.found) in
     kept-not_lent c.self.inside c.self.invariant c.args.place c.in-Some.at found c.take_kept.result c.take_kept.ensures.kept (subst (IsNotLent c.args.place) (sym c.self.view_is) c.requires.not_lent) c.in_default-take_kept.is
 
 pub invariant_of-self : goal.invariant_of-self
 invariant_of-self c =
-    let found = rw c.as_slice.ensures.value at c.in-Some.ensures.found in
+    let found = rw c.number_at-number.ensures at (rw c.as_slice.ensures.value at c.in-Some.ensures.found) in
     IsSound-kept c.self.inside c.self.invariant c.args.place c.in-Some.at found None c.take_kept.new.begun c.take_kept.ensures.items c.take_kept.ensures.capacity
 
 pub returns-clause-answer : goal.returns-clause-answer
 returns-clause-answer c =
-    let found = rw c.as_slice.ensures.value at c.in-Some.ensures.found in
+    let found = rw c.number_at-number.ensures at (rw c.as_slice.ensures.value at c.in-Some.ensures.found) in
     rw (← c.self.view_is) (sym (ap (λ o. ok_or o BadHandle) c.in-Some-take_kept.is) ∙ kept_iteration-found c.self.inside c.self.invariant c.args.place c.in-Some.at found c.take_kept.result c.take_kept.ensures.kept)
 
 pub returns-clause-lent : goal.returns-clause-lent
 returns-clause-lent c =
-    let found = rw c.as_slice.ensures.value at c.in-Some.ensures.found in
+    let found = rw c.number_at-number.ensures at (rw c.as_slice.ensures.value at c.in-Some.ensures.found) in
     rw (← c.self.view_is) (client_of-kept c.self.inside c.self.invariant c.args.place c.in-Some.at found None c.take_kept.new.begun c.take_kept.ensures.items)
