@@ -130,6 +130,7 @@ module _ (m : Machine) (s : CallState) (k : ℕ) (t : ℤ) (inv : InvariantWith 
       hand = Some (record { state = record s { steps = stage_done ∷ s.steps }; driver = drivers.Update (staged_there s.call k m.cluster.moment) });
       holds = record {
         up = inv.up;
+        clients = inv.clients;
         rises = inv.rises;
         up_to = inv.up_to;
         swept = inv.swept;
@@ -222,6 +223,7 @@ module _ (m : Machine) (s : CallState) (k : ℕ) (t : ℤ) (inv : InvariantWith 
       hand = None;
       holds = record {
         up = inv.up;
+        clients = inv.clients;
         rises = inv.rises;
         up_to = inv.up_to;
         swept = inv.swept;

@@ -11,6 +11,7 @@ pub mod Going
 pub mod GoingOn
 pub mod Handles
 pub mod Held
+pub mod HoldingLaws
 pub mod IterationSteps
 pub mod Law
 pub mod LawActive
@@ -32,6 +33,7 @@ pub mod Look
 pub mod Maps
 pub mod Moving
 pub mod New
+pub mod OnceByKey
 pub mod Openers
 pub mod Openings
 pub mod Pieces

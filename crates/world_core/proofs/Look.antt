@@ -79,7 +79,7 @@ module _ (w : World) (h : History) (c : ℕ) (o : Outcome) (hand : InHand) (fact
       ∙ (λ i. record (machine_of (look_world w c hand o) later) { in_hand = λ a. hands a i })))
 
   fits_later : Fits (look_world w c hand o) later
-  fits_later = record { replicas = fits.replicas; reserved = fits.reserved; fresh = fits.fresh; hands = fits_hand h w.hands c hand None [] held tt fits.hands }
+  fits_later = record { replicas = fits.replicas; hands = fits_hand h w.hands c hand None [] held tt fits.hands }
 
 module _ (w : World) (c : ℕ) (o : Outcome) (hand : InHand) (held : hand_at w.hands c ≡ Some hand) (next : driver_next w.cluster (rooms_in w c) hand.driver ≡ End o) where
   look_does : Does w (look_world w c hand o) (look_label hand o)
@@ -89,6 +89,7 @@ module _ (w : World) (c : ℕ) (o : Outcome) (hand : InHand) (held : hand_at w.h
       history = later w s.history c o hand facts s.fits held next;
       same = ap (λ m. after m (look_label hand o)) s.same ∙ after_is w s.history c o hand facts s.fits held next;
       fits = fits_later w s.history c o hand facts s.fits held next;
+      holds = s.holds;
     };
   }
 

@@ -1,9 +1,11 @@
+pub mod RecordAsks
 pub mod RecordReady
 pub mod TableState
 pub mod TableView
 pub mod NewTable
 pub mod Serving
 pub mod Freeing
+pub mod Holding
 pub mod Reserving
 pub mod CallStates
 pub mod Driving
@@ -13,6 +15,7 @@ pub mod Beginning
 pub mod Steps
 pub mod HandSteps
 pub mod Shows
+pub mod Parts
 pub mod Settling
 pub mod Guards
 pub mod Invariant

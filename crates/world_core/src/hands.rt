@@ -49,6 +49,7 @@ pub struct Hands {
 
 impl Model for Hands {
     ghost use Rattle.std.specs.Prelude.{List, Option, length, ◌≡◌};
+    ghost use Rattle.ckpt_types.specs.Limits.{client_numbers};
     ghost use Rattle.world_core.specs.declared.hands.InHand.{InHand};
 
     ghost Value = { List (Option InHand) };

@@ -55,6 +55,7 @@ pub struct Nodes {
 
 impl Model for Nodes {
     ghost use Rattle.std.specs.Prelude.{List, length, ◌≡◌};
+    ghost use Rattle.ckpt_types.specs.Limits.{nodes_max};
     ghost use Rattle.world_core.specs.declared.replica.Replica.{Replica};
 
     ghost Value = { List (List Replica) };

@@ -220,7 +220,7 @@ impl World {
     // A node takes the storage of a replica of the checkpoint, which is in the making.
     fn reserve(&mut self, alloc: Global, r: NodeId, ckpt: CkptId) -> Reply
         requires node { r < nodes_max }
-        requires ready { IsSomeAnd (entry_of ckpt self.old.cluster.entries) (λ e. IsReservable e r) }
+        requires ready { IsSomeAnd (entry_of ckpt self.old.cluster.entries) (IsReservable self.old.cluster r) }
         ensures reserved { IsReserved r ckpt self.old self.new result }
         ensures there { r < length self.old.nodes }
     {

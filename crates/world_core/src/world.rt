@@ -1,5 +1,6 @@
 ghost use Rattle.std.specs.Prelude.{◌≡◌, IfOk, OnOk, OnErr, is_some};
-ghost use Rattle.world_core.specs.Shows.{hand_at, IsShown, IsRoomy};
+ghost use Rattle.world_core.specs.Shows.{IsShown, IsRoomy};
+ghost use Rattle.world_core.specs.Parts.{record_in, call_in_hand};
 ghost use Rattle.world_core.specs.Happenings.{ComesNow, IsAnswered};
 ghost use Rattle.world_core.specs.Runs.{IsNew, IsRunTo, MayHappen, Happens};
 ghost use Rattle.world_core.specs.Refusals.{RefusalLeaves};
@@ -54,14 +55,14 @@ impl World {
 
     /// What all nodes agree on.
     pub fn record(&self) -> &Record
-        ensures { result.now ≡ record_of self.now }
+        ensures { result.now ≡ record_in self.now }
     {
         &self.cluster
     }
 
     /// Whether the client has a call in hand.
     pub fn in_hand(&self, client: u8) -> bool
-        ensures { result ≡ is_some (hand_of self.now client) }
+        ensures { result ≡ is_some (call_in_hand self.now client) }
     {
         self.hands.has(client)
     }
