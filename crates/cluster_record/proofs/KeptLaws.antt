@@ -1,31 +1,146 @@
--- A record stays as it is kept where its entries are changed, or some go.
-use Rattle.std.proofs.Common.{◌≡◌, ℕ, ◌≤◌, ◌-◌, List, filter, map, Some, Bool, true, false, cond, ◌==◌, refl, sym, ap, subst, ◌∙◌}
-use Rattle.std.specs.Prelude.{ℤ, slice_set, slice_index, vec_capacity}
+-- A record stays as it is kept where its entries are changed, one comes, or some go.
+use Rattle.std.proofs.Common.{◌≡◌, ◌≢◌, ℕ, ◌+◌, ◌<◌, ◌≤◌, ◌-◌, List, [], ◌∷◌, ◌++◌, length, filter, map, All, Some, None, Bool, true, false, cond, ◌==◌, refl, sym, ap, subst, ◌∙◌, arith, length-append, Bor}
+use Rattle.std.specs.Prelude.{Option, IfSome, MatchOption, ℤ, pos, ◌≤ℤ◌, slice_set, slice_index, vec_capacity}
+use Rattle.std.proofs.lemmas.List.{length-map}
+use Rattle.std.proofs.lemmas.List.Elements.{All-cons, All-head, All-tail, All-filter, All-map, All-push, All-weaker}
+use Rattle.std.proofs.lemmas.List.Kept.{AllPairs-filter}
+use Rattle.ckpt_types.specs.declared.identities.CallId.{CallId}
+use Rattle.ckpt_types.specs.Limits.{clients_max, checkpoints_max}
 use Rattle.name_table.specs.Table.{EachOnce, unlinked}
 use Rattle.name_table.proofs.TableLemmas.{EachOnce-filter}
 use Rattle.cluster_record.specs.declared.entries.Entry.{Entry}
+use Rattle.cluster_record.specs.declared.clients.LiveClient.{LiveClient}
 use Rattle.cluster_record.specs.declared.record.Record.TheInside.{Inside}
 use Rattle.cluster_record.specs.Identities.{IdentitiesRise, AllUpTo}
+use Rattle.cluster_record.specs.Kept.{IsKeptEntry, IsKeptClient, AreKeptClients}
 use Rattle.cluster_record.specs.NamesOf.{names_of, without_gone}
-use Rattle.cluster_record.specs.Places.{change_key}
+use Rattle.cluster_record.specs.Places.{find_key, change_key}
 use Rattle.cluster_record.specs.LookUps.{identity_in}
-use Rattle.cluster_record.specs.RecordState.{identity_of, named, unnamed, has_references, idle_from, released, released_all}
-use Rattle.cluster_record.specs.RecordView.{IsKept}
-use Rattle.cluster_record.proofs.IdentityLaws.{KeepsIdentity, AllUpTo-change_key, IdentitiesRise-change_key, AllUpTo-map, IdentitiesRise-map, AllUpTo-filter, IdentitiesRise-filter}
-use Rattle.cluster_record.proofs.NameLaws.{KeepsName, names_of-map, changed-is, left-is, left-once, unnamed-is}
+use Rattle.cluster_record.specs.RecordState.{identity_of, entry_of, named, unnamed, has_references, idle_from, released, released_all}
+use Rattle.cluster_record.specs.RecordView.{AreKeptEntries, IsKept}
+use Rattle.cluster_record.specs.Makings.{making_call}
+use Rattle.cluster_record.specs.RecordReady.{CanRefer}
+use Rattle.cluster_record.proofs.EntryLaws.{unopened, later-kept}
+use Rattle.cluster_record.proofs.IdentityLaws.{KeepsIdentity, AllUpTo-change_key, IdentitiesRise-change_key, AllUpTo-map, IdentitiesRise-map, AllUpTo-filter, IdentitiesRise-filter, AllUpTo-push, IdentitiesRise-push}
+use Rattle.cluster_record.proofs.NameLaws.{KeepsName, names_of-map, changed-is, left-is, left-once, unnamed-is, pushed-once}
+
+-- ---- what holds of all
+
+module _ {X : Type 0} (P : X → Type 0) (key : X → ℕ) (k : ℕ) where
+  -- holds of the one that is found
+  pub All-find_key : (xs : List X) (x : X) → All P xs → find_key key k xs ≡ Some x → P x
+  All-find_key [] x all e = absurd cc
+  All-find_key (y ∷ xs) x all e = by (All-find_key xs x (All-tail P y xs all)) (key y == k) e where
+    by : (find_key key k xs ≡ Some x → P x) → (b : Bool) → cond b (Some y) (find_key key k xs) ≡ Some x → P x
+    by more true e = let same : y ≡ x = cc in subst P same (All-head P y xs all)
+    by more false e = more e
+
+  -- and still where that one is changed
+  pub All-change_key : (f : X → X) (xs : List X) → All P xs → ((x : X) → find_key key k xs ≡ Some x → P x → P (f x)) → All P (change_key key k f xs)
+  All-change_key f [] all go = all
+  All-change_key f (y ∷ xs) all go = by (All-change_key f xs (All-tail P y xs all)) (key y == k) go where
+    by : (((x : X) → find_key key k xs ≡ Some x → P x → P (f x)) → All P (change_key key k f xs)) →
+        (b : Bool) → ((x : X) → cond b (Some y) (find_key key k xs) ≡ Some x → P x → P (f x)) → All P (cond b (f y ∷ xs) (y ∷ change_key key k f xs))
+    by more true go = All-cons P (f y) xs (go y refl (All-head P y xs all)) (All-tail P y xs all)
+    by more false go = All-cons P y (change_key key k f xs) (All-head P y xs all) (more go)
+
+-- what is found is kept
+pub found-kept : (t : ℤ) (k : ℕ) (entries : List Entry) (r : Option (Bor Entry)) → All (IsKeptEntry t) entries → MatchOption r (entry_of k entries ≡ None) (λ e. entry_of k entries ≡ Some e.now) → IfSome r (λ e. IsKeptEntry t e.now)
+found-kept t k entries None all found = tt
+found-kept t k entries (Some e) all found = All-find_key (IsKeptEntry t) identity_of k entries e.now all found
+
+-- the maker of what is in the making can open it
+pub maker_refers : (t : ℤ) (k c : ℕ) (entries : List Entry) → All (IsKeptEntry t) entries → (call : CallId) → making_call (entry_of k entries) ≡ Some call → CanRefer c (entry_of k entries)
+maker_refers t k c entries all call is = by (entry_of k entries) refl is where
+  by : (o : Option Entry) → entry_of k entries ≡ o → making_call o ≡ Some call → CanRefer c o
+  by None there is = tt
+  by (Some e) there is = omega (arith, unopened e c call is (All-find_key (IsKeptEntry t) identity_of k entries e all there).making)
+
+length-change_key : {X : Type 0} (key : X → ℕ) (k : ℕ) (f : X → X) (xs : List X) → length (change_key key k f xs) ≡ length xs
+length-change_key key k f [] = refl
+length-change_key key k f (x ∷ xs) = elim (key x == k) as (λ b. length (cond b (f x ∷ xs) (x ∷ change_key key k f xs)) ≡ length (x ∷ xs)) [ true ↦ refl | false ↦ omega (arith, length-change_key key k f xs) ]
+
+pub fewer : {X : Type 0} (p : X → Bool) (xs : List X) → length (filter p xs) ≤ length xs
+fewer p [] = omega arith
+fewer p (x ∷ xs) = elim (p x) as (λ b. length (cond b (x ∷ filter p xs) (filter p xs)) ≤ length (x ∷ xs)) [ true ↦ omega (arith, fewer p xs) | false ↦ omega (arith, fewer p xs) ]
+
+-- ---- the entries
+
+module _ (t : ℤ) (last : ℕ) (old : List Entry) (kept : AreKeptEntries t last old) where
+  -- where the one of an identity is changed, and keeps its name and identity
+  entries-changed : (f : Entry → Entry) (k : ℕ) → KeepsName f → KeepsIdentity f → ((e : Entry) → entry_of k old ≡ Some e → IsKeptEntry t e → IsKeptEntry t (f e)) → AreKeptEntries t last (change_key identity_of k f old)
+  entries-changed f k name identity go = record {
+    each = All-change_key (IsKeptEntry t) identity_of k f old kept.each go;
+    few = omega (arith, length-change_key identity_of k f old, kept.few);
+    order = IdentitiesRise-change_key f identity k old kept.order;
+    given = AllUpTo-change_key f identity last k old kept.given;
+    each_once = subst EachOnce (changed-is f name identity k old (change_key identity_of k f old) refl) kept.each_once;
+  }
+
+  -- where some go
+  entries-left : (p : Entry → Bool) → AreKeptEntries t last (filter p old)
+  entries-left p = record {
+    each = All-filter p (IsKeptEntry t) old kept.each;
+    few = omega (arith, fewer p old, kept.few);
+    order = IdentitiesRise-filter p old kept.order;
+    given = AllUpTo-filter p last old kept.given;
+    each_once = left-once p old (filter p old) refl kept.each_once;
+  }
+
+  -- where each is changed, and keeps its name and identity
+  entries-each : (f : Entry → Entry) → KeepsName f → KeepsIdentity f → ((e : Entry) → IsKeptEntry t e → IsKeptEntry t (f e)) → AreKeptEntries t last (map f old)
+  entries-each f name identity go = record {
+    each = All-map (IsKeptEntry t) f old (All-weaker (IsKeptEntry t) (λ e. IsKeptEntry t (f e)) go old kept.each);
+    few = omega (arith, length-map old f, kept.few);
+    order = IdentitiesRise-map f identity old kept.order;
+    given = AllUpTo-map f identity last old kept.given;
+    each_once = subst EachOnce (sym (names_of-map f name identity old)) kept.each_once;
+  }
+
+  -- where the one of a name has it no more
+  entries-unnamed : (name : List ℕ) (k : ℕ) → identity_in (named name old) ≡ Some k → ((e : Entry) → entry_of k old ≡ Some e → IsKeptEntry t e → IsKeptEntry t (unnamed e)) → AreKeptEntries t last (change_key identity_of k unnamed old)
+  entries-unnamed name k is go = record {
+    each = All-change_key (IsKeptEntry t) identity_of k unnamed old kept.each go;
+    few = omega (arith, length-change_key identity_of k unnamed old, kept.few);
+    order = IdentitiesRise-change_key unnamed (λ e. refl) k old kept.order;
+    given = AllUpTo-change_key unnamed (λ e. refl) last k old kept.given;
+    each_once = subst EachOnce (unnamed-is name k old kept.order kept.each_once is) (EachOnce-filter _ (names_of old) kept.each_once);
+  }
+
+  -- where the next one comes, of a name that none has
+  pub entries-pushed : (e : Entry) (name : List ℕ) → IsKeptEntry t e → e.name ≡ Some name → e.identity ≡ last + 1 → named name old ≡ None → length old < checkpoints_max → AreKeptEntries t (last + 1) (old ++ e ∷ [])
+  entries-pushed e name is called next absent room = record {
+    each = All-push (IsKeptEntry t) old e kept.each is;
+    few = omega (arith, length-append old (e ∷ []), room);
+    order = IdentitiesRise-push last old e kept.order kept.given (omega (arith, next));
+    given = AllUpTo-push last old e kept.given next;
+    each_once = pushed-once old (old ++ e ∷ []) e name (last + 1) refl called next kept.each_once absent;
+  }
+
+  -- and at a later moment
+  pub entries-later : (later : ℤ) → t ≤ℤ later → AreKeptEntries later last old
+  entries-later later le = record {
+    each = All-weaker (IsKeptEntry t) (IsKeptEntry later) (λ e is. later-kept t e is later le) old kept.each;
+    few = kept.few;
+    order = kept.order;
+    given = kept.given;
+    each_once = kept.each_once;
+  }
+
+-- ---- the record
 
 -- where the entry of an identity is changed, and keeps its name and identity
-pub kept-changed : (old new : Inside) (f : Entry → Entry) (k : ℕ) → IsKept old → KeepsName f → KeepsIdentity f →
+pub kept-changed : (old new : Inside) (f : Entry → Entry) (k : ℕ) → IsKept old → KeepsName f → KeepsIdentity f → ((e : Entry) → entry_of k old.entries.items ≡ Some e → IsKeptEntry old.moment e → IsKeptEntry old.moment (f e)) →
     new.entries.items ≡ change_key identity_of k f old.entries.items → vec_capacity new.entries ≡ vec_capacity old.entries →
     new ≡ record old { entries = new.entries } → IsKept new
-kept-changed old new f k kept name identity items capacity same = subst IsKept (sym same) (record {
-  clients = kept.clients;
-  entries = subst (λ (n : ℕ). 16 ≤ n) (sym capacity) kept.entries;
+kept-changed old new f k kept name identity go items capacity same = subst IsKept (sym same) (record {
+  clients_room = kept.clients_room;
+  entries_room = subst (λ (n : ℕ). checkpoints_max ≤ n) (sym capacity) kept.entries_room;
   moment = kept.moment;
-  order = subst IdentitiesRise (sym items) (IdentitiesRise-change_key f identity k old.entries.items kept.order);
-  given = subst (AllUpTo old.last_identity) (sym items) (AllUpTo-change_key f identity old.last_identity k old.entries.items kept.given);
+  clients = kept.clients;
+  few_clients = kept.few_clients;
+  entries = subst (AreKeptEntries old.moment old.last_identity) (sym items) (entries-changed old.moment old.last_identity old.entries.items kept.entries f k name identity go);
   names = kept.names ∙ changed-is f name identity k old.entries.items new.entries.items items;
-  each_once = subst EachOnce (changed-is f name identity k old.entries.items new.entries.items items) kept.each_once;
 })
 
 -- where some go, and their names
@@ -33,46 +148,59 @@ pub kept-left : (old new : Inside) (p : Entry → Bool) → IsKept old →
     new.entries.items ≡ filter p old.entries.items → vec_capacity new.entries ≡ vec_capacity old.entries → new.names ≡ without_gone p old.entries.items old.names →
     new ≡ record old { entries = new.entries; names = new.names } → IsKept new
 kept-left old new p kept items capacity names same = subst IsKept (sym same) (record {
-  clients = kept.clients;
-  entries = subst (λ (n : ℕ). 16 ≤ n) (sym capacity) kept.entries;
+  clients_room = kept.clients_room;
+  entries_room = subst (λ (n : ℕ). checkpoints_max ≤ n) (sym capacity) kept.entries_room;
   moment = kept.moment;
-  order = subst IdentitiesRise (sym items) (IdentitiesRise-filter p old.entries.items kept.order);
-  given = subst (AllUpTo old.last_identity) (sym items) (AllUpTo-filter p old.last_identity old.entries.items kept.given);
-  names = left-is p old.entries.items new.entries.items old.names new.names items names kept.names kept.each_once;
-  each_once = left-once p old.entries.items new.entries.items items kept.each_once;
+  clients = kept.clients;
+  few_clients = kept.few_clients;
+  entries = subst (AreKeptEntries old.moment old.last_identity) (sym items) (entries-left old.moment old.last_identity old.entries.items kept.entries p);
+  names = left-is p old.entries.items new.entries.items old.names new.names items names kept.names kept.entries.each_once;
 })
 
--- where each entry is changed, and keeps its name and identity, and clients come or go
-pub kept-each : (old new : Inside) (f : Entry → Entry) → IsKept old → KeepsName f → KeepsIdentity f →
-    new.entries.items ≡ map f old.entries.items → vec_capacity new.entries ≡ vec_capacity old.entries → vec_capacity new.clients ≡ vec_capacity old.clients →
-    new ≡ record old { clients = new.clients; entries = new.entries } → IsKept new
-kept-each old new f kept name identity items capacity room same =
-    let table : names_of old.entries.items ≡ names_of new.entries.items = sym (ap names_of items ∙ names_of-map f name identity old.entries.items) in
-    subst IsKept (sym same) (record {
-      clients = subst (λ (n : ℕ). 64 ≤ n) (sym room) kept.clients;
-      entries = subst (λ (n : ℕ). 16 ≤ n) (sym capacity) kept.entries;
-      moment = kept.moment;
-      order = subst IdentitiesRise (sym items) (IdentitiesRise-map f identity old.entries.items kept.order);
-      given = subst (AllUpTo old.last_identity) (sym items) (AllUpTo-map f identity old.last_identity old.entries.items kept.given);
-      names = kept.names ∙ table;
-      each_once = subst EachOnce table kept.each_once;
-    })
+-- where each entry is changed, and keeps its name and identity
+pub kept-each : (old new : Inside) (f : Entry → Entry) → IsKept old → KeepsName f → KeepsIdentity f → ((e : Entry) → IsKeptEntry old.moment e → IsKeptEntry old.moment (f e)) →
+    new.entries.items ≡ map f old.entries.items → vec_capacity new.entries ≡ vec_capacity old.entries →
+    new ≡ record old { entries = new.entries } → IsKept new
+kept-each old new f kept name identity go items capacity same = subst IsKept (sym same) (record {
+  clients_room = kept.clients_room;
+  entries_room = subst (λ (n : ℕ). checkpoints_max ≤ n) (sym capacity) kept.entries_room;
+  moment = kept.moment;
+  clients = kept.clients;
+  few_clients = kept.few_clients;
+  entries = subst (AreKeptEntries old.moment old.last_identity) (sym items) (entries-each old.moment old.last_identity old.entries.items kept.entries f name identity go);
+  names = kept.names ∙ sym (ap names_of items ∙ names_of-map f name identity old.entries.items);
+})
 
 -- where the one of a name has it no more
-pub kept-unnamed : (old new : Inside) (name : List ℕ) (k : ℕ) → IsKept old → identity_in (named name old.entries.items) ≡ Some k →
+pub kept-unnamed : (old new : Inside) (name : List ℕ) (k : ℕ) → IsKept old → identity_in (named name old.entries.items) ≡ Some k → ((e : Entry) → entry_of k old.entries.items ≡ Some e → IsKeptEntry old.moment e → IsKeptEntry old.moment (unnamed e)) →
     new.entries.items ≡ change_key identity_of k unnamed old.entries.items → vec_capacity new.entries ≡ vec_capacity old.entries → new.names ≡ unlinked name old.names →
     new ≡ record old { entries = new.entries; names = new.names } → IsKept new
-kept-unnamed old new name k kept is items capacity names same =
-    let table : unlinked name (names_of old.entries.items) ≡ names_of new.entries.items = unnamed-is name k old.entries.items kept.order kept.each_once is ∙ sym (ap names_of items) in
-    subst IsKept (sym same) (record {
-      clients = kept.clients;
-      entries = subst (λ (n : ℕ). 16 ≤ n) (sym capacity) kept.entries;
-      moment = kept.moment;
-      order = subst IdentitiesRise (sym items) (IdentitiesRise-change_key unnamed (λ e. refl) k old.entries.items kept.order);
-      given = subst (AllUpTo old.last_identity) (sym items) (AllUpTo-change_key unnamed (λ e. refl) old.last_identity k old.entries.items kept.given);
-      names = names ∙ ap (unlinked name) kept.names ∙ table;
-      each_once = subst EachOnce table (EachOnce-filter _ (names_of old.entries.items) kept.each_once);
-    })
+kept-unnamed old new name k kept is go items capacity names same = subst IsKept (sym same) (record {
+  clients_room = kept.clients_room;
+  entries_room = subst (λ (n : ℕ). checkpoints_max ≤ n) (sym capacity) kept.entries_room;
+  moment = kept.moment;
+  clients = kept.clients;
+  few_clients = kept.few_clients;
+  entries = subst (AreKeptEntries old.moment old.last_identity) (sym items) (entries-unnamed old.moment old.last_identity old.entries.items kept.entries name k is go);
+  names = names ∙ ap (unlinked name) kept.names ∙ unnamed-is name k old.entries.items kept.entries.order kept.entries.each_once is ∙ sym (ap names_of items);
+})
+
+-- where some clients go
+pub kept-clients_left : (old new : Inside) (p : LiveClient → Bool) → IsKept old →
+    new.clients.items ≡ filter p old.clients.items → vec_capacity new.clients ≡ vec_capacity old.clients →
+    new ≡ record old { clients = new.clients } → IsKept new
+kept-clients_left old new p kept items capacity same = subst IsKept (sym same) (record {
+  clients_room = subst (λ (n : ℕ). clients_max ≤ n) (sym capacity) kept.clients_room;
+  entries_room = kept.entries_room;
+  moment = kept.moment;
+  clients = subst AreKeptClients (sym items) (record {
+    each = All-filter p IsKeptClient old.clients.items kept.clients.each;
+    each_once = AllPairs-filter (λ a b. a.client ≢ b.client) p old.clients.items kept.clients.each_once;
+  });
+  few_clients = omega (arith, ap length items, fewer p old.clients.items, kept.few_clients);
+  entries = kept.entries;
+  names = kept.names;
+})
 
 -- ---- changes that keep names and identities
 

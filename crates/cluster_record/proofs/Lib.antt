@@ -8,3 +8,5 @@ pub mod NameLaws
 pub mod RefusalLaws
 pub mod KeptLaws
 pub mod EachChanged
+pub mod EntryLaws
+pub mod ClientLaws

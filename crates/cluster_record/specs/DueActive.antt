@@ -4,6 +4,7 @@ use Rattle.ckpt_types.specs.declared.ais_error.AisError.TheVariants.{NotExist, N
 use Rattle.ckpt_types.specs.declared.answers.Cause.TheVariants.{Plain, Count}
 use Rattle.ckpt_types.specs.declared.answers.Outcome.TheVariants.{Refused}
 use Rattle.ckpt_types.specs.declared.identities.CallId.{CallId}
+use Rattle.ckpt_types.specs.Limits.{iterations_max}
 use Rattle.node_msgs.specs.declared.requests.Request.{Request}
 use Rattle.node_msgs.specs.declared.requests.Request.TheVariants as requests
 use Rattle.node_msgs.specs.declared.next.Next.{Next}
@@ -42,7 +43,7 @@ starts_iteration kind = false
 
 abbrev pub on_active : Bool → ActiveState → Option ℕ → Next
 on_active room a None = End (Refused NotExist Plain)
-on_active room a (Some r) = if starts_iteration a.kind && not room then End (Refused NoResources (Count 8)) else Serve r (active_request a)
+on_active room a (Some r) = if starts_iteration a.kind && not room then End (Refused NoResources (Count iterations_max)) else Serve r (active_request a)
 
 abbrev pub active_on : Bool → ActiveState → Option Entry → Next
 active_on room a None = End (Refused NotExist Plain)

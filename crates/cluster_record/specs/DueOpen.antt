@@ -18,6 +18,7 @@ use Rattle.node_msgs.specs.declared.steps.StepReply.TheVariants as words
 use Rattle.cluster_record.specs.declared.entries.Entry.{Entry}
 use Rattle.cluster_record.specs.declared.calls.Making.{Making}
 use Rattle.ckpt_types.specs.Attributes.{same_but_retention}
+use Rattle.ckpt_types.specs.Limits.{handles_max, checkpoints_max}
 use Rattle.cluster_record.specs.LookUps.{at_ckpt}
 use Rattle.cluster_record.specs.RecordState.{RecordState, named, no_nodes, created, opened, finished, undone}
 use Rattle.ckpt_types.specs.declared.calls.OpenAsk.{OpenAsk}
@@ -54,15 +55,15 @@ IsBefore moment (Some deadline) = is_reached deadline moment ≡ false
 -- a checkpoint is made, where there is room for its handle and for it
 abbrev pub create_next : RecordState → Bool → Next
 create_next R room =
-    if not room then End (Refused NoResources (Count 32))
-    else if nat_le 16 (length R.entries) then End (Refused NoResources (Count 16))
+    if not room then End (Refused NoResources (Count handles_max))
+    else if nat_le checkpoints_max (length R.entries) then End (Refused NoResources (Count checkpoints_max))
     else Event events.Create
 
 -- a checkpoint is opened that has the attributes asked for, where there is room for its handle
 abbrev pub entry_next : Bool → Option CreationAttributes → Entry → Next
 entry_next room a e =
     if not (accepts a e) then End (Refused Exist Plain)
-    else if not room then End (Refused NoResources (Count 32))
+    else if not room then End (Refused NoResources (Count handles_max))
     else Event events.Open
 
 -- of a name that no checkpoint has: one is made where attributes are given

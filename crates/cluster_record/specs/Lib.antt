@@ -2,6 +2,7 @@ pub mod Calls
 pub mod Places
 pub mod RecordState
 pub mod RecordView
+pub mod Kept
 pub mod RecordReady
 pub mod LookUps
 pub mod StepDone

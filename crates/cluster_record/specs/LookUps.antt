@@ -1,8 +1,14 @@
 -- What is read of a client and of a checkpoint that may be there or not.
 use Rattle.std.specs.Prelude.{ℕ, Option, Some, None, slice_index, if◌then◌else◌}
+use Rattle.ckpt_types.specs.declared.attributes.CreationAttributes.{CreationAttributes}
 use Rattle.cluster_record.specs.declared.entries.Entry.{Entry}
 use Rattle.cluster_record.specs.declared.clients.LiveClient.{LiveClient}
 use Rattle.cluster_record.specs.RecordState.{RecordState, entry_of, is_up}
+
+-- the node of a client that is live
+abbrev pub node_in : Option LiveClient → Option ℕ
+node_in None = None
+node_in (Some live) = Some live.node
 
 -- the node of a client; 0 where it is not live
 abbrev pub node_of_client : Option LiveClient → ℕ
@@ -17,6 +23,11 @@ life_of (Some live) = Some (live.node, live.incarnation, live.initialize)
 -- the incarnation with which a node is up, and the number of its first call in it
 abbrev pub up_as : ℕ → RecordState → Option (ℕ × ℕ)
 up_as r R = if is_up r R then Some (slice_index R.up r, slice_index R.first_calls r) else None
+
+-- what a checkpoint that is there declares
+abbrev pub declared_in : Option Entry → Option CreationAttributes
+declared_in None = None
+declared_in (Some e) = Some e.attributes
 
 -- how many sections a checkpoint declares; 0 where it is gone
 abbrev pub sections_in : Option Entry → ℕ

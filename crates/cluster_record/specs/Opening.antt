@@ -4,6 +4,7 @@ use Rattle.ckpt_types.specs.declared.ais_error.AisError.TheVariants.{NotExist, E
 use Rattle.ckpt_types.specs.declared.attributes.CreationAttributes.{CreationAttributes}
 use Rattle.ckpt_types.specs.declared.calls.OpenAsk.{OpenAsk}
 use Rattle.ckpt_types.specs.declared.identities.CallId.{CallId}
+use Rattle.ckpt_types.specs.Limits.{checkpoints_max}
 use Rattle.cluster_record.specs.declared.entries.Entry.{Entry}
 use Rattle.cluster_record.specs.declared.opening.OpenAnswer.{OpenAnswer}
 use Rattle.cluster_record.specs.declared.opening.OpenAnswer.TheVariants.{Opened, Made, Refused}
@@ -22,7 +23,7 @@ answer_of a e = answer_unless e.making a e
 -- of a name that no checkpoint has: one is made where attributes are given, and room is left
 abbrev pub answer_free : RecordState → Option CreationAttributes → OpenAnswer
 answer_free R None = Refused (plainly NotExist)
-answer_free R (Some a) = if nat_le 16 (length R.entries) then Refused (all_taken 16) else Made (R.last_identity + 1)
+answer_free R (Some a) = if nat_le checkpoints_max (length R.entries) then Refused (all_taken checkpoints_max) else Made (R.last_identity + 1)
 
 abbrev pub answer_named : RecordState → Option CreationAttributes → Option Entry → OpenAnswer
 answer_named R a None = answer_free R a

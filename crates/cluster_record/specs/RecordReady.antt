@@ -1,13 +1,26 @@
 -- What a step asks of the record.
-use Rattle.std.specs.Prelude.{ℕ, ◌-◌, ◌^◌, ◌<◌, List, length, Option, Some, None, slice_index}
-use Rattle.ckpt_types.specs.Limits.{nodes_max, clients_max, checkpoints_max}
+use Rattle.std.specs.Prelude.{◌≡◌, ℕ, ◌-◌, ◌^◌, ◌<◌, List, length, Option, Some, None, IfSome, true, false, slice_index}
+use Rattle.ckpt_types.specs.declared.calls.OpenAsk.{OpenAsk}
+use Rattle.ckpt_types.specs.declared.identities.CallId.{CallId}
+use Rattle.ckpt_types.specs.Attributes.{IsWellFormed}
+use Rattle.ckpt_types.specs.Limits.{client_numbers, checkpoints_max}
 use Rattle.cluster_record.specs.declared.entries.Entry.{Entry}
-use Rattle.cluster_record.specs.RecordState.{RecordState, entry_of}
+use Rattle.cluster_record.specs.Calls.{IsClient, client_of}
+use Rattle.cluster_record.specs.Kept.{IsName}
+use Rattle.cluster_record.specs.RecordState.{RecordState, entry_of, is_live_client, is_up}
 
--- the node is one of the eight, and a client more is not too many
-pub record CanEnter (r : ℕ) (R : RecordState) : Type 0 where
-  pub node : r < nodes_max
-  pub room : length R.clients < clients_max
+-- a call of a client that is not live yet, and a node that is up
+pub record CanBecomeLive (call : CallId) (r : ℕ) (R : RecordState) : Type 0 where
+  pub client : IsClient call.actor
+  pub not_live : is_live_client (client_of call) R ≡ false
+  pub node : is_up r R ≡ true
+
+-- the ask is of a client that a script may name, on a node that is up, for a name that fits, and attributes that are given are well formed
+pub record CanOpen (ask : OpenAsk) (R : RecordState) : Type 0 where
+  pub client : ask.client < client_numbers
+  pub node : is_up ask.node R ≡ true
+  pub name : IsName ask.name
+  pub attributes : IfSome ask.attrs IsWellFormed
 
 -- a checkpoint more is not too many, and an identity is left
 pub record CanCreate (R : RecordState) : Type 0 where

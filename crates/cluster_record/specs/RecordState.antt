@@ -8,6 +8,7 @@ use Rattle.ckpt_types.specs.declared.identities.ActorName.TheVariants.{Client, N
 use Rattle.ckpt_types.specs.declared.identities.CallId.{CallId}
 use Rattle.ckpt_types.specs.declared.attributes.CreationAttributes.{CreationAttributes}
 use Rattle.ckpt_types.specs.declared.calls.OpenAsk.{OpenAsk}
+use Rattle.ckpt_types.specs.Limits.{nodes_max, client_numbers}
 use Rattle.cluster_record.specs.declared.entries.Entry.{Entry}
 use Rattle.cluster_record.specs.declared.clients.LiveClient.{LiveClient}
 use Rattle.cluster_record.specs.Places.{find_key, change_key}
@@ -27,7 +28,7 @@ pub record RecordState : Type 0 where
   pub entries : List Entry
 
 abbrev pub no_nodes : List ℕ
-no_nodes = replicate 8 0
+no_nodes = replicate nodes_max 0
 
 -- a cluster in which no node is up
 abbrev pub empty_record : RecordState
@@ -61,7 +62,7 @@ abbrev pub is_live_client : ℕ → RecordState → Bool
 is_live_client c R = is_some (find_key client_key c R.clients)
 
 abbrev pub is_up : ℕ → RecordState → Bool
-is_up r R = nat_lt r 8 && not (slice_index R.up r == 0)
+is_up r R = nat_lt r nodes_max && not (slice_index R.up r == 0)
 
 -- the call is not of an earlier life of its client
 abbrev pub is_live_from : Option LiveClient → ℕ → Bool
@@ -108,12 +109,13 @@ moved t R = swept (record R { moment = t })
 
 -- ---- the steps
 
-abbrev pub eight : List ℕ
-eight = 0 ∷ 1 ∷ 2 ∷ 3 ∷ 4 ∷ 5 ∷ 6 ∷ 7 ∷ []
+-- the nodes, n0 to n7
+abbrev pub all_nodes : List ℕ
+all_nodes = 0 ∷ 1 ∷ 2 ∷ 3 ∷ 4 ∷ 5 ∷ 6 ∷ 7 ∷ []
 
 -- 1 for each of the first nodes
 abbrev pub first_nodes : ℕ → List ℕ
-first_nodes n = map (λ r. if nat_lt r n then 1 else 0) eight
+first_nodes n = map (λ r. if nat_lt r n then 1 else 0) all_nodes
 
 -- the first nodes come up
 abbrev pub brought_up : ℕ → RecordState → RecordState
@@ -122,6 +124,10 @@ brought_up n R = record R { up = first_nodes n; first_calls = first_nodes n; las
 -- a client becomes live
 abbrev pub entered : ℕ → ℕ → ℕ → RecordState → RecordState
 entered c r number R = record R { clients = R.clients ++ record { client = c; node = r; incarnation = slice_index R.up r; initialize = number } ∷ [] }
+
+-- by client, that nobody has it open
+abbrev pub no_references : List ℕ
+no_references = replicate client_numbers 0
 
 -- an entry in the making by a call
 abbrev pub new_entry : CallId → List ℕ → CreationAttributes → RecordState → Entry
@@ -135,7 +141,7 @@ new_entry call name a R = record {
   complete = no_nodes;
   active = None;
   generation = 1;
-  references = replicate 100 0;
+  references = no_references;
   idle = R.moment;
   hold = None;
 }

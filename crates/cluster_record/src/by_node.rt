@@ -2,14 +2,14 @@ ghost use Rattle.std.specs.Prelude.{◌≡◌, ◌<◌, Some, None, IfSome, if�
 ghost use Rattle.ckpt_types.specs.Limits.{nodes_max};
 ghost use Rattle.cluster_record.specs.StepDone.{lacks, has, first_lacking, last_having};
 
-use ckpt_types::NodeId;
+use ckpt_types::{NODES_MAX, NodeId};
 
 /// The lowest of these nodes that the call lacks: with an incarnation that it does not have there.
-pub fn first_lacking(nodes: &[u32; 8], own: &[u32; 8]) -> Option<NodeId>
+pub fn first_lacking(nodes: &[u32; NODES_MAX], own: &[u32; NODES_MAX]) -> Option<NodeId>
     ensures value { result ≡ first_lacking 0 nodes.now own.now }
     ensures within { IfSome result (λ r. r < nodes_max) }
 {
-    for r in 0..8u8 {
+    for r in 0..NODES_MAX as u8 {
         if lacks(nodes[r as usize], own[r as usize]) {
             return Some(r);
         }
@@ -18,11 +18,11 @@ pub fn first_lacking(nodes: &[u32; 8], own: &[u32; 8]) -> Option<NodeId>
 }
 
 /// The highest of these nodes that the call has: with the incarnation that it has there.
-pub fn last_having(nodes: &[u32; 8], own: &[u32; 8]) -> Option<NodeId>
+pub fn last_having(nodes: &[u32; NODES_MAX], own: &[u32; NODES_MAX]) -> Option<NodeId>
     ensures { result ≡ last_having 0 nodes.now own.now }
 {
     let mut last = None;
-    for r in 0..8u8 {
+    for r in 0..NODES_MAX as u8 {
         last = later(last, r, has(nodes[r as usize], own[r as usize]));
     }
     last

@@ -1,4 +1,4 @@
-use ckpt_types::{Choice, CkptId};
+use ckpt_types::{Choice, CkptId, NODES_MAX};
 
 /// How far an all-replicas update is.
 #[derive(Clone, Copy, Debug, PartialEq, Eq)]
@@ -15,7 +15,7 @@ pub struct Making {
     /// The checkpoint.
     pub ckpt: CkptId,
     /// By node, the incarnation under which it has reserved, or 0.
-    pub reserved: [u32; 8],
+    pub reserved: [u32; NODES_MAX],
     /// A reservation was refused for memory.
     pub refused: bool,
 }

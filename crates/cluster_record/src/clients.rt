@@ -1,9 +1,11 @@
-ghost use Rattle.std.specs.Prelude.{◌≡◌, filter, not, ◌==◌, vec_capacity};
+ghost use Rattle.std.specs.Prelude.{◌≡◌, ◌≤◌, filter, not, ◌==◌, IfOk, vec_capacity};
+ghost use Rattle.ckpt_types.specs.Limits.{clients_max};
 ghost use Rattle.cluster_record.specs.Calls.{number_of};
 ghost use Rattle.cluster_record.specs.Places.{find_key};
 ghost use Rattle.cluster_record.specs.RecordState.{client_key};
 
-use ckpt_types::{ActorName, Incarnation, NodeId};
+use ckpt_types::{ActorName, CLIENTS_MAX, Incarnation, NodeId};
+use std::alloc::{AllocError, Global};
 
 /// A client that is live.
 #[derive(Clone, Copy, Debug)]
@@ -35,6 +37,19 @@ pub(crate) fn take_out(clients: &mut Vec<LiveClient>, client: u8)
     ensures capacity { vec_capacity clients.new ≡ vec_capacity clients.old }
 {
     clients.retain(|live| live.client != client);
+}
+
+/// The same live clients, with room for all that may be.
+pub(crate) fn copy_clients(
+    alloc: Global,
+    clients: &[LiveClient],
+) -> Result<Vec<LiveClient>, AllocError>
+    ensures items { IfOk result (λ copies. copies.items ≡ clients.now) }
+    ensures room { IfOk result (λ copies. clients_max ≤ vec_capacity copies) }
+{
+    let mut copies = Vec::with_capacity(alloc, CLIENTS_MAX)?;
+    copies.extend_from_slice(clients)?;
+    Ok(copies)
 }
 
 /// The number of a client or node.

@@ -1,28 +1,20 @@
-ghost use Rattle.std.specs.Prelude.{◌≡◌, ◌+◌, ◌-◌, ◌^◌, ◌<◌, ◌≤◌, Some, None, IfSome, MatchOption, length, filter, map, not, ◌==◌, slice_index, slice_set, replicate, vec_capacity};
+ghost use Rattle.std.specs.Prelude.{◌≡◌, ◌+◌, ◌-◌, ◌^◌, ◌<◌, ◌≤◌, Some, None, IfSome, IfOk, MatchOption, length, filter, map, not, ◌==◌, slice_index, slice_set, vec_capacity};
 ghost use Rattle.std.specs.List.{list_any, list_all};
-ghost use Rattle.ckpt_types.specs.Limits.{name_max};
+ghost use Rattle.ckpt_types.specs.Limits.{name_max, checkpoints_max};
 ghost use Rattle.moment_rules.specs.Times.{sum_until_end, is_reached};
 ghost use Rattle.cluster_record.specs.Numbers.{may_rise, entry_may_rise};
 ghost use Rattle.cluster_record.specs.Changes.{changed_by, CanChange};
 ghost use Rattle.cluster_record.specs.NamesOf.{stays_by, without_name, without_gone};
 ghost use Rattle.cluster_record.specs.Places.{change_key, place_key};
-ghost use Rattle.cluster_record.specs.RecordState.{no_nodes, identity_of, entry_of, first_complete, stays, has_references, referred, made_with, idle_from, released, released_all, is_call_of};
+ghost use Rattle.cluster_record.specs.RecordState.{no_nodes, no_references, identity_of, entry_of, first_complete, stays, has_references, referred, made_with, idle_from, released, released_all, is_call_of};
 
 use ckpt_types::{
-    ActorName, Bytes, CallId, CkptId, CreationAttributes, Moment, NAME_MAX, NodeId, SectionId,
+    ActorName, Bytes, CHECKPOINTS_MAX, CLIENT_NUMBERS, CallId, CkptId, CreationAttributes, Moment,
+    NODES_MAX, NodeId, SectionId,
 };
 use moment_rules::reached;
 use name_table::Names;
-
-// What a checkpoint declares that is gone.
-pub(crate) const DECLARES_NOTHING: CreationAttributes = CreationAttributes {
-    creation_flags: 0,
-    checkpoint_size: 0,
-    retention_duration: 0,
-    max_sections: 0,
-    max_section_size: 0,
-    max_section_id_size: 0,
-};
+use std::alloc::{AllocError, Global};
 
 /// A checkpoint's name, kept in place: it has at most as many bytes as an identifier of a section.
 pub type KeptName = SectionId;
@@ -43,13 +35,13 @@ pub struct Entry {
     /// The call that is making it, if one is.
     pub making: Option<CallId>,
     /// By node, the incarnation with which the node is complete, or 0.
-    pub complete: [u32; 8],
+    pub complete: [u32; NODES_MAX],
     /// The node that reads go to.
     pub active: Option<NodeId>,
     /// It rises whenever the active changes.
     pub generation: u64,
     /// By client, how often it has the checkpoint open.
-    pub references: [u32; 100],
+    pub references: [u32; CLIENT_NUMBERS],
     /// The moment of the last close.
     pub idle: Moment,
     /// The call that holds the checkpoint, if one does.
@@ -66,7 +58,7 @@ impl Entry {
     }
 
     // The making is finished.
-    fn make(&mut self, up: &[u32; 8], client: u8)
+    fn make(&mut self, up: &[u32; NODES_MAX], client: u8)
         requires { slice_index self.old.references client < 2 ^ 32 - 1 }
         ensures { self.new ≡ made_with up.now client self.old }
     {
@@ -119,6 +111,26 @@ impl Entry {
         }
     }
 
+    // One with the same in it.
+    pub(crate) fn copy(&self) -> Entry
+        ensures { result ≡ self.now }
+    {
+        Entry {
+            identity: self.identity,
+            name: self.name,
+            attributes: self.attributes,
+            retention: self.retention,
+            made: self.made,
+            making: self.making,
+            complete: self.complete,
+            active: self.active,
+            generation: self.generation,
+            references: self.references,
+            idle: self.idle,
+            hold: self.hold,
+        }
+    }
+
     // Whether a client has it open.
     fn has_references(&self) -> bool
         ensures { result ≡ has_references self.now }
@@ -158,7 +170,7 @@ pub(crate) fn new_entry(
     identity: CkptId,
     now: Moment,
 ) -> Entry
-    ensures { result ≡ record { identity = identity; name = name; attributes = attributes; retention = attributes.retention_duration; made = now; making = Some call; complete = no_nodes; active = None; generation = 1; references = replicate 100 0; idle = now; hold = None } }
+    ensures { result ≡ record { identity = identity; name = name; attributes = attributes; retention = attributes.retention_duration; made = now; making = Some call; complete = no_nodes; active = None; generation = 1; references = no_references; idle = now; hold = None } }
 {
     Entry {
         identity,
@@ -167,52 +179,56 @@ pub(crate) fn new_entry(
         retention: attributes.retention_duration,
         made: now,
         making: Some(call),
-        complete: [0; 8],
+        complete: [0; NODES_MAX],
         active: None,
         generation: 1,
-        references: [0; 100],
+        references: [0; CLIENT_NUMBERS],
         idle: now,
         hold: None,
     }
 }
 
-fn add_one(references: &mut [u32; 100], client: u8)
+fn add_one(references: &mut [u32; CLIENT_NUMBERS], client: u8)
     requires { slice_index references.old client < 2 ^ 32 - 1 }
     ensures { references.new ≡ slice_set references.old client (slice_index references.old client + 1) }
 {
     let place = client as usize;
-    if place < 100 {
+    if place < CLIENT_NUMBERS {
         references[place] += 1;
     }
 }
 
 // How often the client has it open; nobody beyond the last does.
-fn count_at(references: &[u32; 100], client: u8) -> u32
+fn count_at(references: &[u32; CLIENT_NUMBERS], client: u8) -> u32
     ensures { result ≡ slice_index references.now client }
 {
     let place = client as usize;
-    if place < 100 { references[place] } else { 0 }
+    if place < CLIENT_NUMBERS {
+        references[place]
+    } else {
+        0
+    }
 }
 
-fn take_one(references: &mut [u32; 100], client: u8)
+fn take_one(references: &mut [u32; CLIENT_NUMBERS], client: u8)
     ensures { references.new ≡ slice_set references.old client (slice_index references.old client - 1) }
 {
     let place = client as usize;
-    if place < 100 {
+    if place < CLIENT_NUMBERS {
         references[place] = references[place].saturating_sub(1);
     }
 }
 
-fn take_all(references: &mut [u32; 100], client: u8)
+fn take_all(references: &mut [u32; CLIENT_NUMBERS], client: u8)
     ensures { references.new ≡ slice_set references.old client 0 }
 {
     let place = client as usize;
-    if place < 100 {
+    if place < CLIENT_NUMBERS {
         references[place] = 0;
     }
 }
 
-fn has_some(references: &[u32; 100]) -> bool
+fn has_some(references: &[u32; CLIENT_NUMBERS]) -> bool
     ensures { result ≡ list_any (λ n. not (n == 0)) references.now }
 {
     references.iter().any(|n| *n != 0)
@@ -240,10 +256,10 @@ fn is_over(from: Moment, duration: i64, now: Moment) -> bool
 }
 
 // The lowest node that is complete.
-fn first_complete(nodes: &[u32; 8]) -> Option<NodeId>
+fn first_complete(nodes: &[u32; NODES_MAX]) -> Option<NodeId>
     ensures { result ≡ first_complete 0 nodes.now }
 {
-    for r in 0..8u8 {
+    for r in 0..NODES_MAX as u8 {
         if nodes[r as usize] != 0 {
             return Some(r);
         }
@@ -278,7 +294,7 @@ fn place_of(entries: &[Entry], identity: CkptId) -> Option<usize>
 #[derive(Clone, Copy, Debug)]
 pub(crate) enum Change {
     /// Its making is finished on the nodes that are up, and the client has it open.
-    Made([u32; 8], u8),
+    Made([u32; NODES_MAX], u8),
     /// The client has it open once more.
     Referred(u8),
     /// The client closes it once, at the moment.
@@ -321,6 +337,19 @@ fn release_in(entries: &mut [Entry], client: u8, now: Moment)
     for entry in entries.iter_mut() {
         entry.release_all(client, now);
     }
+}
+
+/// The same entries, with room for all that may be.
+pub(crate) fn copy_entries(alloc: Global, entries: &[Entry]) -> Result<Vec<Entry>, AllocError>
+    requires { length entries.now ≤ checkpoints_max }
+    ensures items { IfOk result (λ copies. copies.items ≡ entries.now) }
+    ensures room { IfOk result (λ copies. checkpoints_max ≤ vec_capacity copies) }
+{
+    let mut copies = Vec::with_capacity(alloc, CHECKPOINTS_MAX)?;
+    for entry in entries {
+        copies.push_reserved(entry.copy());
+    }
+    Ok(copies)
 }
 
 /// Which entries stay.

@@ -1,28 +1,29 @@
-ghost use Rattle.std.specs.Prelude.{◌≡◌, ℕ, ◌-◌, ◌^◌, ◌≤◌, ◌<◌, None, Some, true, slice_get, IfOk, OnOk, OnErr, IfErr, MatchOption, length, nat_lt, pos, ◌≤ℤ◌, if◌then◌else◌};
+ghost use Rattle.std.specs.Prelude.{◌≡◌, ℕ, List, ◌-◌, ◌^◌, ◌≤◌, ◌<◌, None, Some, true, slice_get, IfSome, IfOk, OnOk, OnErr, IfErr, MatchOption, length, nat_lt, pos, ◌≤ℤ◌, if◌then◌else◌};
 ghost use Rattle.moment_rules.specs.Times.{sum_until_end};
-ghost use Rattle.cluster_record.specs.LookUps.{node_of_client, life_of, up_as, creation_flags_of, sections_declared, identity_in, at_ckpt};
+ghost use Rattle.cluster_record.specs.LookUps.{node_in, life_of, up_as, declared_in, identity_in, at_ckpt};
 ghost use Rattle.cluster_record.specs.Identities.{IdentitiesRise, AllUpTo};
-ghost use Rattle.cluster_record.specs.Calls.{client_of};
+ghost use Rattle.cluster_record.specs.Calls.{client_of, IsClient};
+ghost use Rattle.cluster_record.specs.Kept.{IsKeptEntry, AreKeptClients};
 ghost use Rattle.cluster_record.specs.Makings.{making_call, making_finished, making_undone};
 ghost use Rattle.cluster_record.specs.Numbers.{numbers_left};
 ghost use Rattle.cluster_record.specs.Opening.{answer_free, open_answer, after_open};
 ghost use Rattle.cluster_record.specs.Refusals.{all_taken, plainly, held_by, unlinkable, unlink_answer, retain_answer};
-ghost use Rattle.ckpt_types.specs.declared.identities.CallId.{CallId};
-ghost use Rattle.ckpt_types.specs.Limits.{nodes_max, clients_max, name_max};
+ghost use Rattle.ckpt_types.specs.Limits.{nodes_max, client_numbers, clients_max, checkpoints_max};
 ghost use Rattle.cluster_record.specs.Places.{find_key};
-ghost use Rattle.cluster_record.specs.RecordReady.{CanCreate, CanRefer, CanReferAt};
-ghost use Rattle.cluster_record.specs.RecordState.{empty_record, entry_of, named, complete_of, client_key, is_live_client, is_up, is_live, is_live_from, swept, first_nodes, brought_up, entered, created, moved, opened, closed, unlinked, retained, departed};
+ghost use Rattle.cluster_record.specs.RecordReady.{CanBecomeLive, CanOpen, CanCreate, CanRefer, CanReferAt};
+ghost use Rattle.cluster_record.specs.RecordState.{empty_record, entry_of, named, complete_of, client_key, is_live_client, is_up, is_live, is_live_from, swept, first_nodes, brought_up, entered, created, IsMomentFrom, moved, opened, closed, unlinked, retained, departed};
 
-use crate::clients::{LiveClient, find_client, number_of, take_out};
+use crate::clients::{LiveClient, copy_clients, find_client, number_of, take_out};
 use crate::entries::{
-    Change, DECLARES_NOTHING, Entry, Staying, all_may_rise, change_entry, entries_may_rise,
-    find_entry, keep_only, kept_name, new_entry, release_everywhere,
+    Change, Entry, Staying, all_may_rise, change_entry, copy_entries, entries_may_rise, find_entry,
+    keep_only, kept_name, new_entry, release_everywhere,
 };
 use crate::opening::{OpenAnswer, answer_of};
 use ckpt_types::{
     ActorName, AisError, Bytes, CHECKPOINTS_MAX, CLIENTS_MAX, CallId, Cause, CkptId,
-    CreationAttributes, Incarnation, Moment, NAME_MAX, NodeId, OpenAsk,
+    CreationAttributes, Incarnation, Moment, NODES_MAX, NodeId, OpenAsk,
 };
+use moment_rules::add_until;
 use name_table::Names;
 use std::alloc::{AllocError, Global};
 use std::marker::Model;
@@ -39,9 +40,9 @@ pub struct RecordRefused {
 /// What all nodes agree on.
 #[derive(Drop)]
 pub struct Record {
-    up: [u32; 8],
-    first_calls: [u32; 8],
-    last_incarnations: [u32; 8],
+    up: [u32; NODES_MAX],
+    first_calls: [u32; NODES_MAX],
+    last_incarnations: [u32; NODES_MAX],
     last_identity: CkptId,
     moment: Moment,
     clients: Vec<LiveClient>,
@@ -80,6 +81,22 @@ impl Record {
         })
     }
 
+    /// An equal record, with room of its own.
+    pub fn copy(&self, alloc: Global) -> Result<Record, AllocError>
+        ensures { IfOk result (λ copy. copy ≡ self.now) }
+    {
+        Ok(Record {
+            up: self.up,
+            first_calls: self.first_calls,
+            last_incarnations: self.last_incarnations,
+            last_identity: self.last_identity,
+            moment: self.moment,
+            clients: copy_clients(alloc, self.clients.as_slice())?,
+            entries: copy_entries(alloc, self.entries.as_slice())?,
+            names: self.names.copy(alloc)?,
+        })
+    }
+
     /// The moment.
     pub fn now(&self) -> Moment
         ensures { result ≡ self.now.moment }
@@ -91,11 +108,15 @@ impl Record {
     pub fn moment_after(&self, duration: Moment) -> Moment
         ensures { result ≡ sum_until_end self.now.moment duration }
     {
-        sum_until_end(self.moment, duration)
+        if duration < 0 {
+            self.moment + duration
+        } else {
+            add_until(self.moment, duration)
+        }
     }
 
     /// By node, the incarnation with which it is up, or 0.
-    pub fn incarnations(&self) -> [u32; 8]
+    pub fn incarnations(&self) -> [u32; NODES_MAX]
         ensures { result ≡ self.now.up }
     {
         self.up
@@ -105,7 +126,8 @@ impl Record {
     pub fn is_up(&self, node: NodeId) -> bool
         ensures { result ≡ is_up node self.now }
     {
-        node < 8 && self.up[node as usize] != 0
+        let place = node as usize;
+        place < NODES_MAX && self.up[place] != 0
     }
 
     /// The incarnation with which a node is up, and the number of its first call in it.
@@ -127,14 +149,17 @@ impl Record {
 
     /// How many clients are live.
     pub fn clients_len(&self) -> usize
-        ensures { result ≡ length self.now.clients }
+        ensures len { result ≡ length self.now.clients }
+        ensures few { result ≤ clients_max }
+        ensures kept { AreKeptClients self.now.clients }
     {
         self.clients.len()
     }
 
     /// How many checkpoints there are.
     pub fn entries_len(&self) -> usize
-        ensures { result ≡ length self.now.entries }
+        ensures len { result ≡ length self.now.entries }
+        ensures few { result ≤ checkpoints_max }
     {
         self.entries.len()
     }
@@ -144,20 +169,23 @@ impl Record {
         ensures in_order { IdentitiesRise self.now.entries }
         ensures given { AllUpTo self.now.last_identity self.now.entries }
         ensures at { MatchOption result (length self.now.entries ≤ place) (λ entry. slice_get self.now.entries place ≡ Some entry.now) }
+        ensures kept { IfSome result (λ entry. IsKeptEntry self.now.moment entry.now) }
     {
         self.entries.as_slice().get(place as usize)
     }
 
     /// The checkpoint of an identity.
     pub fn entry(&self, identity: CkptId) -> Option<&Entry>
-        ensures { MatchOption result (entry_of identity self.now.entries ≡ None) (λ entry. entry_of identity self.now.entries ≡ Some entry.now) }
+        ensures found { MatchOption result (entry_of identity self.now.entries ≡ None) (λ entry. entry_of identity self.now.entries ≡ Some entry.now) }
+        ensures kept { IfSome result (λ entry. IsKeptEntry self.now.moment entry.now) }
     {
         find_entry(self.entries.as_slice(), identity)
     }
 
     /// The checkpoint of a name.
     pub fn named(&self, name: &Bytes) -> Option<&Entry>
-        ensures { MatchOption result (named name.now self.now.entries ≡ None) (λ entry. named name.now self.now.entries ≡ Some entry.now) }
+        ensures found { MatchOption result (named name.now self.now.entries ≡ None) (λ entry. named name.now self.now.entries ≡ Some entry.now) }
+        ensures kept { IfSome result (λ entry. IsKeptEntry self.now.moment entry.now) }
     {
         match self.find(name) {
             None => None,
@@ -173,35 +201,22 @@ impl Record {
     }
 
     /// By node, the incarnation with which it is complete for a checkpoint, or 0.
-    pub fn complete(&self, identity: CkptId) -> [u32; 8]
+    pub fn complete(&self, identity: CkptId) -> [u32; NODES_MAX]
         ensures { result ≡ complete_of (entry_of identity self.now.entries) }
     {
         match self.entry(identity) {
-            None => [0; 8],
+            None => [0; NODES_MAX],
             Some(entry) => entry.complete,
         }
     }
 
-    /// The creation flags of a checkpoint, or 0 where it is not there.
-    pub fn creation_flags(&self, identity: CkptId) -> u32
-        ensures { result ≡ creation_flags_of (entry_of identity self.now.entries) }
+    /// The attributes with which a checkpoint was made; none where it is not there.
+    pub fn declared(&self, identity: CkptId) -> Option<CreationAttributes>
+        ensures { result ≡ declared_in (entry_of identity self.now.entries) }
     {
         match self.entry(identity) {
-            None => 0,
-            Some(entry) => entry.attributes.creation_flags,
-        }
-    }
-
-    /// What a checkpoint declares; nothing where it is gone.
-    pub fn declared(&self, identity: Option<CkptId>) -> CreationAttributes
-        ensures { result.max_sections ≡ sections_declared self.now identity }
-    {
-        let Some(identity) = identity else {
-            return DECLARES_NOTHING;
-        };
-        match self.entry(identity) {
-            None => DECLARES_NOTHING,
-            Some(entry) => entry.attributes,
+            None => None,
+            Some(entry) => Some(entry.attributes),
         }
     }
 
@@ -214,7 +229,8 @@ impl Record {
 
     /// Of a client that is live its node, the incarnation in which it became so, and the number of its Initialize call.
     pub fn client(&self, client: u8) -> Option<(NodeId, Incarnation, u32)>
-        ensures { result ≡ life_of (find_key client_key client self.now.clients) }
+        ensures life { result ≡ life_of (find_key client_key client self.now.clients) }
+        ensures within { IfSome result (λ life. (client < client_numbers) × (life.0 < nodes_max)) }
     {
         match find_client(self.clients.as_slice(), client) {
             None => None,
@@ -222,13 +238,14 @@ impl Record {
         }
     }
 
-    /// The node of a client, or 0 where it is not live.
-    pub fn node_of(&self, client: u8) -> NodeId
-        ensures { result ≡ node_of_client (find_key client_key client self.now.clients) }
+    /// The node of a client that is live.
+    pub fn node_of(&self, client: u8) -> Option<NodeId>
+        ensures node { result ≡ node_in (find_key client_key client self.now.clients) }
+        ensures within { IfSome result (λ node. (client < client_numbers) × (node < nodes_max)) }
     {
         match find_client(self.clients.as_slice(), client) {
-            None => 0,
-            Some(live) => live.node,
+            None => None,
+            Some(live) => Some(live.node),
         }
     }
 
@@ -281,9 +298,9 @@ impl Record {
     /// A client becomes live on a node, by its Initialize call. NO_RESOURCES, with the count 64, exactly where so many
     /// are; then nothing changes. It takes no memory.
     pub fn enter(&mut self, call: CallId, node: NodeId) -> Result<(), RecordRefused>
-        requires { node < nodes_max }
+        requires { CanBecomeLive call node self.old }
         ensures ok { OnOk result ((length self.old.clients < clients_max) × (self.new ≡ entered (client_of call) node call.number self.old)) }
-        ensures err { IfErr result (λ refused. (refused ≡ all_taken 64) × (64 ≤ length self.old.clients) × (self.new ≡ self.old)) }
+        ensures err { IfErr result (λ refused. (refused ≡ all_taken clients_max) × (clients_max ≤ length self.old.clients) × (self.new ≡ self.old)) }
     {
         if self.clients.len() >= CLIENTS_MAX {
             return Err(all_taken(CLIENTS_MAX as u32));
@@ -325,7 +342,8 @@ impl Record {
 
     // A checkpoint gets the next identity, and is in the making by the call.
     fn create(&mut self, call: CallId, ask: OpenAsk)
-        requires name { length ask.name ≤ name_max }
+        requires caller { IsClient call.actor }
+        requires can { CanOpen ask self.old }
         requires room { CanCreate self.old }
         requires absent { named ask.name self.old.entries ≡ None }
         ensures { self.new ≡ created call ask self.old }
@@ -343,7 +361,8 @@ impl Record {
 
     // A client has a checkpoint open once more.
     fn refer(&mut self, identity: CkptId, client: u8)
-        requires { CanRefer client (entry_of identity self.old.entries) }
+        requires can { CanRefer client (entry_of identity self.old.entries) }
+        requires made { (name : List ℕ) × (identity_in (named name self.old.entries) ≡ Some identity) × (making_call (named name self.old.entries) ≡ None) }
         ensures { self.new ≡ opened identity client self.old }
     {
         change_entry(&mut self.entries, identity, Change::Referred(client));
@@ -354,7 +373,8 @@ impl Record {
     /// other attributes than those given, and NO_RESOURCES, with the count 16, where so many checkpoints are there and
     /// it is not; then nothing changes. It takes no memory.
     pub fn open(&mut self, call: CallId, ask: OpenAsk) -> OpenAnswer
-        requires name { length ask.name ≤ name_max }
+        requires caller { IsClient call.actor }
+        requires can { CanOpen ask self.old }
         requires references { CanReferAt ask.client self.old.entries (identity_in (named ask.name self.old.entries)) }
         requires identity { self.old.last_identity < 2 ^ 32 - 1 }
         ensures answer { result ≡ open_answer self.old ask }
@@ -382,7 +402,6 @@ impl Record {
     /// The making is finished: the nodes that are up are complete, and the client whose call is making the checkpoint
     /// has it open. Nothing changes where it is not in the making.
     pub fn finish_create(&mut self, identity: CkptId)
-        requires { (call : CallId) → making_call (entry_of identity self.old.entries) ≡ Some call → CanRefer (client_of call) (entry_of identity self.old.entries) }
         ensures { self.new ≡ making_finished identity self.old }
     {
         if let Some(call) = self.making_call(identity) {
@@ -439,6 +458,7 @@ impl Record {
     /// How long a checkpoint stays after its last close is set. BAD_OPERATION exactly where it has no name, and
     /// NOT_EXIST exactly where it is not there; then nothing changes.
     pub fn retain(&mut self, identity: CkptId, duration: i64) -> Result<(), RecordRefused>
+        requires duration { pos 0 ≤ℤ duration }
         ensures answer { result ≡ retain_answer (entry_of identity self.old.entries) }
         ensures ok { OnOk result (self.new ≡ retained identity duration self.old) }
         ensures err { OnErr result (self.new ≡ self.old) }
@@ -478,7 +498,7 @@ impl Record {
 
     /// The moment is set, and what is over then is swept away.
     pub fn set_moment(&mut self, t: Moment)
-        requires { self.old.moment ≤ℤ t }
+        requires { IsMomentFrom self.old.moment t }
         ensures { self.new ≡ moved t self.old }
     {
         self.moment = t;
@@ -516,16 +536,7 @@ pub(crate) fn held_by(call: CallId) -> RecordRefused
     }
 }
 
-// The sum of a moment and a duration, or the end of time. One with a negative duration is counted too, since no moment is
-// below 0.
-fn sum_until_end(moment: Moment, duration: Moment) -> Moment
-    requires { pos 0 ≤ℤ moment }
-    ensures { result ≡ sum_until_end moment duration }
-{
-    moment.saturating_add(duration)
-}
-
-fn first_nodes(n: u8) -> [u32; 8]
+fn first_nodes(n: u8) -> [u32; NODES_MAX]
     ensures { result ≡ first_nodes n }
 {
     [

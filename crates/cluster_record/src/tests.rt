@@ -1,8 +1,11 @@
+ghost use Rattle.std.specs.Prelude.{◌≡◌, IfSome, true};
+ghost use Rattle.ckpt_types.specs.Attributes.{IsWellFormed};
+
 use crate::entries::{all_may_rise, new_entry};
 use crate::{OpenAnswer, Record, RecordRefused};
 use ckpt_types::{
-    ActorName, AisError, Bytes, CallId, Cause, CkptId, CreationAttributes, Moment, NodeId, OpenAsk,
-    SectionId, WR_ALL_REPLICAS, name_fits,
+    ActorName, AisError, Bytes, CLIENT_NUMBERS, CallId, Cause, CkptId, CreationAttributes, Moment,
+    NodeId, OpenAsk, SectionId, WR_ALL_REPLICAS, name_fits,
 };
 use std::alloc::{AllocError, Global};
 use std::test::Fail;
@@ -23,7 +26,17 @@ fn call_of(client: u8, number: u32) -> CallId {
     }
 }
 
-/// What a client gets that opens a checkpoint with these attributes, where the record has numbers left.
+/// Whether the attributes, where they are given, pass their check.
+fn pass(attrs: &Option<CreationAttributes>) -> bool
+    ensures { result ≡ true → IfSome attrs.now IsWellFormed }
+{
+    match attrs {
+        None => true,
+        Some(attrs) => attrs.check().is_ok(),
+    }
+}
+
+/// What a client gets that opens a checkpoint with these attributes, where it may ask and the record has numbers left.
 fn open_as(
     record: &mut Record,
     alloc: Global,
@@ -37,6 +50,9 @@ fn open_as(
         client,
         node: 0,
     };
+    if usize::from(client) >= CLIENT_NUMBERS || !record.is_up(0) || !pass(&ask.attrs) {
+        return Ok(None);
+    }
     if !name_fits(&ask.name) || !record.numbers_left() {
         return Ok(None);
     }
@@ -70,16 +86,11 @@ fn find(record: &Record, alloc: Global, name: &[u8]) -> Result<Option<CkptId>, A
 
 /// Takes a client in; why not, where it is refused.
 fn enter(record: &mut Record, client: u8, node: NodeId, number: u32) -> Option<RecordRefused> {
-    if node < 8 {
+    let known = usize::from(client) < CLIENT_NUMBERS;
+    if known && record.is_up(node) && !record.is_live_client(client) {
         record.enter(call_of(client, number), node).err()
     } else {
         None
-    }
-}
-
-fn finish(record: &mut Record, identity: CkptId) {
-    if record.numbers_left() {
-        record.finish_create(identity);
     }
 }
 
@@ -93,8 +104,17 @@ fn unlink(
     Ok(record.unlink(&name).err())
 }
 
+/// Why a retention is not set, where it is not.
+fn retain(record: &mut Record, identity: CkptId, duration: i64) -> Option<RecordRefused> {
+    if duration >= 0 {
+        record.retain(identity, duration).err()
+    } else {
+        None
+    }
+}
+
 fn set_moment(record: &mut Record, t: Moment) {
-    if record.now() <= t {
+    if record.now() <= t && t < Moment::MAX {
         record.set_moment(t);
     }
 }
@@ -109,7 +129,7 @@ fn identity_at(record: &Record, place: u32) -> Option<CkptId> {
 /// How often a client has a checkpoint open.
 fn references(record: &Record, identity: CkptId, client: u8) -> u32 {
     match record.entry(identity) {
-        Some(entry) if client < 100 => entry.references[client as usize],
+        Some(entry) if usize::from(client) < CLIENT_NUMBERS => entry.references[client as usize],
         _ => 0,
     }
 }
@@ -131,7 +151,8 @@ fn a_client_is_told_with_its_node_and_its_life(rt: HostRuntime) -> Result<(), Fa
     let mut record = Record::new(rt.alloc(), 2)?;
     assert_eq!(rt; enter(&mut record, 3, 1, 7), None);
     assert_eq!(rt; record.client(3), Some((1, 1, 7)));
-    assert_eq!(rt; record.node_of(3), 1);
+    assert_eq!(rt; record.node_of(3), Some(1));
+    assert_eq!(rt; record.node_of(4), None);
     assert_eq!(rt; record.client(4), None);
     assert!(rt; record.is_live_client(3) && !record.is_live_client(4));
     Ok(())
@@ -203,9 +224,25 @@ fn the_first_nodes_are_up_in_their_first_life(rt: HostRuntime) -> Result<(), Fai
 }
 
 #[test]
+fn a_copy_goes_its_own_way(rt: HostRuntime) -> Result<(), Fail> {
+    let alloc = rt.alloc();
+    let mut record = Record::new(alloc, 2)?;
+    assert_eq!(rt; enter(&mut record, 3, 1, 7), None);
+    create(&mut record, alloc, b"a")?;
+    set_moment(&mut record, 5);
+    let mut copy = record.copy(alloc)?;
+    assert_eq!(rt; create(&mut copy, alloc, b"b")?, Some(2));
+    assert_eq!(rt; copy.now(), 5);
+    assert_eq!(rt; copy.client(3), Some((1, 1, 7)));
+    assert_eq!(rt; find(&copy, alloc, b"a")?, Some(1));
+    assert_eq!(rt; find(&record, alloc, b"b")?, None);
+    Ok(())
+}
+
+#[test]
 fn identities_rise_and_none_is_given_again(rt: HostRuntime) -> Result<(), Fail> {
     let alloc = rt.alloc();
-    let mut record = Record::new(alloc, 0)?;
+    let mut record = Record::new(alloc, 1)?;
     assert_eq!(rt; create(&mut record, alloc, b"a")?, Some(1));
     assert_eq!(rt; create(&mut record, alloc, b"ab")?, Some(2));
     assert_eq!(rt; find(&record, alloc, b"abc")?, None);
@@ -268,7 +305,7 @@ fn an_open_makes_what_is_not_there(rt: HostRuntime) -> Result<(), Fail> {
 fn an_open_asks_for_the_attributes_that_are_there(rt: HostRuntime) -> Result<(), Fail> {
     let mut record = Record::new(rt.alloc(), 1)?;
     create(&mut record, rt.alloc(), b"a")?;
-    finish(&mut record, 1);
+    record.finish_create(1);
     let mut others = ATTRIBUTES;
     others.max_sections = 2;
     let mut retained = ATTRIBUTES;
@@ -315,10 +352,10 @@ fn a_making_ends_with_its_first_reference(rt: HostRuntime) -> Result<(), Fail> {
     let mut record = Record::new(alloc, 2)?;
     create(&mut record, alloc, b"a")?;
     assert!(rt; !is_made(&record, 1), "it is in the making");
-    finish(&mut record, 1);
+    record.finish_create(1);
     assert!(rt; is_made(&record, 1));
     assert_eq!(rt; references(&record, 1, 3), 1);
-    finish(&mut record, 1);
+    record.finish_create(1);
     assert_eq!(rt; references(&record, 1, 3), 1);
     record.undo_create(1);
     assert!(rt; is_made(&record, 1), "a making that is over stays so");
@@ -335,12 +372,12 @@ fn the_sweep_takes_what_nobody_has_open_once_its_retention_is_over(
     rt: HostRuntime,
 ) -> Result<(), Fail> {
     let alloc = rt.alloc();
-    let mut record = Record::new(alloc, 0)?;
+    let mut record = Record::new(alloc, 1)?;
     create(&mut record, alloc, b"open")?;
-    finish(&mut record, 1);
-    // No references are counted of a client beyond c99.
-    create_by(&mut record, alloc, 100, b"idle")?;
-    finish(&mut record, 2);
+    record.finish_create(1);
+    create(&mut record, alloc, b"idle")?;
+    record.finish_create(2);
+    record.close(3, 2);
     create(&mut record, alloc, b"in the making")?;
     set_moment(&mut record, 9);
     assert_eq!(rt; record.entries_len(), 3);
@@ -382,7 +419,7 @@ enum Step {
 /// Takes the steps that end well by themselves.
 fn take(record: &mut Record, step: Step) {
     match step {
-        Step::Finish(identity) => finish(record, identity),
+        Step::Finish(identity) => record.finish_create(identity),
         Step::Close(client, identity) => record.close(client, identity),
         Step::Leave(client) => record.leave(client),
         Step::Sweep => record.sweep(),
@@ -410,7 +447,7 @@ fn ends(record: &mut Record, alloc: Global, step: Step) -> Result<bool, AllocErr
         Step::Open(client, name) => open(record, alloc, client, &[name])?,
         Step::Unlink(name, refused) => return Ok(unlink(record, alloc, &[name])? == refused),
         Step::Retain(identity, duration, refused) => {
-            return Ok(record.retain(identity, duration).err() == refused);
+            return Ok(retain(record, identity, duration) == refused);
         }
         Step::Found(name, identity) => return Ok(find(record, alloc, &[name])? == identity),
         _ => {}
@@ -545,7 +582,7 @@ fn a_client_leaves_with_its_makings_and_its_references(rt: HostRuntime) -> Resul
 #[test]
 fn numbers_are_left_until_one_is_the_greatest(rt: HostRuntime) -> Result<(), Fail> {
     let alloc = rt.alloc();
-    let mut record = Record::new(alloc, 0)?;
+    let mut record = Record::new(alloc, 1)?;
     create(&mut record, alloc, b"a")?;
     assert!(rt; record.numbers_left());
     let name = SectionId::from_slice(b"a");

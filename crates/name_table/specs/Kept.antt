@@ -1,4 +1,4 @@
--- How a table of names is kept: in a map with 16 places, beside an empty one with as many.
+-- How a table of names is kept: in a map with its places, beside an empty one with as many.
 use Rattle.std.specs.Prelude.{ℕ, ◌+◌, ◌≤◌, List, map}
 use Rattle.indexmap.specs.IndexMap.{index_map_len, spare, IsEmpty}
 use Rattle.name_table.specs.Table.{NamedCkpt, EachOnce, places}

@@ -3,15 +3,16 @@
 use Rattle.std.specs.Prelude.{◌≡◌, ◌≢◌, ℕ, List, [], ◌∷◌, ◌++◌, filter, find, Option, None, Bool, not, nat_eq}
 use Rattle.std.specs.Option.{option_map}
 use Rattle.std.specs.Cmp.Lexicographic.{pointwise}
+use Rattle.ckpt_types.specs.Limits.{checkpoints_max}
 
 -- a name, and the identity of the checkpoint that it is linked to
 pub record NamedCkpt : Type 0 where
   pub name : List ℕ
   pub identity : ℕ
 
--- for how many names a table has places
+-- for how many names a table has places: one for each checkpoint
 abbrev pub places : ℕ
-places = 16
+places = checkpoints_max
 
 -- the checkpoint has this name
 abbrev pub is_called : List ℕ → NamedCkpt → Bool

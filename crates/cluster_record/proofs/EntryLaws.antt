@@ -1,0 +1,185 @@
+-- What is kept of each checkpoint is kept by each change of one.
+use Rattle.std.proofs.Common.{◌≡◌, ℕ, ◌+◌, ◌-◌, ◌<◌, ◌≤◌, zero, suc, List, [], ◌∷◌, length, replicate, All, Bool, true, false, cond, ◌==◌, refl, sym, ap, subst, ◌∙◌, arith}
+use Rattle.std.specs.Prelude.{Option, Some, None, IfSome, ℤ, pos, ◌≤ℤ◌, slice_set, slice_index}
+use Rattle.std.proofs.lemmas.Bool.{eqb-false}
+use Rattle.std.proofs.lemmas.Int.{ints}
+use Rattle.std.proofs.lemmas.List.{length-set}
+use Rattle.ckpt_types.specs.declared.attributes.CreationAttributes.{CreationAttributes}
+use Rattle.ckpt_types.specs.declared.identities.CallId.{CallId}
+use Rattle.ckpt_types.specs.Attributes.{IsWellFormed}
+use Rattle.ckpt_types.specs.Limits.{nodes_max, client_numbers}
+use Rattle.cluster_record.specs.declared.entries.Entry.{Entry}
+use Rattle.cluster_record.specs.Calls.{IsClient}
+use Rattle.cluster_record.specs.Kept.{IsName, IsMakingBy, IsComplete, IsKeptEntry}
+use Rattle.cluster_record.specs.RecordState.{RecordState, no_nodes, no_references, first_complete, has_references, referred, made_with, idle_from, released, released_all, unnamed, retaining, new_entry}
+
+-- ---- what is in the making, or not
+
+unless_none : (o : Option CallId) (P : CallId → Type 0) → o ≡ None → IfSome o P
+unless_none None P e = tt
+unless_none (Some call) P e = absurd cc
+
+still : (o : Option CallId) (P Q : CallId → Type 0) → ((call : CallId) → P call → Q call) → IfSome o P → IfSome o Q
+still None P Q go is = tt
+still (Some call) P Q go is = go call is
+
+-- nobody is among no references
+nothing_at : (n c : ℕ) → slice_index (replicate n 0) c ≡ 0
+nothing_at zero c = refl
+nothing_at (suc n) zero = refl
+nothing_at (suc n) (suc c) = nothing_at n c
+
+-- what is in the making is open to nobody
+pub unopened : (e : Entry) (c : ℕ) (call : CallId) → e.making ≡ Some call → IfSome e.making (λ call. IsMakingBy call e) → slice_index e.references c ≡ 0
+unopened e c call is making =
+    let by : IsMakingBy call e = subst (λ o. IfSome o (λ call. IsMakingBy call e)) is making in
+    ap (λ references. slice_index references c) by.references ∙ nothing_at client_numbers c
+
+-- ---- the lowest complete node is complete
+
+first_from : (n : ℕ) (cs : List ℕ) (r : ℕ) → first_complete n cs ≡ Some r → (i : ℕ) × (r ≡ n + i) × (i < length cs) × (1 ≤ slice_index cs i)
+first_from n [] r e = absurd cc
+first_from n (c ∷ cs) r e = by (c == 0) refl e (first_from (n + 1) cs r) where
+  by : (b : Bool) → (c == 0) ≡ b → cond b (first_complete (n + 1) cs) (Some n) ≡ Some r → (first_complete (n + 1) cs ≡ Some r → (i : ℕ) × (r ≡ n + 1 + i) × (i < length cs) × (1 ≤ slice_index cs i)) →
+      (i : ℕ) × (r ≡ n + i) × (i < length (c ∷ cs)) × (1 ≤ slice_index (c ∷ cs) i)
+  by true is found more = let f = more found in (suc f.0, omega (arith, f.1), omega (arith, f.2), f.3)
+  by false is found more = let same : n ≡ r = cc in let some : c ≡ 0 → ⊥ = eqb-false c 0 is in (zero, omega (arith, same), omega arith, omega (arith, some))
+
+first_is : (cs : List ℕ) → length cs ≡ nodes_max → IfSome (first_complete 0 cs) (λ r. IsComplete r cs)
+first_is cs few = by (first_complete 0 cs) refl where
+  by : (o : Option ℕ) → first_complete 0 cs ≡ o → IfSome o (λ r. IsComplete r cs)
+  by None e = tt
+  by (Some r) e =
+      let f = first_from 0 cs r e in
+      let at : f.0 ≡ r = omega (arith, f.1) in
+      record { node = omega (arith, f.2, few, at); incarnation = subst (λ i. 1 ≤ slice_index cs i) at f.3 }
+
+-- ---- one entry changed
+
+module _ (t : ℤ) (e : Entry) (kept : IsKeptEntry t e) where
+  -- other references, and another moment of the last close
+  with_references : (references : List ℕ) (idle : ℤ) → e.making ≡ None → length references ≡ client_numbers → e.made ≤ℤ idle → idle ≤ℤ t → IsKeptEntry t (record e { references = references; idle = idle })
+  with_references references idle made few after past = record {
+    identity = kept.identity;
+    name = kept.name;
+    attributes = kept.attributes;
+    retention = kept.retention;
+    made = kept.made;
+    idle = after;
+    past = past;
+    complete = kept.complete;
+    references = few;
+    active = kept.active;
+    generation = kept.generation;
+    making = unless_none e.making _ made;
+  }
+
+  as_many : (c n : ℕ) → length (slice_set e.references c n) ≡ client_numbers
+  as_many c n = length-set e.references c n ∙ kept.references
+
+  -- where a reference goes, and perhaps it was the last
+  idle_from-kept : (c n : ℕ) → e.making ≡ None → IsKeptEntry t (idle_from t (record e { references = slice_set e.references c n }))
+  idle_from-kept c n made =
+      elim (has_references (record e { references = slice_set e.references c n })) as (λ b. IsKeptEntry t (cond b (record e { references = slice_set e.references c n }) (record e { references = slice_set e.references c n; idle = t }))) [
+        | true ↦ with_references (slice_set e.references c n) e.idle made (as_many c n) kept.idle kept.past
+        | false ↦ with_references (slice_set e.references c n) t made (as_many c n) (let a = kept.idle in let b = kept.past in omega (arith, ints, a, b)) (omega (arith, ints))
+      ]
+
+  -- a client that has nothing open leaves it as it is
+  when_open : (c : ℕ) (f : Entry) → (e.making ≡ None → IsKeptEntry t f) → IsKeptEntry t (cond (slice_index e.references c == 0) e f)
+  when_open c f go = by e.making refl where
+    by : (o : Option CallId) → e.making ≡ o → IsKeptEntry t (cond (slice_index e.references c == 0) e f)
+    by None is = elim (slice_index e.references c == 0) as (λ b. IsKeptEntry t (cond b e f)) [ true ↦ kept | false ↦ go is ]
+    by (Some call) is = subst (λ n. IsKeptEntry t (cond (n == 0) e f)) (sym (unopened e c call is kept.making)) kept
+
+  pub released-kept : (c : ℕ) → IsKeptEntry t (released c t e)
+  released-kept c = when_open c _ (idle_from-kept c (slice_index e.references c - 1))
+
+  pub released_all-kept : (c : ℕ) → IsKeptEntry t (released_all c t e)
+  released_all-kept c = when_open c _ (idle_from-kept c 0)
+
+  pub referred-kept : (c : ℕ) → e.making ≡ None → IsKeptEntry t (referred c e)
+  referred-kept c made = with_references (slice_set e.references c (slice_index e.references c + 1)) e.idle made (as_many c (slice_index e.references c + 1)) kept.idle kept.past
+
+  pub made_with-kept : (up : List ℕ) (c : ℕ) → length up ≡ nodes_max → IsKeptEntry t (made_with up c e)
+  made_with-kept up c few = record {
+    identity = kept.identity;
+    name = kept.name;
+    attributes = kept.attributes;
+    retention = kept.retention;
+    made = kept.made;
+    idle = kept.idle;
+    past = kept.past;
+    complete = few;
+    references = as_many c (slice_index e.references c + 1);
+    active = first_is up few;
+    generation = omega arith;
+    making = tt;
+  }
+
+  pub unnamed-kept : e.making ≡ None → IsKeptEntry t (unnamed e)
+  unnamed-kept made = record {
+    identity = kept.identity;
+    name = tt;
+    attributes = kept.attributes;
+    retention = kept.retention;
+    made = kept.made;
+    idle = kept.idle;
+    past = kept.past;
+    complete = kept.complete;
+    references = kept.references;
+    active = kept.active;
+    generation = kept.generation;
+    making = unless_none e.making _ made;
+  }
+
+  pub retaining-kept : (duration : ℤ) → pos 0 ≤ℤ duration → IsKeptEntry t (retaining duration e)
+  retaining-kept duration least = record {
+    identity = kept.identity;
+    name = kept.name;
+    attributes = kept.attributes;
+    retention = least;
+    made = kept.made;
+    idle = kept.idle;
+    past = kept.past;
+    complete = kept.complete;
+    references = kept.references;
+    active = kept.active;
+    generation = kept.generation;
+    making = still e.making _ _ (λ call by. record { maker = by.maker; name = by.name; complete = by.complete; active = by.active; generation = by.generation; references = by.references; hold = by.hold }) kept.making;
+  }
+
+  -- at a later moment
+  pub later-kept : (later : ℤ) → t ≤ℤ later → IsKeptEntry later e
+  later-kept later le = record {
+    identity = kept.identity;
+    name = kept.name;
+    attributes = kept.attributes;
+    retention = kept.retention;
+    made = kept.made;
+    idle = kept.idle;
+    past = let p = kept.past in omega (arith, ints, p, le);
+    complete = kept.complete;
+    references = kept.references;
+    active = kept.active;
+    generation = kept.generation;
+    making = kept.making;
+  }
+
+-- ---- a new one
+
+pub new_entry-kept : (call : CallId) (name : List ℕ) (a : CreationAttributes) (R : RecordState) → IsClient call.actor → IsName name → IsWellFormed a → pos 0 ≤ℤ R.moment → IsKeptEntry R.moment (new_entry call name a R)
+new_entry-kept call name a R client fits formed start = record {
+  identity = omega arith;
+  name = fits;
+  attributes = formed;
+  retention = formed.retention;
+  made = start;
+  idle = omega (arith, ints);
+  past = omega (arith, ints);
+  complete = refl;
+  references = refl;
+  active = tt;
+  generation = omega arith;
+  making = record { maker = client; name = refl; complete = refl; active = refl; generation = refl; references = refl; hold = refl };
+}
