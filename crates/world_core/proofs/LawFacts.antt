@@ -41,7 +41,7 @@ use Rattle.world_core.specs.Beginning.{IsIterOf, IsNextOf, IsBuilt, IsCloseOf, I
 use Rattle.world_core.specs.Machine.{Machine, CallState}
 use Rattle.world_core.specs.Steps.{due, driver_of, room_of, rooms_of, named_handle, seen_at, seen, seen_slot, staged_moment, handle_in}
 use Rattle.cluster_record.specs.LookUps.{sections_declared}
-use Rattle.world_core.specs.RecordAsks.{CanOpen}
+use Rattle.cluster_record.specs.RecordReady.{CanOpen}
 use Rattle.world_core.specs.Shows.{IsActive, IsServable, IsReservable, AllReserved, IsEventReady, Facts}
 use Rattle.world_core.specs.Invariant.{Working, AreGoodAttributes, IsKindOf, IsMakingEntry, IsAt, InvariantWith, Invariant, IsClientOf, OpensAs, IsUpdateOf}
 use Rattle.cluster_record.specs.Makings.{IsMakingOf}

@@ -37,13 +37,13 @@ pub mod OnceByKey
 pub mod Openers
 pub mod Openings
 pub mod Pieces
+pub mod PlainRequests
 pub mod Readiness
 pub mod RecordEvent
 pub mod RecordSteps
 pub mod Recording
 pub mod Refusing
 pub mod Reserve
-pub mod Rows
 pub mod Running
 pub mod Serve
 pub mod Stepping

@@ -18,8 +18,7 @@ use Rattle.cluster_record.specs.declared.opening.OpenAnswer.TheVariants.{Opened,
 use Rattle.cluster_record.specs.Opening.{answer_unless, answer_free, answer_named, open_answer}
 use Rattle.cluster_record.specs.Refusals.{plainly, all_taken}
 use Rattle.cluster_record.specs.Calls.{IsClient}
-use Rattle.cluster_record.specs.RecordReady.{CanRefer, CanReferAt}
-use Rattle.world_core.specs.RecordAsks.{CanOpen}
+use Rattle.cluster_record.specs.RecordReady.{CanOpen, CanRefer, CanReferAt}
 use Rattle.cluster_record.specs.DueOpen.{accepts}
 use Rattle.cluster_record.specs.LookUps.{identity_in}
 use Rattle.world_core.proofs.RecordEvent.{EventNeeds}

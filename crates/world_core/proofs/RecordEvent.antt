@@ -27,7 +27,7 @@ use Rattle.world_core.specs.declared.replica.Replica.{Replica}
 use Rattle.world_core.specs.declared.world.World.{World}
 use Rattle.client_handles.specs.ClientState.{handle_numbered}
 use Rattle.cluster_record.specs.Calls.{IsClient, number_of, client_of, left}
-use Rattle.world_core.specs.RecordAsks.{CanBecomeLive, CanOpen}
+use Rattle.cluster_record.specs.RecordReady.{CanBecomeLive, CanOpen}
 use Rattle.cluster_record.specs.RecordState.{RecordState, entry_of, named}
 use Rattle.world_core.specs.TableState.{TableState, with_handle}
 use Rattle.world_core.specs.TableState as tables

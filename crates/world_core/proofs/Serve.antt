@@ -42,7 +42,7 @@ use Rattle.world_core.proofs.Held.{state_in, in_hand_is, in_hand_at, driver_is, 
 use Rattle.world_core.proofs.HoldingLaws.{held_at, holds_by_key, standing, once_set}
 use Rattle.world_core.proofs.Maps.{both_true, slice_there, after_key, served_at, complete_at, put_replica, fits_replica, reserved_same, put_hand, fits_hand}
 use Rattle.world_core.proofs.OnceByKey.{counted, counted-change_key}
-use Rattle.world_core.proofs.Rows.{IsPlain, effects_after, origin_after, row_moves, row_fits}
+use Rattle.world_core.proofs.PlainRequests.{IsPlain, effects_after, origin_after, row_moves, row_fits}
 use Rattle.world_core.proofs.Finding.{There}
 use Rattle.world_core.proofs.Finding as finding
 

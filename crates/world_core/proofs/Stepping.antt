@@ -35,7 +35,7 @@ use Rattle.world_core.specs.Happenings.{IsNext, IsStep}
 use Rattle.world_core.proofs.Held.{next_for}
 use Rattle.world_core.proofs.Look.{look_done}
 use Rattle.world_core.proofs.Reserve.{reserve_ready, reserve_done, reserve_refused}
-use Rattle.world_core.proofs.Rows.{IsPlain}
+use Rattle.world_core.proofs.PlainRequests.{IsPlain}
 use Rattle.world_core.proofs.Serve.{served_step, serve_node, serve_ready, serve_done}
 
 -- what is there is not none

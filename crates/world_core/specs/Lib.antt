@@ -1,4 +1,3 @@
-pub mod RecordAsks
 pub mod RecordReady
 pub mod TableState
 pub mod TableView

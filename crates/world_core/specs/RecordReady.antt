@@ -12,8 +12,7 @@ use Rattle.cluster_record.specs.declared.opening.OpenAnswer.{OpenAnswer}
 use Rattle.cluster_record.specs.declared.opening.OpenAnswer.TheVariants.{Opened, Made, Refused}
 use Rattle.cluster_record.specs.Opening.{open_answer}
 use Rattle.cluster_record.specs.Calls.{IsClient}
-use Rattle.cluster_record.specs.RecordReady.{CanReferAt}
-use Rattle.world_core.specs.RecordAsks.{CanBecomeLive, CanOpen}
+use Rattle.cluster_record.specs.RecordReady.{CanBecomeLive, CanOpen, CanReferAt}
 use Rattle.cluster_record.specs.RecordState.{RecordState, named, entry_of}
 use Rattle.cluster_record.specs.DueOpen.{making_ckpt}
 use Rattle.cluster_record.specs.LookUps.{identity_in}

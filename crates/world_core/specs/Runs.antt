@@ -8,7 +8,7 @@ use Rattle.ckpt_types.specs.declared.identities.Who.{Who}
 use Rattle.ckpt_types.specs.declared.identities.Who.TheVariants as whos
 use Rattle.ckpt_types.specs.declared.operation.Op.{Op}
 use Rattle.ckpt_types.specs.declared.operation.Op.TheVariants as ops
-use Rattle.ckpt_types.specs.Limits.{client_numbers}
+use Rattle.ckpt_types.specs.Limits.{client_numbers, nodes_max}
 use Rattle.run_labels.specs.declared.labels.Label.{Label}
 use Rattle.run_labels.specs.declared.labels.Label.TheVariants as labels
 use Rattle.run_labels.specs.declared.words.LineWord.{LineWord}
@@ -74,7 +74,7 @@ pub record IsRunTo (w : World) (log : List Label) : Type 0 where
 -- the world as it begins
 pub record IsNew (w : World) : Type 0 where
   pub cluster : w.cluster ≡ empty_record
-  pub nodes : w.nodes ≡ replicate 8 []
+  pub nodes : w.nodes ≡ replicate nodes_max []
   pub next : (c : ℕ) → next_in (slice_get w.tables c) ≡ 1
   pub tables : (c : ℕ) (t : TableState) → slice_get w.tables c ≡ Some t → t.client ≡ new_client no_callbacks
   pub hands : (c : ℕ) → hand_at w.hands c ≡ None

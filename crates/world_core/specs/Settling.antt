@@ -60,7 +60,7 @@ CanSettle c op step k tables = Unit {0}
 
 -- ---- what it finds
 
--- a table in which a handle's place is set has 100 places
+-- a table in which a handle's place is set has all its places
 abbrev pub HasPlaces : RecordStep → Option TableState → Type 0
 HasPlaces events.Open t = IsSomeAnd t (λ t. length t.client.places ≡ places_max)
 HasPlaces events.Finish t = IsSomeAnd t (λ t. length t.client.places ≡ places_max)

@@ -36,7 +36,7 @@ use Rattle.world_core.specs.TableState.{TableState}
 use Rattle.node_msgs.specs.Requests.{ckpt_of}
 use Rattle.world_core.specs.Serving.{replica_in, IsReadyFor}
 use Rattle.world_core.specs.Holding.{HoldsOnlyWhatStands}
-use Rattle.world_core.specs.RecordAsks.{CanBecomeLive, CanOpen}
+use Rattle.cluster_record.specs.RecordReady.{CanBecomeLive, CanOpen}
 use Rattle.cluster_record.specs.StepDone.{StepDone}
 use Rattle.world_core.specs.Driving.{Kept, driver_state}
 use Rattle.world_core.specs.Beginning.{IsIterOf, IsNextOf, IsBuilt, closed_place}

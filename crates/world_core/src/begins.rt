@@ -4,6 +4,7 @@ ghost use Rattle.ckpt_types.specs.declared.identities.Who.TheVariants.{Actor};
 ghost use Rattle.ckpt_types.specs.Limits.{client_numbers};
 ghost use Rattle.run_labels.specs.declared.words.LineWord.TheVariants as linewords;
 ghost use Rattle.run_labels.specs.declared.labels.Label.TheVariants as labels;
+ghost use Rattle.cluster_record.specs.LookUps.{sections_declared};
 ghost use Rattle.cluster_record.specs.RecordState.{empty_record};
 ghost use Rattle.world_core.specs.Beginning.{IsBuilt, handle_place, iteration_place};
 ghost use Rattle.world_core.specs.Steps.{MayBegin, IsBeginEnd};
@@ -16,11 +17,22 @@ use crate::beginning::{
 use crate::drivers::Driver;
 use crate::hands::InHand;
 use crate::world::World;
-use ckpt_types::{ActorName, CallId, CreationAttributes, Op, Outcome, Who};
+use ckpt_types::{ActorName, CallId, CkptId, CreationAttributes, Op, Outcome, Who};
 use client_handles::HandleView;
+use cluster_record::Record;
 use run_labels::{Label, LineWord, OpWord, Said};
 use section_iter::Iteration;
 use std::alloc::{AllocError, Global};
+
+/// What is declared where no checkpoint is.
+const DECLARES_NOTHING: CreationAttributes = CreationAttributes {
+    creation_flags: 0,
+    checkpoint_size: 0,
+    retention_duration: 0,
+    max_sections: 0,
+    max_section_size: 0,
+    max_section_id_size: 0,
+};
 
 impl World {
     /// The first nodes come up.
@@ -75,7 +87,7 @@ impl World {
         let driver = Driver::start(call, op, &handle, &self.cluster)?;
         let own = copy(op)?;
         let begun = copy(op)?;
-        let declared = self.cluster.declared(ckpt_of_handle(&handle));
+        let declared = declared_by(&self.cluster, ckpt_of_handle(&handle));
         let (end, iteration) = take_room(alloc, op, &declared, due);
         let hand = InHand {
             call,
@@ -105,6 +117,19 @@ impl World {
             None => None,
             Some(place) => self.tables.iteration_handle(c, place),
         }
+    }
+}
+
+// What a checkpoint declares; one that is gone declares no section.
+fn declared_by(cluster: &Record, ckpt: Option<CkptId>) -> CreationAttributes
+    ensures { result.max_sections ≡ sections_declared cluster.now ckpt }
+{
+    let Some(ckpt) = ckpt else {
+        return DECLARES_NOTHING;
+    };
+    match cluster.declared(ckpt) {
+        None => DECLARES_NOTHING,
+        Some(attributes) => attributes,
     }
 }
 

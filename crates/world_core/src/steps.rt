@@ -7,6 +7,7 @@ ghost use Rattle.node_msgs.specs.declared.requests.Request.TheVariants as reques
 ghost use Rattle.run_labels.specs.declared.labels.Label.TheVariants as labels;
 ghost use Rattle.run_labels.specs.declared.words.Said.TheVariants.{Idle};
 ghost use Rattle.world_core.specs.Settling.{given, closed_at, settled, looked, CanGive, CanSettle, HasPlaces};
+ghost use Rattle.cluster_record.specs.LookUps.{creation_flags_of};
 ghost use Rattle.cluster_record.specs.RecordState.{entry_of};
 ghost use Rattle.world_core.specs.Beginning.{opened_place, closed_place};
 ghost use Rattle.world_core.specs.Reserving.{IsReserved};
@@ -303,5 +304,21 @@ fn give(tables: &mut Tables, cluster: &Record, c: u8, op: &Op, ckpt: Option<Ckpt
     let (Some(ckpt), Some(place)) = (ckpt, opened_place(op)) else {
         unreachable!()
     };
-    tables.add(c, ckpt, opened_for(op), cluster.creation_flags(ckpt), place);
+    tables.add(
+        c,
+        ckpt,
+        opened_for(op),
+        creation_flags(cluster, ckpt),
+        place,
+    );
+}
+
+// The creation flags of a checkpoint; 0 where it is gone.
+fn creation_flags(cluster: &Record, ckpt: CkptId) -> u32
+    ensures { result ≡ creation_flags_of (entry_of ckpt cluster.now.entries) }
+{
+    match cluster.declared(ckpt) {
+        None => 0,
+        Some(attributes) => attributes.creation_flags,
+    }
 }

@@ -9,7 +9,7 @@ ghost use Rattle.world_core.specs.NewTable.{new_table};
 ghost use Rattle.world_core.specs.Shows.{next_in, handles_in, iterations_in, last_in, handle_in_place, handle_over_place};
 
 use crate::nodes::Nodes;
-use ckpt_types::{CallbackSet, CkptId, Moment, NodeId, OpenFlags, ReadBuf};
+use ckpt_types::{CLIENT_NUMBERS, CallbackSet, CkptId, Moment, NodeId, OpenFlags, ReadBuf};
 use client_handles::{Client, HandleView};
 use node_msgs::Reply;
 use section_iter::Iteration;
@@ -45,13 +45,14 @@ pub struct Tables {
 
 impl Model for Tables {
     ghost use Rattle.std.specs.Prelude.{List, length, ◌≡◌};
+    ghost use Rattle.ckpt_types.specs.Limits.{client_numbers};
     ghost use Rattle.world_core.specs.TableState.{TableState};
 
     ghost Value = { List TableState };
 
     ghost view = { λ tables. tables.list.items };
 
-    ghost invariant = { λ tables. length tables.list.items ≡ 100 };
+    ghost invariant = { λ tables. length tables.list.items ≡ client_numbers };
 }
 
 impl Table {
@@ -163,7 +164,7 @@ impl Table {
         requires number { self.old.client.last_number < 2 ^ 32 - 1 }
         requires place { place < places_max }
         ensures new { self.new ≡ with_handle id flags creation_flags place self.old }
-        ensures places { length self.old.client.places ≡ 100 }
+        ensures places { length self.old.client.places ≡ places_max }
     {
         let Ok(number) = self.client.take_handle(id, flags, creation_flags) else {
             unreachable!()
@@ -190,7 +191,7 @@ impl Table {
 impl Tables {
     /// The tables of clients that have begun no call. All their room is taken here.
     pub fn new(alloc: Global) -> Result<Tables, AllocError>
-        ensures { IfOk result (λ tables. tables ≡ replicate 100 new_table) }
+        ensures { IfOk result (λ tables. tables ≡ replicate client_numbers new_table) }
     {
         Ok(Tables {
             list: new_tables(alloc)?,
@@ -311,7 +312,7 @@ impl Tables {
         requires number { last_in (slice_get self.old c) < 2 ^ 32 - 1 }
         requires place { place < places_max }
         ensures new { IsSomeAnd (slice_get self.old c) (λ table. self.new ≡ slice_set self.old c (with_handle id flags creation_flags place table)) }
-        ensures places { IsSomeAnd (slice_get self.old c) (λ table. length table.client.places ≡ 100) }
+        ensures places { IsSomeAnd (slice_get self.old c) (λ table. length table.client.places ≡ places_max) }
     {
         add_at(
             self.list.as_mut_slice(),
@@ -344,10 +345,10 @@ impl Tables {
 }
 
 fn new_tables(alloc: Global) -> Result<Vec<Table>, AllocError>
-    ensures { IfOk result (λ tables. tables.items ≡ replicate 100 new_table) }
+    ensures { IfOk result (λ tables. tables.items ≡ replicate client_numbers new_table) }
 {
-    let mut tables = Vec::with_capacity(alloc, 100)?;
-    for _n in 0..100u8 {
+    let mut tables = Vec::with_capacity(alloc, CLIENT_NUMBERS)?;
+    for _n in 0..CLIENT_NUMBERS {
         tables.push(Table::new(alloc)?)?;
     }
     Ok(tables)
@@ -413,7 +414,7 @@ fn add_at(
     requires number { last_in (slice_get tables.old c) < 2 ^ 32 - 1 }
     requires place { place < places_max }
     ensures new { IsSomeAnd (slice_get tables.old c) (λ table. tables.new ≡ slice_set tables.old c (with_handle id flags creation_flags place table)) }
-    ensures places { IsSomeAnd (slice_get tables.old c) (λ table. length table.client.places ≡ 100) }
+    ensures places { IsSomeAnd (slice_get tables.old c) (λ table. length table.client.places ≡ places_max) }
 {
     let table = &mut tables[c];
     table.add(id, flags, creation_flags, place);
