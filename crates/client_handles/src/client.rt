@@ -213,7 +213,7 @@ impl Client {
     /// Lends the iteration for which a place stands, and which is not lent. The place goes on to stand for
     /// it. `BadHandle` where the place stands for none, and then nothing changes.
     pub fn lend_iteration(&mut self, place: u8) -> Result<Iteration, AisError>
-        requires not_lent { IsNotLent place self.old }
+        requires { IsNotLent place self.old }
         ensures answer { result ≡ kept_iteration place self.old }
         ensures lent { OnOk result (self.new ≡ lent place self.old) }
         ensures unchanged { OnErr result (self.new ≡ self.old) }

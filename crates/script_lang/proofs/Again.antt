@@ -5,6 +5,7 @@ use Rattle.std.proofs.lemmas.List.Folds.{list_all-append}
 use Rattle.std.proofs.lemmas.List.{append-nil, reverse-reverse, reverse-append}
 use Rattle.std.proofs.lemmas.List.Splits.{slice_split_at, slice_split_none}
 use Rattle.std.proofs.lemmas.List.Elements.{All-nil, All-cons}
+use Rattle.ckpt_types.specs.Limits.{script_lines_max, script_bytes_max, script_reads_max}
 use Rattle.script_words.specs.declared.reason.Reason.{Reason}
 use Rattle.script_words.specs.declared.reason.Reason.TheVariants as reasons
 use Rattle.script_lang.specs.declared.faults.ScriptFault.{ScriptFault}
@@ -136,30 +137,30 @@ fine_inj x y e = cc
 
 -- what one step of a script did: it passed nothing, or a line that is allowed
 data Stepped (p q : Progress) : Type 0 where
-  skipped : q.earlier ≡ p.earlier → q.number ≡ p.number + 1 → p.number < 10000 → Stepped p q
-  took : (x : Line) → IsLine x → fault_of p.earlier x ≡ None → q.earlier ≡ x ∷ p.earlier → q.number ≡ p.number + 1 → p.number < 10000 → Stepped p q
+  skipped : q.earlier ≡ p.earlier → q.number ≡ p.number + 1 → p.number < script_lines_max → Stepped p q
+  took : (x : Line) → IsLine x → fault_of p.earlier x ≡ None → q.earlier ≡ x ∷ p.earlier → q.number ≡ p.number + 1 → p.number < script_lines_max → Stepped p q
 
-if_taken : (p q : Progress) (x : Line) (o : Option Reason) → IsLine x → fault_of p.earlier x ≡ o → p.number < 10000 → if_allowed p x o ≡ Ok q → Stepped p q
+if_taken : (p q : Progress) (x : Line) (o : Option Reason) → IsLine x → fault_of p.earlier x ≡ o → p.number < script_lines_max → if_allowed p x o ≡ Ok q → Stepped p q
 if_taken p q x None f h lt e = let same : with_line p x ≡ q = fine_inj (with_line p x) q e in took x f h (sym (ap (λ (r : Progress). r.earlier) same)) (sym (ap (λ (r : Progress). r.number) same)) lt
 if_taken p q x (Some r) f h lt e = absurd (cc)
 
-stepped_by : (p q : Progress) (text : List ℕ) (r : Result (Option Line) Reason) → reading text ≡ r → p.number < 10000 → after_reading p r ≡ Ok q → Stepped p q
+stepped_by : (p q : Progress) (text : List ℕ) (r : Result (Option Line) Reason) → reading text ≡ r → p.number < script_lines_max → after_reading p r ≡ Ok q → Stepped p q
 stepped_by p q text (Err d) h lt e = absurd (cc)
 stepped_by p q text (Ok None) h lt e = let same : record p { number = p.number + 1 } ≡ q = fine_inj (record p { number = p.number + 1 }) q e in skipped (sym (ap (λ (r : Progress). r.earlier) same)) (sym (ap (λ (r : Progress). r.number) same)) lt
 stepped_by p q text (Ok (Some x)) h lt e = if_taken p q x (fault_of p.earlier x) (reading_said text x h) refl lt e
 
 stepped : (p q : Progress) (text : List ℕ) → step p text ≡ Ok q → Stepped p q
 unfolding step
-stepped p q text e = elim (picked_fault (nat_le 10000 p.number) (fault (p.number + 1) reasons.Lines) (after_reading p (reading text)) q e) [
+stepped p q text e = elim (picked_fault (nat_le script_lines_max p.number) (fault (p.number + 1) reasons.Lines) (after_reading p (reading text)) q e) [
   | inl h ↦ absurd (cc h.1)
-  | inr h ↦ let lt : p.number < 10000 = grind (arith, h.0) in stepped_by p q text (reading text) refl lt h.1
+  | inr h ↦ let lt : p.number < script_lines_max = grind (arith, h.0) in stepped_by p q text (reading text) refl lt h.1
 ]
 
 -- a line that was allowed is allowed again
-take_again : (r : Progress) (x : Line) → IsLine x → fault_of r.earlier x ≡ None → r.number < 10000 → step r (line_text x) ≡ Ok (with_line r x)
+take_again : (r : Progress) (x : Line) → IsLine x → fault_of r.earlier x ≡ None → r.number < script_lines_max → step r (line_text x) ≡ Ok (with_line r x)
 unfolding step
 take_again r x f none lt =
-    let early : nat_le 10000 r.number ≡ false = grind (arith, lt) in
+    let early : nat_le script_lines_max r.number ≡ false = grind (arith, lt) in
     rw (early, reading_again x f, none) refl
 
 no_first : (o l : Option Reason) → or_else o l ≡ None → (o ≡ None) × (l ≡ None)
@@ -180,14 +181,14 @@ formed earlier x e =
     let rest = (no_first (order_fault (marks_of earlier) x) (or_else (limit_fault (marks_of earlier) x) (form_fault x)) e).1 in
     no_form (is_later_line x) (no_first (limit_fault (marks_of earlier) x) (form_fault x) rest).1
 
-no_reads_fault : (n : ℕ) (o : Option Reason) → (if nat_lt 16777216 n then Some reasons.Reads else o) ≡ None → n ≤ 16777216
-no_reads_fault n o e = go (nat_lt 16777216 n) refl e
+no_reads_fault : (n : ℕ) (o : Option Reason) → (if nat_lt script_reads_max n then Some reasons.Reads else o) ≡ None → n ≤ script_reads_max
+no_reads_fault n o e = go (nat_lt script_reads_max n) refl e
   where
-    go : (b : Bool) → nat_lt 16777216 n ≡ b → (if b then Some reasons.Reads else o) ≡ None → n ≤ 16777216
+    go : (b : Bool) → nat_lt script_reads_max n ≡ b → (if b then Some reasons.Reads else o) ≡ None → n ≤ script_reads_max
     go true h none = absurd (cc)
     go false h none = grind (arith, h)
 
-asked : (earlier : List Line) (x : Line) → fault_of earlier x ≡ None → asked_in x ≤ 16777216
+asked : (earlier : List Line) (x : Line) → fault_of earlier x ≡ None → asked_in x ≤ script_reads_max
 unfolding fault_after limit_fault
 asked earlier x e =
     let rest = (no_first (order_fault (marks_of earlier) x) (or_else (limit_fault (marks_of earlier) x) (form_fault x)) e).1 in
@@ -205,7 +206,7 @@ record Retaken (p q : Progress) : Type 0 where
   orderly : (late : List Line) → Orderly q.earlier late → Orderly p.earlier (joined_to news late)
   told : q.earlier ≡ reverse news ++ p.earlier
   count : length news + p.number ≤ q.number
-  most : p.number ≤ 10000 → q.number ≤ 10000
+  most : p.number ≤ script_lines_max → q.number ≤ script_lines_max
   again : (r : Progress) → r.earlier ≡ p.earlier → r.number ≤ p.number → (t : Progress) × (steps r (map line_text news) ≡ Ok t) × (t.earlier ≡ q.earlier)
 
 one_step : (p s q : Progress) → Stepped p s → Retaken s q → Retaken p q
@@ -251,9 +252,9 @@ finish_again q t s same e = elim (picked_fault (is_some (block_of q.earlier)) (f
       (sym is, rw closed (ap (λ l. Ok (reverse l)) same ∙ ap (λ l. Ok l) is))
 ]
 
-pub script_again : (bytes : List ℕ) (s : List Line) → script_of bytes ≡ Ok s → length (spelling s) ≤ 262144 → script_of (spelling s) ≡ Ok s
+pub script_again : (bytes : List ℕ) (s : List Line) → script_of bytes ≡ Ok s → length (spelling s) ≤ script_bytes_max → script_of (spelling s) ≡ Ok s
 unfolding script_of
-script_again bytes s e short = elim (picked_fault (nat_lt 262144 (length bytes)) (fault 0 reasons.Length) (and_then (steps start (text_lines bytes)) finished) s e) [
+script_again bytes s e short = elim (picked_fault (nat_lt script_bytes_max (length bytes)) (fault 0 reasons.Length) (and_then (steps start (text_lines bytes)) finished) s e) [
   | inl h ↦ absurd (cc h.1)
   | inr h ↦
       let p = then_ok (steps start (text_lines bytes)) finished s h.1 in
@@ -261,7 +262,7 @@ script_again bytes s e short = elim (picked_fault (nat_lt 262144 (length bytes))
       let r = k.again start refl (omega arith) in
       let f = finish_again p.0 r.0 s r.2 p.2 in
       let news : s ≡ k.news = f.0 ∙ ap reverse (k.told ∙ append-nil (reverse k.news)) ∙ reverse-reverse k.news in
-      let fits : nat_lt 262144 (length (spelling s)) ≡ false = grind (arith, short) in
+      let fits : nat_lt script_bytes_max (length (spelling s)) ≡ false = grind (arith, short) in
       let lines : text_lines (spelling s) ≡ map line_text k.news = ap (λ xs. text_lines (spelling xs)) news ∙ lines_again k.news k.fit in
       rw (fits, lines, r.1) f.1
 ]
@@ -270,10 +271,10 @@ no_block : (o : Option ℕ) → is_some o ≡ false → o ≡ None
 no_block None h = refl
 no_block (Some n) h = absurd (cc)
 
--- what is read is a script, of at most 10,000 lines
-pub script_fits : (bytes : List ℕ) (s : List Line) → script_of bytes ≡ Ok s → IsScript s × (length s ≤ 10000)
+-- what is read is a script, of no more lines than it may have
+pub script_fits : (bytes : List ℕ) (s : List Line) → script_of bytes ≡ Ok s → IsScript s × (length s ≤ script_lines_max)
 unfolding script_of
-script_fits bytes s e = elim (picked_fault (nat_lt 262144 (length bytes)) (fault 0 reasons.Length) (and_then (steps start (text_lines bytes)) finished) s e) [
+script_fits bytes s e = elim (picked_fault (nat_lt script_bytes_max (length bytes)) (fault 0 reasons.Length) (and_then (steps start (text_lines bytes)) finished) s e) [
   | inl h ↦ absurd (cc h.1)
   | inr h ↦
       let p = then_ok (steps start (text_lines bytes)) finished s h.1 in
@@ -283,7 +284,7 @@ script_fits bytes s e = elim (picked_fault (nat_lt 262144 (length bytes)) (fault
         | inr b ↦
             let is : s ≡ k.news = sym (fine_inj (reverse p.0.earlier) s b.1) ∙ ap reverse (k.told ∙ append-nil (reverse k.news)) ∙ reverse-reverse k.news in
             let all : Orderly [] (joined_to k.news []) = k.orderly [] (no_block (block_of p.0.earlier) b.0) in
-            let few : length k.news ≤ 10000 = omega (arith, k.count, k.most (omega arith)) in
-            (subst IsScript (sym (is ∙ sym (append-nil k.news))) all, subst (λ xs. length xs ≤ 10000) (sym is) few)
+            let few : length k.news ≤ script_lines_max = omega (arith, k.count, k.most (omega arith)) in
+            (subst IsScript (sym (is ∙ sym (append-nil k.news))) all, subst (λ xs. length xs ≤ script_lines_max) (sym is) few)
       ]
 ]

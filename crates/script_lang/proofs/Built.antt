@@ -8,6 +8,7 @@ use Rattle.std.proofs.lemmas.List.Sums.{sum_by-cons}
 use Rattle.ckpt_types.specs.declared.calls.CallbackSet.{CallbackSet}
 use Rattle.ckpt_types.specs.declared.update.ReadElement.{ReadElement}
 use Rattle.ckpt_types.specs.declared.update.Update.TheVariants as updates
+use Rattle.ckpt_types.specs.Limits.{script_lines_max, script_reads_max, line_elements_max}
 use Rattle.script_words.specs.declared.reason.Reason.{Reason}
 use Rattle.script_words.specs.declared.reason.Reason.TheVariants as reasons
 use Rattle.script_words.specs.Fitting.{IsMoment}
@@ -51,16 +52,16 @@ io_elements : (vs : List (Values io_group)) → FitGroups io_group vs → All Is
 io_elements [] f = All-nil IsIoElement
 io_elements (v ∷ vs) f = All-cons IsIoElement (io_element v) (map io_element vs) (omega (arith, f.0.1.0.1), f.0.0.1) (io_elements vs f.1)
 
-writes : (vs : List (Values io_group)) → FitGroups io_group vs → 0 < length vs → length vs ≤ 256 → AreWrites (updates.Write (map io_element vs))
+writes : (vs : List (Values io_group)) → FitGroups io_group vs → 0 < length vs → length vs ≤ line_elements_max → AreWrites (updates.Write (map io_element vs))
 writes vs f some most = let n = length-map vs io_element in (omega (arith, n, some), omega (arith, n, most), io_elements vs f)
 
-read_elements : (vs : List (Values read_group)) → FitGroups read_group vs → sum_by (λ e. e.len) (map read_element vs) ≤ 16777216 → All IsReadElement (map read_element vs)
+read_elements : (vs : List (Values read_group)) → FitGroups read_group vs → sum_by (λ e. e.len) (map read_element vs) ≤ script_reads_max → All IsReadElement (map read_element vs)
 read_elements [] f asked = All-nil IsReadElement
 read_elements (v ∷ vs) f asked =
     let all = sum_by-cons (λ (e : ReadElement). e.len) (read_element v) (map read_element vs) in
     All-cons IsReadElement (read_element v) (map read_element vs) (omega (arith, f.0.1.0.1), omega (arith, all, asked), f.0.0.1) (read_elements vs f.1 (omega (arith, all, asked)))
 
-reads : (vs : List (Values read_group)) → FitGroups read_group vs → 0 < length vs → length vs ≤ 256 → sum_by (λ e. e.len) (map read_element vs) ≤ 16777216 → AreReads (map read_element vs)
+reads : (vs : List (Values read_group)) → FitGroups read_group vs → 0 < length vs → length vs ≤ line_elements_max → sum_by (λ e. e.len) (map read_element vs) ≤ script_reads_max → AreReads (map read_element vs)
 reads vs f some most asked = let n = length-map vs read_element in (omega (arith, n, some), omega (arith, n, most), read_elements vs f asked, asked)
 
 -- a moment that the one before allows
@@ -70,7 +71,7 @@ later_moment t (negsuc n) f h = absurd f
 
 -- ONE CASE FOR EACH WORD: a line of a form that is built is a call or a moment, or the nodes
 
-line_built : (t : ℤ) (k : LineWord) (v : Told (form k).shape) → FitTold (form k).shape v → is_later k ≡ false → is_nodes ((form k).line v) ≡ false → goes_back ((form k).line v) t ≡ false → is_later_line ((form k).line v) ≡ false → asked_in ((form k).line v) ≤ 16777216 → IsBuiltLine t ((form k).line v)
+line_built : (t : ℤ) (k : LineWord) (v : Told (form k).shape) → FitTold (form k).shape v → is_later k ≡ false → is_nodes ((form k).line v) ≡ false → goes_back ((form k).line v) t ≡ false → is_later_line ((form k).line v) ≡ false → asked_in ((form k).line v) ≤ script_reads_max → IsBuiltLine t ((form k).line v)
 line_built t word.Nodes v f b n m h asked = absurd (cc n)
 line_built t word.Client v f b n m h asked = (omega (arith, f.0), (omega (arith, f.1.0), f.1.1.0, no_calls_back v.1.1.1.0 h))
 line_built t word.Open v f b n m h asked = (omega (arith, f.0.0), (omega (arith, f.0.1.0), omega (arith, f.0.1.1.1.0.1), all_declared v.1 f.1 h))
@@ -97,9 +98,9 @@ node_built _ v f b n h = absurd (cc n)
 
 -- FOR ALL AT ONCE
 
-as_line : (t : ℤ) (x : Line) → IsLine x → is_nodes x ≡ false → goes_back x t ≡ false → is_later_line x ≡ false → asked_in x ≤ 16777216 → IsBuiltLine t x
+as_line : (t : ℤ) (x : Line) → IsLine x → is_nodes x ≡ false → goes_back x t ≡ false → is_later_line x ≡ false → asked_in x ≤ script_reads_max → IsBuiltLine t x
 as_line t x f n m h asked = elim f.4 [
-  | inl e ↦ subst (IsBuiltLine t) (sym e) (line_built t f.0 f.1 f.2 f.3 (ap is_nodes (sym e) ∙ n) (ap (λ y. goes_back y t) (sym e) ∙ m) (ap is_later_line (sym e) ∙ h) (subst (λ y. asked_in y ≤ 16777216) e asked))
+  | inl e ↦ subst (IsBuiltLine t) (sym e) (line_built t f.0 f.1 f.2 f.3 (ap is_nodes (sym e) ∙ n) (ap (λ y. goes_back y t) (sym e) ∙ m) (ap is_later_line (sym e) ∙ h) (subst (λ y. asked_in y ≤ script_reads_max) e asked))
   | inr p ↦ absurd (cc p.0)
 ]
 
@@ -154,5 +155,5 @@ first_built (x ∷ xs) o =
     let n = first_nodes x o.1 in
     (as_node x o.0 n o.2, subst (λ t. AreBuiltLines t xs) (nodes_moment x n) (lines_built x [] xs o.4))
 
-pub built_script : (xs : List Line) → IsScript xs → length xs ≤ 10000 → IsBuiltScript xs
+pub built_script : (xs : List Line) → IsScript xs → length xs ≤ script_lines_max → IsBuiltScript xs
 built_script xs o few = (first_built xs o, few)

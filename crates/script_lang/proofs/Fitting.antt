@@ -1,5 +1,6 @@
 -- What parse and print returned.
 use Rattle.std.proofs.Common.{◌≡◌, ◌≤◌, List, ℕ, length, Result, Ok, Err, IfOk, sym, subst}
+use Rattle.ckpt_types.specs.Limits.{script_bytes_max}
 use Rattle.script_lang.specs.declared.lines.Line.{Line}
 use Rattle.script_lang.specs.declared.faults.ParseError.{ParseError}
 use Rattle.script_lang.specs.BuiltScripts.{IsBuiltScript}
@@ -21,6 +22,6 @@ parses_built bytes (Ok s) e = let f = script_fits bytes s e in built_script s f.
 parses_built bytes (Err e) h = tt
 
 -- a text that is the spelling is read again
-pub text_again : {E : Type 0} (s : List Line) (r : Result (List ℕ) E) → IfOk r (λ text. text ≡ spelling s) → (bytes : List ℕ) → script_of bytes ≡ Ok s → IfOk r (λ text. length text ≤ 262144 → script_of text ≡ Ok s)
-text_again s (Ok text) is bytes e = subst (λ t. length t ≤ 262144 → script_of t ≡ Ok s) (sym is) (script_again bytes s e)
+pub text_again : {E : Type 0} (s : List Line) (r : Result (List ℕ) E) → IfOk r (λ text. text ≡ spelling s) → (bytes : List ℕ) → script_of bytes ≡ Ok s → IfOk r (λ text. length text ≤ script_bytes_max → script_of text ≡ Ok s)
+text_again s (Ok text) is bytes e = subst (λ t. length t ≤ script_bytes_max → script_of t ≡ Ok s) (sym is) (script_again bytes s e)
 text_again s (Err d) is bytes e = tt

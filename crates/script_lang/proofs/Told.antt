@@ -3,6 +3,7 @@ use Rattle.std.proofs.Common.{◌≡◌, refl, ◌∙◌, ap, subst, ℕ, zero, 
 use Rattle.std.proofs.lemmas.List.{append-nil}
 use Rattle.std.proofs.lemmas.Nat.{div-add-mod'}
 use Rattle.std.proofs.Math.Nat.{suc-mul, mul-div_cancel, mul-mod_left, mul-le-mul_right, le_of_mul-le-mul_right}
+use Rattle.ckpt_types.specs.Limits.{line_elements_max}
 use Rattle.script_words.specs.declared.reason.Reason.{Reason}
 use Rattle.script_words.specs.Reasons.{◌>>=◌}
 use Rattle.script_words.specs.Words.{Class, read}
@@ -64,12 +65,12 @@ more_counts : (a : ℕ) (ds : List Class) (o : Option (Values ds)) (n : ℕ) →
 more_counts a ds None n e = let same : n ≡ a = omega (arith, e) in grind (arith, same)
 more_counts a ds (Some v) n e = let same : n ≡ a + length ds = omega (arith, e, length_all ds v) in grind (arith, same)
 
-times_counts : (a k q n : ℕ) → 0 < k → 0 < q → q ≤ 256 → n ≡ a + q * k → (nat_lt a n && (n - a) % k == 0 && nat_le (n - a) (256 * k)) ≡ true
+times_counts : (a k q n : ℕ) → 0 < k → 0 < q → q ≤ line_elements_max → n ≡ a + q * k → (nat_lt a n && (n - a) % k == 0 && nat_le (n - a) (line_elements_max * k)) ≡ true
 times_counts a k zero n some none most e = absurd (omega (arith, none))
 times_counts a k (suc q) n some none most e =
     let rest : n - a ≡ suc q * k = omega (arith, e) in
     let zeros : (suc q * k) % k ≡ 0 = mul-mod_left (suc q) k in
-    let le : suc q * k ≤ 256 * k = mul-le-mul_right k most in
+    let le : suc q * k ≤ line_elements_max * k = mul-le-mul_right k most in
     let lt : a < n = omega (arith, e, suc-mul q k, some) in
     rw (rest, zeros) (grind (arith, le, lt))
 
@@ -127,11 +128,11 @@ some_groups : (q k m : ℕ) → q * k ≡ m → 0 < m → 0 < q
 some_groups zero k m e some = absurd (omega (arith, e, some))
 some_groups (suc q) k m e some = omega arith
 
-few : (a k n m : ℕ) → 0 < k → (nat_lt a n && (n - a) % k == 0 && nat_le (n - a) (256 * k)) ≡ true → n ≡ a + m → (0 < m / k) × (m / k ≤ 256)
+few : (a k n m : ℕ) → 0 < k → (nat_lt a n && (n - a) % k == 0 && nat_le (n - a) (line_elements_max * k)) ≡ true → n ≡ a + m → (0 < m / k) × (m / k ≤ line_elements_max)
 few a k n m some counted e =
     let lt : a < n = grind (arith, counted) in
     let zeros : (n - a) % k ≡ 0 = grind (arith, counted) in
-    let le : n - a ≤ 256 * k = grind (arith, counted) in
+    let le : n - a ≤ line_elements_max * k = grind (arith, counted) in
     let m_is : n - a ≡ m = omega (arith, e) in
     let whole : m / k * k ≡ m = omega (arith, div-add-mod' m k, rw m_is at zeros) in
     (some_groups (m / k) k m whole (omega (arith, e, lt)), le_of_mul-le-mul_right (omega (arith, whole, m_is, le)) some)

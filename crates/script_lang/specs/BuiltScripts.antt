@@ -1,5 +1,5 @@
 -- What is asked for in a script of the forms that are built.
-use Rattle.std.specs.Prelude.{◌≡◌, ◌≢◌, ◌^◌, ◌-◌, ◌<◌, ◌≤◌, ⊤, false, List, [], ◌∷◌, length, ℤ, pos, ◌≤ℤ◌, Option, Some, None, sum_by}
+use Rattle.std.specs.Prelude.{◌≡◌, ◌≢◌, ◌+◌, ◌^◌, ◌-◌, ◌<◌, ◌≤◌, ⊤, false, List, [], ◌∷◌, length, ℤ, pos, nat_abs, ◌≤ℤ◌, Option, Some, None, sum_by}
 use Rattle.std.specs.List.{All}
 use Rattle.ckpt_types.specs.declared.attributes.CreationAttributes.{CreationAttributes}
 use Rattle.ckpt_types.specs.declared.calls.CallbackSet.{CallbackSet}
@@ -9,7 +9,7 @@ use Rattle.ckpt_types.specs.declared.update.IoElement.{IoElement}
 use Rattle.ckpt_types.specs.declared.update.ReadElement.{ReadElement}
 use Rattle.ckpt_types.specs.declared.update.Update.{Update}
 use Rattle.ckpt_types.specs.declared.update.Update.TheVariants as updates
-use Rattle.ckpt_types.specs.Limits.{nodes_max, places_max, client_numbers, section_id_max, line_elements_max, script_reads_max, script_lines_max}
+use Rattle.ckpt_types.specs.Limits.{nodes_max, places_max, client_numbers, section_id_max, line_elements_max, script_reads_max, script_lines_max, end_of_time, wr_active_replica, wr_active_replica_weak, checkpoint_collocated}
 use Rattle.script_words.specs.Fitting.{IsNewId, IsTime, IsVersion}
 use Rattle.script_lang.specs.declared.lines.Line.{Line}
 use Rattle.script_lang.specs.declared.lines.Line.TheVariants as lines
@@ -21,10 +21,10 @@ no_callbacks = record { opens = false; syncs = false }
 -- no update option but that of all replicas, or malformed flags
 pub record IsBuiltDeclared (a : CreationAttributes) : Type 0 where
   pub flags : a.creation_flags < 2 ^ 32
-  pub not_active : a.creation_flags ≢ 2
-  pub not_weak : a.creation_flags ≢ 4
-  pub not_collocated_active : a.creation_flags ≢ 10
-  pub not_collocated_weak : a.creation_flags ≢ 12
+  pub not_active : a.creation_flags ≢ wr_active_replica
+  pub not_weak : a.creation_flags ≢ wr_active_replica_weak
+  pub not_collocated_active : a.creation_flags ≢ wr_active_replica + checkpoint_collocated
+  pub not_collocated_weak : a.creation_flags ≢ wr_active_replica_weak + checkpoint_collocated
   pub sections : a.max_sections < 2 ^ 32
   pub size : a.checkpoint_size < 2 ^ 64
   pub section_size : a.max_section_size < 2 ^ 64
@@ -35,24 +35,24 @@ abbrev pub AreBuiltAttributes : Option CreationAttributes → Type 0
 AreBuiltAttributes None = ⊤
 AreBuiltAttributes (Some a) = IsBuiltDeclared a
 
--- an offset of 64 bits, and an identifier of at most 256 bytes
+-- an offset of 64 bits, and an identifier that is not too long
 abbrev pub IsIoElement : IoElement → Type 0
 IsIoElement e = (e.offset < 2 ^ 64) × (length e.id ≤ section_id_max)
 
--- an offset of 64 bits, an identifier of at most 256 bytes, and at most 16,777,216 bytes to read
+-- an offset of 64 bits, an identifier that is not too long, and no more bytes to read than a script may ask for
 abbrev pub IsReadElement : ReadElement → Type 0
 IsReadElement e = (e.offset < 2 ^ 64) × (e.len ≤ script_reads_max) × (length e.id ≤ section_id_max)
 
--- a write of 1 to 256 elements
+-- a write of one or more elements, no more than a line can give
 abbrev pub AreWrites : Update → Type 0
 AreWrites (updates.Write elements) = (0 < length elements) × (length elements ≤ line_elements_max) × All IsIoElement elements
 AreWrites _ = ⊥
 
--- 1 to 256 elements of a read, which ask for at most 16,777,216 bytes together
+-- one or more elements of a read, no more than a line can give, which ask for no more bytes together than a script may
 abbrev pub AreReads : List ReadElement → Type 0
 AreReads elements = (0 < length elements) × (length elements ≤ line_elements_max) × All IsReadElement elements × (sum_by (λ e. e.len) elements ≤ script_reads_max)
 
--- a new section, under an identifier of at most 256 bytes or one that the service makes
+-- a new section, under an identifier that is not too long or one that the service makes
 abbrev pub IsCreation : Update → Type 0
 IsCreation (updates.Create id expiration bytes) = IsNewId id × IsTime expiration
 IsCreation _ = ⊥
@@ -92,10 +92,10 @@ IsBuiltOp (ops.Over place update) = (place < places_max) × IsOverwriting update
 IsBuiltOp (ops.Read place elements) = (place < places_max) × AreReads elements
 IsBuiltOp _ = ⊥
 
--- at this moment, a call of a client, begun and stepped to its end; or a moment that is no earlier, of 2^63-2 at most
+-- at this moment, a call of a client, begun and stepped to its end; or a moment that is no earlier, before the end of time
 abbrev pub IsBuiltLine : ℤ → Line → Type 0
 IsBuiltLine t (lines.Call client op) = (client < client_numbers) × IsBuiltOp op
-IsBuiltLine t (lines.At u) = (t ≤ℤ u) × (u ≤ℤ pos (2 ^ 63 - 2))
+IsBuiltLine t (lines.At u) = (t ≤ℤ u) × (u ≤ℤ pos (nat_abs end_of_time - 1))
 IsBuiltLine t _ = ⊥
 
 -- the moment behind a line
@@ -118,6 +118,6 @@ abbrev pub IsOneNodeFirst : List Line → Type 0
 IsOneNodeFirst [] = ⊤
 IsOneNodeFirst (x ∷ xs) = IsOneNode x × AreBuiltLines (pos 0) xs
 
--- A SCRIPT OF WHAT IS BUILT, of at most 10,000 lines
+-- A SCRIPT OF WHAT IS BUILT, of no more lines than a script may have
 abbrev pub IsBuiltScript : List Line → Type 0
 IsBuiltScript xs = IsOneNodeFirst xs × (length xs ≤ script_lines_max)

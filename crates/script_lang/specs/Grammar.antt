@@ -4,7 +4,7 @@ use Rattle.std.specs.List.{slice_split, onto_first, list_any}
 use Rattle.ckpt_types.specs.declared.attributes.CreationAttributes.{CreationAttributes}
 use Rattle.ckpt_types.specs.declared.operation.Op.{Op}
 use Rattle.ckpt_types.specs.declared.operation.Op.TheVariants as ops
-use Rattle.ckpt_types.specs.Limits.{block_lines_max, script_reads_max, script_shows_max, script_lines_max, script_bytes_max}
+use Rattle.ckpt_types.specs.Limits.{block_lines_max, script_reads_max, script_shows_max, script_lines_max, script_bytes_max, wr_active_replica, wr_active_replica_weak, checkpoint_collocated}
 use Rattle.script_words.specs.declared.reason.Reason.{Reason}
 use Rattle.script_words.specs.declared.reason.Reason.TheVariants as reasons
 use Rattle.script_words.specs.Words.{or_else}
@@ -175,7 +175,7 @@ limit_fault m x =
 
 -- creation flags with an update option of the active replica, collocated or not
 abbrev pub is_later_declared : CreationAttributes → Bool
-is_later_declared a = a.creation_flags == 2 || a.creation_flags == 4 || a.creation_flags == 10 || a.creation_flags == 12
+is_later_declared a = a.creation_flags == wr_active_replica || a.creation_flags == wr_active_replica_weak || a.creation_flags == wr_active_replica + checkpoint_collocated || a.creation_flags == wr_active_replica_weak + checkpoint_collocated
 
 abbrev pub is_later_attributes : Option CreationAttributes → Bool
 is_later_attributes None = false
@@ -237,7 +237,7 @@ after_reading p (Err r) = fault (p.number + 1) r
 after_reading p (Ok None) = Ok (record p { number = p.number + 1 })
 after_reading p (Ok (Some x)) = if_allowed p x (fault_of p.earlier x)
 
--- one more line of the text: the 10,001st is too many
+-- one more line of the text, where it is not one too many
 unfoldable pub step : Progress → List ℕ → Result Progress ScriptFault
 step p text = if nat_le script_lines_max p.number then fault (p.number + 1) reasons.Lines else after_reading p (reading text)
 

@@ -31,7 +31,7 @@ FitTold (times cs ds) v = FitAll cs v.0 × FitGroups ds v.1 × (0 < length v.1) 
 abbrev pub IsLine : Line → Type 0
 IsLine x = (k : LineWord) × (v : Told (form k).shape) × FitTold (form k).shape v × (is_later k ≡ false) × ((x ≡ (form k).line v) ⊎ ((begin_is_later ≡ false) × (may_begin k ≡ true) × (x ≡ begun ((form k).line v))))
 
--- behind these lines, the latest first, each line is of its form, may stand where it stands and reads at most 16,777,216 bytes, and no block is left open
+-- behind these lines, the latest first, each line is of its form, may stand where it stands and reads no more bytes than a script may ask for, and no block is left open
 abbrev pub Orderly : List Line → List Line → Type 0
 Orderly earlier [] = block_of earlier ≡ None
 Orderly earlier (x ∷ xs) = IsLine x × (order_fault (marks_of earlier) x ≡ None) × (is_later_line x ≡ false) × (asked_in x ≤ script_reads_max) × Orderly (x ∷ earlier) xs

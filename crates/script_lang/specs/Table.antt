@@ -32,7 +32,7 @@ pub data Shape : Type 0 where
   just : List Class → Shape
   -- these, or these and those
   maybe : List Class → List Class → Shape
-  -- these, and then 1 to 256 times those
+  -- these, and then those once or more, as often as a line has elements
   times : List Class → List Class → Shape
 
 -- what the words of a line say

@@ -1,11 +1,14 @@
 ghost use Rattle.std.specs.Prelude.{◌≡◌, ◌<◌, ◌≤◌, ◌*◌, ◌/◌, ◌%◌, ◌^◌, length, drop};
+ghost use Rattle.ckpt_types.specs.Limits.{line_elements_max};
 ghost use Rattle.script_words.specs.Reasons.{Reads};
 ghost use Rattle.script_lang.specs.declared.forms.LineWord.TheVariants as word;
 ghost use Rattle.script_lang.specs.Faults.{Gives};
 ghost use Rattle.script_lang.specs.Table.{texts, said_by, made, one_made, gather, attributes, attributes_of, io_group, io_element, read_group, read_element};
 
 use crate::lines::Line;
-use ckpt_types::{CreationAttributes, IoElement, Op, ReadElement, Shared, Update, Vector};
+use ckpt_types::{
+    CreationAttributes, IoElement, LINE_ELEMENTS_MAX, Op, ReadElement, Shared, Update, Vector,
+};
 use script_words::{LineError, Reason};
 use std::alloc::Global;
 
@@ -334,7 +337,7 @@ pub fn write_line(alloc: Global, words: &[&[u8]]) -> Result<Line, LineError>
     let [client, place, rest @ ..] = words else {
         return Err(LineError::Fault(Reason::Count));
     };
-    if rest.is_empty() || rest.len() % 3 != 0 || 768 < rest.len() {
+    if rest.is_empty() || rest.len() % 3 != 0 || 3 * LINE_ELEMENTS_MAX < rest.len() {
         return Err(LineError::Fault(Reason::Count));
     }
     let client = script_words::client(client)?;
@@ -346,7 +349,7 @@ pub fn write_line(alloc: Global, words: &[&[u8]]) -> Result<Line, LineError>
 
 // The elements that the words say, three words each.
 fn io_elements(alloc: Global, words: &[&[u8]]) -> Result<Vector<IoElement>, LineError>
-    requires { (length words.now % 3 ≡ 0) × (length words.now ≤ 768) }
+    requires { (length words.now % 3 ≡ 0) × (length words.now ≤ 3 * line_elements_max) }
     ensures { Reads result (gather io_group io_element (length words.now / 3) (texts words.now)) }
 {
     let count = words.len() / 3;
@@ -380,7 +383,7 @@ pub fn read_line(alloc: Global, words: &[&[u8]]) -> Result<Line, LineError>
     let [client, place, rest @ ..] = words else {
         return Err(LineError::Fault(Reason::Count));
     };
-    if rest.is_empty() || rest.len() % 3 != 0 || 768 < rest.len() {
+    if rest.is_empty() || rest.len() % 3 != 0 || 3 * LINE_ELEMENTS_MAX < rest.len() {
         return Err(LineError::Fault(Reason::Count));
     }
     let client = script_words::client(client)?;
@@ -392,7 +395,7 @@ pub fn read_line(alloc: Global, words: &[&[u8]]) -> Result<Line, LineError>
 
 // The elements that the words say, three words each.
 fn read_elements(alloc: Global, words: &[&[u8]]) -> Result<Vector<ReadElement>, LineError>
-    requires { (length words.now % 3 ≡ 0) × (length words.now ≤ 768) }
+    requires { (length words.now % 3 ≡ 0) × (length words.now ≤ 3 * line_elements_max) }
     ensures { Reads result (gather read_group read_element (length words.now / 3) (texts words.now)) }
 {
     let count = words.len() / 3;

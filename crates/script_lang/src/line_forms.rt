@@ -4,7 +4,7 @@ ghost use Rattle.script_lang.specs.declared.forms.LineWord.TheVariants as word;
 ghost use Rattle.script_lang.specs.Table.{texts, said_by};
 
 use crate::lines::Line;
-use ckpt_types::LINE_STEPS_MAX;
+use ckpt_types::{LINE_STEPS_MAX, NODES_MAX};
 use script_words::{LineError, Reason};
 
 /// The line that the words behind `nodes` say.
@@ -15,7 +15,7 @@ pub fn nodes_line(words: &[&[u8]]) -> Result<Line, LineError>
     let [count] = words else {
         return Err(LineError::Fault(Reason::Count));
     };
-    let count = script_words::number(1, 8, count)?;
+    let count = script_words::number(1, NODES_MAX as u64, count)?;
     Ok(Line::Nodes(count as u8))
 }
 

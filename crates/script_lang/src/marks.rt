@@ -1,10 +1,11 @@
 ghost use Rattle.std.specs.Prelude.{◌≡◌, ◌<◌, ◌≤◌, ◌+◌, OnOk, IfErr, IfSome, IfNone, IfOk, Some, None, false, sum_by};
+ghost use Rattle.ckpt_types.specs.Limits.{block_lines_max, script_shows_max};
 ghost use Rattle.script_lang.specs.Grammar.{fault_after, marks_after, IsSmall, is_nodes, is_end, is_show, is_race as spec_is_race, goes_back, may_race_op as spec_may_race_op, may_race as spec_may_race, breaks_block, asked_in, moment_after, block_after, block_size, shows_after, is_later_declared as spec_is_later_declared, is_later_attributes as spec_is_later_attributes, is_later_op as spec_is_later_op, is_later_line as spec_is_later_line};
 
 use crate::lines::Line;
 use ckpt_types::{
-    BLOCK_LINES_MAX, CreationAttributes, Moment, Op, ReadElement, SCRIPT_READS_MAX,
-    SCRIPT_SHOWS_MAX,
+    BLOCK_LINES_MAX, CHECKPOINT_COLLOCATED, CreationAttributes, Moment, Op, ReadElement,
+    SCRIPT_READS_MAX, SCRIPT_SHOWS_MAX, WR_ACTIVE_REPLICA, WR_ACTIVE_REPLICA_WEAK,
 };
 use script_words::Reason;
 
@@ -165,9 +166,9 @@ fn now_after(line: &Line, now: Moment) -> Moment
 }
 
 fn block_behind(line: &Line, block: Option<u32>) -> Option<u32>
-    requires { block_size block ≤ 256 }
+    requires { block_size block ≤ block_lines_max }
     ensures value { result ≡ block_after line.now block }
-    ensures small { breaks_block line.now block ≡ false → block_size result ≤ 256 }
+    ensures small { breaks_block line.now block ≡ false → block_size result ≤ block_lines_max }
 {
     match line {
         Line::Race => Some(0),
@@ -180,7 +181,7 @@ fn block_behind(line: &Line, block: Option<u32>) -> Option<u32>
 }
 
 fn shows_behind(line: &Line, shows: u32) -> u32
-    requires { shows ≤ 16 }
+    requires { shows ≤ script_shows_max }
     ensures { result ≡ shows_after line.now shows }
 {
     if is_show_line(line) { shows + 1 } else { shows }
@@ -223,5 +224,8 @@ fn is_later_declared(declared: &CreationAttributes) -> bool
     ensures { result ≡ spec_is_later_declared declared.now }
 {
     let flags = declared.creation_flags;
-    flags == 2 || flags == 4 || flags == 10 || flags == 12
+    flags == WR_ACTIVE_REPLICA
+        || flags == WR_ACTIVE_REPLICA_WEAK
+        || flags == WR_ACTIVE_REPLICA + CHECKPOINT_COLLOCATED
+        || flags == WR_ACTIVE_REPLICA_WEAK + CHECKPOINT_COLLOCATED
 }

@@ -1,4 +1,5 @@
 ghost use Rattle.std.specs.Prelude.{◌≡◌, ◌<◌, ◌≤◌, ◌+◌, OnOk, IfErr, IfOk, Ok};
+ghost use Rattle.ckpt_types.specs.Limits.{script_lines_max};
 ghost use Rattle.script_lang.specs.declared.faults.ParseError.TheVariants as parse_errors;
 ghost use Rattle.script_lang.specs.Faults.{Parses, Misses};
 ghost use Rattle.script_lang.specs.BuiltScripts.{IsBuiltScript};
@@ -64,13 +65,14 @@ struct Reader {
 
 impl Model for Reader {
     ghost use Rattle.std.specs.Prelude.{◌≡◌, ◌≤◌, length, reverse};
+    ghost use Rattle.ckpt_types.specs.Limits.{script_lines_max};
     ghost use Rattle.script_lang.specs.Grammar.{Progress, marks_of, IsSmall};
 
     ghost Value = { Progress };
 
     ghost view = { λ r. record { number = r.number; race = r.race; earlier = reverse r.lines.items } };
 
-    ghost invariant = { λ r. (r.number ≤ 10000) × (length r.lines.items ≤ r.number) × (r.marks ≡ marks_of (reverse r.lines.items)) × IsSmall r.marks };
+    ghost invariant = { λ r. (r.number ≤ script_lines_max) × (length r.lines.items ≤ r.number) × (r.marks ≡ marks_of (reverse r.lines.items)) × IsSmall r.marks };
 }
 
 impl Reader {
@@ -124,7 +126,7 @@ impl Reader {
 
     // One more line that says nothing.
     fn skip(&mut self)
-        requires { self.old.number < 10000 }
+        requires { self.old.number < script_lines_max }
         ensures { self.new ≡ record self.old { number = self.old.number + 1 } }
     {
         self.number += 1;
@@ -133,7 +135,7 @@ impl Reader {
     // One more line that says something.
     #[tactic(auto, using(crate::proofs::Marking::marks_more))]
     fn add(&mut self, line: Line) -> Result<(), ParseError>
-        requires { self.old.number < 10000 }
+        requires { self.old.number < script_lines_max }
         ensures ok { OnOk result (if_allowed self.old line (fault_of self.old.earlier line) ≡ Ok self.new) }
         ensures err { IfErr result (λ e. Misses e (if_allowed self.old line (fault_of self.old.earlier line))) }
     {

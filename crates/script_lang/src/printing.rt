@@ -1,4 +1,5 @@
 ghost use Rattle.std.specs.Prelude.{◌≡◌, ◌≤◌, ◌++◌, ◌∷◌, [], OnOk, IfOk, Ok, ℕ, List, length, flat_map};
+ghost use Rattle.ckpt_types.specs.Limits.{script_bytes_max};
 ghost use Rattle.script_lang.specs.declared.lines.Line.{Line};
 ghost use Rattle.script_lang.specs.declared.lines.Line.TheVariants as said;
 ghost use Rattle.ckpt_types.specs.declared.identities.ActorName.TheVariants as actors;
@@ -16,14 +17,14 @@ use std::alloc::{AllocError, Global};
 pub fn print(alloc: Global, script: &Script) -> Result<Bytes, AllocError>
     ensures spelled { IfOk result (λ text. text ≡ spelling script.now) }
     // A script that was read is read again from its spelling.
-    ensures again { (bytes : List ℕ) → script_of bytes ≡ Ok script.now → IfOk result (λ text. length text ≤ 262144 → script_of text ≡ Ok script.now) }
+    ensures again { (bytes : List ℕ) → script_of bytes ≡ Ok script.now → IfOk result (λ text. length text ≤ script_bytes_max → script_of text ≡ Ok script.now) }
 {
     spell(alloc, script)
 }
 
 /// A script that was read has a spelling that is read as the same script.
 pub fn read_again()
-    ensures { (bytes : List ℕ) (script : List Line) → script_of bytes ≡ Ok script → length (spelling script) ≤ 262144 → script_of (spelling script) ≡ Ok script }
+    ensures { (bytes : List ℕ) (script : List Line) → script_of bytes ≡ Ok script → length (spelling script) ≤ script_bytes_max → script_of (spelling script) ≡ Ok script }
 {}
 
 #[tactic(auto, using(crate::proofs::Canonical::spelled_so))]

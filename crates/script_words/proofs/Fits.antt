@@ -14,7 +14,8 @@ use Rattle.ckpt_types.specs.declared.identities.Who.{Who}
 use Rattle.ckpt_types.specs.declared.identities.Who.TheVariants as whose
 use Rattle.ckpt_types.specs.declared.update.NewId.{NewId}
 use Rattle.ckpt_types.specs.declared.update.NewId.TheVariants as new_ids
-use Rattle.script_words.specs.Words.{Class, a_client, a_node, a_place, an_iteration, a_ckpt, a_number, a_time, a_moment, some_bytes, an_id, a_new_id, a_version, the_callbacks, a_who, Meaning, read, numeral, number, lettered, starts_well, time_of, bytes_of, id_of, new_id_of, version_of, callbacks_of, call_of, who_of, is_dot}
+use Rattle.ckpt_types.specs.Limits.{client_numbers, nodes_max, places_max, section_id_max}
+use Rattle.script_words.specs.Words.{Class, a_client, a_node, a_place, an_iteration, a_ckpt, a_number, a_time, a_moment, some_bytes, an_id, a_new_id, a_version, the_callbacks, a_who, Meaning, read, numeral, number, lettered, starts_well, time_of, bytes_of, id_of, new_id_of, version_of, callbacks_of, call_of, who_of, is_dot, ckpt_numbers}
 use Rattle.script_words.specs.Spelling.{spell, time_text, new_id_text, callbacks_text, who_text}
 use Rattle.script_words.specs.Fitting.{Fits, Good, IsTime, IsMoment, IsVersion, IsNewId, IsCaller, IsWho}
 use Rattle.script_words.proofs.Numbers.{own}
@@ -40,16 +41,16 @@ number_again low high n above below small =
     let inside : (nat_le low n && nat_le n high) ≡ true = grind (arith, above, below) in
     rw (numeral_again n small, inside) refl
 
-pub lettered_again : (letter low high n : ℕ) → low ≤ n → n ≤ high → n < 2 ^ 64 → lettered letter low high (letter ∷ decimal n) ≡ Some n
+pub lettered_again : (letter low end n : ℕ) → low ≤ n → n < end → n < 2 ^ 64 → lettered letter low end (letter ∷ decimal n) ≡ Some n
 unfolding lettered
-lettered_again letter low high n above below small =
+lettered_again letter low end n above below small =
     let same : (letter == letter) ≡ true = grind arith in
-    rw (same, number_again low high n above below small) refl
+    rw (same, number_again low (end - 1) n above (omega (arith, below)) small) refl
 
 -- a word that begins with another letter
-other_letter : (letter low high c : ℕ) (w : List ℕ) → (c == letter) ≡ false → lettered letter low high (c ∷ w) ≡ None
+other_letter : (letter low end c : ℕ) (w : List ℕ) → (c == letter) ≡ false → lettered letter low end (c ∷ w) ≡ None
 unfolding lettered
-other_letter letter low high c w h = rw h refl
+other_letter letter low end c w h = rw h refl
 
 -- digits are a time as they are a number
 digits_time : (w : List ℕ) → all_ascii_digits w ≡ true → 0 < length w → time_of w ≡ option_map pos (number 0 (2 ^ 63 - 1) w)
@@ -95,9 +96,9 @@ version_again v f =
     let dot = upto_dot (decimal v.major) (decimal v.minor) (digits_decimal own v.major (omega (arith, f.2))) in
     rw (range, dot.0, dot.1, number_again 0 255 v.major (omega arith) f.2 (omega (arith, f.2)), number_again 0 255 v.minor (omega arith) f.3 (omega (arith, f.3))) refl
 
-id_again : (id : List ℕ) → IsBytes id → length id ≤ 256 → id_of (120 ∷ encode_lower id) ≡ Some id
+id_again : (id : List ℕ) → IsBytes id → length id ≤ section_id_max → id_of (120 ∷ encode_lower id) ≡ Some id
 unfolding id_of bytes_of
-id_again id bytes short = let few : nat_le (length id) 256 ≡ true = grind (arith, short) in rw (decode_of-encode_lower id bytes, few) refl
+id_again id bytes short = let few : nat_le (length id) section_id_max ≡ true = grind (arith, short) in rw (decode_of-encode_lower id bytes, few) refl
 
 new_id_again : (id : NewId) → IsNewId id → new_id_of (new_id_text id) ≡ Some id
 unfolding new_id_of
@@ -128,11 +129,11 @@ not_number low high xs ys =
     go true = rw (dotted xs ys) refl
     go false = refl
 
-dotted_letter : (letter low high : ℕ) (xs ys : List ℕ) → lettered letter low high (letter ∷ (xs ++ 46 ∷ ys)) ≡ None
+dotted_letter : (letter low end : ℕ) (xs ys : List ℕ) → lettered letter low end (letter ∷ (xs ++ 46 ∷ ys)) ≡ None
 unfolding lettered
-dotted_letter letter low high xs ys =
+dotted_letter letter low end xs ys =
     let same : (letter == letter) ≡ true = grind arith in
-    rw (same, not_number low high xs ys) refl
+    rw (same, not_number low (end - 1) xs ys) refl
 
 -- a letter in front of what a dot ends
 behind_letter : (xs ys : List ℕ) → all_ascii_digits xs ≡ true → (before_first is_dot (99 ∷ (xs ++ 46 ∷ ys)) ≡ 99 ∷ xs) × (after_first is_dot (99 ∷ (xs ++ 46 ∷ ys)) ≡ ys)
@@ -143,30 +144,30 @@ behind_letter xs ys digits =
     let m : (1 + p) + 1 ≡ suc (p + 1) = omega arith in
     rw m (rw k (ap (λ w. 99 ∷ w) ih.0, ih.1))
 
-call_again : (c n : ℕ) → c ≤ 99 → 1 ≤ n → n < 2 ^ 32 → call_of ((99 ∷ decimal c) ++ 46 ∷ decimal n) ≡ Some (record { actor = actor.Client c; number = n })
+call_again : (c n : ℕ) → c < client_numbers → 1 ≤ n → n < 2 ^ 32 → call_of ((99 ∷ decimal c) ++ 46 ∷ decimal n) ≡ Some (record { actor = actor.Client c; number = n })
 unfolding call_of
 call_again c n few some small =
     let cut = behind_letter (decimal c) (decimal n) (digits_decimal own c (omega (arith, few))) in
-    rw (cut.0, cut.1, lettered_again 99 0 99 c (omega arith) few (omega (arith, few)), number_again 1 (2 ^ 32 - 1) n some (omega (arith, small)) (omega (arith, small))) refl
+    rw (cut.0, cut.1, lettered_again 99 0 client_numbers c (omega arith) few (omega (arith, few)), number_again 1 (2 ^ 32 - 1) n some (omega (arith, small)) (omega (arith, small))) refl
 
 who_again : (who : Who) → IsWho who → who_of (who_text who) ≡ Some who
 unfolding who_of
-who_again (whose.Actor (actor.Client c)) f = rw (lettered_again 99 0 99 c (omega arith) f (omega (arith, f))) refl
-who_again (whose.Actor (actor.Node n)) f = rw (other_letter 99 0 99 110 (decimal n) refl, lettered_again 110 0 7 n (omega arith) f (omega (arith, f))) refl
+who_again (whose.Actor (actor.Client c)) f = rw (lettered_again 99 0 client_numbers c (omega arith) f (omega (arith, f))) refl
+who_again (whose.Actor (actor.Node n)) f = rw (other_letter 99 0 client_numbers 110 (decimal n) refl, lettered_again 110 0 nodes_max n (omega arith) f (omega (arith, f))) refl
 who_again (whose.Call call) f = go call.actor call.number f.0 f.1 f.2
   where
     go : (a : ActorName) (n : ℕ) → IsCaller a → 1 ≤ n → n < 2 ^ 32 → who_of (who_text (whose.Call (record { actor = a; number = n }))) ≡ Some (whose.Call (record { actor = a; number = n }))
-    go (actor.Client c) n few some small = rw (dotted_letter 99 0 99 (decimal c) (decimal n), other_letter 110 0 7 99 (decimal c ++ 46 ∷ decimal n) refl, call_again c n few some small) refl
+    go (actor.Client c) n few some small = rw (dotted_letter 99 0 client_numbers (decimal c) (decimal n), other_letter 110 0 nodes_max 99 (decimal c ++ 46 ∷ decimal n) refl, call_again c n few some small) refl
     go (actor.Node k) n few some small = absurd few
 
 -- WHAT IS SPELLED is read again
 pub again : (c : Class) → Good c → (v : Meaning c) → Fits c v → read c (spell c v) ≡ Ok v
 unfolding read bytes_of
-again a_client g v f = rw (lettered_again 99 0 99 v (omega arith) f (omega (arith, f))) refl
-again a_node g v f = rw (lettered_again 110 0 7 v (omega arith) f (omega (arith, f))) refl
-again a_place g v f = rw (lettered_again 104 0 99 v (omega arith) f (omega (arith, f))) refl
-again an_iteration g v f = rw (lettered_again 105 0 99 v (omega arith) f (omega (arith, f))) refl
-again a_ckpt g v f = rw (lettered_again 75 1 9999 v f.0 f.1 (omega (arith, f.1))) refl
+again a_client g v f = rw (lettered_again 99 0 client_numbers v (omega arith) f (omega (arith, f))) refl
+again a_node g v f = rw (lettered_again 110 0 nodes_max v (omega arith) f (omega (arith, f))) refl
+again a_place g v f = rw (lettered_again 104 0 places_max v (omega arith) f (omega (arith, f))) refl
+again an_iteration g v f = rw (lettered_again 105 0 places_max v (omega arith) f (omega (arith, f))) refl
+again a_ckpt g v f = rw (lettered_again 75 1 ckpt_numbers v f.0 f.1 (omega (arith, f.1))) refl
 again (a_number low high) g v f = rw (number_again low high v f.0 f.1 (omega (arith, f.1, g))) refl
 again a_time g v f = rw (time_again v f) refl
 again a_moment g v f = rw (moment_again v f) refl

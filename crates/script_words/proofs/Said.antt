@@ -12,9 +12,10 @@ use Rattle.ckpt_types.specs.declared.identities.Who.{Who}
 use Rattle.ckpt_types.specs.declared.identities.Who.TheVariants as whose
 use Rattle.ckpt_types.specs.declared.update.NewId.{NewId}
 use Rattle.ckpt_types.specs.declared.update.NewId.TheVariants as new_ids
+use Rattle.ckpt_types.specs.Limits.{client_numbers, nodes_max, places_max, section_id_max}
 use Rattle.script_words.specs.declared.reason.Reason.{Reason}
 use Rattle.script_words.specs.Reasons.{or_reason}
-use Rattle.script_words.specs.Words.{Class, a_client, a_node, a_place, an_iteration, a_ckpt, a_number, a_time, a_moment, some_bytes, an_id, a_new_id, a_version, the_callbacks, a_who, Meaning, read, numeral, number, lettered, time_of, bytes_of, id_of, new_id_of, version_of, call_of, who_of, or_else, is_graphic, is_dot}
+use Rattle.script_words.specs.Words.{Class, a_client, a_node, a_place, an_iteration, a_ckpt, a_number, a_time, a_moment, some_bytes, an_id, a_new_id, a_version, the_callbacks, a_who, Meaning, read, numeral, number, lettered, time_of, bytes_of, id_of, new_id_of, version_of, call_of, who_of, or_else, is_graphic, is_dot, ckpt_numbers}
 use Rattle.script_words.specs.Fitting.{Fits, IsTime, IsMoment, IsVersion, IsNewId, IsWho}
 
 ok_from : {A : Type 0} (r : Reason) (o : Option A) (x : A) → or_reason r o ≡ Ok x → o ≡ Some x
@@ -37,11 +38,16 @@ pub number_said : (low high : ℕ) (w : List ℕ) (n : ℕ) → number low high 
 unfolding number
 number_said low high w n e = within low high (numeral w) n e
 
-pub lettered_said : (letter low high : ℕ) (w : List ℕ) (n : ℕ) → lettered letter low high w ≡ Some n → (low ≤ n) × (n ≤ high)
+pub lettered_said : (letter low end : ℕ) (w : List ℕ) (n : ℕ) → 0 < end → lettered letter low end w ≡ Some n → (low ≤ n) × (n < end)
 unfolding lettered
-lettered_said letter low high [] n e = absurd (cc)
-lettered_said letter low high (c ∷ w) n e =
-    elim (chosen (c == letter) (number low high w) None n e) [ inl p ↦ number_said low high w n p.1 | inr p ↦ absurd (cc p.1) ]
+lettered_said letter low end [] n some e = absurd (cc)
+lettered_said letter low end (c ∷ w) n some e =
+    elim (chosen (c == letter) (number low (end - 1) w) None n e) [
+      | inl p ↦
+          let within = number_said low (end - 1) w n p.1 in
+          (within.0, omega (arith, some, within.1))
+      | inr p ↦ absurd (cc p.1)
+    ]
 
 mapped : {A B : Type 0} (f : A → B) (o : Option A) (y : B) → option_map f o ≡ Some y → (x : A) × (o ≡ Some x) × (f x ≡ y)
 mapped f (Some x) y e = (x, refl, cc)
@@ -97,17 +103,17 @@ bytes_said (c ∷ w) bytes e =
       ]
     ]
 
-short_id : (o : Option (List ℕ)) (bytes : List ℕ) → ((b : List ℕ) → o ≡ Some b → IsBytes b) → option_and_then (λ bytes. if nat_le (length bytes) 256 then Some bytes else None) o ≡ Some bytes → IsBytes bytes × (length bytes ≤ 256)
+short_id : (o : Option (List ℕ)) (bytes : List ℕ) → ((b : List ℕ) → o ≡ Some b → IsBytes b) → option_and_then (λ bytes. if nat_le (length bytes) section_id_max then Some bytes else None) o ≡ Some bytes → IsBytes bytes × (length bytes ≤ section_id_max)
 short_id None bytes f e = absurd (cc)
-short_id (Some b) bytes f e = elim (chosen (nat_le (length b) 256) (Some b) None bytes e) [
+short_id (Some b) bytes f e = elim (chosen (nat_le (length b) section_id_max) (Some b) None bytes e) [
   | inl p ↦
       let same : b ≡ bytes = cc (p.1) in
-      let small : length b ≤ 256 = grind (arith, p.0) in
-      (subst IsBytes same (f b refl), subst (λ x. length x ≤ 256) same small)
+      let small : length b ≤ section_id_max = grind (arith, p.0) in
+      (subst IsBytes same (f b refl), subst (λ x. length x ≤ section_id_max) same small)
   | inr p ↦ absurd (cc p.1)
 ]
 
-pub id_said : (w bytes : List ℕ) → id_of w ≡ Some bytes → IsBytes bytes × (length bytes ≤ 256)
+pub id_said : (w bytes : List ℕ) → id_of w ≡ Some bytes → IsBytes bytes × (length bytes ≤ section_id_max)
 unfolding id_of
 id_said w bytes e = short_id (bytes_of w) bytes (bytes_said w) e
 
@@ -150,7 +156,7 @@ new_id_said w id e = elim (chosen (bytes_eq w (codes "gen")) (Some new_ids.Gener
       subst IsNewId m.2 (id_said w m.0 m.1)
 ]
 
-call_parts : (c n : Option ℕ) (call : CallId) → ((k : ℕ) → c ≡ Some k → k ≤ 99) → ((k : ℕ) → n ≡ Some k → (1 ≤ k) × (k < 2 ^ 32))
+call_parts : (c n : Option ℕ) (call : CallId) → ((k : ℕ) → c ≡ Some k → k < client_numbers) → ((k : ℕ) → n ≡ Some k → (1 ≤ k) × (k < 2 ^ 32))
     → option_and_then (λ c. option_map (λ n. record { actor = actor.Client c; number = n }) n) c ≡ Some call → IsWho (whose.Call call)
 call_parts None n call f g e = absurd (cc)
 call_parts (Some c) None call f g e = absurd (cc)
@@ -162,8 +168,8 @@ call_parts (Some c) (Some n) call f g e =
 call_said : (w : List ℕ) (call : CallId) → call_of w ≡ Some call → IsWho (whose.Call call)
 unfolding call_of
 call_said w call e =
-    call_parts (lettered 99 0 99 (before_first is_dot w)) (number 1 (2 ^ 32 - 1) (after_first is_dot w)) call
-    (λ k h. (lettered_said 99 0 99 (before_first is_dot w) k h).1)
+    call_parts (lettered 99 0 client_numbers (before_first is_dot w)) (number 1 (2 ^ 32 - 1) (after_first is_dot w)) call
+    (λ k h. (lettered_said 99 0 client_numbers (before_first is_dot w) k (omega arith) h).1)
     (λ k h. let r = number_said 1 (2 ^ 32 - 1) (after_first is_dot w) k h in (r.0, omega (arith, r.1)))
     e
 
@@ -173,14 +179,14 @@ either None b x e = inr e
 
 who_said : (w : List ℕ) (who : Who) → who_of w ≡ Some who → IsWho who
 unfolding who_of
-who_said w who e = elim (either (option_map (λ c. whose.Actor (actor.Client c)) (lettered 99 0 99 w)) _ who e) [
+who_said w who e = elim (either (option_map (λ c. whose.Actor (actor.Client c)) (lettered 99 0 client_numbers w)) _ who e) [
   | inl p ↦
-      let m = mapped (λ (c : ℕ). whose.Actor (actor.Client c)) (lettered 99 0 99 w) who p in
-      subst IsWho m.2 (lettered_said 99 0 99 w m.0 m.1).1
-  | inr p ↦ elim (either (option_map (λ n. whose.Actor (actor.Node n)) (lettered 110 0 7 w)) _ who p) [
+      let m = mapped (λ (c : ℕ). whose.Actor (actor.Client c)) (lettered 99 0 client_numbers w) who p in
+      subst IsWho m.2 (lettered_said 99 0 client_numbers w m.0 (omega arith) m.1).1
+  | inr p ↦ elim (either (option_map (λ n. whose.Actor (actor.Node n)) (lettered 110 0 nodes_max w)) _ who p) [
     | inl q ↦
-        let m = mapped (λ (n : ℕ). whose.Actor (actor.Node n)) (lettered 110 0 7 w) who q in
-        subst IsWho m.2 (lettered_said 110 0 7 w m.0 m.1).1
+        let m = mapped (λ (n : ℕ). whose.Actor (actor.Node n)) (lettered 110 0 nodes_max w) who q in
+        subst IsWho m.2 (lettered_said 110 0 nodes_max w m.0 (omega arith) m.1).1
     | inr q ↦
         let m = mapped whose.Call (call_of w) who q in
         subst IsWho m.2 (call_said w m.0 m.1)
@@ -190,11 +196,11 @@ who_said w who e = elim (either (option_map (λ c. whose.Actor (actor.Client c))
 -- WHAT IS READ is what the class can say
 pub said : (c : Class) (w : List ℕ) (v : Meaning c) → read c w ≡ Ok v → Fits c v
 unfolding read
-said a_client w v e = (lettered_said 99 0 99 w v (ok_from _ (lettered 99 0 99 w) v e)).1
-said a_node w v e = (lettered_said 110 0 7 w v (ok_from _ (lettered 110 0 7 w) v e)).1
-said a_place w v e = (lettered_said 104 0 99 w v (ok_from _ (lettered 104 0 99 w) v e)).1
-said an_iteration w v e = (lettered_said 105 0 99 w v (ok_from _ (lettered 105 0 99 w) v e)).1
-said a_ckpt w v e = lettered_said 75 1 9999 w v (ok_from _ (lettered 75 1 9999 w) v e)
+said a_client w v e = (lettered_said 99 0 client_numbers w v (omega arith) (ok_from _ (lettered 99 0 client_numbers w) v e)).1
+said a_node w v e = (lettered_said 110 0 nodes_max w v (omega arith) (ok_from _ (lettered 110 0 nodes_max w) v e)).1
+said a_place w v e = (lettered_said 104 0 places_max w v (omega arith) (ok_from _ (lettered 104 0 places_max w) v e)).1
+said an_iteration w v e = (lettered_said 105 0 places_max w v (omega arith) (ok_from _ (lettered 105 0 places_max w) v e)).1
+said a_ckpt w v e = lettered_said 75 1 ckpt_numbers w v (omega arith) (ok_from _ (lettered 75 1 ckpt_numbers w) v e)
 said (a_number low high) w v e = number_said low high w v (ok_from _ (number low high w) v e)
 said a_time w v e = time_said w v (ok_from _ (time_of w) v e)
 said a_moment w v e = moment_said w v (ok_from _ (option_map pos (number 0 (2 ^ 63 - 2) w)) v e)

@@ -1,5 +1,5 @@
 -- What the words of each class can say.
-use Rattle.std.specs.Prelude.{◌-◌, ◌^◌, ◌<◌, ◌≤◌, ⊤, length, ℤ, pos, negsuc}
+use Rattle.std.specs.Prelude.{◌^◌, ◌<◌, ◌≤◌, ⊤, length, ℤ, pos, negsuc, nat_abs}
 use Rattle.hex.specs.Hex.{IsBytes}
 use Rattle.ckpt_types.specs.declared.calls.Version.{Version}
 use Rattle.ckpt_types.specs.declared.identities.ActorName.{ActorName}
@@ -8,16 +8,17 @@ use Rattle.ckpt_types.specs.declared.identities.Who.{Who}
 use Rattle.ckpt_types.specs.declared.identities.Who.TheVariants as whose
 use Rattle.ckpt_types.specs.declared.update.NewId.{NewId}
 use Rattle.ckpt_types.specs.declared.update.NewId.TheVariants as new_ids
-use Rattle.script_words.specs.Words.{Class, a_client, a_node, a_place, an_iteration, a_ckpt, a_number, a_time, a_moment, some_bytes, an_id, a_new_id, a_version, the_callbacks, a_who, Meaning}
+use Rattle.ckpt_types.specs.Limits.{client_numbers, end_of_time, nodes_max, places_max, section_id_max}
+use Rattle.script_words.specs.Words.{Class, a_client, a_node, a_place, an_iteration, a_ckpt, a_number, a_time, a_moment, some_bytes, an_id, a_new_id, a_version, the_callbacks, a_who, Meaning, ckpt_numbers}
 
 -- from -2^63 to 2^63-1
 abbrev pub IsTime : ℤ → Type 0
 IsTime (pos n) = n < 2 ^ 63
 IsTime (negsuc n) = n < 2 ^ 63
 
--- from 0 to 2^63-2
+-- from 0 on, before the end of time
 abbrev pub IsMoment : ℤ → Type 0
-IsMoment (pos n) = n < 2 ^ 63 - 1
+IsMoment (pos n) = n < nat_abs end_of_time
 IsMoment (negsuc n) = ⊥
 
 -- a release from A to Z, and two numbers up to 255
@@ -25,16 +26,16 @@ abbrev pub IsVersion : Version → Type 0
 IsVersion v = (65 ≤ v.release) × (v.release ≤ 90) × (v.major ≤ 255) × (v.minor ≤ 255)
 
 abbrev pub IsNewId : NewId → Type 0
-IsNewId (new_ids.Given id) = IsBytes id × (length id ≤ 256)
+IsNewId (new_ids.Given id) = IsBytes id × (length id ≤ section_id_max)
 IsNewId new_ids.Generated = ⊤
 
 abbrev pub IsActor : ActorName → Type 0
-IsActor (actor.Client c) = c ≤ 99
-IsActor (actor.Node n) = n ≤ 7
+IsActor (actor.Client c) = c < client_numbers
+IsActor (actor.Node n) = n < nodes_max
 
 -- a client whose call is named
 abbrev pub IsCaller : ActorName → Type 0
-IsCaller (actor.Client c) = c ≤ 99
+IsCaller (actor.Client c) = c < client_numbers
 IsCaller (actor.Node n) = ⊥
 
 abbrev pub IsWho : Who → Type 0
@@ -43,16 +44,16 @@ IsWho (whose.Call call) = IsCaller call.actor × (1 ≤ call.number) × (call.nu
 
 -- what a word of the class can say
 abbrev pub Fits : (c : Class) → Meaning c → Type 0
-Fits a_client n = n ≤ 99
-Fits a_node n = n ≤ 7
-Fits a_place n = n ≤ 99
-Fits an_iteration n = n ≤ 99
-Fits a_ckpt n = (1 ≤ n) × (n ≤ 9999)
+Fits a_client n = n < client_numbers
+Fits a_node n = n < nodes_max
+Fits a_place n = n < places_max
+Fits an_iteration n = n < places_max
+Fits a_ckpt n = (1 ≤ n) × (n < ckpt_numbers)
 Fits (a_number low high) n = (low ≤ n) × (n ≤ high)
 Fits a_time t = IsTime t
 Fits a_moment t = IsMoment t
 Fits some_bytes bytes = IsBytes bytes
-Fits an_id bytes = IsBytes bytes × (length bytes ≤ 256)
+Fits an_id bytes = IsBytes bytes × (length bytes ≤ section_id_max)
 Fits a_new_id id = IsNewId id
 Fits a_version v = IsVersion v
 Fits the_callbacks set = ⊤

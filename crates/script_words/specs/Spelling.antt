@@ -1,5 +1,5 @@
 -- The one spelling of each word.
-use Rattle.std.specs.Prelude.{ℕ, ◌+◌, ◌-◌, ◌^◌, List, ◌∷◌, ◌++◌, ℤ, pos, negsuc, codes, cond, ◌==◌, if◌then◌else◌, decimal}
+use Rattle.std.specs.Prelude.{ℕ, ◌+◌, List, ◌∷◌, ◌++◌, ℤ, pos, negsuc, nat_abs, codes, cond, ◌==◌, if◌then◌else◌, decimal}
 use Rattle.hex.specs.Hex.{encode_lower}
 use Rattle.ckpt_types.specs.declared.calls.CallbackSet.{CallbackSet}
 use Rattle.ckpt_types.specs.declared.identities.ActorName.{ActorName}
@@ -8,11 +8,12 @@ use Rattle.ckpt_types.specs.declared.identities.Who.{Who}
 use Rattle.ckpt_types.specs.declared.identities.Who.TheVariants as whose
 use Rattle.ckpt_types.specs.declared.update.NewId.{NewId}
 use Rattle.ckpt_types.specs.declared.update.NewId.TheVariants as new_ids
+use Rattle.ckpt_types.specs.Limits.{end_of_time}
 use Rattle.script_words.specs.Words.{Class, a_client, a_node, a_place, an_iteration, a_ckpt, a_number, a_time, a_moment, some_bytes, an_id, a_new_id, a_version, the_callbacks, a_who, Meaning}
 
--- decimal digits behind a minus where it is below 0, and `end` for 2^63-1
+-- decimal digits behind a minus where it is below 0, and `end` for the end of time
 abbrev pub time_text : ℤ → List ℕ
-time_text (pos n) = if n == 2 ^ 63 - 1 then codes "end" else decimal n
+time_text (pos n) = if n == nat_abs end_of_time then codes "end" else decimal n
 time_text (negsuc n) = 45 ∷ decimal (n + 1)
 
 -- `x` and lower-case hexadecimal digits

@@ -1,5 +1,5 @@
 -- The classes of words: how the words of each are spelled, and what they say.
-use Rattle.std.specs.Prelude.{ℕ, ◌^◌, ◌-◌, Bool, true, false, not, ◌&&◌, ◌||◌, List, [], ◌∷◌, length, ℤ, pos, neg_ℤ, codes, Option, Some, None, option_map, option_and_then, Result, nat_le, ◌==◌, if◌then◌else◌, bytes_eq}
+use Rattle.std.specs.Prelude.{ℕ, ◌^◌, ◌-◌, Bool, true, false, not, ◌&&◌, ◌||◌, List, [], ◌∷◌, length, ℤ, pos, neg_ℤ, nat_abs, codes, Option, Some, None, option_map, option_and_then, Result, nat_le, ◌==◌, if◌then◌else◌, bytes_eq}
 use Rattle.std.specs.Str.{all_ascii_digits}
 use Rattle.std.specs.Str.Parse.{digits_value}
 use Rattle.std.specs.List.{list_all, before_first, after_first}
@@ -13,6 +13,7 @@ use Rattle.ckpt_types.specs.declared.identities.Who.{Who}
 use Rattle.ckpt_types.specs.declared.identities.Who.TheVariants as whose
 use Rattle.ckpt_types.specs.declared.update.NewId.{NewId}
 use Rattle.ckpt_types.specs.declared.update.NewId.TheVariants as new_ids
+use Rattle.ckpt_types.specs.Limits.{client_numbers, end_of_time, nodes_max, places_max, section_id_max}
 use Rattle.script_words.specs.declared.reason.Reason.{Reason}
 use Rattle.script_words.specs.declared.reason.Reason.TheVariants as reasons
 use Rattle.script_words.specs.Reasons.{or_reason}
@@ -30,18 +31,22 @@ numeral w = if starts_well w && all_ascii_digits w then Some (digits_value 10 w)
 unfoldable pub number : ℕ → ℕ → List ℕ → Option ℕ
 number low high w = option_and_then (λ n. if nat_le low n && nat_le n high then Some n else None) (numeral w)
 
--- a letter and a number from low to high
+-- a letter and a number from low on, below an end
 unfoldable pub lettered : ℕ → ℕ → ℕ → List ℕ → Option ℕ
-lettered letter low high [] = None
-lettered letter low high (c ∷ w) = if c == letter then number low high w else None
+lettered letter low end [] = None
+lettered letter low end (c ∷ w) = if c == letter then number low (end - 1) w else None
 
--- `end`, which is 2^63-1; a number from 0; or a minus and a number from 1
+-- numbers of checkpoints that words say, K1 to K9999
+abbrev pub ckpt_numbers : ℕ
+ckpt_numbers = 10000
+
+-- `end`, which is the end of time; a number from 0 to it; or a minus and a number from 1
 unfoldable pub time_of : List ℕ → Option ℤ
 time_of [] = None
 time_of (c ∷ w) =
-    if bytes_eq (c ∷ w) (codes "end") then Some (pos (2 ^ 63 - 1))
+    if bytes_eq (c ∷ w) (codes "end") then Some end_of_time
     else if c == 45 then option_map (λ n. neg_ℤ (pos n)) (number 1 (2 ^ 63) w)
-    else option_map pos (number 0 (2 ^ 63 - 1) (c ∷ w))
+    else option_map pos (number 0 (nat_abs end_of_time) (c ∷ w))
 
 -- a byte from `!` to `~`
 abbrev pub is_graphic : ℕ → Bool
@@ -55,9 +60,9 @@ bytes_of (c ∷ w) =
     else if c == 39 then (if not (length w == 0) && list_all is_graphic w then Some w else None)
     else None
 
--- the same, where they are at most 256
+-- the same, where they are no more than an identifier has
 unfoldable pub id_of : List ℕ → Option (List ℕ)
-id_of w = option_and_then (λ bytes. if nat_le (length bytes) 256 then Some bytes else None) (bytes_of w)
+id_of w = option_and_then (λ bytes. if nat_le (length bytes) section_id_max then Some bytes else None) (bytes_of w)
 
 -- an identifier; or `gen`, where the service is to make one
 unfoldable pub new_id_of : List ℕ → Option NewId
@@ -86,7 +91,7 @@ callbacks_of w =
 
 -- a client, a dot and a number: a call of the client
 unfoldable pub call_of : List ℕ → Option CallId
-call_of w = option_and_then (λ c. option_map (λ n. record { actor = actor.Client c; number = n }) (number 1 (2 ^ 32 - 1) (after_first is_dot w))) (lettered 99 0 99 (before_first is_dot w))
+call_of w = option_and_then (λ c. option_map (λ n. record { actor = actor.Client c; number = n }) (number 1 (2 ^ 32 - 1) (after_first is_dot w))) (lettered 99 0 client_numbers (before_first is_dot w))
 
 -- the first value, where there is one, else the second
 abbrev pub or_else : {A : Type 0} → Option A → Option A → Option A
@@ -96,21 +101,21 @@ or_else None other = other
 -- a client or a node, for its call in hand, or a call
 unfoldable pub who_of : List ℕ → Option Who
 who_of w =
-    or_else (option_map (λ c. whose.Actor (actor.Client c)) (lettered 99 0 99 w))
-    (or_else (option_map (λ n. whose.Actor (actor.Node n)) (lettered 110 0 7 w))
+    or_else (option_map (λ c. whose.Actor (actor.Client c)) (lettered 99 0 client_numbers w))
+    (or_else (option_map (λ n. whose.Actor (actor.Node n)) (lettered 110 0 nodes_max w))
     (option_map whose.Call (call_of w)))
 
 -- THE CLASSES
 pub data Class : Type 0 where
-  -- `c` and a number to 99
+  -- `c` and a number of a client
   a_client : Class
-  -- `n` and a number to 7
+  -- `n` and a number of a node
   a_node : Class
-  -- a handle's place, `h` and a number to 99
+  -- `h` and the place of a handle
   a_place : Class
-  -- an iteration's place, `i` and a number to 99
+  -- `i` and the place of an iteration
   an_iteration : Class
-  -- `K` and a number from 1 to 9999
+  -- `K` and a number of a checkpoint, from 1 on
   a_ckpt : Class
   -- a number from one to another
   a_number : ℕ → ℕ → Class
@@ -119,7 +124,7 @@ pub data Class : Type 0 where
   -- a time from 0 on, and before the end
   a_moment : Class
   some_bytes : Class
-  -- at most 256 bytes
+  -- the bytes of an identifier
   an_id : Class
   -- the same, or `gen`
   a_new_id : Class
@@ -147,14 +152,14 @@ Meaning a_who = Who
 
 -- what a word says, or why it is not of the class
 unfoldable pub read : (c : Class) → List ℕ → Result (Meaning c) Reason
-read a_client w = or_reason reasons.Word (lettered 99 0 99 w)
-read a_node w = or_reason reasons.Word (lettered 110 0 7 w)
-read a_place w = or_reason reasons.Word (lettered 104 0 99 w)
-read an_iteration w = or_reason reasons.Word (lettered 105 0 99 w)
-read a_ckpt w = or_reason reasons.Word (lettered 75 1 9999 w)
+read a_client w = or_reason reasons.Word (lettered 99 0 client_numbers w)
+read a_node w = or_reason reasons.Word (lettered 110 0 nodes_max w)
+read a_place w = or_reason reasons.Word (lettered 104 0 places_max w)
+read an_iteration w = or_reason reasons.Word (lettered 105 0 places_max w)
+read a_ckpt w = or_reason reasons.Word (lettered 75 1 ckpt_numbers w)
 read (a_number low high) w = or_reason reasons.Number (number low high w)
 read a_time w = or_reason reasons.Number (time_of w)
-read a_moment w = or_reason reasons.Number (option_map pos (number 0 (2 ^ 63 - 2) w))
+read a_moment w = or_reason reasons.Number (option_map pos (number 0 (nat_abs end_of_time - 1) w))
 read some_bytes w = or_reason reasons.Bytes (bytes_of w)
 read an_id w = or_reason reasons.Bytes (id_of w)
 read a_new_id w = or_reason reasons.Bytes (new_id_of w)

