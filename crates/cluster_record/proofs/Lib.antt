@@ -10,3 +10,4 @@ pub mod KeptLaws
 pub mod EachChanged
 pub mod EntryLaws
 pub mod ClientLaws
+pub mod Rows

@@ -1,15 +1,21 @@
 -- Refusals of the record.
-use Rattle.std.specs.Prelude.{ℕ, Option, Some, None, is_some, if◌then◌else◌, Result, Ok, Err}
+use Rattle.std.specs.Prelude.{ℕ, length, nat_le, Option, Some, None, is_some, if◌then◌else◌, Result, Ok, Err}
 use Rattle.ckpt_types.specs.declared.ais_error.AisError.{AisError}
 use Rattle.ckpt_types.specs.declared.ais_error.AisError.TheVariants.{NoResources, NotExist, TryAgain, BadOperation}
 use Rattle.ckpt_types.specs.declared.answers.Cause.TheVariants.{Plain, Count, Holder}
 use Rattle.ckpt_types.specs.declared.identities.CallId.{CallId}
 use Rattle.cluster_record.specs.declared.entries.Entry.{Entry}
+use Rattle.ckpt_types.specs.Limits.{clients_max}
 use Rattle.cluster_record.specs.declared.record.RecordRefused.{RecordRefused}
+use Rattle.cluster_record.specs.RecordState.{RecordState}
 
 -- all of so many places are taken
 abbrev pub all_taken : ℕ → RecordRefused
 all_taken n = record { error = NoResources; cause = Count n }
+
+-- a client more becomes live where not all places are taken
+abbrev pub enter_answer : RecordState → Result (Unit {0}) RecordRefused
+enter_answer R = if nat_le clients_max (length R.clients) then Err (all_taken clients_max) else Ok tt
 
 -- a refusal that says all
 abbrev pub plainly : AisError → RecordRefused

@@ -7,7 +7,7 @@ ghost use Rattle.cluster_record.specs.Kept.{IsKeptEntry, AreKeptClients};
 ghost use Rattle.cluster_record.specs.Makings.{making_call, making_finished, making_undone};
 ghost use Rattle.cluster_record.specs.Numbers.{numbers_left};
 ghost use Rattle.cluster_record.specs.Opening.{answer_free, open_answer, after_open};
-ghost use Rattle.cluster_record.specs.Refusals.{all_taken, plainly, held_by, unlinkable, unlink_answer, retain_answer};
+ghost use Rattle.cluster_record.specs.Refusals.{enter_answer, all_taken, plainly, held_by, unlinkable, unlink_answer, retain_answer};
 ghost use Rattle.ckpt_types.specs.Limits.{nodes_max, client_numbers, clients_max, checkpoints_max};
 ghost use Rattle.cluster_record.specs.Places.{find_key};
 ghost use Rattle.cluster_record.specs.RecordReady.{CanBecomeLive, CanOpen, CanCreate, CanRefer, CanReferAt};
@@ -299,6 +299,7 @@ impl Record {
     /// are; then nothing changes. It takes no memory.
     pub fn enter(&mut self, call: CallId, node: NodeId) -> Result<(), RecordRefused>
         requires { CanBecomeLive call node self.old }
+        ensures answer { result ≡ enter_answer self.old }
         ensures ok { OnOk result ((length self.old.clients < clients_max) × (self.new ≡ entered (client_of call) node call.number self.old)) }
         ensures err { IfErr result (λ refused. (refused ≡ all_taken clients_max) × (clients_max ≤ length self.old.clients) × (self.new ≡ self.old)) }
     {
