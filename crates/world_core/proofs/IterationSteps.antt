@@ -98,12 +98,11 @@ pub record Starts (choice : Choice) (op : Op) : Type 0 where
   pub starts : started_place op ≡ Some place
   pub handles : handle_place op ≡ Some over
   pub place_within : place < 100
-  pub over_within : over < 100
   pub chooses : choice ≡ chosen_choice op
   pub room : (n : ℕ) → room_for op n ≡ Some (record { ids = []; room = n })
 
 pub starts_so : (choice : Choice) (op : Op) → IsIterOf choice op → Starts choice op
-starts_so choice (ops.Iter iteration place chosen time) is = record { place = iteration; over = place; starts = refl; handles = refl; place_within = is.1; over_within = is.2; chooses = is.0; room = λ n. refl }
+starts_so choice (ops.Iter iteration place chosen time) is = record { place = iteration; over = place; starts = refl; handles = refl; place_within = is.1; chooses = is.0; room = λ n. refl }
 starts_so choice op is = absurd is
 
 -- and what one names that goes on with one

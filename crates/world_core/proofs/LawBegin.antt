@@ -203,12 +203,12 @@ module _ (hand : Option Working) (m : Machine) (call : CallId) (inv : InvariantW
   starts (ops.Read place elements) h built may goes made named = starts_active (ops.Read place elements) kinds.Read h (λ o. refl) tt named made (on_handle-None h _ _ (if_live-None (is_live_client (number_of call.actor) m.cluster) _ goes).1)
   starts (ops.Status place) h built may goes made named = starts_active (ops.Status place) kinds.Status h (λ o. refl) tt named made (on_handle-None h _ _ (if_live-None (is_live_client (number_of call.actor) m.cluster) _ goes).1)
   starts (ops.Iter iteration place chosen time) h built may goes made named =
-      starts_active (ops.Iter iteration place chosen time) (kinds.Iterate (choice_of chosen time)) h (λ o. refl) (refl, built.0, built.1) named made (on_handle-None h _ _ (if_live-None (is_live_client (number_of call.actor) m.cluster) _ goes).1)
+      starts_active (ops.Iter iteration place chosen time) (kinds.Iterate (choice_of chosen time)) h (λ o. refl) (refl, built.0) named made (on_handle-None h _ _ (if_live-None (is_live_client (number_of call.actor) m.cluster) _ goes).1)
   starts (ops.Next iteration) h built may goes made named = starts_active (ops.Next iteration) kinds.Next h (λ o. refl) built named made (on_handle-None h _ _ (if_live-None (is_live_client (number_of call.actor) m.cluster) _ goes).1)
   starts (ops.Close place) h built may goes made named =
       let (x, there) = on_handle-None h _ _ (if_live-None (is_live_client (number_of call.actor) m.cluster) _ goes).1 in
       subst (Starts (ops.Close place)) (sym there) (record {
-        at = record { op = built; kept = refl; handle = subst (λ (o : Option HandleView). IsSome o) (sym (named ∙ there)) refl };
+        at = record { op = tt; kept = refl; handle = subst (λ (o : Option HandleView). IsSome o) (sym (named ∙ there)) refl };
         makes = λ k. refl;
         owns = λ k. refl;
       })

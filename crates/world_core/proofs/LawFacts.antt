@@ -367,12 +367,12 @@ open_fits m a s o inv here is =
     let at = subst (IsAt m s) is (is_at m a s inv here) in
     (at.built, λ some. ap (room_of m) (sym at.client) ∙ at.room some)
 
--- a close has a place below 100, with a handle
-close_fits : (m : Machine) (s : CallState) (d : Driver) (place : ℕ) → IsAt m s d → closed_place s.op ≡ Some place → (place < 100) × IsSome (handle_in m (number_of s.call.actor) (Some place))
+-- a close has the place of a handle
+close_fits : (m : Machine) (s : CallState) (d : Driver) (place : ℕ) → IsAt m s d → closed_place s.op ≡ Some place → IsSome (handle_in m (number_of s.call.actor) (Some place))
 close_fits m s (drivers.Close k) place at is = of_op s.op at.op at.handle is where
-  of_op : (op : Op) → IsCloseOf op → IsSome (named_handle m s.call.actor op) → closed_place op ≡ Some place → (place < 100) × IsSome (handle_in m (number_of s.call.actor) (Some place))
-  of_op (ops.Close given) within there is = let same = same_Some given place is in (subst (λ p. p < 100) same within, subst (λ p. IsSome (handle_in m (number_of s.call.actor) (Some p))) same there)
-  of_op op within there is = absurd within
+  of_op : (op : Op) → IsCloseOf op → IsSome (named_handle m s.call.actor op) → closed_place op ≡ Some place → IsSome (handle_in m (number_of s.call.actor) (Some place))
+  of_op (ops.Close given) closes there is = subst (λ p. IsSome (handle_in m (number_of s.call.actor) (Some p))) (same_Some given place is) there
+  of_op op closes there is = absurd closes
 close_fits m s (drivers.Enter r) place at is = absurd (client_no_close s.op r place at.op is)
 close_fits m s (drivers.Open o) place at is = absurd (open_no_close s.op o.ask place at.asks is)
 close_fits m s (drivers.Update u) place at is = absurd (update_no_close s.op place at.update is)
@@ -393,6 +393,6 @@ facts m inv = record {
   goes_on = λ a s r call k here is. let (own, all) = hand_ready inv.hand m a s inv.holds here in let ready = (subst (IsDueReady m s (driver_of s)) is all).3 in (ready.0, subst (λ actor. IsSome (named_handle m actor s.op)) own ready.1);
   events = λ a s step here is. subst (IsDueReady m s (driver_of s)) is (hand_ready inv.hand m a s inv.holds here).1;
   opens = λ a s o here is. open_fits m a s o inv here is;
-  closes = λ a s place here is. let own = (hand_ready inv.hand m a s inv.holds here).0 in let fits = close_fits m s (driver_of s) place (is_at m a s inv here) is in (fits.0, subst (λ actor. IsSome (handle_in m (number_of actor) (Some place))) own fits.1);
+  closes = λ a s place here is. subst (λ actor. IsSome (handle_in m (number_of actor) (Some place))) (hand_ready inv.hand m a s inv.holds here).0 (close_fits m s (driver_of s) place (is_at m a s inv here) is);
   numbered = λ c h among. (inv.holds.handles c h among).0;
 }

@@ -288,7 +288,7 @@ module _ (w : World) (h : History) (c : ℕ) (step : RecordStep) (hand : InHand)
   well : ClosesWell w1 h1 c m s (ap number_of actor)
   well = record {
     none = λ t table. subst (λ hs. handle_numbered 0 hs ≡ None) (ap handles_in table) (none_has_zero (handles_in (slice_get w.tables c)) (facts.numbered c));
-    there = λ p is. (facts.closes (Client c) s p (in_hand_is w h c hand held) is).1;
+    there = λ p. facts.closes (Client c) s p (in_hand_is w h c hand held);
   }
 
   abbrev w2 : World

@@ -45,11 +45,6 @@ some_within : (P : ℕ → Type 0) (x : Option ℕ) → ((n : ℕ) → x ≡ Som
 some_within P None within there = absurd there
 some_within P (Some n) within there = within n refl
 
--- and of one that may be there
-if_within : (P : ℕ → Type 0) (x : Option ℕ) → ((n : ℕ) → x ≡ Some n → P n) → IfSome x P
-if_within P None within = tt
-if_within P (Some n) within = within n refl
-
 is_there : (x : Option ℕ) → IsSomeAnd x (λ n. Unit {0}) → IsSome x
 is_there None there = absurd there
 is_there (Some n) there = refl
@@ -90,13 +85,6 @@ module _ (w : World) (c : ℕ) (step : RecordStep) (hand : InHand) (held : hand_
     number = roomy.handles c;
   }
 
-  -- the place that it closes is one of 100
-  closed_within : (p : ℕ) → closed_place hand.op ≡ Some p → p < 100
-  closed_within p is =
-      let h = shown.shows.history in
-      let facts : Facts (machine_of w h) = subst Facts shown.shows.same shown.facts in
-      (facts.closes (Client c) (state_in h c hand) p (in_hand_is w h c hand held) is).0
-
   opens_well : (o : OpenState) → hand.driver ≡ drivers.Open o → IsRoomy w → driver_next w.cluster (rooms_in w c) (drivers.Open o) ≡ Event events.Open → EventNeeds hand.call w.cluster (drivers.Open o) events.Open → CanGive c hand.op (event_ckpt w.cluster hand.driver events.Open) w.tables
   opens_well o is roomy next needs = gives_well events.Open roomy tt (subst (λ (x : Driver). EventNeeds hand.call w.cluster x events.Open) (sym is) needs) (opens_fact o is).0 (open_room w.cluster (rooms_in w c) (drivers.Open o) next)
 
@@ -108,7 +96,6 @@ module _ (w : World) (c : ℕ) (step : RecordStep) (hand : InHand) (held : hand_
   settles_by events.Finish (drivers.Open o) is roomy next needs = finishes_well o is roomy needs
   settles_by events.Open x is roomy next needs = absurd needs
   settles_by events.Finish x is roomy next needs = absurd needs
-  settles_by events.Close x is roomy next needs = if_within (λ p. p < 100) (closed_place hand.op) closed_within
   settles_by step x is roomy next needs = tt
 
   needs : EventNeeds hand.call w.cluster hand.driver step

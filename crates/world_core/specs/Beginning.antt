@@ -164,12 +164,12 @@ takes_room op = false
 
 -- the operation starts an iteration with this choice, or goes on with one
 abbrev pub IsIterOf : Choice → Op → Type 0
-IsIterOf choice (ops.Iter iteration place chosen time) = (choice ≡ choice_of chosen time) × (iteration < places_max) × (place < places_max)
+IsIterOf choice (ops.Iter iteration place chosen time) = (choice ≡ choice_of chosen time) × (iteration < places_max)
 IsIterOf choice op = ⊥
 
 -- the operation closes a handle, sets this retention, or takes this name away
 abbrev pub IsCloseOf : Op → Type 0
-IsCloseOf (ops.Close place) = place < places_max
+IsCloseOf (ops.Close place) = Unit {0}
 IsCloseOf op = ⊥
 
 abbrev pub IsRetainOf : ℤ → Op → Type 0

@@ -55,7 +55,6 @@ pub record CanGive (c : ℕ) (op : Op) (k : Option ℕ) (tables : List TableStat
 abbrev pub CanSettle : ℕ → Op → RecordStep → Option ℕ → List TableState → Type 0
 CanSettle c op events.Open k tables = CanGive c op k tables
 CanSettle c op events.Finish k tables = CanGive c op k tables
-CanSettle c op events.Close k tables = IfSome (closed_place op) (λ p. p < places_max)
 CanSettle c op step k tables = Unit {0}
 
 -- ---- what it finds

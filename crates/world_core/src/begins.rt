@@ -106,8 +106,7 @@ impl World {
 
     // The handle that the operation is about: that of the place of a handle, or else of an iteration.
     fn named_handle(&self, c: u8, op: &Op) -> Option<HandleView>
-        requires client { c < client_numbers }
-        requires built { IsBuilt op.now }
+        requires { c < client_numbers }
         ensures { result ≡ handle_named self.now c (handle_place op.now) (iteration_place op.now) }
     {
         if let Some(place) = handle_place(op) {

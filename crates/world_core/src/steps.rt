@@ -273,8 +273,7 @@ fn settle(
 
 // Where the record alone says that a call is done, the handle that it closes is closed.
 fn settle_look(tables: &mut Tables, c: u8, op: &Op, end: &Outcome)
-    requires client { c < client_numbers }
-    requires place { IfSome (closed_place op.now) (λ p. p < places_max) }
+    requires { c < client_numbers }
     ensures { tables.new ≡ looked end.now c op.now tables.old }
 {
     match end {
@@ -285,8 +284,7 @@ fn settle_look(tables: &mut Tables, c: u8, op: &Op, end: &Outcome)
 
 // The handle at the place is closed, if there is a place.
 fn close(tables: &mut Tables, c: u8, place: Option<u8>)
-    requires client { c < client_numbers }
-    requires place { IfSome place (λ p. p < places_max) }
+    requires { c < client_numbers }
     ensures { tables.new ≡ closed_at c place tables.old }
 {
     if let Some(place) = place {

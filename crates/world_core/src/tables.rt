@@ -84,7 +84,6 @@ impl Table {
 
     // The handle for which a place stands.
     fn handle(&self, place: u8) -> Option<HandleView>
-        requires { place < places_max }
         ensures { result ≡ handle_at place self.now.client }
     {
         self.client.handle(place).ok()
@@ -98,7 +97,6 @@ impl Table {
 
     // The handle over which the iteration goes for which a place stands.
     fn iteration_handle(&self, place: u8) -> Option<HandleView>
-        requires { place < places_max }
         ensures { result ≡ handle_over self.now.client.handles (iteration_at place self.now.client) }
     {
         self.client.iteration_handle(place).ok()
@@ -148,7 +146,7 @@ impl Table {
     // One call more, which has ended the iteration of this place at once.
     fn begin(&mut self, ended: Option<u8>)
         requires number { self.old.next < 2 ^ 32 - 1 }
-        requires place { IfSome ended (λ p. (p < places_max) × IsSome (iteration_at p self.old.client)) }
+        requires place { IfSome ended (λ p. IsSome (iteration_at p self.old.client)) }
         ensures { self.new ≡ begun_with ended self.old }
     {
         if let Some(place) = ended {
@@ -174,7 +172,6 @@ impl Table {
 
     // The handle for which a place stands is closed, and the iterations over it end.
     fn close(&mut self, place: u8)
-        requires { place < places_max }
         ensures { self.new ≡ with_closed place self.old }
     {
         let _closed = self.client.drop_handle(place);
@@ -209,8 +206,7 @@ impl Tables {
 
     /// The handle for which a place of a client stands.
     pub fn handle(&self, c: u8, place: u8) -> Option<HandleView>
-        requires client { c < client_numbers }
-        requires place { place < places_max }
+        requires { c < client_numbers }
         ensures { result ≡ handle_in_place (slice_get self.now c) place }
     {
         self.list[c as usize].handle(place)
@@ -234,8 +230,7 @@ impl Tables {
 
     /// The handle over which the iteration goes for which a place of a client stands.
     pub fn iteration_handle(&self, c: u8, place: u8) -> Option<HandleView>
-        requires client { c < client_numbers }
-        requires place { place < places_max }
+        requires { c < client_numbers }
         ensures { result ≡ handle_over_place (slice_get self.now c) place }
     {
         self.list[c as usize].iteration_handle(place)
@@ -298,7 +293,7 @@ impl Tables {
     pub fn begin(&mut self, c: u8, ended: Option<u8>)
         requires client { c < client_numbers }
         requires number { next_in (slice_get self.old c) < 2 ^ 32 - 1 }
-        requires place { IfSome ended (λ p. (p < places_max) × IsSomeAnd (slice_get self.old c) (λ table. IsSome (iteration_at p table.client))) }
+        requires place { IfSome ended (λ p. IsSomeAnd (slice_get self.old c) (λ table. IsSome (iteration_at p table.client))) }
         ensures { IsSomeAnd (slice_get self.old c) (λ table. self.new ≡ slice_set self.old c (begun_with ended table)) }
     {
         begin_at(self.list.as_mut_slice(), c as usize, ended);
@@ -327,8 +322,7 @@ impl Tables {
     /// The handle for which a place of a client stands is closed, and the iterations over it end. Where it
     /// stands for none nothing changes. It takes no memory.
     pub fn close(&mut self, c: u8, place: u8)
-        requires client { c < client_numbers }
-        requires place { place < places_max }
+        requires { c < client_numbers }
         ensures { IsSomeAnd (slice_get self.old c) (λ table. self.new ≡ slice_set self.old c (with_closed place table)) }
     {
         close_at(self.list.as_mut_slice(), c as usize, place);
@@ -357,7 +351,7 @@ fn new_tables(alloc: Global) -> Result<Vec<Table>, AllocError>
 fn begin_at(tables: &mut [Table], c: usize, ended: Option<u8>)
     requires client { c < length tables.old }
     requires number { next_in (slice_get tables.old c) < 2 ^ 32 - 1 }
-    requires place { IfSome ended (λ p. (p < places_max) × IsSomeAnd (slice_get tables.old c) (λ table. IsSome (iteration_at p table.client))) }
+    requires place { IfSome ended (λ p. IsSomeAnd (slice_get tables.old c) (λ table. IsSome (iteration_at p table.client))) }
     ensures { IsSomeAnd (slice_get tables.old c) (λ table. tables.new ≡ slice_set tables.old c (begun_with ended table)) }
 {
     let table = &mut tables[c];
@@ -421,8 +415,7 @@ fn add_at(
 }
 
 fn close_at(tables: &mut [Table], c: usize, place: u8)
-    requires client { c < length tables.old }
-    requires place { place < places_max }
+    requires { c < length tables.old }
     ensures { IsSomeAnd (slice_get tables.old c) (λ table. tables.new ≡ slice_set tables.old c (with_closed place table)) }
 {
     let table = &mut tables[c];

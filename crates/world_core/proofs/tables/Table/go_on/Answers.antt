@@ -13,7 +13,7 @@ use Rattle.world_core.proofs.GoingOn.{kept_iteration-there, kept_at-told, gone_o
 use Rattle.world_core.proofs.tables.Table.go_on.Goals as goal
 
 pub lend_iteration-requires : goal.lend_iteration-requires
-lend_iteration-requires c = record { not_lent = IsNotLent-none c.args.place c.self.inside.client c.self.invariant.none_lent }
+lend_iteration-requires c = IsNotLent-none c.args.place c.self.inside.client c.self.invariant.none_lent
 
 pub unreachable-requires : goal.unreachable-requires
 unreachable-requires c =
