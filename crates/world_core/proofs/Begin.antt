@@ -176,8 +176,6 @@ module _ (w : World) (c : ℕ) (op : Op) (t : TableState) (q : Option InHand) (e
   fits_later : (h : History) → Fits w h → Fits w' (later h)
   fits_later h fits = record {
     replicas = fits.replicas;
-    reserved = fits.reserved;
-    fresh = fits.fresh;
     hands = λ d. subst (λ o. FitsHand (put h.kept c kept d) (put h.steps c [] d) (or_none o)) (sym (get_set w.hands c (left end hand) q d there)) (fits_case (d == c) kept (h.kept d) (h.steps d) (left end hand) (slice_get w.hands d) (one_fits end took) (fits.hands d));
   }
 
@@ -194,7 +192,7 @@ module _ (w : World) (c : ℕ) (op : Op) (t : TableState) (q : Option InHand) (e
   begin_does : Does w w' label
   begin_does = record {
     due_is = λ m s f. subst (λ m. IsDue m label) (sym s.same) (begin_due s.history);
-    shows = λ m s f. record { history = later s.history; same = ap (λ m. after m label) s.same ∙ after_is s.history; fits = fits_later s.history s.fits };
+    shows = λ m s f. record { history = later s.history; same = ap (λ m. after m label) s.same ∙ after_is s.history; fits = fits_later s.history s.fits; holds = s.holds };
   }
 
 -- a call of client c begins, with the parts as the code names them

@@ -1,6 +1,6 @@
 -- An event that came is answered by its label, which adds to the run.
 use Rattle.std.proofs.Common.{◌≡◌, ◌≢◌, inl, inr, ℕ, Bool, List, [], ◌∷◌, ◌++◌, refl, sym, ap, subst, ◌∙◌, cond}
-use Rattle.std.specs.Prelude.{Option, Some, None, slice_get, slice_set}
+use Rattle.std.specs.Prelude.{◌<◌, Option, Some, None, IfSome, slice_get, slice_set}
 use Rattle.ckpt_types.specs.declared.answers.Outcome.{Outcome}
 use Rattle.ckpt_types.specs.declared.identities.ActorName.{ActorName}
 use Rattle.ckpt_types.specs.declared.identities.ActorName.TheVariants.{Client, Node}
@@ -19,6 +19,7 @@ use Rattle.world_core.specs.Machine.{Machine}
 use Rattle.world_core.specs.Shows.{Does, History, hand_at, shown_hand}
 use Rattle.world_core.specs.Invariant.{Alone}
 use Rattle.world_core.specs.Runs.{IsRunTo, MayHappen, Happens, Answers, AnswersBegin, AnswersStep, IsStepOf, IsIdleWord, GoesOn, KeepsOthers, NoneInHand, last}
+use Rattle.world_core.specs.StepsLeft.{left_of, ComesNearer}
 use Rattle.world_core.specs.Happenings.{ComesNow, IsAnswered, IsStep, BeginsOrSays}
 use Rattle.std.proofs.lemmas.Bool.{eq-eqb}
 use Rattle.cluster_record.proofs.Places.{get_set, there_is, tests_differ}
@@ -152,14 +153,12 @@ idle_alone log a finish old new (labels.Put ckpt node reply) is = tt
 idle_alone log a finish old new (labels.Shown ckpt replicas) is = tt
 idle_alone log a finish old new (labels.Nodes count) is = tt
 
-step_answers : (log : List Label) (c : ℕ) (finish : Bool) (old new : World) (label : Label) → IsRunTo old log → IsStep c old new label → AnswersStep (Client c) finish (hand_at old.hands c) old new label
-step_answers log c finish old new label run step =
+step_answers : (c : ℕ) (finish : Bool) (old new : World) (label : Label) → IsStep c old new label → AnswersStep (Client c) finish (hand_at old.hands c) old new label
+step_answers c finish old new label step =
     let after_it = step_hand c old new label step in
-    let does = subst (Does old new) step.label_is step.does in
-    let fewer = nearer old new log c step.hand step.next step.op step.verb step.ckpt step.node step.reply step.end step.pieces run step.held does after_it in
     let goes = subst (GoesOn step.hand.call step.hand.op step.end) (sym after_it) (goes_on_left step.hand.call step.hand.op step.end step.next step.same_call step.same_op) in
     subst (λ p. AnswersStep (Client c) finish p old new label) (sym step.held)
-    (subst (IsStepOf (Client c) (Some step.hand) old new) (sym step.label_is) (refl, goes, fewer))
+    (subst (IsStepOf (Client c) (Some step.hand) old new) (sym step.label_is) (refl, goes))
 
 -- ---- the label of a moment
 
@@ -190,15 +189,15 @@ alone_label (happenings.Step (whos.Actor (Node r)) finish) log old new label may
 alone_label (happenings.Step (whos.Call call) finish) log old new label may is = absurd is
 alone_label (happenings.At t) log old new label may is = subst (Alone (last log)) (sym is.label_is) (moment_alone log old may.run may.comes.0)
 
-answers_label : (event : Event) (log : List Label) (old new : World) (label : Label) → IsRunTo old log → IsAnswered event old new label → Answers event old new label
-answers_label (happenings.Nodes n) log old new label run is = (is.label_is, is.hands)
-answers_label (happenings.Begin (Client c) op) log old new label run is = begin_does_answer c op old new label is.begins
-answers_label (happenings.Begin (Node r) op) log old new label run is = absurd is
-answers_label (happenings.Step (whos.Actor (Client c)) finish) log old new label run (inl step) = step_answers log c finish old new label run step
-answers_label (happenings.Step (whos.Actor (Client c)) finish) log old new label run (inr idle) = subst (λ p. AnswersStep (Client c) finish p old new label) (sym idle.none) idle.word
-answers_label (happenings.Step (whos.Actor (Node r)) finish) log old new label run is = absurd is
-answers_label (happenings.Step (whos.Call call) finish) log old new label run is = absurd is
-answers_label (happenings.At t) log old new label run is = (is.label_is, is.hands)
+answers_label : (event : Event) (old new : World) (label : Label) → IsAnswered event old new label → Answers event old new label
+answers_label (happenings.Nodes n) old new label is = (is.label_is, is.hands)
+answers_label (happenings.Begin (Client c) op) old new label is = begin_does_answer c op old new label is.begins
+answers_label (happenings.Begin (Node r) op) old new label is = absurd is
+answers_label (happenings.Step (whos.Actor (Client c)) finish) old new label (inl step) = step_answers c finish old new label step
+answers_label (happenings.Step (whos.Actor (Client c)) finish) old new label (inr idle) = subst (λ p. AnswersStep (Client c) finish p old new label) (sym idle.none) idle.word
+answers_label (happenings.Step (whos.Actor (Node r)) finish) old new label is = absurd is
+answers_label (happenings.Step (whos.Call call) finish) old new label is = absurd is
+answers_label (happenings.At t) old new label is = (is.label_is, is.hands)
 
 keeps_others : (event : Event) (old new : World) (label : Label) → IsAnswered event old new label → KeepsOthers event old new
 keeps_others (happenings.Nodes n) old new label is = tt
@@ -210,6 +209,22 @@ keeps_others (happenings.Step (whos.Actor (Node r)) finish) old new label is = a
 keeps_others (happenings.Step (whos.Call call) finish) old new label is = absurd is
 keeps_others (happenings.At t) old new label is = tt
 
+-- a step of the call in hand brings it nearer to its end
+comes_nearer : (log : List Label) (c : ℕ) (old new : World) (label : Label) → IsRunTo old log → IsStep c old new label → IfSome (hand_at old.hands c) (λ h. left_of new (Client c) < left_of old (Client c))
+comes_nearer log c old new label run step =
+    let does = subst (Does old new) step.label_is step.does in
+    let fewer = nearer old new log c step.hand step.next step.op step.verb step.ckpt step.node step.reply step.end step.pieces run step.held does (step_hand c old new label step) in
+    subst (λ p. IfSome p (λ h. left_of new (Client c) < left_of old (Client c))) (sym step.held) fewer
+
+pub nearer_with : (event : Event) (log : List Label) (old new : World) (label : Label) → IsRunTo old log → IsAnswered event old new label → ComesNearer event old new
+nearer_with (happenings.Nodes n) log old new label run is = tt
+nearer_with (happenings.Begin a op) log old new label run is = tt
+nearer_with (happenings.Step (whos.Actor (Client c)) finish) log old new label run (inl step) = comes_nearer log c old new label run step
+nearer_with (happenings.Step (whos.Actor (Client c)) finish) log old new label run (inr idle) = subst (λ (p : Option InHand). IfSome p (λ h. left_of new (Client c) < left_of old (Client c))) (sym idle.none) tt
+nearer_with (happenings.Step (whos.Actor (Node r)) finish) log old new label run is = absurd is
+nearer_with (happenings.Step (whos.Call call) finish) log old new label run is = absurd is
+nearer_with (happenings.At t) log old new label run is = tt
+
 -- the run goes on by the label that answers the event
 pub run_with : (event : Event) (old new : World) (log longer : List Label) (label : Label) → MayHappen old log event → IsAnswered event old new label → longer ≡ log ++ label ∷ [] → IsRunTo new longer
 run_with event old new log longer label may is grows =
@@ -218,7 +233,7 @@ run_with event old new log longer label may is grows =
 -- and the label answers it
 pub happens_with : (event : Event) (old new : World) (log longer : List Label) (label : Label) → MayHappen old log event → IsAnswered event old new label → longer ≡ log ++ label ∷ [] → Happens event old new log longer
 happens_with event old new log longer label may is grows =
-    let answers = answers_label event log old new label may.run is in
+    let answers = answers_label event old new label is in
     record {
       label = label;
       grows = grows;

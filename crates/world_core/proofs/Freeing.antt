@@ -1,6 +1,6 @@
 -- What the world shows when the replicas of checkpoints that are gone are freed: the same.
-use Rattle.std.proofs.Common.{◌≡◌, ℕ, ◌==◌, Bool, true, false, cond, List, [], ◌∷◌, filter, refl, sym, ap, subst, ◌∙◌}
-use Rattle.std.specs.Prelude.{Option, Some, None, is_some, slice_get, slice_index}
+use Rattle.std.proofs.Common.{◌≡◌, ◌⊎◌, inl, inr, ℕ, ◌≤◌, ◌==◌, Bool, true, false, cond, List, [], ◌∷◌, filter, map, refl, sym, ap, subst, ◌∙◌, arith}
+use Rattle.std.specs.Prelude.{Option, Some, None, is_some, IsSomeAnd, not, ◌&&◌, nat_lt, slice_get, slice_index}
 use Rattle.std.specs.Option.{option_map}
 use Rattle.std.proofs.lemmas.Bool.{eqb-true}
 use Rattle.std.proofs.lemmas.Option.{slice_get-map}
@@ -12,10 +12,13 @@ use Rattle.world_core.specs.declared.replica.Replica.{Replica}
 use Rattle.world_core.specs.declared.world.World.{World}
 use Rattle.world_core.specs.Freeing.{is_there, freed}
 use Rattle.world_core.specs.Machine.{Machine}
-use Rattle.world_core.specs.Serving.{replica_key, replica_in}
-use Rattle.world_core.specs.Shows.{History, shown_replica, shown_reservation, where_complete, where_not_complete, complete_replica, reserved_in, machine_of, FitsReplica, FitsReserved, Fits, Shows, Does}
-use Rattle.world_core.specs.Steps.{after}
-use Rattle.world_core.proofs.Recording.{zero_there}
+use Rattle.world_core.specs.Holding.{replicas_on, IsReservation, IsHeld, HoldsOnlyWhatStands}
+use Rattle.world_core.specs.Serving.{replica_key, replica_in, opened_replica}
+use Rattle.world_core.specs.Shows.{History, shown_replica, shown_reservation, where_complete, where_not_complete, complete_replica, reserved_in, machine_of, FitsReplica, Fits, Shows, Facts, Does}
+use Rattle.world_core.specs.Steps.{IsDue, after}
+use Rattle.world_core.proofs.HoldingLaws.{held_at, holds_by_key}
+use Rattle.world_core.proofs.OnceByKey.{counted, counted-filter}
+use Rattle.world_core.proofs.Recording.{GoesAt, StandsOn, zero_there}
 
 -- ---- found by a key among those of some keys
 
@@ -85,33 +88,78 @@ machine_of-freed w h = λ i. record (machine_of w h) {
   reserved = λ k r. reserved_in-freed w.cluster w.nodes k r i;
 }
 
-FitsReserved-case : (k r : ℕ) (e : Option Entry) (x : Option Replica) → FitsReserved k e r x → FitsReserved k e r (cond (is_some e) x None)
-FitsReserved-case k r None x fits = tt
-FitsReserved-case k r (Some e) x fits = fits
-
-none_still : (b : Bool) (x : Option Replica) → x ≡ None → cond b x None ≡ None
-none_still true x none = none
-none_still false x none = refl
-
 -- with the same histories
 pub Fits-freed : (w : World) (h : History) → Fits w h → Fits (freed_world w) h
 Fits-freed w h fits = record {
   replicas = λ k r. subst (FitsReplica k (entry_of k w.cluster.entries) (h.effects k r)) (sym (complete_replica-freed w.cluster w.nodes k r)) (fits.replicas k r);
-  reserved = λ k r. subst (FitsReserved k (entry_of k w.cluster.entries) r) (sym (replica_in-freed w.cluster.entries w.nodes k r)) (FitsReserved-case k r (entry_of k w.cluster.entries) (replica_in w.nodes k r) (fits.reserved k r));
-  fresh = λ k r past. replica_in-freed w.cluster.entries w.nodes k r ∙ none_still (is_some (entry_of k w.cluster.entries)) (replica_in w.nodes k r) (fits.fresh k r past);
   hands = fits.hands;
 }
 
-pub Shows-freed : (w : World) (m : Machine) → Shows w m → Shows (freed_world w) m
-Shows-freed w m shows = record {
-  history = shows.history;
-  same = shows.same ∙ sym (machine_of-freed w shows.history);
-  fits = Fits-freed w shows.history shows.fits;
-}
+-- ---- what they hold
 
--- so where they are freed after a step, the step does as much
-pub does_freed : (old new : World) (label : Label) → Does old new label → Does old (record new { nodes = freed new.cluster.entries new.nodes }) label
-does_freed old new label does = record {
+held_case : (R N : RecordState) (r : ℕ) (x : Replica) (e f : Option Entry) → N.up ≡ R.up → GoesAt R.up x.ckpt e f r (Some x) → entry_of x.ckpt R.entries ≡ e → entry_of x.ckpt N.entries ≡ f → is_some f ≡ true → IsHeld R r x → IsHeld N r x
+held_case R N r x e None up goes was is there held = absurd (cc there)
+held_case R N r x None (Some f) up goes was is there held = absurd (cc goes.1)
+held_case R N r x (Some e) (Some f) up goes was is there held = record {
+  up = ap (λ (up : List ℕ). nat_lt r 8 && not (slice_index up r == 0)) up ∙ held.up;
+  stands = subst (λ (o : Option Entry). IsSomeAnd o (λ f. (slice_index f.complete r ≡ slice_index N.up r) ⊎ IsReservation f r x)) (sym is) (by_node goes.3);
+} where
+  stood : (slice_index e.complete r ≡ slice_index R.up r) ⊎ IsReservation e r x
+  stood = subst (λ (o : Option Entry). IsSomeAnd o (λ e. (slice_index e.complete r ≡ slice_index R.up r) ⊎ IsReservation e r x)) was held.stands
+
+  as_up : slice_index f.complete r ≡ slice_index R.up r → slice_index f.complete r ≡ slice_index N.up r
+  as_up same = same ∙ ap (λ (up : List ℕ). slice_index up r) (sym up)
+
+  by_node : StandsOn R.up e f r → (slice_index f.complete r ≡ slice_index N.up r) ⊎ IsReservation f r x
+  by_node (inr complete) = inl (as_up complete)
+  by_node (inl same) = elim stood [
+    | inl complete ↦ inl (as_up (same.1 ∙ complete))
+    | inr reservation ↦ inr (record {
+      making = ap is_some same.0 ∙ reservation.making;
+      not_complete = same.1 ∙ reservation.not_complete;
+      opening = reservation.opening ∙ (λ i. opened_replica x.ckpt (sym goes.0 i) (sym goes.1 i));
+    })
+  ]
+
+filtered_once : (p : Replica → Bool) (nodes : List (List Replica)) → ((r k : ℕ) → counted replica_key k (replicas_on nodes r) ≤ 1) → (r k : ℕ) → counted replica_key k (replicas_on (map (filter p) nodes) r) ≤ 1
+filtered_once p nodes once r k =
+    subst (λ (o : Option (List Replica)). counted replica_key k (list_or o) ≤ 1) (sym (slice_get-map (filter p) nodes r)) (by_node (slice_get nodes r) (once r k))
+  where
+    by_node : (o : Option (List Replica)) → counted replica_key k (list_or o) ≤ 1 → counted replica_key k (list_or (option_map (filter p) o)) ≤ 1
+    by_node None few = few
+    by_node (Some xs) few = let fewer = counted-filter replica_key p k xs in omega (arith, fewer, few)
+
+-- after a step of the record, the nodes hold only what stands once they are freed
+pub holds_freed : (R N : RecordState) (nodes : List (List Replica)) → HoldsOnlyWhatStands R nodes → N.up ≡ R.up → ((k r : ℕ) → GoesAt R.up k (entry_of k R.entries) (entry_of k N.entries) r (replica_in nodes k r)) → HoldsOnlyWhatStands N (freed N.entries nodes)
+holds_freed R N nodes holds up goes = holds_by_key N (freed N.entries nodes) each (filtered_once (is_there N.entries) nodes holds.once) where
+  stays : (b : Bool) (o : Option Replica) (x : Replica) → cond b o None ≡ Some x → (b ≡ true) × (o ≡ Some x)
+  stays true o x e = (refl, e)
+  stays false o x e = absurd (cc e)
+
+  each : (k r : ℕ) (x : Replica) → replica_in (freed N.entries nodes) k r ≡ Some x → IsHeld N r x
+  each k r x is =
+      let (there, had) = stays (is_some (entry_of k N.entries)) (replica_in nodes k r) x (sym (replica_in-freed N.entries nodes k r) ∙ is) in
+      let (held, key) = held_at R nodes holds k r x had in
+      let here : GoesAt R.up x.ckpt (entry_of x.ckpt R.entries) (entry_of x.ckpt N.entries) r (Some x) = subst (λ (j : ℕ). GoesAt R.up j (entry_of j R.entries) (entry_of j N.entries) r (Some x)) (sym key) (subst (GoesAt R.up k (entry_of k R.entries) (entry_of k N.entries) r) had (goes k r)) in
+      held_case R N r x (entry_of x.ckpt R.entries) (entry_of x.ckpt N.entries) up here refl refl (ap (λ j. is_some (entry_of j N.entries)) key ∙ there) held
+
+-- ---- a step behind which the nodes are freed
+
+-- what it does before that: the nodes may hold what is gone
+pub record DoesBefore (old new : World) (label : Label) : Type 0 where
+  pub due_is : (m : Machine) → Shows old m → Facts m → IsDue m label
+  pub history : (m : Machine) → Shows old m → Facts m → History
+  pub same : (m : Machine) (s : Shows old m) (f : Facts m) → after m label ≡ machine_of new (history m s f)
+  pub fits : (m : Machine) (s : Shows old m) (f : Facts m) → Fits new (history m s f)
+
+-- then they hold only what stands
+pub does_freed : (old new : World) (label : Label) → DoesBefore old new label → ((m : Machine) → Shows old m → Facts m → HoldsOnlyWhatStands new.cluster (freed new.cluster.entries new.nodes)) → Does old (freed_world new) label
+does_freed old new label does holds = record {
   due_is = does.due_is;
-  shows = λ m shows facts. Shows-freed new (after m label) (does.shows m shows facts);
+  shows = λ m s f. record {
+    history = does.history m s f;
+    same = does.same m s f ∙ sym (machine_of-freed new (does.history m s f));
+    fits = Fits-freed new (does.history m s f) (does.fits m s f);
+    holds = holds m s f;
+  };
 }

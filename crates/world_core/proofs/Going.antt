@@ -22,29 +22,24 @@ use Rattle.cluster_record.specs.DueOpen.{making_ckpt}
 use Rattle.cluster_record.specs.LookUps.{at_ckpt, identity_in}
 use Rattle.world_core.specs.Machine.{Machine, CallState}
 use Rattle.cluster_record.specs.Identities.{AllUpTo, IdentitiesRise}
-use Rattle.world_core.specs.Shows.{History, Fits, FitsReserved, Facts, IsEventReady, IsFinishable, machine_of, where_not_complete, shown_reservation}
+use Rattle.world_core.specs.Holding.{HoldsOnlyWhatStands}
+use Rattle.world_core.specs.Shows.{History, Facts, IsEventReady, IsFinishable, machine_of, where_not_complete, shown_reservation}
 use Rattle.cluster_record.proofs.IdentityLaws.{IsLeft, KeepsIdentity, entry_of-beyond, IdentitiesRise-filter, IdentitiesRise-map, IdentitiesRise-change_key, IdentitiesRise-push, filter_leaves}
 use Rattle.cluster_record.proofs.Places.{find_changed, find_pushed, not_changed}
+use Rattle.world_core.proofs.HoldingLaws.{none_gone, opening_there}
 use Rattle.world_core.proofs.Recording.{GoesAt, NodeGoes, zero_there}
 
-pub goes_same : (k : ℕ) (o : Option Entry) (r : ℕ) (y : Option Replica) → GoesAt k o o r y
-goes_same k None r y = tt
-goes_same k (Some e) r y = (refl, refl, inl refl)
-
-pub goes_left : (k : ℕ) (old mid new : Option Entry) (r : ℕ) (y : Option Replica) → GoesAt k old mid r y → IsLeft mid new → GoesAt k old new r y
-goes_left k old mid new r y goes (inl none) = subst (λ (o : Option Entry). GoesAt k old o r y) (sym none) tt
-goes_left k old mid new r y goes (inr same) = subst (λ (o : Option Entry). GoesAt k old o r y) (sym same) goes
-
--- ---- an entry changed at its identity
+-- ---- changes of an entry of which a node sees nothing
 
 record Quiet (f : Entry → Entry) : Type 0 where
   identity : (e : Entry) → (f e).identity ≡ e.identity
   complete : (e : Entry) → (f e).complete ≡ e.complete
   attributes : (e : Entry) → (f e).attributes ≡ e.attributes
   made : (e : Entry) → (f e).made ≡ e.made
+  making : (e : Entry) → (f e).making ≡ e.making
 
 quiet_referred : (c : ℕ) → Quiet (referred c)
-quiet_referred c = record { identity = λ e. refl; complete = λ e. refl; attributes = λ e. refl; made = λ e. refl }
+quiet_referred c = record { identity = λ e. refl; complete = λ e. refl; attributes = λ e. refl; made = λ e. refl; making = λ e. refl }
 
 -- what is so of either is so of the one that a test takes
 either_so : {X : Type 0} (p : Entry → X) (b : Bool) (x y e : Entry) → p x ≡ p e → p y ≡ p e → p (cond b x y) ≡ p e
@@ -66,6 +61,7 @@ quiet_released c t =
       complete = λ e. released_so (λ (x : Entry). x.complete) t (left e) e (λ rs i. refl) (none e);
       attributes = λ e. released_so (λ (x : Entry). x.attributes) t (left e) e (λ rs i. refl) (none e);
       made = λ e. released_so (λ (x : Entry). x.made) t (left e) e (λ rs i. refl) (none e);
+      making = λ e. released_so (λ (x : Entry). x.making) t (left e) e (λ rs i. refl) (none e);
     }
 
 quiet_released_all : (c : ℕ) (t : ℤ) → Quiet (released_all c t)
@@ -77,28 +73,16 @@ quiet_released_all c t =
       complete = λ e. released_so (λ (x : Entry). x.complete) t (left e) e (λ rs i. refl) (none e);
       attributes = λ e. released_so (λ (x : Entry). x.attributes) t (left e) e (λ rs i. refl) (none e);
       made = λ e. released_so (λ (x : Entry). x.made) t (left e) e (λ rs i. refl) (none e);
+      making = λ e. released_so (λ (x : Entry). x.making) t (left e) e (λ rs i. refl) (none e);
     }
 
 quiet_unnamed : Quiet unnamed
-quiet_unnamed = record { identity = λ e. refl; complete = λ e. refl; attributes = λ e. refl; made = λ e. refl }
+quiet_unnamed = record { identity = λ e. refl; complete = λ e. refl; attributes = λ e. refl; made = λ e. refl; making = λ e. refl }
 
 quiet_retaining : (duration : ℤ) → Quiet (retaining duration)
-quiet_retaining duration = record { identity = λ e. refl; complete = λ e. refl; attributes = λ e. refl; made = λ e. refl }
+quiet_retaining duration = record { identity = λ e. refl; complete = λ e. refl; attributes = λ e. refl; made = λ e. refl; making = λ e. refl }
 
--- the entry x of identity k becomes f x, and no other changes
-changed_goes : (f : Entry → Entry) → KeepsIdentity f → (k j r : ℕ) (xs : List Entry) (x : Entry) (y : Option Replica) → entry_of k xs ≡ Some x → (j ≡ k → GoesAt j (Some x) (Some (f x)) r y) → GoesAt j (entry_of j xs) (entry_of j (change_key identity_of k f xs)) r y
-changed_goes f q k j r xs x y is goes = subst (λ (o : Option Entry). GoesAt j (entry_of j xs) o r y) (sym (find_changed identity_of k f q xs x j is)) (by_test (j == k) refl) where
-  by_test : (b : Bool) → (j == k) ≡ b → GoesAt j (entry_of j xs) (cond b (Some (f x)) (entry_of j xs)) r y
-  by_test false t = goes_same j (entry_of j xs) r y
-  by_test true t = let s : j ≡ k = eqb-true j k t in subst (λ (o : Option Entry). GoesAt j o (Some (f x)) r y) (sym (ap (λ j. entry_of j xs) s ∙ is)) (goes s)
-
-quiet_goes : (f : Entry → Entry) → Quiet f → (k j r : ℕ) (xs : List Entry) (y : Option Replica) → GoesAt j (entry_of j xs) (entry_of j (change_key identity_of k f xs)) r y
-quiet_goes f q k j r xs y = by_found (entry_of k xs) refl where
-  by_found : (o : Option Entry) → entry_of k xs ≡ o → GoesAt j (entry_of j xs) (entry_of j (change_key identity_of k f xs)) r y
-  by_found None e = subst (λ (ys : List Entry). GoesAt j (entry_of j xs) (entry_of j ys) r y) (sym (not_changed identity_of k f xs e)) (goes_same j (entry_of j xs) r y)
-  by_found (Some x) e = changed_goes f q.identity k j r xs x y e (λ s. (q.attributes x, q.made x, inl (ap (λ cs. slice_index cs r) (q.complete x))))
-
--- ---- each entry changed that is left
+-- ---- each entry changed
 
 found_case : (f : Entry → Entry) (b : Bool) (x : Entry) (o : Option Entry) → cond b (Some (f x)) (option_map f o) ≡ option_map f (cond b (Some x) o)
 found_case f true x o = refl
@@ -111,82 +95,106 @@ found_each f same j (x ∷ xs) =
     ∙ ap (λ o. cond (x.identity == j) (Some (f x)) o) (found_each f same j xs)
     ∙ found_case f (x.identity == j) x (entry_of j xs)
 
-each_goes : (f : Entry → Entry) → Quiet f → (j r : ℕ) (old : Option Entry) (y : Option Replica) → GoesAt j old (option_map f old) r y
-each_goes f q j r None y = tt
-each_goes f q j r (Some e) y = (q.attributes e, q.made e, inl (ap (λ cs. slice_index cs r) (q.complete e)))
-
-left_goes : (f : Entry → Entry) → Quiet f → (j r : ℕ) (old left : Option Entry) (y : Option Replica) → IsLeft old left → GoesAt j old (option_map f left) r y
-left_goes f q j r old left y (inl none) = subst (λ (o : Option Entry). GoesAt j old (option_map f o) r y) (sym none) tt
-left_goes f q j r old left y (inr same) = subst (λ (o : Option Entry). GoesAt j old (option_map f o) r y) (sym same) (each_goes f q j r old y)
-
--- ---- a making that is finished
+-- ---- a node that has reserved
 
 -- a node that has reserved has the replica that a reservation makes
-reserved_there : (k r u : ℕ) (f : Option Entry) (e : Entry) (y : Option Replica) → f ≡ Some e → slice_index e.complete r ≡ 0 → where_not_complete f r (shown_reservation u y) ≡ Some u → FitsReserved k f r y → y ≡ Some (opened_replica k e.attributes e.made)
-reserved_there k r u f e y is free reserved fits = at y has (subst (λ (f : Option Entry). FitsReserved k f r y) is fits) where
+reserved_there : (k r u : ℕ) (f : Option Entry) (e : Entry) (y : Option Replica) → f ≡ Some e → slice_index e.complete r ≡ 0 → where_not_complete f r (shown_reservation u y) ≡ Some u → ((x : Replica) → y ≡ Some x → x ≡ opened_replica k e.attributes e.made) → y ≡ Some (opened_replica k e.attributes e.made)
+reserved_there k r u f e y is free reserved opening = at y has opening where
   has : shown_reservation u y ≡ Some u
   has = sym (ap (λ f. where_not_complete f r (shown_reservation u y)) is ∙ ap (λ b. cond b (shown_reservation u y) None) (ap (λ n. n == 0) free)) ∙ reserved
 
-  at : (y : Option Replica) → shown_reservation u y ≡ Some u → FitsReserved k (Some e) r y → y ≡ Some (opened_replica k e.attributes e.made)
-  at None has fits = absurd (cc has)
-  at (Some x) has fits = ap Some (fits free)
+  at : (y : Option Replica) → shown_reservation u y ≡ Some u → ((x : Replica) → y ≡ Some x → x ≡ opened_replica k e.attributes e.made) → y ≡ Some (opened_replica k e.attributes e.made)
+  at None has opening = absurd (cc has)
+  at (Some x) has opening = ap Some (opening x refl)
 
-made_goes : (up : List ℕ) (c k r : ℕ) (e : Entry) (y : Option Replica) → slice_index e.complete r ≡ 0 → ((slice_index up r == 0) ≡ false → y ≡ Some (opened_replica k e.attributes e.made)) → GoesAt k (Some e) (Some (made_with up c e)) r y
-made_goes up c k r e y zero has = (refl, refl, by_test (slice_index up r == 0) refl) where
-  by_test : (b : Bool) → (slice_index up r == 0) ≡ b → NodeGoes k e (made_with up c e) r y
-  by_test true t = inl (eqb-true (slice_index up r) 0 t ∙ sym zero)
-  by_test false t = inr (zero, refl, has t)
+-- ---- what each entry goes on to, with the incarnations with which the nodes are up
 
--- ---- a making that begins
+module _ (up : List ℕ) where
+  pub goes_same : (k : ℕ) (o : Option Entry) (r : ℕ) (y : Option Replica) → GoesAt up k o o r y
+  goes_same k None r y = tt
+  goes_same k (Some e) r y = (refl, refl, inl refl, inl (refl, refl))
 
-pushed_goes : (n : ℕ) (xs : List Entry) (new : Entry) (j r : ℕ) (y : ℕ → Option Replica) → AllUpTo n xs → new.identity ≡ n + 1 → slice_index new.complete r ≡ 0 → y (n + 1) ≡ None → GoesAt j (entry_of j xs) (entry_of j (xs ++ new ∷ [])) r (y j)
-pushed_goes n xs new j r y upto is zero none = subst (λ (o : Option Entry). GoesAt j (entry_of j xs) o r (y j)) (sym (find_pushed identity_of (n + 1) xs new j is (entry_of-beyond n (n + 1) xs upto (omega arith)))) (by_test (j == (n + 1)) refl) where
-  by_test : (b : Bool) → (j == (n + 1)) ≡ b → GoesAt j (entry_of j xs) (cond b (Some new) (entry_of j xs)) r (y j)
-  by_test false t = goes_same j (entry_of j xs) r (y j)
-  by_test true t =
-      let s : j ≡ n + 1 = eqb-true j (n + 1) t in
-      subst (λ (o : Option Entry). GoesAt j o (Some new) r (y j)) (sym (entry_of-beyond n j xs upto (omega (arith, s)))) (zero, ap y s ∙ none)
+  pub goes_left : (k : ℕ) (old mid new : Option Entry) (r : ℕ) (y : Option Replica) → GoesAt up k old mid r y → IsLeft mid new → GoesAt up k old new r y
+  goes_left k old mid new r y goes (inl none) = subst (λ (o : Option Entry). GoesAt up k old o r y) (sym none) tt
+  goes_left k old mid new r y goes (inr same) = subst (λ (o : Option Entry). GoesAt up k old o r y) (sym same) goes
+
+  -- the entry x of identity k becomes f x, and no other changes
+  changed_goes : (f : Entry → Entry) → KeepsIdentity f → (k j r : ℕ) (xs : List Entry) (x : Entry) (y : Option Replica) → entry_of k xs ≡ Some x → (j ≡ k → GoesAt up j (Some x) (Some (f x)) r y) → GoesAt up j (entry_of j xs) (entry_of j (change_key identity_of k f xs)) r y
+  changed_goes f q k j r xs x y is goes = subst (λ (o : Option Entry). GoesAt up j (entry_of j xs) o r y) (sym (find_changed identity_of k f q xs x j is)) (by_test (j == k) refl) where
+    by_test : (b : Bool) → (j == k) ≡ b → GoesAt up j (entry_of j xs) (cond b (Some (f x)) (entry_of j xs)) r y
+    by_test false t = goes_same j (entry_of j xs) r y
+    by_test true t = let s : j ≡ k = eqb-true j k t in subst (λ (o : Option Entry). GoesAt up j o (Some (f x)) r y) (sym (ap (λ j. entry_of j xs) s ∙ is)) (goes s)
+
+  quiet_goes : (f : Entry → Entry) → Quiet f → (k j r : ℕ) (xs : List Entry) (y : Option Replica) → GoesAt up j (entry_of j xs) (entry_of j (change_key identity_of k f xs)) r y
+  quiet_goes f q k j r xs y = by_found (entry_of k xs) refl where
+    by_found : (o : Option Entry) → entry_of k xs ≡ o → GoesAt up j (entry_of j xs) (entry_of j (change_key identity_of k f xs)) r y
+    by_found None e = subst (λ (ys : List Entry). GoesAt up j (entry_of j xs) (entry_of j ys) r y) (sym (not_changed identity_of k f xs e)) (goes_same j (entry_of j xs) r y)
+    by_found (Some x) e = changed_goes f q.identity k j r xs x y e (λ s. let same = ap (λ (cs : List ℕ). slice_index cs r) (q.complete x) in (q.attributes x, q.made x, inl same, inl (q.making x, same)))
+
+  -- each entry changed that is left
+  each_goes : (f : Entry → Entry) → Quiet f → (j r : ℕ) (old : Option Entry) (y : Option Replica) → GoesAt up j old (option_map f old) r y
+  each_goes f q j r None y = tt
+  each_goes f q j r (Some e) y = let same = ap (λ (cs : List ℕ). slice_index cs r) (q.complete e) in (q.attributes e, q.made e, inl same, inl (q.making e, same))
+
+  left_goes : (f : Entry → Entry) → Quiet f → (j r : ℕ) (old left : Option Entry) (y : Option Replica) → IsLeft old left → GoesAt up j old (option_map f left) r y
+  left_goes f q j r old left y (inl none) = subst (λ (o : Option Entry). GoesAt up j old (option_map f o) r y) (sym none) tt
+  left_goes f q j r old left y (inr same) = subst (λ (o : Option Entry). GoesAt up j old (option_map f o) r y) (sym same) (each_goes f q j r old y)
+
+  -- a making that is finished
+  made_goes : (c k r : ℕ) (e : Entry) (y : Option Replica) → slice_index e.complete r ≡ 0 → ((slice_index up r == 0) ≡ false → y ≡ Some (opened_replica k e.attributes e.made)) → GoesAt up k (Some e) (Some (made_with up c e)) r y
+  made_goes c k r e y zero has = (refl, refl, by_test (slice_index up r == 0) refl, inr refl) where
+    by_test : (b : Bool) → (slice_index up r == 0) ≡ b → NodeGoes k e (made_with up c e) r y
+    by_test true t = inl (eqb-true (slice_index up r) 0 t ∙ sym zero)
+    by_test false t = inr (zero, refl, has t)
+
+  -- a making that begins
+  pushed_goes : (n : ℕ) (xs : List Entry) (new : Entry) (j r : ℕ) (y : ℕ → Option Replica) → AllUpTo n xs → new.identity ≡ n + 1 → slice_index new.complete r ≡ 0 → y (n + 1) ≡ None → GoesAt up j (entry_of j xs) (entry_of j (xs ++ new ∷ [])) r (y j)
+  pushed_goes n xs new j r y upto is zero none = subst (λ (o : Option Entry). GoesAt up j (entry_of j xs) o r (y j)) (sym (find_pushed identity_of (n + 1) xs new j is (entry_of-beyond n (n + 1) xs upto (omega arith)))) (by_test (j == (n + 1)) refl) where
+    by_test : (b : Bool) → (j == (n + 1)) ≡ b → GoesAt up j (entry_of j xs) (cond b (Some new) (entry_of j xs)) r (y j)
+    by_test false t = goes_same j (entry_of j xs) r (y j)
+    by_test true t =
+        let s : j ≡ n + 1 = eqb-true j (n + 1) t in
+        subst (λ (o : Option Entry). GoesAt up j o (Some new) r (y j)) (sym (entry_of-beyond n j xs upto (omega (arith, s)))) (zero, ap y s ∙ none)
 
 -- ---- every step
 
 -- what a step of the record leaves as it was, whatever the step
 pub record KeepsUp (old new : RecordState) : Type 0 where
   pub up : new.up ≡ old.up
-  pub last : old.last_identity ≤ new.last_identity
   pub moment : new.moment ≡ old.moment
 
 keeps_all : (R : RecordState) → KeepsUp R R
-keeps_all R = record { up = refl; last = omega arith; moment = refl }
+keeps_all R = record { up = refl; moment = refl }
 
 created_keeps : (call : CallId) (name : List ℕ) (a : Option CreationAttributes) (R : RecordState) → KeepsUp R (created_as call name a R)
 created_keeps call name None R = keeps_all R
-created_keeps call name (Some a) R = record { up = refl; last = omega arith; moment = refl }
+created_keeps call name (Some a) R = record { up = refl; moment = refl }
 
 at_keeps : (o : Option ℕ) (R : RecordState) (change : ℕ → RecordState) → ((k : ℕ) → KeepsUp R (change k)) → KeepsUp R (at_ckpt o R change)
 at_keeps None R change keeps = keeps_all R
 at_keeps (Some k) R change keeps = keeps k
 
 change_keeps : (call : CallId) (x : Driver) (step : RecordStep) (R : RecordState) → KeepsUp R (event_change call x step R)
-change_keeps call (drivers.Enter r) step R = record { up = refl; last = omega arith; moment = refl }
+change_keeps call (drivers.Enter r) step R = record { up = refl; moment = refl }
 change_keeps call (drivers.Open o) events.Create R = created_keeps call o.ask.name o.ask.attrs R
-change_keeps call (drivers.Open o) events.Open R = at_keeps (identity_in (named o.ask.name R.entries)) R (λ k. opened k o.ask.client R) (λ k. record { up = refl; last = omega arith; moment = refl })
-change_keeps call (drivers.Open o) events.Finish R = at_keeps (making_ckpt o.making) R (λ k. finished k o.ask.client R) (λ k. record { up = refl; last = omega arith; moment = refl })
-change_keeps call (drivers.Open o) events.Undo R = at_keeps (making_ckpt o.making) R (λ k. undone k R) (λ k. record { up = refl; last = omega arith; moment = refl })
+change_keeps call (drivers.Open o) events.Open R = at_keeps (identity_in (named o.ask.name R.entries)) R (λ k. opened k o.ask.client R) (λ k. record { up = refl; moment = refl })
+change_keeps call (drivers.Open o) events.Finish R = at_keeps (making_ckpt o.making) R (λ k. finished k o.ask.client R) (λ k. record { up = refl; moment = refl })
+change_keeps call (drivers.Open o) events.Undo R = at_keeps (making_ckpt o.making) R (λ k. undone k R) (λ k. record { up = refl; moment = refl })
 change_keeps call (drivers.Open o) step R = keeps_all R
-change_keeps call drivers.Leave step R = record { up = refl; last = omega arith; moment = refl }
-change_keeps call (drivers.Close k) step R = record { up = refl; last = omega arith; moment = refl }
-change_keeps call (drivers.Unlink name) step R = at_keeps (identity_in (named name R.entries)) R (λ k. unlinked k R) (λ k. record { up = refl; last = omega arith; moment = refl })
-change_keeps call (drivers.Retain k duration) step R = record { up = refl; last = omega arith; moment = refl }
+change_keeps call drivers.Leave step R = record { up = refl; moment = refl }
+change_keeps call (drivers.Close k) step R = record { up = refl; moment = refl }
+change_keeps call (drivers.Unlink name) step R = at_keeps (identity_in (named name R.entries)) R (λ k. unlinked k R) (λ k. record { up = refl; moment = refl })
+change_keeps call (drivers.Retain k duration) step R = record { up = refl; moment = refl }
 change_keeps call x step R = keeps_all R
 
 pub event_keeps : (call : CallId) (x : Driver) (step : RecordStep) (R : RecordState) → KeepsUp R (event_after call x step R)
-event_keeps call x step R = let k = change_keeps call x step R in record { up = k.up; last = k.last; moment = k.moment }
+event_keeps call x step R = let k = change_keeps call x step R in record { up = k.up; moment = k.moment }
 
 some_of : {X : Type 0} (o : Option X) (P : X → Type 0) → IsSomeAnd o P → (x : X) × (o ≡ Some x) × P x
 some_of None P h = absurd h
 some_of (Some x) P h = (x, refl, h)
 
-module _ (w : World) (h : History) (facts : Facts (machine_of w h)) (fits : Fits w h) where
+module _ (w : World) (h : History) (facts : Facts (machine_of w h)) (holds : HoldsOnlyWhatStands w.cluster w.nodes) where
   abbrev m : Machine
   m = machine_of w h
 
@@ -195,21 +203,21 @@ module _ (w : World) (h : History) (facts : Facts (machine_of w h)) (fits : Fits
 
   -- the entries after a step of the record, before the sweep: each goes on, and they rise
   abbrev Goes : RecordState → Type 0
-  Goes N = ((j r : ℕ) → GoesAt j (entry_of j R.entries) (entry_of j N.entries) r (replica_in w.nodes j r)) × IdentitiesRise N.entries
+  Goes N = ((j r : ℕ) → GoesAt R.up j (entry_of j R.entries) (entry_of j N.entries) r (replica_in w.nodes j r)) × IdentitiesRise N.entries
 
   all_go : Goes R
-  all_go = (λ j r. goes_same j (entry_of j R.entries) r (replica_in w.nodes j r), facts.rises)
+  all_go = (λ j r. goes_same R.up j (entry_of j R.entries) r (replica_in w.nodes j r), facts.rises)
 
   created_go : (call : CallId) (name : List ℕ) (a : Option CreationAttributes) → Goes (created_as call name a R)
   created_go call name None = all_go
   created_go call name (Some a) = (
-    λ j r. pushed_goes R.last_identity R.entries (new_entry call name a R) j r (λ j. replica_in w.nodes j r) facts.up_to refl (zero_there r) (fits.fresh (R.last_identity + 1) r (omega arith)),
+    λ j r. pushed_goes R.up R.last_identity R.entries (new_entry call name a R) j r (λ j. replica_in w.nodes j r) facts.up_to refl (zero_there r) (none_gone R w.nodes holds (R.last_identity + 1) r (entry_of-beyond R.last_identity (R.last_identity + 1) R.entries facts.up_to (omega arith))),
     IdentitiesRise-push R.last_identity R.entries (new_entry call name a R) facts.rises facts.up_to (omega arith),
   )
 
   -- an entry changed, and nothing else of it that a node sees
   one_goes : (f : Entry → Entry) → Quiet f → (k : ℕ) → Goes (record R { entries = change_key identity_of k f R.entries })
-  one_goes f q k = (λ j r. quiet_goes f q k j r R.entries (replica_in w.nodes j r), IdentitiesRise-change_key f q.identity k R.entries facts.rises)
+  one_goes f q k = (λ j r. quiet_goes R.up f q k j r R.entries (replica_in w.nodes j r), IdentitiesRise-change_key f q.identity k R.entries facts.rises)
 
   opened_go : (c : ℕ) (k : Option ℕ) → Goes (at_ckpt k R (λ k. opened k c R))
   opened_go c None = all_go
@@ -224,8 +232,8 @@ module _ (w : World) (h : History) (facts : Facts (machine_of w h)) (fits : Fits
       let p = λ (e : Entry). not (is_call_of c e.making) in
       let f : Entry → Entry = released_all c R.moment in
       let q : Quiet f = quiet_released_all c R.moment in (
-        λ j r. subst (λ (o : Option Entry). GoesAt j (entry_of j R.entries) o r (replica_in w.nodes j r)) (sym (found_each f q.identity j (filter p R.entries)))
-            (left_goes f q j r (entry_of j R.entries) (entry_of j (filter p R.entries)) (replica_in w.nodes j r) (filter_leaves p R.entries facts.rises j)),
+        λ j r. subst (λ (o : Option Entry). GoesAt R.up j (entry_of j R.entries) o r (replica_in w.nodes j r)) (sym (found_each f q.identity j (filter p R.entries)))
+            (left_goes R.up f q j r (entry_of j R.entries) (entry_of j (filter p R.entries)) (replica_in w.nodes j r) (filter_leaves p R.entries facts.rises j)),
         IdentitiesRise-map f q.identity (filter p R.entries) (IdentitiesRise-filter p R.entries facts.rises),
       )
 
@@ -233,7 +241,7 @@ module _ (w : World) (h : History) (facts : Facts (machine_of w h)) (fits : Fits
   undone_go None = all_go
   undone_go (Some k) =
       let p = λ (e : Entry). not (e.identity == k) in
-      (λ j r. goes_left j (entry_of j R.entries) (entry_of j R.entries) (entry_of j (filter p R.entries)) r (replica_in w.nodes j r) (goes_same j (entry_of j R.entries) r (replica_in w.nodes j r)) (filter_leaves p R.entries facts.rises j), IdentitiesRise-filter p R.entries facts.rises)
+      (λ j r. goes_left R.up j (entry_of j R.entries) (entry_of j R.entries) (entry_of j (filter p R.entries)) r (replica_in w.nodes j r) (goes_same R.up j (entry_of j R.entries) r (replica_in w.nodes j r)) (filter_leaves p R.entries facts.rises j), IdentitiesRise-filter p R.entries facts.rises)
 
   finished_go : (c : ℕ) (s : CallState) (making : Option Making) → IsFinishable m making → Goes (at_ckpt (making_ckpt making) R (λ k. finished k c R))
   finished_go c s None ready = absurd ready
@@ -242,9 +250,9 @@ module _ (w : World) (h : History) (facts : Facts (machine_of w h)) (fits : Fits
       let there = some_of (entry_of k R.entries) (λ (e : Entry). (e.generation ≡ 1) × ((r : ℕ) → slice_index e.complete r ≡ 0)) ready.1 in
       let e : Entry = there.0 in
       let is : entry_of k R.entries ≡ Some e = there.1 in
-      let has = λ (r : ℕ) (up : (slice_index R.up r == 0) ≡ false). reserved_there k r (slice_index R.up r) (entry_of k R.entries) e (replica_in w.nodes k r) is (there.2.1 r) (ready.0 r up) (fits.reserved k r) in (
-        λ j r. changed_goes (made_with R.up c) (λ e. refl) k j r R.entries e (replica_in w.nodes j r) is
-            (λ s. subst (λ (j : ℕ). GoesAt j (Some e) (Some (made_with R.up c e)) r (replica_in w.nodes j r)) (sym s) (made_goes R.up c k r e (replica_in w.nodes k r) (there.2.1 r) (has r))),
+      let has = λ (r : ℕ) (up : (slice_index R.up r == 0) ≡ false). reserved_there k r (slice_index R.up r) (entry_of k R.entries) e (replica_in w.nodes k r) is (there.2.1 r) (ready.0 r up) (λ x. opening_there R w.nodes holds k r e x is (there.2.1 r)) in (
+        λ j r. changed_goes R.up (made_with R.up c) (λ e. refl) k j r R.entries e (replica_in w.nodes j r) is
+            (λ s. subst (λ (j : ℕ). GoesAt R.up j (Some e) (Some (made_with R.up c e)) r (replica_in w.nodes j r)) (sym s) (made_goes R.up c k r e (replica_in w.nodes k r) (there.2.1 r) (has r))),
         IdentitiesRise-change_key (made_with R.up c) (λ e. refl) k R.entries facts.rises,
       )
 
@@ -262,8 +270,8 @@ module _ (w : World) (h : History) (facts : Facts (machine_of w h)) (fits : Fits
   change_go call s x step ready = absurd ready
 
   -- and after the sweep
-  pub event_goes : (call : CallId) (s : CallState) (x : Driver) (step : RecordStep) → IsEventReady m s x step → (j r : ℕ) → GoesAt j (entry_of j R.entries) (entry_of j (event_after call x step R).entries) r (replica_in w.nodes j r)
+  pub event_goes : (call : CallId) (s : CallState) (x : Driver) (step : RecordStep) → IsEventReady m s x step → (j r : ℕ) → GoesAt R.up j (entry_of j R.entries) (entry_of j (event_after call x step R).entries) r (replica_in w.nodes j r)
   event_goes call s x step ready j r =
       let go = change_go call s x step ready in
       let N : RecordState = event_change call x step R in
-      goes_left j (entry_of j R.entries) (entry_of j N.entries) (entry_of j (filter (stays N.moment) N.entries)) r (replica_in w.nodes j r) (go.0 j r) (filter_leaves (stays N.moment) N.entries go.1 j)
+      goes_left R.up j (entry_of j R.entries) (entry_of j N.entries) (entry_of j (filter (stays N.moment) N.entries)) r (replica_in w.nodes j r) (go.0 j r) (filter_leaves (stays N.moment) N.entries go.1 j)

@@ -98,12 +98,11 @@ pub record Starts (choice : Choice) (op : Op) : Type 0 where
   pub starts : started_place op ≡ Some place
   pub handles : handle_place op ≡ Some over
   pub place_within : place < 100
-  pub over_within : over < 100
   pub chooses : choice ≡ chosen_choice op
   pub room : (n : ℕ) → room_for op n ≡ Some (record { ids = []; room = n })
 
 pub starts_so : (choice : Choice) (op : Op) → IsIterOf choice op → Starts choice op
-starts_so choice (ops.Iter iteration place chosen time) is = record { place = iteration; over = place; starts = refl; handles = refl; place_within = is.1; over_within = is.2; chooses = is.0; room = λ n. refl }
+starts_so choice (ops.Iter iteration place chosen time) is = record { place = iteration; over = place; starts = refl; handles = refl; place_within = is.1; chooses = is.0; room = λ n. refl }
 starts_so choice op is = absurd is
 
 -- and what one names that goes on with one
@@ -239,7 +238,7 @@ module _ (w : World) (h : History) (c r : ℕ) (asked : CallId) (k : ℕ) (choic
         ∙ iterations_is w h c t (with_started place hd.handle kept (iterations_of t.client)) table
 
     fits1 : Fits w1 h
-    fits1 = record { replicas = fits.replicas; reserved = fits.reserved; fresh = fits.fresh; hands = fits.hands }
+    fits1 = record { replicas = fits.replicas; hands = fits.hands }
 
     after_is : after m (started_label hand k r) ≡ machine_of w2 (with_step h c done)
     after_is =
@@ -312,6 +311,7 @@ module _ (w : World) (c r : ℕ) (asked : CallId) (k : ℕ) (choice : Choice) (h
       history = with_step s.history c (done_of w.cluster verbs.Iter (Some k) (Some r) words.Ok);
       same = ap (λ m. after m (started_label hand k r)) s.same ∙ after_is w s.history c r asked k choice hand facts s.fits held its_next place over it t hd places overs has table handle none;
       fits = fits_later w s.history c r asked k choice hand facts s.fits held its_next place over it t hd places overs has table handle none;
+      holds = s.holds;
     };
   }
 
@@ -463,7 +463,7 @@ module _ (w : World) (h : History) (c r : ℕ) (asked : CallId) (k : ℕ) (hand 
         ∙ moves_by gives refl
 
     fits_next1 : Fits wn1 h
-    fits_next1 = record { replicas = fits.replicas; reserved = fits.reserved; fresh = fits.fresh; hands = fits.hands }
+    fits_next1 = record { replicas = fits.replicas; hands = fits.hands }
 
     after_next : after mn next_label ≡ machine_of wn2 (with_step h c next_done_step)
     after_next =
@@ -514,6 +514,7 @@ module _ (w : World) (c r : ℕ) (asked : CallId) (k : ℕ) (hand : InHand) (hel
       history = with_step s.history c (next_done_step w that_history c r asked k hand that_facts shown.shows.fits held that_next place t places table);
       same = ap (λ m. after m (next_label w that_history c r asked k hand that_facts shown.shows.fits held that_next place t places table)) s.same ∙ after_next w s.history c r asked k hand facts s.fits held that_next place t places table;
       fits = fits_next w s.history c r asked k hand facts s.fits held that_next place t places table;
+      holds = s.holds;
     };
   }
 

@@ -21,7 +21,8 @@ use Rattle.cluster_record.specs.StepDone.{done_of}
 use Rattle.world_core.specs.Machine.{Machine, CallState, empty_cluster}
 use Rattle.world_core.specs.Steps.{Told, IsDone, IsDueStep, IsDue, driver_of, rooms_of, due, step_of, after}
 use Rattle.world_core.specs.Guards.{IsAllowedStep, Allowed}
-use Rattle.world_core.specs.Runs.{Counts, steps_left}
+use Rattle.world_core.specs.Runs.{Counts}
+use Rattle.world_core.specs.StepsLeft.{steps_left}
 use Rattle.world_core.specs.Invariant.{Working, IsAt, IsWorking, Alone, InvariantWith, Invariant}
 use Rattle.world_core.proofs.LawMoves.{Goes, in_hand_of-Some, Counts-hands}
 use Rattle.world_core.proofs.LawEnds.{is_up-none}
@@ -42,6 +43,7 @@ invariant_empty = record {
   hand = None;
   holds = record {
     up = inl (refl, refl);
+    clients = λ live among. let (i, below, is) = among in absurd (omega (arith, below));
     rises = tt;
     up_to = tt;
     swept = tt;
@@ -125,7 +127,7 @@ IsAt-up m n s (drivers.Active a) none at = record { call = at.call; kind = at.ki
 IsAt-up m n s drivers.Leave none at = record { op = at.op; live = at.live }
 IsAt-up m n s (drivers.Close k) none at = record { op = at.op; kept = at.kept; handle = at.handle }
 IsAt-up m n s (drivers.Unlink name) none at = at
-IsAt-up m n s (drivers.Retain k duration) none at = record { op = at.op; kept = at.kept; made = at.made }
+IsAt-up m n s (drivers.Retain k duration) none at = record { op = at.op; from_zero = at.from_zero; kept = at.kept; made = at.made }
 
 -- likewise the call in hand, if there is one
 IsWorking-up : (m : Machine) (n : ℕ) (hand : Option Working) → m.cluster.up ≡ no_nodes → IsWorking m hand → IsWorking (record m { cluster = brought_up n m.cluster }) hand
@@ -138,6 +140,7 @@ Invariant-nodes m n inv one none = record {
   hand = inv.hand;
   holds = record {
     up = inr (ap first_nodes one);
+    clients = λ live among. absurd (let e : false ≡ true = sym (is_up-none live.node m.cluster none) ∙ inv.holds.clients live among in cc);
     rises = inv.holds.rises;
     up_to = inv.holds.up_to;
     swept = inv.holds.swept;

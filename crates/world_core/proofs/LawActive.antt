@@ -95,7 +95,7 @@ module _ (m : Machine) (s : CallState) (call : CallId) (k : ℕ) (kind : ActiveK
       record {
         holds = record {
           hand = None;
-          holds = record { up = inv.up; rises = inv.rises; up_to = inv.up_to; swept = inv.swept; entries = inv.entries; handles = inv.handles; in_hand = in_hand_of-ended m.in_hand s driver inv.in_hand; working = tt };
+          holds = record { up = inv.up; clients = inv.clients; rises = inv.rises; up_to = inv.up_to; swept = inv.swept; entries = inv.entries; handles = inv.handles; in_hand = in_hand_of-ended m.in_hand s driver inv.in_hand; working = tt };
         };
         counts = λ n counts.
             let more = ends.counts n counts in

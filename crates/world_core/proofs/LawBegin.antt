@@ -3,8 +3,9 @@ use Rattle.cluster_record.specs.declared.calls.ActiveKind.{ActiveKind}
 use Rattle.cluster_record.specs.declared.calls.ActiveKind.TheVariants as kinds
 use Rattle.client_handles.specs.declared.begun.BegunIteration.{BegunIteration}
 use Rattle.std.proofs.Common.{◌≡◌, ℕ, ◌+◌, ◌<◌, ◌≤◌, inl, inr, List, [], ◌∷◌, Option, Some, None, is_some, Bool, true, false, cond, ◌==◌, ◌||◌, ℤ, refl, sym, ap, subst, ◌∙◌, arith}
-use Rattle.std.specs.Prelude.{IsSome, Contains, int_lt, pos}
+use Rattle.std.specs.Prelude.{IsSome, Contains, int_lt, pos, ◌≤ℤ◌}
 use Rattle.std.proofs.lemmas.Bool.{or_parts}
+use Rattle.std.proofs.lemmas.Int.{ints}
 use Rattle.std.proofs.lemmas.Option.{same_Some}
 use Rattle.std.proofs.lemmas.List.Elements.{Contains-append_right}
 use Rattle.ckpt_types.specs.declared.answers.Outcome.{Outcome}
@@ -23,17 +24,20 @@ use Rattle.client_handles.specs.declared.handle_view.HandleView.{HandleView}
 use Rattle.world_core.specs.declared.drivers.Driver.{Driver}
 use Rattle.world_core.specs.declared.drivers.Driver.TheVariants as drivers
 use Rattle.cluster_record.specs.declared.calls.Making.{Making}
+use Rattle.cluster_record.specs.declared.clients.LiveClient.{LiveClient}
 use Rattle.cluster_record.specs.Calls.{same_actor, number_of, IsClient}
 use Rattle.cluster_record.specs.Places.{find_key}
-use Rattle.cluster_record.specs.RecordState.{client_key, is_live_client, first_nodes}
+use Rattle.cluster_record.specs.LookUps.{node_of_client}
+use Rattle.cluster_record.specs.RecordState.{client_key, is_live_client, is_up, first_nodes}
 use Rattle.world_core.specs.Driving.{update_start, driver_start, active_start}
-use Rattle.world_core.specs.Beginning.{begin_end, if_live, on_handle, open_begin, attributes_are_bad, name_is_bad, IsBuilt, handle_place, iteration_place, ended_place, choice_of, end_iteration}
+use Rattle.world_core.specs.Beginning.{begin_end, if_live, on_handle, open_begin, may_always, attributes_are_bad, name_is_bad, IsBuilt, handle_place, iteration_place, ended_place, choice_of, end_iteration}
 use Rattle.world_core.specs.Machine.{Machine, CallState}
 use Rattle.world_core.specs.Steps.{IsBegun, MayBegin, ckpt_of_handle, handle_of_number, handle_in, named_handle, kept_at, begun, handle_by, handle_over, iteration_in, with_ended, without_iteration, begun_call, IsBeginEnd}
 use Rattle.world_core.specs.Runs.{Counts}
 use Rattle.world_core.specs.Invariant.{Working, maker_by, slot_by, IsUpdateOf, AreGoodAttributes, WasMade, IsMakingOrNone, IsAt, Alone, InvariantWith, Invariant, IsKindOf}
 use Rattle.world_core.proofs.LawMoves.{same_actor-refl, same_actor-true}
 use Rattle.world_core.proofs.LawEnds.{no_slot, IsGoodEntry-as}
+use Rattle.world_core.proofs.OnceByKey.{found_in}
 
 -- ---- what a beginning that goes on has passed
 
@@ -51,6 +55,16 @@ if_live-None false o e = absurd (cc e)
 on_handle-None : (h : Option HandleView) (bad : Bool) (may : OpenFlags → Bool) → on_handle h bad may ≡ None → (x : HandleView) × (h ≡ Some x)
 on_handle-None None bad may e = absurd (cc e)
 on_handle-None (Some x) bad may e = (x, refl)
+
+-- and only with good arguments
+on_handle-good : (h : Option HandleView) (bad : Bool) (may : OpenFlags → Bool) → on_handle h bad may ≡ None → bad ≡ false
+on_handle-good None bad may e = absurd (cc e)
+on_handle-good (Some x) true may e = absurd (cc e)
+on_handle-good (Some x) false may e = refl
+
+-- a duration that is not below 0
+not_below : (x : ℤ) → int_lt x (pos 0) ≡ false → pos 0 ≤ℤ x
+not_below x e = grind (arith, ints)
 
 -- good attributes
 attributes_are_bad-false : (flags : ℕ) (a : Option CreationAttributes) → attributes_are_bad flags a ≡ false → AreGoodAttributes a
@@ -116,6 +130,13 @@ live_up hand m c inv live = elim inv.up [
   | inr first ↦ first
 ]
 
+-- and its node is up
+on_live : (hand : Option Working) (m : Machine) (c : ℕ) → InvariantWith hand m → is_live_client c m.cluster ≡ true → is_up (node_of_client (find_key client_key c m.cluster.clients)) m.cluster ≡ true
+on_live hand m c inv live = by_client (find_key client_key c m.cluster.clients) refl live where
+  by_client : (o : Option LiveClient) → find_key client_key c m.cluster.clients ≡ o → is_some o ≡ true → is_up (node_of_client o) m.cluster ≡ true
+  by_client None is live = absurd (cc live)
+  by_client (Some x) is live = inv.clients x (found_in client_key c m.cluster.clients x is).0
+
 -- a client's number is below 100
 IsClient-number : (a : ActorName) → IsClient a → number_of a < 100
 IsClient-number (Client c) is = is
@@ -152,13 +173,15 @@ module _ (hand : Option Working) (m : Machine) (call : CallId) (inv : InvariantW
 
   -- each operation that goes on
   starts : (op : Op) (h : Option HandleView) → IsBuilt op → MayBegin m.cluster (number_of call.actor) op → begin_end (is_live_client (number_of call.actor) m.cluster) h op ≡ None → ((x : HandleView) → h ≡ Some x → WasMade m.cluster x.id) → named_handle m call.actor op ≡ h → Starts op h
-  starts (ops.Client r version callbacks) h built may goes made named = record { at = record { op = refl; up = may.1; not_live = may.0 }; makes = λ k. refl; owns = λ k. refl }
+  starts (ops.Client r version callbacks) h built may goes made named = record { at = record { op = refl; client = client; up = may.1; not_live = may.0 }; makes = λ k. refl; owns = λ k. refl }
   starts (ops.Open place name flags timeout a) h built may goes made named =
       let (live, rest) = if_live-None (is_live_client (number_of call.actor) m.cluster) _ goes in
       record {
         at = record {
+          caller = client;
           client = refl;
           within = IsClient-number call.actor client;
+          node = on_live hand m (number_of call.actor) inv live;
           built = built;
           asks = (refl, refl);
           named = open_begin-named name flags timeout a rest;
@@ -180,18 +203,19 @@ module _ (hand : Option Working) (m : Machine) (call : CallId) (inv : InvariantW
   starts (ops.Read place elements) h built may goes made named = starts_active (ops.Read place elements) kinds.Read h (λ o. refl) tt named made (on_handle-None h _ _ (if_live-None (is_live_client (number_of call.actor) m.cluster) _ goes).1)
   starts (ops.Status place) h built may goes made named = starts_active (ops.Status place) kinds.Status h (λ o. refl) tt named made (on_handle-None h _ _ (if_live-None (is_live_client (number_of call.actor) m.cluster) _ goes).1)
   starts (ops.Iter iteration place chosen time) h built may goes made named =
-      starts_active (ops.Iter iteration place chosen time) (kinds.Iterate (choice_of chosen time)) h (λ o. refl) (refl, built.0, built.1) named made (on_handle-None h _ _ (if_live-None (is_live_client (number_of call.actor) m.cluster) _ goes).1)
+      starts_active (ops.Iter iteration place chosen time) (kinds.Iterate (choice_of chosen time)) h (λ o. refl) (refl, built.0) named made (on_handle-None h _ _ (if_live-None (is_live_client (number_of call.actor) m.cluster) _ goes).1)
   starts (ops.Next iteration) h built may goes made named = starts_active (ops.Next iteration) kinds.Next h (λ o. refl) built named made (on_handle-None h _ _ (if_live-None (is_live_client (number_of call.actor) m.cluster) _ goes).1)
   starts (ops.Close place) h built may goes made named =
       let (x, there) = on_handle-None h _ _ (if_live-None (is_live_client (number_of call.actor) m.cluster) _ goes).1 in
       subst (Starts (ops.Close place)) (sym there) (record {
-        at = record { op = built; kept = refl; handle = subst (λ (o : Option HandleView). IsSome o) (sym (named ∙ there)) refl };
+        at = record { op = tt; kept = refl; handle = subst (λ (o : Option HandleView). IsSome o) (sym (named ∙ there)) refl };
         makes = λ k. refl;
         owns = λ k. refl;
       })
   starts (ops.Retain place duration) h built may goes made named =
-      let (x, there) = on_handle-None h _ _ (if_live-None (is_live_client (number_of call.actor) m.cluster) _ goes).1 in
-      subst (Starts (ops.Retain place duration)) (sym there) (record { at = record { op = refl; kept = refl; made = made x there }; makes = λ k. refl; owns = λ k. refl })
+      let goes_on = (if_live-None (is_live_client (number_of call.actor) m.cluster) _ goes).1 in
+      let (x, there) = on_handle-None h _ _ goes_on in
+      subst (Starts (ops.Retain place duration)) (sym there) (record { at = record { op = refl; from_zero = not_below duration (on_handle-good h (int_lt duration (pos 0)) may_always goes_on); kept = refl; made = made x there }; makes = λ k. refl; owns = λ k. refl })
   starts (ops.Unlink name) h built may goes made named = record { at = refl; makes = λ k. refl; owns = λ k. refl }
   starts ops.Finalize h built may goes made named = record { at = record { op = tt; live = (if_live-None (is_live_client (number_of call.actor) m.cluster) _ goes).0 }; makes = λ k. refl; owns = λ k. refl }
   starts (ops.EndIter iteration) h built may goes made named = absurd (ends_at_once h (if_live-None (is_live_client (number_of call.actor) m.cluster) _ goes).1)
@@ -206,14 +230,14 @@ IsMakingOrNone-apart m next f (Some making) at = record { there = at.there; rese
 
 -- a call is where it is with other numbers and hands
 pub IsAt-apart : (m : Machine) (next : ActorName → ℕ) (f : ActorName → Option CallState) (s : CallState) (d : Driver) → IsAt m s d → IsAt (record m { next = next; in_hand = f }) s d
-IsAt-apart m next f s (drivers.Enter r) at = record { op = at.op; up = at.up; not_live = at.not_live }
-IsAt-apart m next f s (drivers.Open o) at = record { client = at.client; within = at.within; built = at.built; asks = at.asks; named = at.named; asked = at.asked; deadline = at.deadline; up = at.up; making = IsMakingOrNone-apart m next f o.making at.making; room = at.room; in_time = at.in_time }
+IsAt-apart m next f s (drivers.Enter r) at = record { op = at.op; client = at.client; up = at.up; not_live = at.not_live }
+IsAt-apart m next f s (drivers.Open o) at = record { caller = at.caller; client = at.client; within = at.within; node = at.node; built = at.built; asks = at.asks; named = at.named; asked = at.asked; deadline = at.deadline; up = at.up; making = IsMakingOrNone-apart m next f o.making at.making; room = at.room; in_time = at.in_time }
 IsAt-apart m next f s (drivers.Update u) at = record { call = at.call; update = at.update; phase = at.phase; kept = at.kept; made = at.made; owned = at.owned }
 IsAt-apart m next f s (drivers.Active a) at = record { call = at.call; kind = at.kind; made = at.made; kept = at.kept; sections = at.sections; handle = at.handle }
 IsAt-apart m next f s drivers.Leave at = record { op = at.op; live = at.live }
 IsAt-apart m next f s (drivers.Close k) at = record { op = at.op; kept = at.kept; handle = at.handle }
 IsAt-apart m next f s (drivers.Unlink name) at = at
-IsAt-apart m next f s (drivers.Retain k duration) at = record { op = at.op; kept = at.kept; made = at.made }
+IsAt-apart m next f s (drivers.Retain k duration) at = record { op = at.op; from_zero = at.from_zero; kept = at.kept; made = at.made }
 
 -- where the caller has none in hand and nobody else has, nobody has
 all_idle : (m : Machine) (call : CallId) (op : Op) (end : Option Outcome) → Alone m (labels.Began call op end) → m.in_hand call.actor ≡ None → (a : ActorName) → m.in_hand a ≡ None
@@ -234,7 +258,7 @@ ended_leaves : (m : Machine) (c : ℕ) (place : Option ℕ) → InvariantWith No
 ended_leaves m c None inv = record { hand = None; holds = inv }
 ended_leaves m c (Some place) inv = record {
   hand = None;
-  holds = record { up = inv.up; rises = inv.rises; up_to = inv.up_to; swept = inv.swept; entries = inv.entries; handles = inv.handles; in_hand = inv.in_hand; working = tt };
+  holds = record { up = inv.up; clients = inv.clients; rises = inv.rises; up_to = inv.up_to; swept = inv.swept; entries = inv.entries; handles = inv.handles; in_hand = inv.in_hand; working = tt };
 }
 
 -- a call that goes on answers nothing at once
@@ -246,6 +270,7 @@ goes_on_begun op due end (inr refused) none = absurd (let e : None ≡ Some NoMe
 begun_with : (m : Machine) (call : CallId) (op : Op) (end : Option Outcome) → InvariantWith None m → Alone m (labels.Began call op end) → IsBegun m call op end → Invariant (begun m call op end)
 begun_with m call op (Some o) inv alone is = ended_leaves (begun_call m call op (Some o)) (number_of call.actor) (ended_place (Some o) op) (record {
   up = inv.up;
+  clients = inv.clients;
   rises = inv.rises;
   up_to = inv.up_to;
   swept = inv.swept;
@@ -261,6 +286,7 @@ begun_with m call op None inv alone is =
       hand = Some (record { state = state_with None m call inv is.client op (named_handle m call.actor op); driver = driver_start call op (kept_at m.cluster (number_of call.actor) (named_handle m call.actor op)) });
       holds = record {
         up = inv.up;
+        clients = inv.clients;
         rises = inv.rises;
         up_to = inv.up_to;
         swept = inv.swept;

@@ -94,6 +94,7 @@ IsGoodEntry-as maker maker' staged staged' e x makes owns good = subst (λ c. Is
 pub InvariantWith-ended : (m : Machine) (s : CallState) (d : Driver) → InvariantWith (Some (record { state = s; driver = d })) m → ((k : ℕ) → maker_by s.call k d ≡ None) → ((k : ℕ) → slot_by s k d ≡ None) → InvariantWith None (record m { in_hand = put_actor m.in_hand s.call.actor None })
 InvariantWith-ended m s d inv makes owns = record {
   up = inv.up;
+  clients = inv.clients;
   rises = inv.rises;
   up_to = inv.up_to;
   swept = inv.swept;

@@ -1,7 +1,9 @@
 -- A client becomes live.
 use Rattle.world_core.specs.declared.drivers.Rooms.{Rooms}
 use Rattle.std.proofs.Common.{◌≡◌, ℕ, ◌<◌, ◌≤◌, inl, inr, length, Some, None, true, false, cond, nat_le, refl, sym, ap, subst, ◌∙◌, arith}
+use Rattle.std.specs.Prelude.{slice_index}
 use Rattle.std.proofs.lemmas.Bool.{leb-true, leb-false}
+use Rattle.std.proofs.lemmas.List.Elements.{Contains-push_cases}
 use Rattle.ckpt_types.specs.declared.ais_error.AisError.TheVariants.{NoResources}
 use Rattle.ckpt_types.specs.declared.answers.Answer.TheVariants as answers
 use Rattle.ckpt_types.specs.declared.answers.Cause.TheVariants.{Count}
@@ -13,8 +15,9 @@ use Rattle.node_msgs.specs.declared.steps.StepReply.TheVariants as words
 use Rattle.ckpt_types.specs.declared.operation.Op.{Op}
 use Rattle.ckpt_types.specs.declared.operation.Op.TheVariants as ops
 use Rattle.world_core.specs.declared.drivers.Driver.TheVariants as drivers
+use Rattle.cluster_record.specs.declared.clients.LiveClient.{LiveClient}
 use Rattle.cluster_record.specs.Calls.{client_of}
-use Rattle.cluster_record.specs.RecordState.{entered}
+use Rattle.cluster_record.specs.RecordState.{is_up, entered}
 use Rattle.world_core.specs.Driving.{driver_next, event_after, event_ckpt, event_node}
 use Rattle.world_core.specs.Machine.{Machine, CallState}
 use Rattle.world_core.specs.Steps.{Told, IsDone, IsEvent, with_record, stepped}
@@ -36,6 +39,10 @@ module _ (m : Machine) (s : CallState) (r : ℕ) (inv : InvariantWith (Some (rec
       hand = None;
       holds = record {
         up = inr (up_first (Some (record { state = s; driver = drivers.Enter r })) m r inv inv.working.1.up);
+        clients = λ live among. elim (Contains-push_cases m.cluster.clients (record { client = client_of s.call; node = r; incarnation = slice_index m.cluster.up r; initialize = s.call.number }) live among) [
+          | inl old ↦ inv.clients live old
+          | inr is ↦ subst (λ (live : LiveClient). is_up live.node m.cluster ≡ true) is inv.working.1.up
+        ];
         rises = inv.rises;
         up_to = inv.up_to;
         swept = inv.swept;

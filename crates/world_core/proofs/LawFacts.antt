@@ -1,8 +1,8 @@
 -- What the code relies on holds wherever the invariant does.
 use Rattle.world_core.specs.declared.drivers.Rooms.{Rooms}
 use Rattle.std.proofs.Common.{◌≡◌, ℕ, zero, suc, ◌<◌, ◌≤◌, inl, inr, List, length, Option, Some, None, Bool, true, false, cond, not, ◌&&◌, ◌==◌, nat_le, nat_lt, ℤ, refl, sym, ap, subst, ◌∙◌, arith}
-use Rattle.std.specs.Prelude.{is_some, IsSome, IsSomeAnd, slice_index}
-use Rattle.std.proofs.lemmas.Bool.{leb-false, ltb-true, ltb-false, and_parts, or_parts}
+use Rattle.std.specs.Prelude.{is_some, IsSome, IsSomeAnd, IfSome, pos, ◌≤ℤ◌, slice_index}
+use Rattle.std.proofs.lemmas.Bool.{leb-false, ltb-false, or_parts}
 use Rattle.std.proofs.lemmas.Option.{same_Some}
 use Rattle.ckpt_types.specs.declared.ais_error.AisError.TheVariants.{Exist, NoResources, BadOperation}
 use Rattle.ckpt_types.specs.declared.answers.Cause.TheVariants.{Plain, Count}
@@ -26,8 +26,11 @@ use Rattle.cluster_record.specs.declared.calls.ActiveKind.{ActiveKind}
 use Rattle.cluster_record.specs.declared.calls.ActiveKind.TheVariants as kinds
 use Rattle.cluster_record.specs.declared.entries.Entry.{Entry}
 use Rattle.cluster_record.specs.DueUpdate.{UpdateState, update_on}
+use Rattle.ckpt_types.specs.Attributes.{IsWellFormed}
+use Rattle.ckpt_types.specs.Limits.{name_max}
+use Rattle.ckpt_types.proofs.AttributeLaws.{IsWellFormed-from_check}
 use Rattle.cluster_record.specs.Calls.{client_of, number_of}
-use Rattle.cluster_record.specs.RecordState.{RecordState, entry_of, named, is_up, first_nodes, no_nodes}
+use Rattle.cluster_record.specs.RecordState.{RecordState, entry_of, named, first_nodes, no_nodes}
 use Rattle.node_msgs.specs.Requests.{ckpt_of}
 use Rattle.world_core.specs.Serving.{IsReadyFor, IsStaged}
 use Rattle.world_core.specs.Driving.{driver_next}
@@ -38,15 +41,16 @@ use Rattle.world_core.specs.Beginning.{IsIterOf, IsNextOf, IsBuilt, IsCloseOf, I
 use Rattle.world_core.specs.Machine.{Machine, CallState}
 use Rattle.world_core.specs.Steps.{due, driver_of, room_of, rooms_of, named_handle, seen_at, seen, seen_slot, staged_moment, handle_in}
 use Rattle.cluster_record.specs.LookUps.{sections_declared}
+use Rattle.cluster_record.specs.RecordReady.{CanOpen}
 use Rattle.world_core.specs.Shows.{IsActive, IsServable, IsReservable, AllReserved, IsEventReady, Facts}
-use Rattle.world_core.specs.Invariant.{Working, IsKindOf, IsMakingEntry, IsAt, InvariantWith, Invariant, IsClientOf, OpensAs, IsUpdateOf}
+use Rattle.world_core.specs.Invariant.{Working, AreGoodAttributes, IsKindOf, IsMakingEntry, IsAt, InvariantWith, Invariant, IsClientOf, OpensAs, IsUpdateOf}
 use Rattle.cluster_record.specs.Makings.{IsMakingOf}
 use Rattle.cluster_record.proofs.MakingLaws.{making-own}
 use Rattle.world_core.proofs.Deadlines.{in_time-either}
 use Rattle.world_core.proofs.LawMoves.{in_hand_of-Some, IsSomeAnd-from, IsSomeAnd-more}
 use Rattle.world_core.proofs.LawEnds.{slice_index-replicate, slice_index-first}
 use Rattle.world_core.proofs.LawMade.{MadeAt, made_seen}
-use Rattle.world_core.proofs.LawMaking.{making_entry, making_by, making_is, open_next-unreserved, open_next-reserved}
+use Rattle.world_core.proofs.LawMaking.{making_entry, making_by, making_both, making_is, open_next-unreserved, open_next-reserved}
 use Rattle.world_core.proofs.LawUpdate.{update_is, unstaged, staged_there, update_next-unstaged, update_next-staged, staged_moment-unstaged, unstaged_at, staged_at, own_slot}
 use Rattle.world_core.proofs.LawActive.{active_next-made, active_at}
 use Rattle.cluster_record.specs.DueOnce.{close_of, unlink_of, unlink_of_making, retain_of}
@@ -72,27 +76,40 @@ IsDueReady m s d (End o) = Unit {0}
 
 -- ---- a client
 
--- a node that is up is one of eight
-up_within : (r : ℕ) (R : RecordState) → is_up r R ≡ true → r < 8
-up_within r R up = ltb-true r 8 (and_parts (nat_lt r 8) _ up).0
-
 -- a client enters where there is room
 enter_ready : (m : Machine) (s : CallState) (r : ℕ) → InvariantWith (Some (record { state = s; driver = drivers.Enter r })) m → (room : Rooms) → IsDueReady m s (drivers.Enter r) (driver_next m.cluster room (drivers.Enter r))
 enter_ready m s r inv room =
     elim (nat_le 64 (length m.cluster.clients)) as (λ b. nat_le 64 (length m.cluster.clients) ≡ b → IsDueReady m s (drivers.Enter r) (cond b (End (Refused NoResources (Count 64))) (Event events.Enter))) [
       | true ↦ λ full. tt
-      | false ↦ λ room. (up_within r m.cluster inv.working.1.up, leb-false 64 (length m.cluster.clients) room)
+      | false ↦ λ room. (record { client = inv.working.1.client; not_live = inv.working.1.not_live; node = inv.working.1.up }, leb-false 64 (length m.cluster.clients) room)
     ] refl
 
 -- ---- an open
+
+-- what is not 0 is from 1
+from_one : (n : ℕ) → (n == 0) ≡ false → 1 ≤ n
+from_one zero e = absurd (cc e)
+from_one (suc n) e = omega arith
+
+-- attributes that passed their check are well formed
+well_formed : (a : Option CreationAttributes) → AreGoodAttributes a → IfSome a IsWellFormed
+well_formed None good = tt
+well_formed (Some a) good = IsWellFormed-from_check a good
 
 module _ (m : Machine) (s : CallState) (call : CallId) (ask : OpenAsk) (deadline : Option ℤ) (inv : InvariantWith (Some (record { state = s; driver = drivers.Open (record { call = call; ask = ask; deadline = deadline; making = None }) })) m) where
   abbrev asking : OpenState
   asking = record { call = call; ask = ask; deadline = deadline; making = None }
 
-  -- its name fits
-  name_fits : length ask.name ≤ 256
-  name_fits = ltb-false 256 (length ask.name) (or_parts _ _ inv.working.1.named).1
+  -- it can be asked of the record
+  can_open : CanOpen ask m.cluster
+  can_open =
+      let parts = or_parts (length ask.name == 0) (nat_lt name_max (length ask.name)) inv.working.1.named in
+      record {
+        client = inv.working.1.within;
+        node = inv.working.1.node;
+        name = (from_one (length ask.name) parts.0, ltb-false name_max (length ask.name) parts.1);
+        attributes = well_formed ask.attrs inv.working.1.asked;
+      }
 
   -- a checkpoint that is asked for is made where there is room
   create_ready : (room : Bool) (a : CreationAttributes) → ask.attrs ≡ Some a → named ask.name m.cluster.entries ≡ None → IsDueReady m s (drivers.Open asking) (create_next m.cluster room)
@@ -100,7 +117,7 @@ module _ (m : Machine) (s : CallState) (call : CallId) (ask : OpenAsk) (deadline
   create_ready true a given free =
       elim (nat_le 16 (length m.cluster.entries)) as (λ b. nat_le 16 (length m.cluster.entries) ≡ b → IsDueReady m s (drivers.Open asking) (cond b (End (Refused NoResources (Count 16))) (Event events.Create))) [
         | true ↦ λ full. tt
-        | false ↦ λ few. (leb-false 16 (length m.cluster.entries) few, IsSomeAnd-from ask.attrs (λ a. Unit {0}) a given tt, free, name_fits)
+        | false ↦ λ few. (leb-false 16 (length m.cluster.entries) few, IsSomeAnd-from ask.attrs (λ a. Unit {0}) a given tt, free, can_open, inv.working.1.caller)
       ] refl
 
   -- of a name that is free
@@ -114,7 +131,8 @@ module _ (m : Machine) (s : CallState) (call : CallId) (ask : OpenAsk) (deadline
   entry_ready false true e is found = tt
   entry_ready true true e is found = (
     IsSomeAnd-from (named ask.name m.cluster.entries) (λ e. (e.making ≡ None) × (accepts ask.attrs e ≡ true)) e found ((inv.entries e.identity e (entry_of-find _ m.cluster.entries e inv.rises found)).making, is),
-    name_fits,
+    can_open,
+    inv.working.1.caller,
   )
 
   -- of any name
@@ -125,8 +143,13 @@ module _ (m : Machine) (s : CallState) (call : CallId) (ask : OpenAsk) (deadline
 -- ---- a making
 
 -- a checkpoint in the making can be reserved on n0
-reservable : (e : Entry) → IsMakingEntry e → IsReservable e 0
-reservable e good = record { not_complete = ap (λ nodes. slice_index nodes 0) good.complete; well_formed = good.well_formed }
+reservable : (R : RecordState) (call : CallId) (e : Entry) → R.up ≡ first_nodes 1 → IsMakingEntry e × (e.making ≡ Some call) → IsReservable R 0 e
+reservable R call e first good = record {
+  up = ap (λ (up : List ℕ). nat_lt 0 8 && not (slice_index up 0 == 0)) first;
+  making = ap is_some good.1;
+  not_complete = ap (λ nodes. slice_index nodes 0) good.0.complete;
+  well_formed = good.0.well_formed;
+}
 
 -- and finished where n0 has reserved
 finishable : (e : Entry) → IsMakingEntry e → (e.generation ≡ 1) × ((r : ℕ) → slice_index e.complete r ≡ 0)
@@ -153,7 +176,7 @@ module _ (m : Machine) (s : CallState) (call : CallId) (ask : OpenAsk) (deadline
   -- it reserves
   unreserved_ready : (k : ℕ) → IsHere (record { ckpt = k; reserved = no_nodes; refused = false }) → (room : Rooms) → IsDueReady m s (making_at (record { ckpt = k; reserved = no_nodes; refused = false })) (driver_next m.cluster room (making_at (record { ckpt = k; reserved = no_nodes; refused = false })))
   unreserved_ready k inv room = subst (IsDueReady m s (making_at (record { ckpt = k; reserved = no_nodes; refused = false }))) (sym (open_next-unreserved m s call ask deadline k inv room))
-      (omega arith, IsSomeAnd-more (entry_of k m.cluster.entries) IsMakingEntry (λ e. IsReservable e 0) reservable (making_entry m s call ask deadline (record { ckpt = k; reserved = no_nodes; refused = false }) inv), tt, tt)
+      (omega arith, IsSomeAnd-more (entry_of k m.cluster.entries) (λ e. IsMakingEntry e × (e.making ≡ Some s.call)) (IsReservable m.cluster 0) (λ e. reservable m.cluster s.call e inv.working.1.up) (making_both m s call ask deadline (record { ckpt = k; reserved = no_nodes; refused = false }) inv), tt, tt)
 
   -- it is finished
   reserved_ready : (k : ℕ) → IsHere (record { ckpt = k; reserved = first_nodes 1; refused = false }) → m.reserved k 0 ≡ Some 1 → (room : Rooms) → IsDueReady m s (making_at (record { ckpt = k; reserved = first_nodes 1; refused = false })) (driver_next m.cluster room (making_at (record { ckpt = k; reserved = first_nodes 1; refused = false })))
@@ -257,12 +280,12 @@ unlink_ready m s name inv (Some e) found =
     let made = unlink_made m s name inv e found in
     subst (λ o. IsDueReady m s (drivers.Unlink name) (unlink_of_making o)) (sym made) (IsSomeAnd-from (named name m.cluster.entries) (λ e. e.making ≡ None) e found made)
 
-retain_ready : (m : Machine) (s : CallState) (k : ℕ) (duration : ℤ) (o : Option Entry) → entry_of k m.cluster.entries ≡ o → IsDueReady m s (drivers.Retain k duration) (retain_of o)
-retain_ready m s k duration None found = tt
-retain_ready m s k duration (Some e) found = by_name e.name refl where
+retain_ready : (m : Machine) (s : CallState) (k : ℕ) (duration : ℤ) → pos 0 ≤ℤ duration → (o : Option Entry) → entry_of k m.cluster.entries ≡ o → IsDueReady m s (drivers.Retain k duration) (retain_of o)
+retain_ready m s k duration from_zero None found = tt
+retain_ready m s k duration from_zero (Some e) found = by_name e.name refl where
   by_name : (o : Option (List ℕ)) → e.name ≡ o → IsDueReady m s (drivers.Retain k duration) (cond (is_some o) (Event events.Retain) (End (Refused BadOperation Plain)))
   by_name None has = tt
-  by_name (Some name) has = IsSomeAnd-from (entry_of k m.cluster.entries) (λ e. IsSome e.name) e found (ap is_some has)
+  by_name (Some name) has = (IsSomeAnd-from (entry_of k m.cluster.entries) (λ e. IsSome e.name) e found (ap is_some has), from_zero)
 
 -- ---- any call
 
@@ -281,7 +304,7 @@ driver_ready m s (drivers.Active a) inv room = active_ready m s a.call a.ckpt a.
 driver_ready m s drivers.Leave inv room = tt
 driver_ready m s (drivers.Close k) inv room = close_ready m s k (entry_of k m.cluster.entries)
 driver_ready m s (drivers.Unlink name) inv room = unlink_ready m s name inv (named name m.cluster.entries) refl
-driver_ready m s (drivers.Retain k duration) inv room = retain_ready m s k duration (entry_of k m.cluster.entries) refl
+driver_ready m s (drivers.Retain k duration) inv room = retain_ready m s k duration inv.working.1.from_zero (entry_of k m.cluster.entries) refl
 
 -- the call that an actor has in hand is the actor's, and what is due of it is ready
 hand_ready : (hand : Option Working) (m : Machine) (a : ActorName) (s : CallState) → InvariantWith hand m → m.in_hand a ≡ Some s → (s.call.actor ≡ a) × IsDueReady m s (driver_of s) (due m s)
@@ -344,12 +367,12 @@ open_fits m a s o inv here is =
     let at = subst (IsAt m s) is (is_at m a s inv here) in
     (at.built, λ some. ap (room_of m) (sym at.client) ∙ at.room some)
 
--- a close has a place below 100, with a handle
-close_fits : (m : Machine) (s : CallState) (d : Driver) (place : ℕ) → IsAt m s d → closed_place s.op ≡ Some place → (place < 100) × IsSome (handle_in m (number_of s.call.actor) (Some place))
+-- a close has the place of a handle
+close_fits : (m : Machine) (s : CallState) (d : Driver) (place : ℕ) → IsAt m s d → closed_place s.op ≡ Some place → IsSome (handle_in m (number_of s.call.actor) (Some place))
 close_fits m s (drivers.Close k) place at is = of_op s.op at.op at.handle is where
-  of_op : (op : Op) → IsCloseOf op → IsSome (named_handle m s.call.actor op) → closed_place op ≡ Some place → (place < 100) × IsSome (handle_in m (number_of s.call.actor) (Some place))
-  of_op (ops.Close given) within there is = let same = same_Some given place is in (subst (λ p. p < 100) same within, subst (λ p. IsSome (handle_in m (number_of s.call.actor) (Some p))) same there)
-  of_op op within there is = absurd within
+  of_op : (op : Op) → IsCloseOf op → IsSome (named_handle m s.call.actor op) → closed_place op ≡ Some place → IsSome (handle_in m (number_of s.call.actor) (Some place))
+  of_op (ops.Close given) closes there is = subst (λ p. IsSome (handle_in m (number_of s.call.actor) (Some p))) (same_Some given place is) there
+  of_op op closes there is = absurd closes
 close_fits m s (drivers.Enter r) place at is = absurd (client_no_close s.op r place at.op is)
 close_fits m s (drivers.Open o) place at is = absurd (open_no_close s.op o.ask place at.asks is)
 close_fits m s (drivers.Update u) place at is = absurd (update_no_close s.op place at.update is)
@@ -370,6 +393,6 @@ facts m inv = record {
   goes_on = λ a s r call k here is. let (own, all) = hand_ready inv.hand m a s inv.holds here in let ready = (subst (IsDueReady m s (driver_of s)) is all).3 in (ready.0, subst (λ actor. IsSome (named_handle m actor s.op)) own ready.1);
   events = λ a s step here is. subst (IsDueReady m s (driver_of s)) is (hand_ready inv.hand m a s inv.holds here).1;
   opens = λ a s o here is. open_fits m a s o inv here is;
-  closes = λ a s place here is. let own = (hand_ready inv.hand m a s inv.holds here).0 in let fits = close_fits m s (driver_of s) place (is_at m a s inv here) is in (fits.0, subst (λ actor. IsSome (handle_in m (number_of actor) (Some place))) own fits.1);
+  closes = λ a s place here is. subst (λ actor. IsSome (handle_in m (number_of actor) (Some place))) (hand_ready inv.hand m a s inv.holds here).0 (close_fits m s (driver_of s) place (is_at m a s inv here) is);
   numbered = λ c h among. (inv.holds.handles c h among).0;
 }

@@ -29,7 +29,7 @@ use Rattle.world_core.specs.Driving.{driver_next, driver_taken, event_after}
 use Rattle.world_core.specs.Machine.{Machine, CallState}
 use Rattle.world_core.specs.Steps.{Told, IsDone, IsServed, IsEvent, opened_state, replica_under, replicas_under, with_record, with_opened, with_handle_at, new_handle, stepped}
 use Rattle.world_core.specs.Guards.{IsMadeBy, IsInTime}
-use Rattle.world_core.specs.Runs.{lacking}
+use Rattle.world_core.specs.StepsLeft.{lacking}
 use Rattle.world_core.specs.Invariant.{maker_by, IsMakingEntry, IsGoodEntry, WasMade, AllStay, InvariantWith}
 use Rattle.cluster_record.proofs.IdentityLaws.{AllUpTo-change_key, IdentitiesRise-change_key, AllUpTo-filter, IdentitiesRise-filter}
 use Rattle.world_core.proofs.LawLists.{entry_of-given, find_key-without, find_key-change_key, AllStay-change_key, AllStay-filter, open-stays, list_any-first}
@@ -81,6 +81,9 @@ module _ (m : Machine) (s : CallState) (call : CallId) (ask : OpenAsk) (deadline
   pub making_by : IsMadeBy m s.call k
   making_by = IsSomeAnd-from (entry_of k m.cluster.entries) (λ e. e.making ≡ Some s.call) entry found good.making
 
+  pub making_both : IsSomeAnd (entry_of k m.cluster.entries) (λ e. IsMakingEntry e × (e.making ≡ Some s.call))
+  making_both = IsSomeAnd-from (entry_of k m.cluster.entries) (λ e. IsMakingEntry e × (e.making ≡ Some s.call)) entry found (good.state, good.making)
+
   -- its deadline is not reached
   pub in_time : IsInTime m s
   in_time = subst (IsBefore m.cluster.moment) inv.working.1.deadline (inv.working.1.in_time refl)
@@ -117,6 +120,7 @@ module _ (m : Machine) (s : CallState) (call : CallId) (ask : OpenAsk) (deadline
       hand = None;
       holds = record {
         up = inv.up;
+        clients = inv.clients;
         rises = IdentitiesRise-filter _ m.cluster.entries inv.rises;
         up_to = AllUpTo-filter _ m.cluster.last_identity m.cluster.entries inv.up_to;
         swept = AllStay-filter m.cluster.moment _ m.cluster.entries inv.swept;
@@ -209,6 +213,7 @@ module _ (m : Machine) (s : CallState) (call : CallId) (ask : OpenAsk) (deadline
       hand = None;
       holds = record {
         up = inv.up;
+        clients = inv.clients;
         rises = IdentitiesRise-change_key (made_with m.cluster.up ask.client) (λ e. refl) k m.cluster.entries inv.rises;
         up_to = AllUpTo-change_key (made_with m.cluster.up ask.client) (λ e. refl) m.cluster.last_identity k m.cluster.entries inv.up_to;
         swept = swept_finished;
@@ -288,6 +293,7 @@ module _ (m : Machine) (s : CallState) (call : CallId) (ask : OpenAsk) (deadline
       hand = Some (record { state = record s { steps = reserve_done ∷ s.steps }; driver = drivers.Open (making_of reserved) });
       holds = record {
         up = inv.up;
+        clients = inv.clients;
         rises = inv.rises;
         up_to = inv.up_to;
         swept = inv.swept;
@@ -297,8 +303,10 @@ module _ (m : Machine) (s : CallState) (call : CallId) (ask : OpenAsk) (deadline
         working = (
           ap (driver_taken reserve_done) inv.working.0,
           record {
+            caller = inv.working.1.caller;
             client = inv.working.1.client;
             within = inv.working.1.within;
+            node = inv.working.1.node;
             built = inv.working.1.built;
             asks = inv.working.1.asks;
             named = inv.working.1.named;
@@ -325,6 +333,7 @@ module _ (m : Machine) (s : CallState) (call : CallId) (ask : OpenAsk) (deadline
       hand = Some (record { state = record s { steps = memory_done ∷ s.steps }; driver = drivers.Open (making_of refused) });
       holds = record {
         up = inv.up;
+        clients = inv.clients;
         rises = inv.rises;
         up_to = inv.up_to;
         swept = inv.swept;
@@ -334,8 +343,10 @@ module _ (m : Machine) (s : CallState) (call : CallId) (ask : OpenAsk) (deadline
         working = (
           ap (driver_taken memory_done) inv.working.0,
           record {
+            caller = inv.working.1.caller;
             client = inv.working.1.client;
             within = inv.working.1.within;
+            node = inv.working.1.node;
             built = inv.working.1.built;
             asks = inv.working.1.asks;
             named = inv.working.1.named;

@@ -15,7 +15,7 @@ use Rattle.world_core.proofs.LawShrinks.{Shrinks-filter, shrunk, Counts-shrunk}
 moment_set : (m : Machine) (t : ℤ) → InvariantWith None m → InvariantWith None (with_record m (moved t m.cluster))
 moment_set m t inv =
     shrunk m (moved t m.cluster) (Shrinks-filter (stays t) m.cluster.entries inv.rises) refl inv (IdentitiesRise-filter (stays t) m.cluster.entries inv.rises) (AllUpTo-filter (stays t) m.cluster.last_identity m.cluster.entries inv.up_to)
-    (AllStay-swept t m.cluster.entries) refl (λ none. none)
+    (AllStay-swept t m.cluster.entries) refl (λ none. none) (λ live among. among)
 
 -- the moment's setting leaves the invariant
 pub Invariant-moved : (m : Machine) (t : ℤ) → Invariant m → ((a : ActorName) → m.in_hand a ≡ None) → Invariant (with_record m (moved t m.cluster))

@@ -16,7 +16,8 @@ use Rattle.world_core.specs.Driving.{driver_taken}
 use Rattle.world_core.specs.Machine.{Machine, Staged, ReplicaState, CallState}
 use Rattle.world_core.specs.Steps.{Told, opened_state, replica_under, replicas_under, with_record, step_of}
 use Rattle.world_core.specs.Guards.{Row}
-use Rattle.world_core.specs.Runs.{Counts, steps_left}
+use Rattle.world_core.specs.Runs.{Counts}
+use Rattle.world_core.specs.StepsLeft.{steps_left}
 use Rattle.world_core.specs.Invariant.{Working, in_hand_of, IsGoodReplica, IsGoodState, IsGoodEntry, WasMade, Invariant}
 
 -- ---- what is to be shown of a step

@@ -1,6 +1,6 @@
 -- The calls of one step of the record: a close, an unlink, a setting of the retention, and a client that leaves.
 use Rattle.std.proofs.Common.{◌≡◌, ℕ, zero, suc, ◌+◌, ◌-◌, ◌≤◌, inl, inr, List, [], ◌∷◌, filter, Option, Some, None, is_some, Bool, true, false, cond, not, ◌==◌, ℤ, refl, sym, ap, subst, ◌∙◌, arith}
-use Rattle.std.specs.Prelude.{IsSome, slice_index, slice_set}
+use Rattle.std.specs.Prelude.{IsSome, Contains, slice_index, slice_set}
 use Rattle.ckpt_types.specs.declared.ais_error.AisError.{AisError}
 use Rattle.ckpt_types.specs.declared.ais_error.AisError.TheVariants.{NotExist, BadOperation}
 use Rattle.ckpt_types.specs.declared.answers.Answer.TheVariants as answers
@@ -15,6 +15,7 @@ use Rattle.node_msgs.specs.declared.steps.StepReply.TheVariants as words
 use Rattle.client_handles.specs.declared.handle_view.HandleView.{HandleView}
 use Rattle.world_core.specs.declared.drivers.Driver.{Driver}
 use Rattle.world_core.specs.declared.drivers.Driver.TheVariants as drivers
+use Rattle.cluster_record.specs.declared.clients.LiveClient.{LiveClient}
 use Rattle.cluster_record.specs.declared.entries.Entry.{Entry}
 use Rattle.cluster_record.specs.Calls.{client_of, put_actor}
 use Rattle.cluster_record.specs.DueOnce.{close_of, unlink_of, unlink_of_making, retain_of}
@@ -32,7 +33,7 @@ use Rattle.world_core.proofs.LawEnds.{InvariantWith-ended, look_goes}
 use Rattle.world_core.proofs.LawLists.{AllStay-swept}
 use Rattle.world_core.proofs.LawMade.{IsEvent-told}
 use Rattle.world_core.proofs.LawMoves.{Leads, Goes, IsSomeAnd-from, Counts-hands}
-use Rattle.world_core.proofs.LawShrinks.{IsLater, IsLater-refl, Shrinks, Shrinks-trans, Shrinks-filter, Shrinks-change_key, Shrinks-map, shrunk, Counts-shrunk, without_handle-leaves, Counts-without_handle, with_none-leaves, Counts-with_none}
+use Rattle.world_core.proofs.LawShrinks.{IsLater, IsLater-refl, Shrinks, Shrinks-trans, Shrinks-filter, Shrinks-change_key, Shrinks-map, Contains-filter, shrunk, Counts-shrunk, without_handle-leaves, Counts-without_handle, with_none-leaves, Counts-with_none}
 
 -- ---- operations
 
@@ -103,7 +104,7 @@ abbrev ending : CallState → Machine → Machine
 ending s m = record m { in_hand = put_actor m.in_hand s.call.actor None }
 
 module _ (m : Machine) (s : CallState) (d : Driver) (inv : InvariantWith (Some (record { state = s; driver = d })) m) (makes : (k : ℕ) → maker_by s.call k d ≡ None) (owns : (k : ℕ) → slot_by s k d ≡ None)
-    (R : RecordState) (shrinks : Shrinks m.cluster.entries R.entries) (rises : IdentitiesRise R.entries) (up_to : AllUpTo m.cluster.last_identity R.entries) (up : R.up ≡ m.cluster.up) (last : R.last_identity ≡ m.cluster.last_identity) (clients : m.cluster.clients ≡ [] → R.clients ≡ []) where
+    (R : RecordState) (shrinks : Shrinks m.cluster.entries R.entries) (rises : IdentitiesRise R.entries) (up_to : AllUpTo m.cluster.last_identity R.entries) (up : R.up ≡ m.cluster.up) (last : R.last_identity ≡ m.cluster.last_identity) (clients : m.cluster.clients ≡ [] → R.clients ≡ []) (fewer : (live : LiveClient) → Contains R.clients live → Contains m.cluster.clients live) where
   abbrev ended : Machine
   ended = record m { in_hand = put_actor m.in_hand s.call.actor None }
 
@@ -112,7 +113,7 @@ module _ (m : Machine) (s : CallState) (d : Driver) (inv : InvariantWith (Some (
 
   holds_swept : InvariantWith None (with_record ended (swept R))
   holds_swept = shrunk ended (swept R) all_shrinks last (InvariantWith-ended m s d inv makes owns) (IdentitiesRise-filter (stays R.moment) R.entries rises)
-      (subst (λ n. AllUpTo n (filter (stays R.moment) R.entries)) (sym last) (AllUpTo-filter (stays R.moment) m.cluster.last_identity R.entries up_to)) (AllStay-swept R.moment R.entries) up clients
+      (subst (λ n. AllUpTo n (filter (stays R.moment) R.entries)) (sym last) (AllUpTo-filter (stays R.moment) m.cluster.last_identity R.entries up_to)) (AllStay-swept R.moment R.entries) up clients fewer
 
   -- its client's handles are as they were
   leads_swept : Leads m (record (with_record m (swept R)) { in_hand = put_actor m.in_hand s.call.actor None })
@@ -155,7 +156,7 @@ module _ (m : Machine) (s : CallState) (k : ℕ) (inv : InvariantWith (Some (rec
       (Shrinks-change_key (released c m.cluster.moment) (released-identity c m.cluster.moment) (released-later c m.cluster.moment) k m.cluster.entries)
       (IdentitiesRise-change_key (released c m.cluster.moment) (released-identity c m.cluster.moment) k m.cluster.entries inv.rises)
       (AllUpTo-change_key (released c m.cluster.moment) (released-identity c m.cluster.moment) m.cluster.last_identity k m.cluster.entries inv.up_to)
-      refl refl (λ none. none) c o
+      refl refl (λ none. none) (λ live among. among) c o
 
   close_event : (t : Told) (e : Entry) → entry_of k m.cluster.entries ≡ Some e → IsEvent m s events.Close t → Goes m s closing t
   close_event t e found event = elim (IsEvent-told m s events.Close t closing event inv.working.0) [
@@ -222,7 +223,7 @@ module _ (m : Machine) (s : CallState) (name : List ℕ) (inv : InvariantWith (S
         (Shrinks-change_key unnamed (λ f. refl) unnamed-later e.identity m.cluster.entries)
         (IdentitiesRise-change_key unnamed (λ f. refl) e.identity m.cluster.entries inv.rises)
         (AllUpTo-change_key unnamed (λ f. refl) m.cluster.last_identity e.identity m.cluster.entries inv.up_to)
-        refl refl (λ none. none)
+        refl refl (λ none. none) (λ live among. among)
 
     unlink_event : (t : Told) → IsEvent m s events.Unlink t → Goes m s unlinking t
     unlink_event t event = elim (IsEvent-told m s events.Unlink t unlinking event inv.working.0) [
@@ -264,7 +265,7 @@ module _ (m : Machine) (s : CallState) (k : ℕ) (duration : ℤ) (inv : Invaria
       (Shrinks-change_key (retaining duration) (λ f. refl) (retaining-later duration) k m.cluster.entries)
       (IdentitiesRise-change_key (retaining duration) (λ f. refl) k m.cluster.entries inv.rises)
       (AllUpTo-change_key (retaining duration) (λ f. refl) m.cluster.last_identity k m.cluster.entries inv.up_to)
-      refl refl (λ none. none)
+      refl refl (λ none. none) (λ live among. among)
 
   retain_event : (t : Told) (e : Entry) → entry_of k m.cluster.entries ≡ Some e → is_some e.name ≡ true → IsEvent m s events.Retain t → Goes m s setting t
   retain_event t e found has event = elim (IsEvent-told m s events.Retain t setting event inv.working.0) [
@@ -312,7 +313,7 @@ module _ (m : Machine) (s : CallState) (inv : InvariantWith (Some (record { stat
       (Shrinks-map (released_all leaver m.cluster.moment) (released_all-identity leaver m.cluster.moment) (released_all-later leaver m.cluster.moment) (filter others_made m.cluster.entries)))
       (IdentitiesRise-map (released_all leaver m.cluster.moment) (released_all-identity leaver m.cluster.moment) (filter others_made m.cluster.entries) (IdentitiesRise-filter others_made m.cluster.entries inv.rises))
       (AllUpTo-map (released_all leaver m.cluster.moment) (released_all-identity leaver m.cluster.moment) m.cluster.last_identity (filter others_made m.cluster.entries) (AllUpTo-filter others_made m.cluster.last_identity m.cluster.entries inv.up_to))
-      refl refl (λ none. ap (filter (λ live. not (client_key live == leaver))) none) leaver
+      refl refl (λ none. ap (filter (λ live. not (client_key live == leaver))) none) (λ live. Contains-filter _ m.cluster.clients live) leaver
 
   -- the next step of a Finalize
   pub leave_goes : (t : Told) → IsDone m s (Event events.Leave) t → Goes m s drivers.Leave t

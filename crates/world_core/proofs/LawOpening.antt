@@ -37,7 +37,7 @@ use Rattle.cluster_record.specs.LookUps.{at_ckpt, identity_in}
 use Rattle.world_core.specs.Machine.{Machine, CallState}
 use Rattle.world_core.specs.Steps.{Told, IsDone, IsEvent, driver_of, room_of, with_record, with_opened, with_handle_at, new_handle, replicas_under, stepped}
 use Rattle.world_core.specs.Guards.{IsInTime, MayCreate, CreateRow, CanOpen, MayOpen, OpenRow, MayExist, IsAccepted, OpenLook, LookRefused}
-use Rattle.world_core.specs.Runs.{steps_left, lacking}
+use Rattle.world_core.specs.StepsLeft.{steps_left, lacking}
 use Rattle.world_core.specs.Invariant.{maker_by, IsGoodEntry, WasMade, OpensAs, AreGoodAttributes, AllStay, InvariantWith}
 use Rattle.world_core.proofs.Deadlines.{in_time-cases}
 use Rattle.cluster_record.proofs.IdentityLaws.{entry_of-beyond, entry_of-find, AllUpTo-change_key, IdentitiesRise-change_key, AllUpTo-push, IdentitiesRise-push}
@@ -136,6 +136,7 @@ module _ (m : Machine) (s : CallState) (call : CallId) (ask : OpenAsk) (deadline
         hand = Some (record { state = record s { steps = create_done ∷ s.steps }; driver = drivers.Open making });
         holds = record {
           up = inv.up;
+          clients = inv.clients;
           rises = IdentitiesRise-push m.cluster.last_identity m.cluster.entries new inv.rises inv.up_to (omega arith);
           up_to = AllUpTo-push m.cluster.last_identity m.cluster.entries new inv.up_to refl;
           swept = AllStay-push m.cluster.moment m.cluster.entries new inv.swept refl;
@@ -148,8 +149,10 @@ module _ (m : Machine) (s : CallState) (call : CallId) (ask : OpenAsk) (deadline
           working = (
             ap (driver_taken create_done) inv.working.0,
             record {
+              caller = inv.working.1.caller;
               client = inv.working.1.client;
               within = inv.working.1.within;
+              node = inv.working.1.node;
               built = inv.working.1.built;
               asks = inv.working.1.asks;
               named = inv.working.1.named;
@@ -253,6 +256,7 @@ module _ (m : Machine) (s : CallState) (call : CallId) (ask : OpenAsk) (deadline
         hand = None;
         holds = record {
           up = inv.up;
+          clients = inv.clients;
           rises = IdentitiesRise-change_key (referred ask.client) (λ f. refl) e.identity m.cluster.entries inv.rises;
           up_to = AllUpTo-change_key (referred ask.client) (λ f. refl) m.cluster.last_identity e.identity m.cluster.entries inv.up_to;
           swept = swept_opened;

@@ -1,12 +1,14 @@
 -- A step of the record that takes entries away, and changes in the others nothing but names, references, retentions and last closes; and a client with fewer handles.
-use Rattle.std.proofs.Common.{◌≡◌, ℕ, ◌+◌, ◌≤◌, inl, inr, List, [], ◌∷◌, filter, map, Option, Some, None, Bool, true, false, cond, ◌==◌, refl, sym, ap, subst, ◌∙◌, arith}
+use Rattle.std.proofs.Common.{◌≡◌, ℕ, ◌+◌, ◌≤◌, inl, inr, List, [], ◌∷◌, filter, map, Option, Some, None, Bool, true, false, cond, not, ◌&&◌, ◌==◌, nat_lt, refl, sym, ap, subst, ◌∙◌, arith}
 use Rattle.std.specs.Prelude.{IfSome, IsSomeAnd, Contains, slice_index}
 use Rattle.std.proofs.lemmas.Bool.{eqb-true}
 use Rattle.std.proofs.lemmas.List.Elements.{Contains-append_left, Contains-append_right, Contains-append_cases}
 use Rattle.std.proofs.lemmas.Option.{same_Some}
+use Rattle.ckpt_types.specs.Limits.{nodes_max}
 use Rattle.client_handles.specs.ClientState.{handle_number, goes_over}
 use Rattle.client_handles.specs.Numbered.{without}
 use Rattle.client_handles.specs.declared.handle_view.HandleView.{HandleView}
+use Rattle.cluster_record.specs.declared.clients.LiveClient.{LiveClient}
 use Rattle.cluster_record.specs.declared.entries.Entry.{Entry}
 use Rattle.cluster_record.specs.Identities.{IdentitiesRise, AllUpTo}
 use Rattle.cluster_record.specs.Places.{change_key, put}
@@ -105,9 +107,10 @@ module _ (m : Machine) (R : RecordState) (shrinks : Shrinks m.cluster.entries R.
       })
 
   -- with no call in hand the invariant holds still
-  pub shrunk : InvariantWith None m → IdentitiesRise R.entries → AllUpTo R.last_identity R.entries → AllStay R.moment R.entries → R.up ≡ m.cluster.up → (m.cluster.clients ≡ [] → R.clients ≡ []) → InvariantWith None (with_record m R)
-  shrunk inv rises up_to stay up clients = record {
+  pub shrunk : InvariantWith None m → IdentitiesRise R.entries → AllUpTo R.last_identity R.entries → AllStay R.moment R.entries → R.up ≡ m.cluster.up → (m.cluster.clients ≡ [] → R.clients ≡ []) → ((live : LiveClient) → Contains R.clients live → Contains m.cluster.clients live) → InvariantWith None (with_record m R)
+  shrunk inv rises up_to stay up clients fewer = record {
     up = elim inv.up [ inl none ↦ inl (up ∙ none.0, clients none.1) | inr first ↦ inr (up ∙ first) ];
+    clients = λ live among. subst (λ (us : List ℕ). (nat_lt live.node nodes_max && not (slice_index us live.node == 0)) ≡ true) (sym up) (inv.clients live (fewer live among));
     rises = rises;
     up_to = up_to;
     swept = stay;
@@ -127,7 +130,7 @@ module _ (m : Machine) (R : RecordState) (shrinks : Shrinks m.cluster.entries R.
 -- ---- fewer handles
 
 -- what is in a list without some is in the list
-Contains-filter : (p : HandleView → Bool) (handles : List HandleView) (h : HandleView) → Contains (filter p handles) h → Contains handles h
+pub Contains-filter : {X : Type 0} (p : X → Bool) (xs : List X) (h : X) → Contains (filter p xs) h → Contains xs h
 Contains-filter p [] h among = among
 Contains-filter p (x ∷ xs) h among = elim (p x) as (λ b. Contains (cond b (x ∷ filter p xs) (filter p xs)) h → Contains (x ∷ xs) h) [
   | true ↦ λ among. elim (Contains-append_cases (x ∷ []) (filter p xs) h among) [ inl here ↦ Contains-append_left (x ∷ []) xs h here | inr there ↦ Contains-append_right (x ∷ []) xs h (Contains-filter p xs h there) ]
@@ -146,6 +149,7 @@ module _ (m : Machine) (c : ℕ) (fewer : List HandleView) (table : IterationTab
   leaves_fewer : InvariantWith None m → InvariantWith None with_fewer
   leaves_fewer inv = record {
     up = inv.up;
+    clients = inv.clients;
     rises = inv.rises;
     up_to = inv.up_to;
     swept = inv.swept;

@@ -28,7 +28,7 @@ use Rattle.cluster_record.specs.DueUpdate.{commit_end, update_on, by_phase, kept
 use Rattle.world_core.specs.Machine.{Machine, Staged, ReplicaState, CallState}
 use Rattle.world_core.specs.Steps.{Told, ended_pieces, IsDone, IsServed, seen_slot, seen_at, staged_moment, with_slot, with_committed, effect_of, committed_slot, change_replica, stepped}
 use Rattle.world_core.specs.Guards.{OnEach, StageOk, StageRefused, StageRow, CommitOk, CommitRow, IfSlot, HasSlotOrEffect, owns_slot, owned_elsewhere, GoneLook, LookRefused}
-use Rattle.world_core.specs.Runs.{steps_left, lacking, having}
+use Rattle.world_core.specs.StepsLeft.{steps_left, lacking, having}
 use Rattle.world_core.specs.Invariant.{slot_by, IsMadeEntry, IsGoodEntry, InvariantWith, IsUpdateOf}
 use Rattle.world_core.proofs.LawMoves.{Leads, Goes, in_hand_of-going, in_hand_of-ended, IfSome-there}
 use Rattle.world_core.proofs.LawEnds.{OfUpdate-is, no_slot, IsGoodEntry-as, Leads-ended, look_goes}
@@ -130,6 +130,7 @@ module _ (m : Machine) (s : CallState) (k : ℕ) (t : ℤ) (inv : InvariantWith 
       hand = Some (record { state = record s { steps = stage_done ∷ s.steps }; driver = drivers.Update (staged_there s.call k m.cluster.moment) });
       holds = record {
         up = inv.up;
+        clients = inv.clients;
         rises = inv.rises;
         up_to = inv.up_to;
         swept = inv.swept;
@@ -222,6 +223,7 @@ module _ (m : Machine) (s : CallState) (k : ℕ) (t : ℤ) (inv : InvariantWith 
       hand = None;
       holds = record {
         up = inv.up;
+        clients = inv.clients;
         rises = inv.rises;
         up_to = inv.up_to;
         swept = inv.swept;

@@ -11,6 +11,7 @@ pub mod Going
 pub mod GoingOn
 pub mod Handles
 pub mod Held
+pub mod HoldingLaws
 pub mod IterationSteps
 pub mod Law
 pub mod LawActive
@@ -32,16 +33,17 @@ pub mod Look
 pub mod Maps
 pub mod Moving
 pub mod New
+pub mod OnceByKey
 pub mod Openers
 pub mod Openings
 pub mod Pieces
+pub mod PlainRequests
 pub mod Readiness
 pub mod RecordEvent
 pub mod RecordSteps
 pub mod Recording
 pub mod Refusing
 pub mod Reserve
-pub mod Rows
 pub mod Running
 pub mod Serve
 pub mod Stepping

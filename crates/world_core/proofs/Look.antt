@@ -64,7 +64,7 @@ module _ (w : World) (h : History) (c : ℕ) (o : Outcome) (hand : InHand) (fact
   closes =
       (λ i. without_handle m (number_of (actor i)) (handle_in m (number_of (actor i)) (closed_place hand.op)))
       ∙ closed_is w h c (closed_place hand.op) (λ t table. subst (λ hs. handle_numbered 0 hs ≡ None) (ap handles_in table) (none_has_zero (handles_in (slice_get w.tables c)) (facts.numbered c)))
-      (λ p is. (facts.closes (Client c) s p (in_hand_is w h c hand held) is).1)
+      (λ p. facts.closes (Client c) s p (in_hand_is w h c hand held))
 
   move : (end : Outcome) → changed m s verbs.Look None None (look_word end) ≡ machine_of (record w { tables = looked end c hand.op w.tables }) h
   move (Done answer) = closes
@@ -79,7 +79,7 @@ module _ (w : World) (h : History) (c : ℕ) (o : Outcome) (hand : InHand) (fact
       ∙ (λ i. record (machine_of (look_world w c hand o) later) { in_hand = λ a. hands a i })))
 
   fits_later : Fits (look_world w c hand o) later
-  fits_later = record { replicas = fits.replicas; reserved = fits.reserved; fresh = fits.fresh; hands = fits_hand h w.hands c hand None [] held tt fits.hands }
+  fits_later = record { replicas = fits.replicas; hands = fits_hand h w.hands c hand None [] held tt fits.hands }
 
 module _ (w : World) (c : ℕ) (o : Outcome) (hand : InHand) (held : hand_at w.hands c ≡ Some hand) (next : driver_next w.cluster (rooms_in w c) hand.driver ≡ End o) where
   look_does : Does w (look_world w c hand o) (look_label hand o)
@@ -89,6 +89,7 @@ module _ (w : World) (c : ℕ) (o : Outcome) (hand : InHand) (held : hand_at w.h
       history = later w s.history c o hand facts s.fits held next;
       same = ap (λ m. after m (look_label hand o)) s.same ∙ after_is w s.history c o hand facts s.fits held next;
       fits = fits_later w s.history c o hand facts s.fits held next;
+      holds = s.holds;
     };
   }
 
@@ -97,10 +98,3 @@ module _ (w : World) (c : ℕ) (o : Outcome) (hand : InHand) (held : hand_at w.h
       Does w (record w { tables = tables; hands = hands }) (Stepped hand.call op verbs.Look None None reply (Some o) None)
   look_done tables hands op reply tables_are hands_is op_is reply_is =
       subst (λ (y : List TableState × List (Option InHand) × OpWord × StepReply). Does w (record w { tables = y.0; hands = y.1 }) (Stepped hand.call y.2 verbs.Look None None y.3 (Some o) None)) (λ i. (sym tables_are i, sym hands_is i, sym op_is i, sym reply_is i)) look_does
-
-  -- the place that the call closes is one of 100
-  pub look_within : IsShown w → IfSome (closed_place hand.op) (λ p. p < 100)
-  look_within shown = by_place (closed_place hand.op) refl where
-    by_place : (o : Option ℕ) → closed_place hand.op ≡ o → IfSome o (λ p. p < 100)
-    by_place None is = tt
-    by_place (Some p) is = ((subst Facts shown.shows.same shown.facts).closes (Client c) (state_in shown.shows.history c hand) p (in_hand_is w shown.shows.history c hand held) is).0

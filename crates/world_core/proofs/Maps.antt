@@ -20,7 +20,7 @@ use Rattle.world_core.specs.Serving.{replica_key, replica_in, replica_after, com
 use Rattle.cluster_record.specs.StepDone.{StepDone}
 use Rattle.world_core.specs.Driving.{Kept}
 use Rattle.world_core.specs.Machine.{Effect}
-use Rattle.world_core.specs.Shows.{History, shown_replica, shown_reservation, shown_hand, where_complete, where_not_complete, complete_replica, reserved_in, hand_at, hand_of, FitsReplica, FitsReserved, FitsHand}
+use Rattle.world_core.specs.Shows.{History, shown_replica, shown_reservation, shown_hand, where_complete, where_not_complete, complete_replica, reserved_in, hand_at, hand_of, FitsReplica, FitsHand}
 use Rattle.cluster_record.proofs.Places.{find_changed, get_set}
 
 -- ---- tests of places
@@ -55,7 +55,7 @@ node_case false true y f xs new o s e = e ∙ ap f (sym (s refl))
 node_case true false y f xs new o s e = refl
 node_case false false y f xs new o s e = refl
 
-after_key : (request : Request) (op : Op) (x : Replica) → replica_key (replica_after request op x) ≡ replica_key x
+pub after_key : (request : Request) (op : Op) (x : Replica) → replica_key (replica_after request op x) ≡ replica_key x
 after_key (Commit call k) op x = by_slot x.slot where
   by_slot : (o : Option Slot) → replica_key (committed x o) ≡ replica_key x
   by_slot None = refl
@@ -116,7 +116,7 @@ fits_replica R effects old new k r E x same one all j q =
     subst (FitsReplica j (entry_of j R.entries) (put2 effects k r E j q)) (sym (same j q))
     (fits_case ((j == k) && (q == r)) k j (entry_of k R.entries) (entry_of j R.entries) E (effects j q) x (old j q) (λ e. let s = (both_true j k q r e).0 in (s, ap (λ j. entry_of j R.entries) s)) one (all j q))
 
--- ---- the reservations: a complete node has none, and needs none
+-- ---- the reservations: a complete node has none
 
 reservation_case : (u : ℕ) (b : Bool) (y x : Replica) (o : Option Replica) → (b ≡ true → o ≡ Some x) → shown_reservation u (cond b (Some y) o) ≡ shown_reservation u o
 reservation_case u true y x o s = sym (ap (shown_reservation u) (s refl))
@@ -128,32 +128,6 @@ pub reserved_same : (R : RecordState) (nodes new : List (List Replica)) (k r : �
 reserved_same R nodes new k r y x is at j q =
     let there = λ (e : ((j == k) && (q == r)) ≡ true). let s = both_true j k q r e in ap (λ (z : ℕ × ℕ). replica_in nodes z.0 z.1) (λ i. (s.0 i, s.1 i)) ∙ is in
     ap (where_not_complete (entry_of j R.entries) q) (sym (reservation_case (slice_index R.up q) ((j == k) && (q == r)) y x (replica_in nodes j q) there) ∙ ap (shown_reservation (slice_index R.up q)) (sym (at j q)))
-
--- a complete node has reserved nothing
-pub none_reserved : (k : ℕ) (e : Option Entry) (r : ℕ) (x : Option Replica) → (slice_index (complete_of e) r == 0) ≡ false → FitsReserved k e r x
-none_reserved k None r x h = tt
-none_reserved k (Some e) r x h = λ z. absurd (false≢true (sym h ∙ ap (λ n. n == 0) z))
-
-pub fits_reserved_case : (b : Bool) (k : ℕ) (e : Option Entry) (r : ℕ) (x : Replica) (o : Option Replica) → (b ≡ true → FitsReserved k e r (Some x)) → FitsReserved k e r o → FitsReserved k e r (cond b (Some x) o)
-fits_reserved_case true k e r x o h g = h refl
-fits_reserved_case false k e r x o h g = g
-
--- what is reserved still fits where a complete node has another replica
-pub fits_reserved : (R : RecordState) (nodes new : List (List Replica)) (k r : ℕ) (x : Replica) → ((j q : ℕ) → replica_in new j q ≡ cond ((j == k) && (q == r)) (Some x) (replica_in nodes j q)) → (slice_index (complete_of (entry_of k R.entries)) r == 0) ≡ false →
-    ((j q : ℕ) → FitsReserved j (entry_of j R.entries) q (replica_in nodes j q)) → (j q : ℕ) → FitsReserved j (entry_of j R.entries) q (replica_in new j q)
-fits_reserved R nodes new k r x at complete all j q =
-    subst (FitsReserved j (entry_of j R.entries) q) (sym (at j q))
-    (fits_reserved_case ((j == k) && (q == r)) j (entry_of j R.entries) q x (replica_in nodes j q) (λ e. none_reserved j (entry_of j R.entries) q (Some x) (complete_there R k r j q complete e)) (all j q))
-
-fresh_case : (b : Bool) (x : Replica) (o : Option Replica) → (b ≡ true → ⊥) → o ≡ None → cond b (Some x) o ≡ None
-fresh_case true x o never none = absurd (never refl)
-fresh_case false x o never none = none
-
--- of checkpoints above the last no node has a replica, where the one that is put is not above
-pub fits_fresh : (last : ℕ) (nodes new : List (List Replica)) (k r : ℕ) (x : Replica) → ((j q : ℕ) → replica_in new j q ≡ cond ((j == k) && (q == r)) (Some x) (replica_in nodes j q)) → (last < k → ⊥) → ((j q : ℕ) → last < j → replica_in nodes j q ≡ None) →
-    (j q : ℕ) → last < j → replica_in new j q ≡ None
-fits_fresh last nodes new k r x at there all j q above =
-    at j q ∙ fresh_case ((j == k) && (q == r)) x (replica_in nodes j q) (λ e. let s : j ≡ k = (both_true j k q r e).0 in there (omega (arith, above, s))) (all j q above)
 
 -- ---- the calls in hand
 

@@ -31,28 +31,32 @@ use Rattle.world_core.specs.Freeing.{freed}
 use Rattle.world_core.specs.Happenings.{SetsMoment}
 use Rattle.world_core.specs.Runs.{Answers, AnswersBegin, AnswersStep, hand_of_actor, moment_of}
 use Rattle.cluster_record.proofs.IdentityLaws.{filter_leaves}
-use Rattle.world_core.proofs.Freeing.{does_freed}
+use Rattle.world_core.proofs.Freeing.{DoesBefore, does_freed, holds_freed}
 use Rattle.world_core.proofs.Going.{goes_same, goes_left, event_keeps}
 use Rattle.world_core.proofs.Recording.{GoesAt, with_effects, record_is, record_fits}
 
 -- ---- the moment is set
 
 -- each entry is left as it was, or swept away
-moved_goes : (w : World) (h : History) (t : ℤ) → Facts (machine_of w h) → (k r : ℕ) → GoesAt k (entry_of k w.cluster.entries) (entry_of k (moved t w.cluster).entries) r (replica_in w.nodes k r)
+moved_goes : (w : World) (h : History) (t : ℤ) → Facts (machine_of w h) → (k r : ℕ) → GoesAt w.cluster.up k (entry_of k w.cluster.entries) (entry_of k (moved t w.cluster).entries) r (replica_in w.nodes k r)
 moved_goes w h t facts k r =
     let entries = w.cluster.entries in
-    goes_left k (entry_of k entries) (entry_of k entries) (entry_of k (filter (stays t) entries)) r (replica_in w.nodes k r) (goes_same k (entry_of k entries) r (replica_in w.nodes k r)) (filter_leaves (stays t) entries facts.rises k)
+    goes_left w.cluster.up k (entry_of k entries) (entry_of k entries) (entry_of k (filter (stays t) entries)) r (replica_in w.nodes k r) (goes_same w.cluster.up k (entry_of k entries) r (replica_in w.nodes k r)) (filter_leaves (stays t) entries facts.rises k)
 
--- a world whose record is at another moment, and swept
-moved_done : (w : World) (t : ℤ) (R : RecordState) → IsMomentFrom w.cluster.moment t → R ≡ moved t w.cluster → Does w (record w { cluster = R }) (labels.Moved t)
-moved_done w t R may R_is = subst (λ (R : RecordState). Does w (record w { cluster = R }) (labels.Moved t)) (sym R_is) (record {
+-- a world whose record is at another moment, and swept, before the nodes are freed
+moved_before : (w : World) (t : ℤ) → IsMomentFrom w.cluster.moment t → DoesBefore w (record w { cluster = moved t w.cluster }) (labels.Moved t)
+moved_before w t may = record {
   due_is = λ m s f. subst (λ (m : Machine). IsMomentFrom m.cluster.moment t) (sym s.same) may;
-  shows = λ m s f. let facts = subst Facts s.same f in record {
-    history = with_effects w s.history;
-    same = ap (λ m. after m (labels.Moved t)) s.same ∙ record_is w s.history (moved t w.cluster) (moved_goes w s.history t facts) refl;
-    fits = record_fits w s.history (moved t w.cluster) (moved_goes w s.history t facts) refl (omega arith) s.fits;
-  };
-})
+  history = λ m s f. with_effects w s.history;
+  same = λ m s f. ap (λ m. after m (labels.Moved t)) s.same ∙ record_is w s.history (moved t w.cluster) (moved_goes w s.history t (subst Facts s.same f)) refl;
+  fits = λ m s f. record_fits w s.history (moved t w.cluster) (moved_goes w s.history t (subst Facts s.same f)) refl s.fits;
+}
+
+-- and behind that
+moved_done : (w : World) (t : ℤ) (R : RecordState) → IsMomentFrom w.cluster.moment t → R ≡ moved t w.cluster → Does w (record w { cluster = R; nodes = freed R.entries w.nodes }) (labels.Moved t)
+moved_done w t R may R_is = subst (λ (R : RecordState). Does w (record w { cluster = R; nodes = freed R.entries w.nodes }) (labels.Moved t)) (sym R_is)
+    (does_freed w (record w { cluster = moved t w.cluster }) (labels.Moved t) (moved_before w t may)
+    (λ m s f. holds_freed w.cluster (moved t w.cluster) w.nodes s.holds refl (moved_goes w s.history t (subst Facts s.same f))))
 
 -- the moment is set, and the nodes are freed of what is gone, with the label as the code names it
 pub sets_moment : (w : World) (t u : ℤ) (R : RecordState) (nodes : List (List Replica)) → u ≡ t → IsMomentFrom w.cluster.moment t → R ≡ moved u w.cluster → nodes ≡ freed R.entries w.nodes → SetsMoment t w (record w { cluster = R; nodes = nodes }) (labels.Moved u)
@@ -60,7 +64,7 @@ sets_moment w t u R nodes same may R_is nodes_are = record {
   label_is = ap labels.Moved same;
   hands = refl;
   does = subst (λ (nodes : List (List Replica)). Does w (record w { cluster = R; nodes = nodes }) (labels.Moved u)) (sym nodes_are)
-      (does_freed w (record w { cluster = R }) (labels.Moved u) (moved_done w u R (subst (IsMomentFrom w.cluster.moment) (sym same) may) R_is));
+      (moved_done w u R (subst (IsMomentFrom w.cluster.moment) (sym same) may) R_is);
 }
 
 -- ---- the moment after a label

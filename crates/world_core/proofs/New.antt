@@ -1,6 +1,6 @@
 -- A new world shows the empty cluster.
-use Rattle.std.proofs.Common.{◌≡◌, ℕ, zero, suc, [], refl, sym, ap, subst, ◌∙◌}
-use Rattle.std.specs.Prelude.{Option, Some, None, replicate, slice_get, slice_index, pos}
+use Rattle.std.proofs.Common.{◌≡◌, ℕ, [], refl, sym, ap, subst, ◌∙◌}
+use Rattle.std.specs.Prelude.{Option, Some, None, slice_get, slice_index, pos}
 use Rattle.ckpt_types.specs.declared.identities.ActorName.{ActorName}
 use Rattle.ckpt_types.specs.declared.identities.ActorName.TheVariants.{Client, Node}
 use Rattle.client_handles.specs.ClientState.{ClientState, new_client}
@@ -10,24 +10,13 @@ use Rattle.world_core.specs.TableState.{TableState}
 use Rattle.world_core.specs.NewTable.{no_callbacks}
 use Rattle.world_core.specs.Serving.{replica_in}
 use Rattle.world_core.specs.Machine.{empty_cluster, no_iterations}
-use Rattle.world_core.specs.Shows.{History, Shows, Fits, FitsReplica, FitsReserved, FitsHand, machine_of, complete_replica, handles_in, hand_of, last_in, next_of, numbered, place_in, reserved_in, shown_hand, shown_replica, where_complete, iterations_of, iterations_in}
+use Rattle.world_core.specs.Shows.{History, Shows, Fits, FitsReplica, FitsHand, machine_of, complete_replica, handles_in, hand_of, last_in, next_of, numbered, place_in, reserved_in, shown_hand, shown_replica, where_complete, iterations_of, iterations_in}
 use Rattle.world_core.specs.Invariant.{Invariant}
 use Rattle.world_core.specs.Runs.{IsNew, IsRunTo}
+use Rattle.world_core.proofs.HoldingLaws.{nothing_held}
 use Rattle.world_core.proofs.Law.{counts_empty}
 use Rattle.world_core.proofs.Openings.{slice_index-replicate}
 use Rattle.world_core.proofs.Recording.{zero_there}
-
--- nodes without replicas have none
-none_there : (k r : ℕ) → replica_in (replicate 8 []) k r ≡ None
-none_there k zero = refl
-none_there k (suc zero) = refl
-none_there k (suc (suc zero)) = refl
-none_there k (suc (suc (suc zero))) = refl
-none_there k (suc (suc (suc (suc zero)))) = refl
-none_there k (suc (suc (suc (suc (suc zero))))) = refl
-none_there k (suc (suc (suc (suc (suc (suc zero)))))) = refl
-none_there k (suc (suc (suc (suc (suc (suc (suc zero))))))) = refl
-none_there k (suc (suc (suc (suc (suc (suc (suc (suc r)))))))) = refl
 
 abbrev nothing : History
 nothing = record {
@@ -87,14 +76,12 @@ module _ (w : World) (new : IsNew w) where
   fits_nothing : Fits w nothing
   fits_nothing = record {
     replicas = λ k r. subst (FitsReplica k (entry_of k w.cluster.entries) []) (sym (no_replica k r)) tt;
-    reserved = λ k r. subst (λ (R : RecordState). FitsReserved k (entry_of k R.entries) r (replica_in w.nodes k r)) (sym new.cluster) tt;
-    fresh = λ k r above. ap (λ nodes. replica_in nodes k r) new.nodes ∙ none_there k r;
     hands = λ c. subst (FitsHand (record { ckpt = None; sections = 0; node = 0; moment = pos 0 }) []) (sym (new.hands c)) tt;
   }
 
   -- a new world shows the empty cluster
   pub new_shows : Shows w empty_cluster
-  new_shows = record { history = nothing; same = shows_nothing; fits = fits_nothing }
+  new_shows = record { history = nothing; same = shows_nothing; fits = fits_nothing; holds = nothing_held w.cluster w.nodes new.nodes }
 
 -- no label yet is a run to it, where the invariant holds of the empty cluster
 pub new_run : (w : World) → Invariant empty_cluster → IsNew w → IsRunTo w []

@@ -115,7 +115,7 @@ module _ (w : World) (c : ℕ) (hand : InHand) (held : hand_at w.hands c ≡ Som
   pub asks_for : (o : OpenState) → hand.driver ≡ drivers.Open o → o.ask.client ≡ c
   asks_for o is = (opener_is o is).client ∙ ap number_of (actor_is w shown.shows.history c hand held (subst Facts shown.shows.same shown.facts))
 
-  place_of : (step : RecordStep) (x : Driver) → GivesHandle step → EventNeeds w.cluster x step → Opens hand.call hand.op x → IsSomeAnd (opened_place hand.op) (λ p. Unit {0})
+  place_of : (step : RecordStep) (x : Driver) → GivesHandle step → EventNeeds hand.call w.cluster x step → Opens hand.call hand.op x → IsSomeAnd (opened_place hand.op) (λ p. Unit {0})
   place_of events.Open (drivers.Open o) gives needs opens = opens.place
   place_of events.Finish (drivers.Open o) gives needs opens = opens.place
   place_of events.Open x gives needs opens = absurd needs
@@ -123,22 +123,22 @@ module _ (w : World) (c : ℕ) (hand : InHand) (held : hand_at w.hands c ≡ Som
   place_of step x gives needs opens = absurd gives
 
   -- where a step gives a handle, the operation names the place for it
-  pub place_there : (step : RecordStep) → GivesHandle step → EventNeeds w.cluster hand.driver step → IsSomeAnd (opened_place hand.op) (λ p. Unit {0})
+  pub place_there : (step : RecordStep) → GivesHandle step → EventNeeds hand.call w.cluster hand.driver step → IsSomeAnd (opened_place hand.op) (λ p. Unit {0})
   place_there step gives needs = place_of step hand.driver gives needs opens_hand
 
 -- and there is the checkpoint that it is for
-pub ckpt_there : (R : RecordState) (step : RecordStep) (x : Driver) → GivesHandle step → EventNeeds R x step → IsSomeAnd (event_ckpt R x step) (λ k. Unit {0})
-ckpt_there R events.Open (drivers.Open o) gives needs = by_name (named o.ask.name R.entries) needs.0 where
+pub ckpt_there : (call : CallId) (R : RecordState) (step : RecordStep) (x : Driver) → GivesHandle step → EventNeeds call R x step → IsSomeAnd (event_ckpt R x step) (λ k. Unit {0})
+ckpt_there call R events.Open (drivers.Open o) gives needs = by_name (named o.ask.name R.entries) needs.0 where
   by_name : (e : Option Entry) → IsSomeAnd e (λ e. (e.making ≡ None) × (accepts o.ask.attrs e ≡ true)) → IsSomeAnd (identity_in e) (λ k. Unit {0})
   by_name None h = absurd h
   by_name (Some e) h = tt
-ckpt_there R events.Finish (drivers.Open o) gives needs = by_making o.making needs.0 where
+ckpt_there call R events.Finish (drivers.Open o) gives needs = by_making o.making needs.0 where
   by_making : (m : Option Making) → IsSomeAnd m (λ making. IsSomeAnd (entry_of making.ckpt R.entries) (λ e. Unit {0})) → IsSomeAnd (making_ckpt m) (λ k. Unit {0})
   by_making None h = absurd h
   by_making (Some m) h = tt
-ckpt_there R events.Open x gives needs = absurd needs
-ckpt_there R events.Finish x gives needs = absurd needs
-ckpt_there R step x gives needs = absurd gives
+ckpt_there call R events.Open x gives needs = absurd needs
+ckpt_there call R events.Finish x gives needs = absurd needs
+ckpt_there call R step x gives needs = absurd gives
 
 -- the place that an operation that is built names is one of 100
 pub place_within : (op : Op) (place : ℕ) → IsBuilt op → opened_place op ≡ Some place → place < 100

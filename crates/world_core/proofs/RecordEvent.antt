@@ -1,9 +1,11 @@
 -- A step of the record, whatever the step: done, or refused the memory that it takes.
 use Rattle.std.proofs.Common.{◌≡◌, inl, inr, ℕ, ◌<◌, ◌≤◌, true, List, length, refl, sym, ap, subst, ◌∙◌}
-use Rattle.std.specs.Prelude.{Option, Some, None, IsSome, IsSomeAnd, IsTrue, slice_get, slice_set, slice_index}
+use Rattle.std.specs.Prelude.{Option, Some, None, IsSome, IsSomeAnd, IsTrue, pos, ◌≤ℤ◌, slice_get, slice_set, slice_index}
 use Rattle.ckpt_types.specs.declared.answers.Outcome.{Outcome}
 use Rattle.ckpt_types.specs.declared.answers.Outcome.TheVariants.{NoMemory}
 use Rattle.ckpt_types.specs.declared.identities.ActorName.TheVariants.{Client}
+use Rattle.ckpt_types.specs.declared.identities.CallId.{CallId}
+use Rattle.ckpt_types.specs.Limits.{clients_max, checkpoints_max}
 use Rattle.node_msgs.specs.declared.next.RecordStep.{RecordStep}
 use Rattle.node_msgs.specs.declared.next.RecordStep.TheVariants as events
 use Rattle.node_msgs.specs.declared.next.Next.{Next}
@@ -24,7 +26,8 @@ use Rattle.cluster_record.specs.declared.entries.Entry.{Entry}
 use Rattle.world_core.specs.declared.replica.Replica.{Replica}
 use Rattle.world_core.specs.declared.world.World.{World}
 use Rattle.client_handles.specs.ClientState.{handle_numbered}
-use Rattle.cluster_record.specs.Calls.{number_of, client_of, left}
+use Rattle.cluster_record.specs.Calls.{IsClient, number_of, client_of, left}
+use Rattle.cluster_record.specs.RecordReady.{CanBecomeLive, CanOpen}
 use Rattle.cluster_record.specs.RecordState.{RecordState, entry_of, named}
 use Rattle.world_core.specs.TableState.{TableState, with_handle}
 use Rattle.world_core.specs.TableState as tables
@@ -37,16 +40,18 @@ use Rattle.world_core.specs.Steps.{IsDue, IsDone, after, changed, driver_of, eve
 use Rattle.cluster_record.specs.LookUps.{creation_flags_of}
 use Rattle.world_core.specs.HandSteps.{hand_taken}
 use Rattle.world_core.specs.Freeing.{freed}
+use Rattle.world_core.specs.Holding.{HoldsOnlyWhatStands}
+use Rattle.world_core.specs.Serving.{replica_in}
 use Rattle.world_core.specs.Happenings.{rooms_in}
 use Rattle.world_core.specs.Settling.{changed_at, at_client, given, closed_at, settled, CanGive, CanSettle, HasPlaces}
 use Rattle.world_core.specs.Shows.{Does, IsShown, Fits, Facts, IsEventReady, IsFinishable, History, machine_of, handles_in, last_in, hand_at}
 use Rattle.world_core.proofs.Going.{event_goes, event_keeps}
 use Rattle.world_core.proofs.Beginnings.{none_has_zero}
 use Rattle.world_core.proofs.ClosedTables.{closed_is, left_is}
-use Rattle.world_core.proofs.Freeing.{does_freed}
+use Rattle.world_core.proofs.Freeing.{freed_world, DoesBefore, does_freed, holds_freed}
 use Rattle.world_core.proofs.Handles.{handle_is}
 use Rattle.world_core.proofs.Held.{state_in, in_hand_is, in_hand_at, driver_is, actor_is, due_is}
-use Rattle.world_core.proofs.Recording.{with_effects, record_is, record_fits}
+use Rattle.world_core.proofs.Recording.{GoesAt, with_effects, record_is, record_fits}
 use Rattle.world_core.proofs.Told.{with_step, told_world, told_is, told_fits}
 
 -- ---- the kinds of steps
@@ -63,23 +68,23 @@ refused_moves m s step k r = refl
 -- ---- the step
 
 -- what the step asks of the record
-abbrev pub EventNeeds : RecordState → Driver → RecordStep → Type 0
-EventNeeds R (drivers.Enter r) events.Enter = (r < 8) × (length R.clients < 64)
-EventNeeds R (drivers.Open o) events.Create = (length R.entries < 16) × IsSomeAnd o.ask.attrs (λ a. Unit {0}) × (named o.ask.name R.entries ≡ None) × (length o.ask.name ≤ 256)
-EventNeeds R (drivers.Open o) events.Open = IsSomeAnd (named o.ask.name R.entries) (λ e. (e.making ≡ None) × (accepts o.ask.attrs e ≡ true)) × (length o.ask.name ≤ 256)
-EventNeeds R (drivers.Open o) events.Finish = IsSomeAnd o.making (λ making. IsSomeAnd (entry_of making.ckpt R.entries) (λ e. Unit {0})) × IsMakingOf R o.ask.client (making_ckpt o.making)
-EventNeeds R (drivers.Open o) events.Undo = IsSomeAnd o.making (λ making. Unit {0}) × IsMakingOf R o.ask.client (making_ckpt o.making)
-EventNeeds R drivers.Leave events.Leave = Unit {0}
-EventNeeds R (drivers.Close k) events.Close = Unit {0}
-EventNeeds R (drivers.Unlink name) events.Unlink = IsSomeAnd (named name R.entries) (λ e. e.making ≡ None)
-EventNeeds R (drivers.Retain k duration) events.Retain = IsSomeAnd (entry_of k R.entries) (λ e. IsSome e.name)
-EventNeeds R driver step = ⊥
+abbrev pub EventNeeds : CallId → RecordState → Driver → RecordStep → Type 0
+EventNeeds call R (drivers.Enter r) events.Enter = CanBecomeLive call r R × (length R.clients < clients_max)
+EventNeeds call R (drivers.Open o) events.Create = (length R.entries < checkpoints_max) × IsSomeAnd o.ask.attrs (λ a. Unit {0}) × (named o.ask.name R.entries ≡ None) × CanOpen o.ask R × IsClient call.actor
+EventNeeds call R (drivers.Open o) events.Open = IsSomeAnd (named o.ask.name R.entries) (λ e. (e.making ≡ None) × (accepts o.ask.attrs e ≡ true)) × CanOpen o.ask R × IsClient call.actor
+EventNeeds call R (drivers.Open o) events.Finish = IsSomeAnd o.making (λ making. IsSomeAnd (entry_of making.ckpt R.entries) (λ e. Unit {0})) × IsMakingOf R o.ask.client (making_ckpt o.making)
+EventNeeds call R (drivers.Open o) events.Undo = IsSomeAnd o.making (λ making. Unit {0}) × IsMakingOf R o.ask.client (making_ckpt o.making)
+EventNeeds call R drivers.Leave events.Leave = Unit {0}
+EventNeeds call R (drivers.Close k) events.Close = Unit {0}
+EventNeeds call R (drivers.Unlink name) events.Unlink = IsSomeAnd (named name R.entries) (λ e. e.making ≡ None)
+EventNeeds call R (drivers.Retain k duration) events.Retain = IsSomeAnd (entry_of k R.entries) (λ e. IsSome e.name) × (pos 0 ≤ℤ duration)
+EventNeeds call R driver step = ⊥
 
 there : (P : Entry → Type 0) (e : Option Entry) → IsSomeAnd e P → IsSomeAnd e (λ e. Unit {0})
 there P None h = absurd h
 there P (Some e) h = tt
 
-needs : (m : Machine) (s : CallState) (x : Driver) (step : RecordStep) → IsEventReady m s x step → EventNeeds m.cluster x step
+needs : (m : Machine) (s : CallState) (x : Driver) (step : RecordStep) → IsEventReady m s x step → EventNeeds s.call m.cluster x step
 needs m s (drivers.Enter r) events.Enter ready = ready
 needs m s (drivers.Open o) events.Create ready = ready
 needs m s (drivers.Open o) events.Open ready = ready
@@ -142,7 +147,7 @@ module _ (w : World) (h : History) (c : ℕ) (m : Machine) (s : CallState) (acto
   leaves = ap (λ d. with_none d (machine_of w h)) actor ∙ left_is w h c
 
   -- whatever the step
-  settles : (R : RecordState) (x : Driver) (step : RecordStep) (k r : Option ℕ) → EventNeeds R x step → event_done m s step ≡ machine_of w h → CanSettle c s.op step k w.tables → HasPlaces step (slice_get w.tables c) → ClosesWell →
+  settles : (R : RecordState) (x : Driver) (step : RecordStep) (k r : Option ℕ) → EventNeeds s.call R x step → event_done m s step ≡ machine_of w h → CanSettle c s.op step k w.tables → HasPlaces step (slice_get w.tables c) → ClosesWell →
       changed m s (event_verb step) k r words.Ok ≡ with_tables (settled w.cluster c s.op step k w.tables)
   settles R x events.Enter k r needs is can places well = is
   settles R x events.Create k r needs is can places well = is
@@ -192,7 +197,7 @@ settled_world w c hand step = record w { cluster = record_after w hand step; tab
 abbrev event_world : World → ℕ → InHand → RecordStep → World
 event_world w c hand step = told_world (settled_world w c hand step) c hand (its_step w hand step) (event_end step (ckpt_in w hand step))
 
-module _ (w : World) (h : History) (c : ℕ) (step : RecordStep) (hand : InHand) (facts : Facts (machine_of w h)) (fits : Fits w h) (held : hand_at w.hands c ≡ Some hand) (next : driver_next w.cluster (rooms_in w c) hand.driver ≡ Event step) where
+module _ (w : World) (h : History) (c : ℕ) (step : RecordStep) (hand : InHand) (facts : Facts (machine_of w h)) (fits : Fits w h) (holds : HoldsOnlyWhatStands w.cluster w.nodes) (held : hand_at w.hands c ≡ Some hand) (next : driver_next w.cluster (rooms_in w c) hand.driver ≡ Event step) where
   abbrev m : Machine
   m = machine_of w h
 
@@ -265,24 +270,32 @@ module _ (w : World) (h : History) (c : ℕ) (step : RecordStep) (hand : InHand)
   abbrev h1 : History
   h1 = with_effects w h
 
+  -- each entry goes on
+  goes : (j q : ℕ) → GoesAt w.cluster.up j (entry_of j w.cluster.entries) (entry_of j R.entries) q (replica_in w.nodes j q)
+  goes = event_goes w h facts holds hand.call s hand.driver step ready
+
   fits1 : Fits w1 h1
-  fits1 = record_fits w h R (event_goes w h facts fits hand.call s hand.driver step ready) (event_keeps hand.call hand.driver step w.cluster).up (event_keeps hand.call hand.driver step w.cluster).last fits
+  fits1 = record_fits w h R goes (event_keeps hand.call hand.driver step w.cluster).up fits
+
+  -- and the nodes that are freed of the others hold only what stands
+  holds_after : HoldsOnlyWhatStands R (freed R.entries w.nodes)
+  holds_after = holds_freed w.cluster R w.nodes holds (event_keeps hand.call hand.driver step w.cluster).up goes
 
   event_is : event_done m s step ≡ machine_of w1 h1
-  event_is = ap (λ x. with_record m (event_after hand.call x step w.cluster)) (sym driver) ∙ record_is w h R (event_goes w h facts fits hand.call s hand.driver step ready) (event_keeps hand.call hand.driver step w.cluster).up
+  event_is = ap (λ x. with_record m (event_after hand.call x step w.cluster)) (sym driver) ∙ record_is w h R goes (event_keeps hand.call hand.driver step w.cluster).up
 
   -- the table that the step leaves
   well : ClosesWell w1 h1 c m s (ap number_of actor)
   well = record {
     none = λ t table. subst (λ hs. handle_numbered 0 hs ≡ None) (ap handles_in table) (none_has_zero (handles_in (slice_get w.tables c)) (facts.numbered c));
-    there = λ p is. (facts.closes (Client c) s p (in_hand_is w h c hand held) is).1;
+    there = λ p. facts.closes (Client c) s p (in_hand_is w h c hand held);
   }
 
   abbrev w2 : World
   w2 = settled_world w c hand step
 
   fits2 : Fits w2 h1
-  fits2 = let f = fits1 in record { replicas = f.replicas; reserved = f.reserved; fresh = f.fresh; hands = f.hands }
+  fits2 = let f = fits1 in record { replicas = f.replicas; hands = f.hands }
 
   module _ (can : CanSettle c hand.op step k w.tables) (places : HasPlaces step (slice_get w.tables c)) where
     event_settles : after m (event_label w hand step) ≡ machine_of (event_world w c hand step) (with_step h1 c done)
@@ -296,28 +309,32 @@ module _ (w : World) (h : History) (c : ℕ) (step : RecordStep) (hand : InHand)
 
 module _ (w : World) (c : ℕ) (step : RecordStep) (hand : InHand) (held : hand_at w.hands c ≡ Some hand) (next : driver_next w.cluster (rooms_in w c) hand.driver ≡ Event step) where
   -- what the step asks of the record
-  pub event_ready : IsShown w → EventNeeds w.cluster hand.driver step
+  pub event_ready : IsShown w → EventNeeds hand.call w.cluster hand.driver step
   event_ready shown =
       let h = shown.shows.history in
-      needs (machine_of w h) (state_in h c hand) hand.driver step (ready w h c step hand (subst Facts shown.shows.same shown.facts) shown.shows.fits held next)
+      needs (machine_of w h) (state_in h c hand) hand.driver step (ready w h c step hand (subst Facts shown.shows.same shown.facts) shown.shows.fits shown.shows.holds held next)
 
-  event_does : CanSettle c hand.op step (ckpt_in w hand step) w.tables → HasPlaces step (slice_get w.tables c) → Does w (event_world w c hand step) (event_label w hand step)
-  event_does can places = record {
-    due_is = λ m s f. subst (λ m. IsDue m (event_label w hand step)) (sym s.same) (due_done w s.history c step hand (subst Facts s.same f) s.fits held next);
-    shows = λ m s f. let facts = subst Facts s.same f in record {
-      history = with_step (with_effects w s.history) c (its_step w hand step);
-      same = ap (λ m. after m (event_label w hand step)) s.same ∙ event_settles w s.history c step hand facts s.fits held next can places;
-      fits = event_fits w s.history c step hand facts s.fits held next can places;
-    };
+  event_before : CanSettle c hand.op step (ckpt_in w hand step) w.tables → HasPlaces step (slice_get w.tables c) → DoesBefore w (event_world w c hand step) (event_label w hand step)
+  event_before can places = record {
+    due_is = λ m s f. subst (λ m. IsDue m (event_label w hand step)) (sym s.same) (due_done w s.history c step hand (subst Facts s.same f) s.fits s.holds held next);
+    history = λ m s f. with_step (with_effects w s.history) c (its_step w hand step);
+    same = λ m s f. ap (λ m. after m (event_label w hand step)) s.same ∙ event_settles w s.history c step hand (subst Facts s.same f) s.fits s.holds held next can places;
+    fits = λ m s f. event_fits w s.history c step hand (subst Facts s.same f) s.fits s.holds held next can places;
   }
+
+  event_does : CanSettle c hand.op step (ckpt_in w hand step) w.tables → HasPlaces step (slice_get w.tables c) → Does w (freed_world (event_world w c hand step)) (event_label w hand step)
+  event_does can places =
+      does_freed w (event_world w c hand step) (event_label w hand step) (event_before can places)
+      (λ m s f. holds_after w s.history c step hand (subst Facts s.same f) s.fits s.holds held next)
 
   refused_does : IsTrue (takes_memory step) → Does w (told_world w c hand (refused_step w hand step) (Some NoMemory)) (refused_label w hand step)
   refused_does takes = record {
-    due_is = λ m s f. subst (λ m. IsDue m (refused_label w hand step)) (sym s.same) (due_refused w s.history c step hand (subst Facts s.same f) s.fits held next takes);
+    due_is = λ m s f. subst (λ m. IsDue m (refused_label w hand step)) (sym s.same) (due_refused w s.history c step hand (subst Facts s.same f) s.fits s.holds held next takes);
     shows = λ m s f. let facts = subst Facts s.same f in record {
       history = with_step s.history c (refused_step w hand step);
-      same = ap (λ m. after m (refused_label w hand step)) s.same ∙ refused_is w s.history c step hand facts s.fits held next;
+      same = ap (λ m. after m (refused_label w hand step)) s.same ∙ refused_is w s.history c step hand facts s.fits s.holds held next;
       fits = told_fits w s.history c hand (refused_step w hand step) (Some NoMemory) (actor_is w s.history c hand held facts) s.fits held;
+      holds = s.holds;
     };
   }
 
@@ -333,7 +350,7 @@ module _ (w : World) (c : ℕ) (step : RecordStep) (hand : InHand) (held : hand_
       = (λ i. slice_set w.hands c (left (e i) (hand_taken (event_step (sym R_is i) step (sym k_is i) (sym r_is i)) hand))) ∙ sym hands_are in
       let n : freed (record_after w hand step).entries w.nodes ≡ nodes = ap (λ (R : RecordState). freed R.entries w.nodes) (sym R_is) ∙ sym nodes_are in
       subst (λ (y : RecordState × List (List Replica) × List TableState × List (Option InHand) × OpWord × Verb × Option ℕ × Option ℕ × Option Outcome). Does w (record w { cluster = y.0; nodes = y.1; tables = y.2; hands = y.3 }) (Stepped hand.call y.4 y.5 y.6 y.7 words.Ok y.8 None))
-      (λ i. (sym R_is i, n i, t i, g i, sym word_is i, sym verb_is i, sym k_is i, sym r_is i, e i)) (does_freed w (event_world w c hand step) (event_label w hand step) (event_does can places))
+      (λ i. (sym R_is i, n i, t i, g i, sym word_is i, sym verb_is i, sym k_is i, sym r_is i, e i)) (event_does can places)
 
   -- a step is refused the memory that it takes, and the call ends
   pub event_refused : (hands : List (Option InHand)) (word : OpWord) (verb : Verb) (k r : Option ℕ) → IsTrue (takes_memory step) → k ≡ event_ckpt w.cluster hand.driver step → r ≡ event_node hand.driver step → hands ≡ slice_set w.hands c None → word ≡ word_of_op hand.op → verb ≡ event_verb step →

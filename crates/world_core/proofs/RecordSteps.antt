@@ -45,11 +45,6 @@ some_within : (P : ℕ → Type 0) (x : Option ℕ) → ((n : ℕ) → x ≡ Som
 some_within P None within there = absurd there
 some_within P (Some n) within there = within n refl
 
--- and of one that may be there
-if_within : (P : ℕ → Type 0) (x : Option ℕ) → ((n : ℕ) → x ≡ Some n → P n) → IfSome x P
-if_within P None within = tt
-if_within P (Some n) within = within n refl
-
 is_there : (x : Option ℕ) → IsSomeAnd x (λ n. Unit {0}) → IsSome x
 is_there None there = absurd there
 is_there (Some n) there = refl
@@ -82,36 +77,28 @@ module _ (w : World) (c : ℕ) (step : RecordStep) (hand : InHand) (held : hand_
   making_there (Some m) h = refl
 
   -- the client has room for a handle, and the operation a place for it and a checkpoint
-  gives_well : (step : RecordStep) → IsRoomy w → GivesHandle step → EventNeeds w.cluster hand.driver step → IsBuilt hand.op → (rooms_in w c).handles ≡ true → CanGive c hand.op (event_ckpt w.cluster hand.driver step) w.tables
+  gives_well : (step : RecordStep) → IsRoomy w → GivesHandle step → EventNeeds hand.call w.cluster hand.driver step → IsBuilt hand.op → (rooms_in w c).handles ≡ true → CanGive c hand.op (event_ckpt w.cluster hand.driver step) w.tables
   gives_well step roomy gives needs built room = record {
-    ckpt = is_there (event_ckpt w.cluster hand.driver step) (ckpt_there w.cluster step hand.driver gives needs);
+    ckpt = is_there (event_ckpt w.cluster hand.driver step) (ckpt_there hand.call w.cluster step hand.driver gives needs);
     place = some_within (λ p. p < 100) (opened_place hand.op) (λ p is. place_within hand.op p built is) (place_there w c hand held shown step gives needs);
     room = room;
     number = roomy.handles c;
   }
 
-  -- the place that it closes is one of 100
-  closed_within : (p : ℕ) → closed_place hand.op ≡ Some p → p < 100
-  closed_within p is =
-      let h = shown.shows.history in
-      let facts : Facts (machine_of w h) = subst Facts shown.shows.same shown.facts in
-      (facts.closes (Client c) (state_in h c hand) p (in_hand_is w h c hand held) is).0
+  opens_well : (o : OpenState) → hand.driver ≡ drivers.Open o → IsRoomy w → driver_next w.cluster (rooms_in w c) (drivers.Open o) ≡ Event events.Open → EventNeeds hand.call w.cluster (drivers.Open o) events.Open → CanGive c hand.op (event_ckpt w.cluster hand.driver events.Open) w.tables
+  opens_well o is roomy next needs = gives_well events.Open roomy tt (subst (λ (x : Driver). EventNeeds hand.call w.cluster x events.Open) (sym is) needs) (opens_fact o is).0 (open_room w.cluster (rooms_in w c) (drivers.Open o) next)
 
-  opens_well : (o : OpenState) → hand.driver ≡ drivers.Open o → IsRoomy w → driver_next w.cluster (rooms_in w c) (drivers.Open o) ≡ Event events.Open → EventNeeds w.cluster (drivers.Open o) events.Open → CanGive c hand.op (event_ckpt w.cluster hand.driver events.Open) w.tables
-  opens_well o is roomy next needs = gives_well events.Open roomy tt (subst (λ (x : Driver). EventNeeds w.cluster x events.Open) (sym is) needs) (opens_fact o is).0 (open_room w.cluster (rooms_in w c) (drivers.Open o) next)
+  finishes_well : (o : OpenState) → hand.driver ≡ drivers.Open o → IsRoomy w → EventNeeds hand.call w.cluster (drivers.Open o) events.Finish → CanGive c hand.op (event_ckpt w.cluster hand.driver events.Finish) w.tables
+  finishes_well o is roomy needs = let f = opens_fact o is in gives_well events.Finish roomy tt (subst (λ (x : Driver). EventNeeds hand.call w.cluster x events.Finish) (sym is) needs) f.0 (f.1 (making_there o.making needs.0))
 
-  finishes_well : (o : OpenState) → hand.driver ≡ drivers.Open o → IsRoomy w → EventNeeds w.cluster (drivers.Open o) events.Finish → CanGive c hand.op (event_ckpt w.cluster hand.driver events.Finish) w.tables
-  finishes_well o is roomy needs = let f = opens_fact o is in gives_well events.Finish roomy tt (subst (λ (x : Driver). EventNeeds w.cluster x events.Finish) (sym is) needs) f.0 (f.1 (making_there o.making needs.0))
-
-  settles_by : (step : RecordStep) (x : Driver) → hand.driver ≡ x → IsRoomy w → driver_next w.cluster (rooms_in w c) x ≡ Event step → EventNeeds w.cluster x step → CanSettle c hand.op step (event_ckpt w.cluster hand.driver step) w.tables
+  settles_by : (step : RecordStep) (x : Driver) → hand.driver ≡ x → IsRoomy w → driver_next w.cluster (rooms_in w c) x ≡ Event step → EventNeeds hand.call w.cluster x step → CanSettle c hand.op step (event_ckpt w.cluster hand.driver step) w.tables
   settles_by events.Open (drivers.Open o) is roomy next needs = opens_well o is roomy next needs
   settles_by events.Finish (drivers.Open o) is roomy next needs = finishes_well o is roomy needs
   settles_by events.Open x is roomy next needs = absurd needs
   settles_by events.Finish x is roomy next needs = absurd needs
-  settles_by events.Close x is roomy next needs = if_within (λ p. p < 100) (closed_place hand.op) closed_within
   settles_by step x is roomy next needs = tt
 
-  needs : EventNeeds w.cluster hand.driver step
+  needs : EventNeeds hand.call w.cluster hand.driver step
   needs = event_ready w c step hand held next shown
 
   -- what the step makes of the client's table can be made
@@ -119,8 +106,8 @@ module _ (w : World) (c : ℕ) (step : RecordStep) (hand : InHand) (held : hand_
   can_settle roomy = settles_by step hand.driver refl roomy next needs
 
   -- what the step asks of the record
-  pub is_ready : IsRoomy w → IsRecordReady w.cluster hand.driver step
-  is_ready roomy = record_ready w.cluster hand.driver step roomy.identity roomy.references needs
+  pub is_ready : IsRoomy w → IsRecordReady hand.call w.cluster hand.driver step
+  is_ready roomy = record_ready hand.call w.cluster hand.driver step roomy.identity roomy.references needs
 
   -- ---- the step, as the code does it
 

@@ -9,17 +9,21 @@ use Rattle.cluster_record.specs.RecordState.{RecordState, entry_of, complete_of,
 use Rattle.world_core.specs.Serving.{replica_in, opened_replica}
 use Rattle.world_core.specs.Machine.{Effect}
 use Rattle.world_core.specs.Steps.{opened_state, replica_under, reservation_under, with_record}
-use Rattle.world_core.specs.Shows.{History, Fits, FitsReplica, FitsReserved, IsOpening, machine_of, shown_replica, shown_reservation, where_complete, where_not_complete}
+use Rattle.world_core.specs.Shows.{History, Fits, FitsReplica, machine_of, shown_replica, shown_reservation, where_complete, where_not_complete}
 
 -- the node is complete as before, or newly with the replica that it has reserved
 abbrev pub NodeGoes : ℕ → Entry → Entry → ℕ → Option Replica → Type 0
 NodeGoes k e f r y = (slice_index f.complete r ≡ slice_index e.complete r) ⊎ ((slice_index e.complete r ≡ 0) × (f.generation ≡ 1) × (y ≡ Some (opened_replica k f.attributes f.made)))
 
+-- it is in the making and the node complete as before, or the node is complete as it is up
+abbrev pub StandsOn : List ℕ → Entry → Entry → ℕ → Type 0
+StandsOn up e f r = ((f.making ≡ e.making) × (slice_index f.complete r ≡ slice_index e.complete r)) ⊎ (slice_index f.complete r ≡ slice_index up r)
+
 -- what a step may make of an entry, by what a node has of it: it goes, it is new and nowhere complete, or its nodes go on
-abbrev pub GoesAt : ℕ → Option Entry → Option Entry → ℕ → Option Replica → Type 0
-GoesAt k old None r y = Unit {0}
-GoesAt k None (Some f) r y = (slice_index f.complete r ≡ 0) × (y ≡ None)
-GoesAt k (Some e) (Some f) r y = (f.attributes ≡ e.attributes) × (f.made ≡ e.made) × NodeGoes k e f r y
+abbrev pub GoesAt : List ℕ → ℕ → Option Entry → Option Entry → ℕ → Option Replica → Type 0
+GoesAt up k old None r y = Unit {0}
+GoesAt up k None (Some f) r y = (slice_index f.complete r ≡ 0) × (y ≡ None)
+GoesAt up k (Some e) (Some f) r y = (f.attributes ≡ e.attributes) × (f.made ≡ e.made) × NodeGoes k e f r y × StandsOn up e f r
 
 pub zero_there : (r : ℕ) → slice_index no_nodes r ≡ 0
 zero_there zero = refl
@@ -41,14 +45,14 @@ effects_under before E = if before == 0 then [] else E
 
 -- ---- the replicas
 
-shown_case : (k : ℕ) (old new : Option Entry) (r : ℕ) (E : List Effect) (o : CallId) (y : Option Replica) → GoesAt k old new r y →
+shown_case : (up : List ℕ) (k : ℕ) (old new : Option Entry) (r : ℕ) (E : List Effect) (o : CallId) (y : Option Replica) → GoesAt up k old new r y →
     replica_under new (slice_index (complete_of old) r) r (shown_replica E o (where_complete (slice_index (complete_of old) r) y)) ≡ shown_replica (effects_under (slice_index (complete_of old) r) E) o (where_complete (slice_index (complete_of new) r) y)
-shown_case k old None r E o y goes = sym (ap (λ b. shown_replica (effects_under (slice_index (complete_of old) r) E) o (cond b None y)) (test_zero (slice_index no_nodes r) (zero_there r)))
-shown_case k None (Some f) r E o y goes =
+shown_case up k old None r E o y goes = sym (ap (λ b. shown_replica (effects_under (slice_index (complete_of old) r) E) o (cond b None y)) (test_zero (slice_index no_nodes r) (zero_there r)))
+shown_case up k None (Some f) r E o y goes =
     let t = test_zero (slice_index f.complete r) goes.0 in
     let before = slice_index no_nodes r in
     ap (λ b. cond b None (cond (before == 0) (Some (opened_state f)) (shown_replica E o (where_complete before y)))) t ∙ sym (ap (λ b. shown_replica (effects_under before E) o (cond b None y)) t)
-shown_case k (Some e) (Some f) r E o y goes = by_node goes.2 where
+shown_case up k (Some e) (Some f) r E o y goes = by_node goes.2 where
   by_tests : (b a : Bool) → b ≡ a → cond b None (cond a (Some (opened_state f)) (shown_replica E o (cond a None y))) ≡ shown_replica (cond a [] E) o (cond b None y)
   by_tests true true s = refl
   by_tests false false s = refl
@@ -64,11 +68,11 @@ shown_case k (Some e) (Some f) r E o y goes = by_node goes.2 where
   by_node (inl same) = by_tests (slice_index f.complete r == 0) (slice_index e.complete r == 0) (ap (λ n. n == 0) same)
   by_node (inr new) = newly (slice_index f.complete r == 0) (slice_index e.complete r == 0) (test_zero (slice_index e.complete r) new.0) ((λ i. Some (record (opened_state f) { generation = new.1 i })) ∙ ap (shown_replica [] o) (sym new.2))
 
-fits_case : (k : ℕ) (old new : Option Entry) (r : ℕ) (E : List Effect) (y : Option Replica) → GoesAt k old new r y → FitsReplica k old E (where_complete (slice_index (complete_of old) r) y) →
+fits_case : (up : List ℕ) (k : ℕ) (old new : Option Entry) (r : ℕ) (E : List Effect) (y : Option Replica) → GoesAt up k old new r y → FitsReplica k old E (where_complete (slice_index (complete_of old) r) y) →
     FitsReplica k new (effects_under (slice_index (complete_of old) r) E) (where_complete (slice_index (complete_of new) r) y)
-fits_case k old None r E y goes fits = subst (λ (b : Bool). FitsReplica k None (effects_under (slice_index (complete_of old) r) E) (cond b None y)) (sym (test_zero (slice_index no_nodes r) (zero_there r))) tt
-fits_case k None (Some f) r E y goes fits = subst (λ (b : Bool). FitsReplica k (Some f) (effects_under (slice_index no_nodes r) E) (cond b None y)) (sym (test_zero (slice_index f.complete r) goes.0)) tt
-fits_case k (Some e) (Some f) r E y goes fits = by_node goes.2 where
+fits_case up k old None r E y goes fits = subst (λ (b : Bool). FitsReplica k None (effects_under (slice_index (complete_of old) r) E) (cond b None y)) (sym (test_zero (slice_index no_nodes r) (zero_there r))) tt
+fits_case up k None (Some f) r E y goes fits = subst (λ (b : Bool). FitsReplica k (Some f) (effects_under (slice_index no_nodes r) E) (cond b None y)) (sym (test_zero (slice_index f.complete r) goes.0)) tt
+fits_case up k (Some e) (Some f) r E y goes fits = by_node goes.2 where
   at : (x : Option Replica) → FitsReplica k (Some e) E x → FitsReplica k (Some f) E x
   at None fits = tt
   at (Some x) fits = (fits.0, fits.1 ∙ sym goes.0, fits.2)
@@ -89,10 +93,10 @@ fits_case k (Some e) (Some f) r E y goes fits = by_node goes.2 where
 
 -- ---- the reservations
 
-reserved_case : (k : ℕ) (old new : Option Entry) (r u : ℕ) (y : Option Replica) → GoesAt k old new r y → reservation_under new r (where_not_complete old r (shown_reservation u y)) ≡ where_not_complete new r (shown_reservation u y)
-reserved_case k old None r u y goes = refl
-reserved_case k None (Some f) r u y goes = ap (λ o. cond (slice_index f.complete r == 0) (shown_reservation u o) None) (sym goes.1)
-reserved_case k (Some e) (Some f) r u y goes = by_node goes.2 where
+reserved_case : (up : List ℕ) (k : ℕ) (old new : Option Entry) (r u : ℕ) (y : Option Replica) → GoesAt up k old new r y → reservation_under new r (where_not_complete old r (shown_reservation u y)) ≡ where_not_complete new r (shown_reservation u y)
+reserved_case up k old None r u y goes = refl
+reserved_case up k None (Some f) r u y goes = ap (λ o. cond (slice_index f.complete r == 0) (shown_reservation u o) None) (sym goes.1)
+reserved_case up k (Some e) (Some f) r u y goes = by_node goes.2 where
   by_tests : (b a : Bool) → (b ≡ true → a ≡ true) → cond b (cond a (shown_reservation u y) None) None ≡ cond b (shown_reservation u y) None
   by_tests true true s = refl
   by_tests true false s = let t : false ≡ true = s refl in absurd (cc t)
@@ -102,37 +106,23 @@ reserved_case k (Some e) (Some f) r u y goes = by_node goes.2 where
   by_node (inl same) = by_tests (slice_index f.complete r == 0) (slice_index e.complete r == 0) (λ t. sym (ap (λ n. n == 0) same) ∙ t)
   by_node (inr new) = by_tests (slice_index f.complete r == 0) (slice_index e.complete r == 0) (λ t. test_zero (slice_index e.complete r) new.0)
 
-fits_reserved_case : (k : ℕ) (old new : Option Entry) (r : ℕ) (y : Option Replica) → GoesAt k old new r y → FitsReserved k old r y → FitsReserved k new r y
-fits_reserved_case k old None r y goes fits = tt
-fits_reserved_case k None (Some f) r y goes fits = λ z. subst (IsOpening k f) (sym goes.1) tt
-fits_reserved_case k (Some e) (Some f) r y goes fits = λ z. by_node goes.2 z where
-  at : (x : Option Replica) → IsOpening k e x → IsOpening k f x
-  at None h = tt
-  at (Some x) h = h ∙ (λ i. opened_replica k (sym goes.0 i) (sym goes.1 i))
-
-  by_node : NodeGoes k e f r y → slice_index f.complete r ≡ 0 → IsOpening k f y
-  by_node (inl same) z = at y (fits (sym same ∙ z))
-  by_node (inr new) z = subst (IsOpening k f) (sym new.2) refl
-
 -- ---- the world with another record
 
 abbrev pub with_effects : World → History → History
 with_effects w h = record h { effects = λ k r. effects_under (slice_index (complete_of (entry_of k w.cluster.entries)) r) (h.effects k r) }
 
-module _ (w : World) (h : History) (R : RecordState) (goes : (k r : ℕ) → GoesAt k (entry_of k w.cluster.entries) (entry_of k R.entries) r (replica_in w.nodes k r)) (up : R.up ≡ w.cluster.up) where
+module _ (w : World) (h : History) (R : RecordState) (goes : (k r : ℕ) → GoesAt w.cluster.up k (entry_of k w.cluster.entries) (entry_of k R.entries) r (replica_in w.nodes k r)) (up : R.up ≡ w.cluster.up) where
   -- the machine with the record after a step is the one that the nodes show with it
   pub record_is : with_record (machine_of w h) R ≡ machine_of (record w { cluster = R }) (with_effects w h)
   record_is =
-      let replicas = λ (k r : ℕ). shown_case k (entry_of k w.cluster.entries) (entry_of k R.entries) r (h.effects k r) (h.origins k r) (replica_in w.nodes k r) (goes k r) in
-      let reserved = λ (k r : ℕ). reserved_case k (entry_of k w.cluster.entries) (entry_of k R.entries) r (slice_index w.cluster.up r) (replica_in w.nodes k r) (goes k r)
+      let replicas = λ (k r : ℕ). shown_case w.cluster.up k (entry_of k w.cluster.entries) (entry_of k R.entries) r (h.effects k r) (h.origins k r) (replica_in w.nodes k r) (goes k r) in
+      let reserved = λ (k r : ℕ). reserved_case w.cluster.up k (entry_of k w.cluster.entries) (entry_of k R.entries) r (slice_index w.cluster.up r) (replica_in w.nodes k r) (goes k r)
       ∙ ap (λ (us : List ℕ). where_not_complete (entry_of k R.entries) r (shown_reservation (slice_index us r) (replica_in w.nodes k r))) (sym up) in
       λ i. record (machine_of (record w { cluster = R }) (with_effects w h)) { replicas = λ k r. replicas k r i; reserved = λ k r. reserved k r i }
 
   -- and they fit
-  pub record_fits : w.cluster.last_identity ≤ R.last_identity → Fits w h → Fits (record w { cluster = R }) (with_effects w h)
-  record_fits last fits = record {
-    replicas = λ k r. fits_case k (entry_of k w.cluster.entries) (entry_of k R.entries) r (h.effects k r) (replica_in w.nodes k r) (goes k r) (fits.replicas k r);
-    reserved = λ k r. fits_reserved_case k (entry_of k w.cluster.entries) (entry_of k R.entries) r (replica_in w.nodes k r) (goes k r) (fits.reserved k r);
-    fresh = λ k r above. fits.fresh k r (omega (arith, last, above));
+  pub record_fits : Fits w h → Fits (record w { cluster = R }) (with_effects w h)
+  record_fits fits = record {
+    replicas = λ k r. fits_case w.cluster.up k (entry_of k w.cluster.entries) (entry_of k R.entries) r (h.effects k r) (replica_in w.nodes k r) (goes k r) (fits.replicas k r);
     hands = fits.hands;
   }

@@ -1,7 +1,8 @@
 -- A reservation: the node takes the storage of a replica, or is refused the memory.
-use Rattle.std.proofs.Common.{◌≡◌, inl, inr, ℕ, ◌<◌, Bool, true, false, ℤ, List, ◌∷◌, length, refl, sym, ap, subst, ◌∙◌, cond}
+use Rattle.std.proofs.Common.{◌≡◌, ◌⊎◌, inl, inr, ℕ, ◌<◌, ◌≤◌, Bool, true, false, ℤ, List, ◌∷◌, length, refl, sym, ap, subst, ◌∙◌, cond}
 use Rattle.std.specs.Prelude.{Option, Some, None, ◌==◌, ◌&&◌, IsSomeAnd, slice_get, slice_set, slice_index}
 use Rattle.std.proofs.lemmas.Bool.{eqb-true}
+use Rattle.std.proofs.lemmas.Option.{same_Some}
 use Rattle.ckpt_types.specs.declared.answers.Answer.TheVariants as answers
 use Rattle.ckpt_types.specs.declared.answers.Outcome.{Outcome}
 use Rattle.ckpt_types.specs.declared.identities.ActorName.TheVariants.{Client}
@@ -24,6 +25,7 @@ use Rattle.world_core.specs.declared.world.World.{World}
 use Rattle.cluster_record.specs.Calls.{put_actor, left}
 use Rattle.cluster_record.specs.Places.{find_key, put2, list_or}
 use Rattle.cluster_record.specs.RecordState.{RecordState, entry_of, complete_of}
+use Rattle.world_core.specs.Holding.{replicas_on, IsReservation, IsHeld, HoldsOnlyWhatStands}
 use Rattle.world_core.specs.Serving.{replica_key, replica_in, pieces_at, opened_replica, added, reserved_at}
 use Rattle.node_msgs.specs.Steps.{word_of}
 use Rattle.cluster_record.specs.StepDone.{StepDone}
@@ -32,10 +34,11 @@ use Rattle.world_core.specs.Machine.{Machine, CallState}
 use Rattle.world_core.specs.Steps.{ended_pieces, IsDue, IsDone, MayAnswer, after, step_of, seen_at}
 use Rattle.world_core.specs.HandSteps.{hand_taken}
 use Rattle.world_core.specs.Happenings.{rooms_in}
-use Rattle.world_core.specs.Shows.{Does, IsShown, Fits, FitsReplica, FitsReserved, IsOpening, Facts, IsReservable, History, machine_of, shown_replica, where_complete, complete_replica, where_not_complete, shown_reservation, reserved_in, hand_at}
-use Rattle.cluster_record.proofs.IdentityLaws.{entry_of-beyond}
+use Rattle.world_core.specs.Shows.{Does, IsShown, Fits, FitsReplica, Facts, IsReservable, History, machine_of, shown_replica, where_complete, complete_replica, where_not_complete, shown_reservation, reserved_in, hand_at}
 use Rattle.world_core.proofs.Held.{state_in, in_hand_is, in_hand_at, driver_is, actor_is, due_is, left_shown, left_fits, hand_fits}
-use Rattle.world_core.proofs.Maps.{both_true, same_there, node_case, fits_reserved_case, fits_fresh, put_hand, fits_hand}
+use Rattle.world_core.proofs.HoldingLaws.{held_at, holds_by_key, opening_there, once_set}
+use Rattle.world_core.proofs.Maps.{both_true, same_there, node_case, put_hand, fits_hand}
+use Rattle.world_core.proofs.OnceByKey.{counted, counted-push}
 use Rattle.cluster_record.proofs.Places.{find_pushed, get_set, there_is}
 use Rattle.world_core.proofs.Serve.{served_step}
 use Rattle.world_core.proofs.Told.{with_step, told_world, told_is, told_fits}
@@ -94,20 +97,45 @@ module _ (R : RecordState) (nodes new : List (List Replica)) (k r : ℕ) (x : Re
       (λ t. let s = both_true j k q r t in (ap (λ j. entry_of j R.entries) s.0 ∙ there, s.1, ap (slice_index R.up) s.1))
       ∙ ap (λ o. where_not_complete (entry_of j R.entries) q (shown_reservation (slice_index R.up q) o)) (sym (at j q))
 
-  fits_more : x ≡ opened_replica k e.attributes e.made → ((j q : ℕ) → FitsReserved j (entry_of j R.entries) q (replica_in nodes j q)) → (j q : ℕ) → FitsReserved j (entry_of j R.entries) q (replica_in new j q)
-  fits_more opening all j q =
-      let here : FitsReserved k (Some e) r (Some x) = λ z. opening in
-      subst (FitsReserved j (entry_of j R.entries) q) (sym (at j q))
-      (fits_reserved_case ((j == k) && (q == r)) j (entry_of j R.entries) q x (replica_in nodes j q)
-      (λ t. let s = both_true j k q r t in subst (λ (y : ℕ × Option Entry × ℕ). FitsReserved y.0 y.1 y.2 (Some x)) (λ i. (sym s.0 i, sym (ap (λ j. entry_of j R.entries) s.0 ∙ there) i, sym s.1 i)) here)
-      (all j q))
+-- ---- what the nodes hold
 
 -- a reserved replica is the one that a reservation makes
-this_reserved : (k r : ℕ) (f : Option Entry) (e : Entry) (o : Option Replica) → f ≡ Some e → slice_index e.complete r ≡ 0 → FitsReserved k f r o → NoneButThis (opened_replica k e.attributes e.made) o
-this_reserved k r f e o is free fits = at o ((subst (λ (f : Option Entry). FitsReserved k f r o) is fits) free) where
-  at : (o : Option Replica) → IsOpening k e o → NoneButThis (opened_replica k e.attributes e.made) o
-  at None h = tt
-  at (Some x) h = h
+this_reserved : (new : Replica) (o : Option Replica) → ((x : Replica) → o ≡ Some x → x ≡ new) → NoneButThis new o
+this_reserved new None opening = tt
+this_reserved new (Some x) opening = opening x refl
+
+-- where a node that is up has reserved for a checkpoint in the making, the nodes hold only what stands
+module _ (R : RecordState) (nodes : List (List Replica)) (r : ℕ) (new : Replica) (e : Entry) (holds : HoldsOnlyWhatStands R nodes) (within : r < length nodes) (there : entry_of new.ckpt R.entries ≡ Some e) (can : IsReservable R r e) (opening : new ≡ opened_replica new.ckpt e.attributes e.made) where
+  pub only_this : NoneButThis new (replica_in nodes new.ckpt r)
+  only_this = this_reserved new (replica_in nodes new.ckpt r) (λ x is. opening_there R nodes holds new.ckpt r e x there can.not_complete is ∙ sym opening)
+
+  held_new : IsHeld R r new
+  held_new = record {
+    up = can.up;
+    stands = subst (λ (o : Option Entry). IsSomeAnd o (λ e. (slice_index e.complete r ≡ slice_index R.up r) ⊎ IsReservation e r new)) (sym there) (inr (record { making = can.making; not_complete = can.not_complete; opening = opening }));
+  }
+
+  held_case : (b : Bool) (q : ℕ) (y : Replica) (o : Option Replica) → (b ≡ true → q ≡ r) → ((y : Replica) → o ≡ Some y → IsHeld R q y) → cond b (Some new) o ≡ Some y → IsHeld R q y
+  held_case true q y o here all e = subst (λ (z : ℕ × Replica). IsHeld R z.0 z.1) (λ i. (sym (here refl) i, same_Some new y e i)) held_new
+  held_case false q y o here all e = all y e
+
+  added_once : (xs : List Replica) (o : Option Replica) → find_key replica_key new.ckpt xs ≡ o → ((j : ℕ) → counted replica_key j xs ≤ 1) → (j : ℕ) → counted replica_key j (added o new xs) ≤ 1
+  added_once xs None free few = counted-push replica_key xs new free few
+  added_once xs (Some x) found few = few
+
+  reserved_once : (q j : ℕ) → counted replica_key j (replicas_on (reserved_at nodes r new) q) ≤ 1
+  reserved_once =
+      let there = there_is nodes r within in
+      let xs : List Replica = there.0 in
+      let is : slice_get nodes r ≡ Some xs = there.1 in
+      let own : (j : ℕ) → counted replica_key j xs ≤ 1 = λ j. subst (λ (o : Option (List Replica)). counted replica_key j (list_or o) ≤ 1) is (holds.once r j) in
+      subst (λ (ys : List Replica). (q j : ℕ) → counted replica_key j (replicas_on (slice_set nodes r (added (replica_in nodes new.ckpt r) new ys)) q) ≤ 1) (sym (ap list_or is))
+      (once_set nodes r xs (added (replica_in nodes new.ckpt r) new xs) is (added_once xs (replica_in nodes new.ckpt r) (sym (ap (λ o. find_key replica_key new.ckpt (list_or o)) is)) own) holds.once)
+
+  pub holds_reserved : HoldsOnlyWhatStands R (reserved_at nodes r new)
+  holds_reserved = holds_by_key R (reserved_at nodes r new)
+      (λ j q y found. held_case ((j == new.ckpt) && (q == r)) q y (replica_in nodes j q) (λ t. (both_true j new.ckpt q r t).1) (λ y had. (held_at R nodes holds j q y had).0) (sym (reserved_here nodes r new within only_this j q) ∙ found))
+      reserved_once
 
 -- ---- the step
 
@@ -131,14 +159,14 @@ refused_world w c r k hand = told_world w c hand (served_step w (Reserve k) r No
 abbrev reserve_world : World → ℕ → ℕ → ℕ → InHand → Entry → World
 reserve_world w c r k hand e = record (told_world w c hand (served_step w (Reserve k) r (Done answers.Nothing)) (end_of w r k hand (Done answers.Nothing))) { nodes = reserved_at w.nodes r (opened_replica k e.attributes e.made) }
 
-module _ (w : World) (h : History) (c r k : ℕ) (hand : InHand) (facts : Facts (machine_of w h)) (fits : Fits w h) (held : hand_at w.hands c ≡ Some hand) (next : driver_next w.cluster (rooms_in w c) hand.driver ≡ Serve r (Reserve k)) where
+module _ (w : World) (h : History) (c r k : ℕ) (hand : InHand) (facts : Facts (machine_of w h)) (fits : Fits w h) (holds : HoldsOnlyWhatStands w.cluster w.nodes) (held : hand_at w.hands c ≡ Some hand) (next : driver_next w.cluster (rooms_in w c) hand.driver ≡ Serve r (Reserve k)) where
   abbrev m : Machine
   m = machine_of w h
 
   abbrev s : CallState
   s = state_in h c hand
 
-  ready : (r < 8) × IsSomeAnd (entry_of k w.cluster.entries) (λ e. IsReservable e r)
+  ready : (r < 8) × IsSomeAnd (entry_of k w.cluster.entries) (IsReservable w.cluster r)
   ready = facts.ready (Client c) s r (Reserve k) (in_hand_is w h c hand held) (due_is w h c hand held facts fits (Serve r (Reserve k)) next)
 
   due_step : (reply : Reply) → MayAnswer m s (Reserve k) r reply → IsDue m (reserve_label w r k hand reply)
@@ -165,8 +193,11 @@ module _ (w : World) (h : History) (c r k : ℕ) (hand : InHand) (facts : Facts 
       ∙ told_is w h c hand (served_step w (Reserve k) r NoMemory) (end_of w r k hand NoMemory) (actor_is w h c hand held facts) fits held
 
   module _ (e : Entry) (there : entry_of k w.cluster.entries ≡ Some e) (within : r < length w.nodes) where
+    can : IsReservable w.cluster r e
+    can = subst (λ (o : Option Entry). IsSomeAnd o (IsReservable w.cluster r)) there ready.1
+
     free : slice_index e.complete r ≡ 0
-    free = let x : IsReservable e r = subst (λ (o : Option Entry). IsSomeAnd o (λ e. IsReservable e r)) there ready.1 in x.not_complete
+    free = can.not_complete
 
     abbrev new : Replica
     new = opened_replica k e.attributes e.made
@@ -184,7 +215,7 @@ module _ (w : World) (h : History) (c r k : ℕ) (hand : InHand) (facts : Facts 
     later = with_step h c done
 
     at : (j q : ℕ) → replica_in w'.nodes j q ≡ cond ((j == k) && (q == r)) (Some new) (replica_in w.nodes j q)
-    at = reserved_here w.nodes r new within (this_reserved k r (entry_of k w.cluster.entries) e (replica_in w.nodes k r) there free (fits.reserved k r))
+    at = reserved_here w.nodes r new within (only_this w.cluster w.nodes r new e holds within there can refl)
 
     same : (j q : ℕ) → complete_replica w.cluster w'.nodes j q ≡ complete_replica w.cluster w.nodes j q
     same = complete_same w.cluster w.nodes w'.nodes k r new e at there free
@@ -201,33 +232,36 @@ module _ (w : World) (h : History) (c r k : ℕ) (hand : InHand) (facts : Facts 
     fits_later : Fits w' later
     fits_later = record {
       replicas = λ j q. subst (FitsReplica j (entry_of j w.cluster.entries) (h.effects j q)) (sym (same j q)) (fits.replicas j q);
-      reserved = fits_more w.cluster w.nodes w'.nodes k r new e at there free refl fits.reserved;
-      fresh = fits_fresh w.cluster.last_identity w.nodes w'.nodes k r new at (λ above. let z : None ≡ Some e = sym (entry_of-beyond w.cluster.last_identity k w.cluster.entries facts.up_to above) ∙ there in absurd (cc z)) fits.fresh;
       hands = fits_hand h w.hands c hand (left its_end (hand_taken done hand)) (done ∷ h.steps c) held (left_fits h c hand done its_end (hand_fits w h c hand held fits)) fits.hands;
     }
 
+    holds_later : HoldsOnlyWhatStands w.cluster w'.nodes
+    holds_later = holds_reserved w.cluster w.nodes r new e holds within there can refl
+
 module _ (w : World) (c r k : ℕ) (hand : InHand) (held : hand_at w.hands c ≡ Some hand) (next : driver_next w.cluster (rooms_in w c) hand.driver ≡ Serve r (Reserve k)) where
   -- what the step asks: the node is there, and the checkpoint, whose attributes are well formed and for which the node is not complete
-  pub reserve_ready : IsShown w → (r < 8) × IsSomeAnd (entry_of k w.cluster.entries) (λ e. IsReservable e r)
-  reserve_ready shown = ready w shown.shows.history c r k hand (subst Facts shown.shows.same shown.facts) shown.shows.fits held next
+  pub reserve_ready : IsShown w → (r < 8) × IsSomeAnd (entry_of k w.cluster.entries) (IsReservable w.cluster r)
+  reserve_ready shown = ready w shown.shows.history c r k hand (subst Facts shown.shows.same shown.facts) shown.shows.fits shown.shows.holds held next
 
   refused_does : Does w (refused_world w c r k hand) (reserve_label w r k hand NoMemory)
   refused_does = record {
-    due_is = λ m s f. subst (λ m. IsDue m (reserve_label w r k hand NoMemory)) (sym s.same) (due_step w s.history c r k hand (subst Facts s.same f) s.fits held next NoMemory (inr refl));
+    due_is = λ m s f. subst (λ m. IsDue m (reserve_label w r k hand NoMemory)) (sym s.same) (due_step w s.history c r k hand (subst Facts s.same f) s.fits s.holds held next NoMemory (inr refl));
     shows = λ m s f. let facts = subst Facts s.same f in record {
       history = with_step s.history c (served_step w (Reserve k) r NoMemory);
-      same = ap (λ m. after m (reserve_label w r k hand NoMemory)) s.same ∙ refused_is w s.history c r k hand facts s.fits held next;
+      same = ap (λ m. after m (reserve_label w r k hand NoMemory)) s.same ∙ refused_is w s.history c r k hand facts s.fits s.holds held next;
       fits = told_fits w s.history c hand (served_step w (Reserve k) r NoMemory) (end_of w r k hand NoMemory) (actor_is w s.history c hand held facts) s.fits held;
+      holds = s.holds;
     };
   }
 
   reserve_does : (e : Entry) → entry_of k w.cluster.entries ≡ Some e → r < length w.nodes → Does w (reserve_world w c r k hand e) (reserve_label w r k hand (Done answers.Nothing))
   reserve_does e there within = record {
-    due_is = λ m s f. subst (λ m. IsDue m (reserve_label w r k hand (Done answers.Nothing))) (sym s.same) (due_step w s.history c r k hand (subst Facts s.same f) s.fits held next (Done answers.Nothing) (inl refl));
+    due_is = λ m s f. subst (λ m. IsDue m (reserve_label w r k hand (Done answers.Nothing))) (sym s.same) (due_step w s.history c r k hand (subst Facts s.same f) s.fits s.holds held next (Done answers.Nothing) (inl refl));
     shows = λ m s f. let facts = subst Facts s.same f in record {
       history = with_step s.history c (served_step w (Reserve k) r (Done answers.Nothing));
-      same = ap (λ m. after m (reserve_label w r k hand (Done answers.Nothing))) s.same ∙ after_is w s.history c r k hand facts s.fits held next e there within;
-      fits = fits_later w s.history c r k hand facts s.fits held next e there within;
+      same = ap (λ m. after m (reserve_label w r k hand (Done answers.Nothing))) s.same ∙ after_is w s.history c r k hand facts s.fits s.holds held next e there within;
+      fits = fits_later w s.history c r k hand facts s.fits s.holds held next e there within;
+      holds = holds_later w s.history c r k hand facts s.fits s.holds held next e there within;
     };
   }
 

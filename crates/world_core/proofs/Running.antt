@@ -25,7 +25,8 @@ use Rattle.world_core.specs.Machine.{Machine, Staged, ReplicaState, CallState}
 use Rattle.world_core.specs.Steps.{driver_of, changed, step_of, after}
 use Rattle.world_core.specs.Shows.{Does, Shows, FitsReplica, Facts, IsShown, IsRoomy, machine_of, shown_replica, hand_at}
 use Rattle.world_core.specs.Invariant.{Working, IsGoodState, Alone, InvariantWith, Invariant}
-use Rattle.world_core.specs.Runs.{Counts, IsNew, IsRunTo, last, lacking, having, making_left, steps_left, hand_left, left_of}
+use Rattle.world_core.specs.Runs.{Counts, IsNew, IsRunTo, last}
+use Rattle.world_core.specs.StepsLeft.{lacking, having, making_left, steps_left, hand_left, left_of}
 use Rattle.world_core.proofs.Held.{state_in, in_hand_is, in_hand_at, driver_is, actor_is}
 use Rattle.world_core.proofs.Law.{invariant_empty, step_nearer}
 use Rattle.world_core.proofs.LawFacts.{facts}

@@ -1,6 +1,7 @@
 -- A step of a call that a node serves, whatever the request, a reservation aside.
-use Rattle.std.proofs.Common.{◌≡◌, ℕ, ◌-◌, ◌^◌, ◌<◌, ℤ, List, ◌∷◌, refl, sym, ap, subst, ◌∙◌, cond}
-use Rattle.std.specs.Prelude.{Option, Some, None, ◌==◌, ◌&&◌, IsSomeAnd, slice_index, slice_set}
+use Rattle.std.proofs.Common.{◌≡◌, ◌⊎◌, inl, inr, ℕ, ◌-◌, ◌^◌, ◌<◌, ◌≤◌, ℤ, Bool, true, false, List, ◌∷◌, refl, sym, ap, subst, ◌∙◌, cond}
+use Rattle.std.specs.Prelude.{Option, Some, None, ◌==◌, ◌&&◌, IsSomeAnd, slice_get, slice_index, slice_set}
+use Rattle.std.proofs.lemmas.Option.{same_Some}
 use Rattle.ckpt_types.specs.declared.answers.Outcome.{Outcome}
 use Rattle.ckpt_types.specs.declared.identities.ActorName.TheVariants.{Client}
 use Rattle.ckpt_types.specs.declared.identities.CallId.{CallId}
@@ -22,10 +23,12 @@ use Rattle.world_core.specs.declared.replica.RecordSeen.{RecordSeen}
 use Rattle.world_core.specs.declared.replica.Replica.{Replica}
 use Rattle.world_core.specs.declared.world.World.{World}
 use Rattle.cluster_record.specs.Calls.{put_actor, left}
-use Rattle.cluster_record.specs.Places.{put, put2}
-use Rattle.cluster_record.specs.RecordState.{entry_of, complete_of}
+use Rattle.cluster_record.specs.declared.entries.Entry.{Entry}
+use Rattle.cluster_record.specs.Places.{find_key, change_key, list_or, put, put2}
+use Rattle.cluster_record.specs.RecordState.{RecordState, entry_of, complete_of}
 use Rattle.node_msgs.specs.Requests.{ckpt_of}
-use Rattle.world_core.specs.Serving.{record_seen, replica_in, reply_at, pieces_at, replica_after, served, IsReadyFor, IsReadyAt}
+use Rattle.world_core.specs.Holding.{replicas_on, IsReservation, IsHeld, HoldsOnlyWhatStands}
+use Rattle.world_core.specs.Serving.{record_seen, replica_key, replica_in, reply_at, pieces_at, replica_after, served, IsReadyFor, IsReadyAt}
 use Rattle.node_msgs.specs.Steps.{verb_of, word_of}
 use Rattle.cluster_record.specs.StepDone.{StepDone, done_of}
 use Rattle.world_core.specs.Driving.{driver_next, driver_taken, driver_end}
@@ -36,8 +39,10 @@ use Rattle.world_core.specs.Happenings.{rooms_in}
 use Rattle.world_core.specs.Shows.{Does, IsShown, IsRoomy, Fits, Facts, IsServable, IsFree, History, machine_of, shown_replica, shown_slot, complete_replica, hand_at}
 use Rattle.world_core.proofs.Calls.{IsOwn, own_request}
 use Rattle.world_core.proofs.Held.{state_in, in_hand_is, in_hand_at, driver_is, actor_is, due_is, left_shown, left_fits, hand_fits}
-use Rattle.world_core.proofs.Maps.{served_at, complete_at, put_replica, fits_replica, reserved_same, fits_reserved, fits_fresh, put_hand, fits_hand}
-use Rattle.world_core.proofs.Rows.{IsPlain, effects_after, origin_after, row_moves, row_fits}
+use Rattle.world_core.proofs.HoldingLaws.{held_at, holds_by_key, standing, once_set}
+use Rattle.world_core.proofs.Maps.{both_true, slice_there, after_key, served_at, complete_at, put_replica, fits_replica, reserved_same, put_hand, fits_hand}
+use Rattle.world_core.proofs.OnceByKey.{counted, counted-change_key}
+use Rattle.world_core.proofs.PlainRequests.{IsPlain, effects_after, origin_after, row_moves, row_fits}
 use Rattle.world_core.proofs.Finding.{There}
 use Rattle.world_core.proofs.Finding as finding
 
@@ -51,6 +56,43 @@ may_answer m s r request answer plain h = h
 pieces_plain : (m : Machine) (s : CallState) (r : ℕ) (request : Request) → IsPlain request → pieces_due m s request r ≡ pieces_at request s.op m.cluster.moment (seen_at m (ckpt_of request) r)
 pieces_plain m s r (requests.Next call k) plain = absurd (plain.goes_on_with_none call k refl)
 pieces_plain m s r request plain = refl
+
+-- ---- what the nodes hold
+
+-- where one that is complete has served a request, the nodes hold what they held
+module _ (R : RecordState) (nodes : List (List Replica)) (r : ℕ) (request : Request) (op : Op) (x : Replica) (e : Entry) (holds : HoldsOnlyWhatStands R nodes) (is : replica_in nodes (ckpt_of request) r ≡ Some x) (there : entry_of (ckpt_of request) R.entries ≡ Some e) (complete : (slice_index e.complete r == 0) ≡ false) where
+  abbrev after_it : Replica
+  after_it = replica_after request op x
+
+  held_after : IsHeld R r after_it
+  held_after =
+      let (held, key) = held_at R nodes holds (ckpt_of request) r x is in
+      record {
+        up = held.up;
+        stands = subst (λ (o : Option Entry). IsSomeAnd o (λ e. (slice_index e.complete r ≡ slice_index R.up r) ⊎ IsReservation e r after_it)) (sym (ap (λ j. entry_of j R.entries) (after_key request op x ∙ key) ∙ there))
+            (elim (standing R nodes holds (ckpt_of request) r e x there is) [
+              | inl as_up ↦ inl as_up
+              | inr reservation ↦ absurd (let none : (slice_index e.complete r == 0) ≡ true = ap (λ n. n == 0) reservation.not_complete in cc)
+            ]);
+      }
+
+  held_case : (b : Bool) (q : ℕ) (y : Replica) (o : Option Replica) → (b ≡ true → q ≡ r) → ((y : Replica) → o ≡ Some y → IsHeld R q y) → cond b (Some after_it) o ≡ Some y → IsHeld R q y
+  held_case true q y o here all e = subst (λ (z : ℕ × Replica). IsHeld R z.0 z.1) (λ i. (sym (here refl) i, same_Some after_it y e i)) held_after
+  held_case false q y o here all e = all y e
+
+  served_once : (q j : ℕ) → counted replica_key j (replicas_on (served nodes r request op) q) ≤ 1
+  served_once =
+      let there = slice_there (slice_get nodes r) (find_key replica_key (ckpt_of request)) x refl is in
+      let xs : List Replica = there.0 in
+      let new = λ (ys : List Replica). change_key replica_key (ckpt_of request) (replica_after request op) ys in
+      let own : (j : ℕ) → counted replica_key j xs ≤ 1 = λ j. subst (λ (o : Option (List Replica)). counted replica_key j (list_or o) ≤ 1) there.1 (holds.once r j) in
+      subst (λ (ys : List Replica). (q j : ℕ) → counted replica_key j (replicas_on (slice_set nodes r (new ys)) q) ≤ 1) (sym (ap list_or there.1))
+      (once_set nodes r xs (new xs) there.1 (λ j. subst (λ n. n ≤ 1) (sym (counted-change_key replica_key (ckpt_of request) j (replica_after request op) (after_key request op) xs)) (own j)) holds.once)
+
+  pub holds_served : HoldsOnlyWhatStands R (served nodes r request op)
+  holds_served = holds_by_key R (served nodes r request op)
+      (λ j q y found. held_case ((j == ckpt_of request) && (q == r)) q y (replica_in nodes j q) (λ t. (both_true j (ckpt_of request) q r t).1) (λ y had. (held_at R nodes holds j q y had).0) (sym (served_at nodes r request op x is j q) ∙ found))
+      served_once
 
 abbrev pub served_step : World → Request → ℕ → Reply → StepDone
 served_step w request r reply = done_of w.cluster (verb_of request) (Some (ckpt_of request)) (Some r) (word_of reply)
@@ -178,10 +220,12 @@ module _ (w : World) (h : History) (c r : ℕ) (request : Request) (hand : InHan
   fits_later : Fits w' later
   fits_later = record {
     replicas = fits_replica w.cluster h.effects (complete_replica w.cluster w.nodes) (complete_replica w.cluster w'.nodes) k r E' x' complete_each (row_fits k (entry_of k w.cluster.entries) E o x request hand.op found.fits) fits.replicas;
-    reserved = fits_reserved w.cluster w.nodes w'.nodes k r x' at_each found.complete fits.reserved;
-    fresh = fits_fresh w.cluster.last_identity w.nodes w'.nodes k r x' at_each (λ above. let z : None ≡ Some x = sym (fits.fresh k r above) ∙ found.is in absurd (cc z)) fits.fresh;
     hands = fits_hand h w.hands c hand (left end (hand_taken done hand)) (done ∷ h.steps c) held (left_fits h c hand done end (hand_fits w h c hand held fits)) fits.hands;
   }
+
+  -- the nodes hold what they held, one replica with another state
+  holds_later : HoldsOnlyWhatStands w.cluster w.nodes → HoldsOnlyWhatStands w.cluster w'.nodes
+  holds_later holds = holds_served w.cluster w.nodes r request hand.op x found.entry holds found.is found.at (ap (λ (o : Option Entry). slice_index (complete_of o) r == 0) (sym found.at) ∙ found.complete)
 
 module _ (w : World) (c r : ℕ) (request : Request) (hand : InHand) (plain : IsPlain request) (held : hand_at w.hands c ≡ Some hand) (next : driver_next w.cluster (rooms_in w c) hand.driver ≡ Serve r request) where
   serve_does : Does w (serve_world w c r request hand) (serve_label w r request hand)
@@ -191,6 +235,7 @@ module _ (w : World) (c r : ℕ) (request : Request) (hand : InHand) (plain : Is
       history = later w s.history c r request hand plain facts s.fits held next;
       same = ap (λ m. after m (serve_label w r request hand)) s.same ∙ after_is w s.history c r request hand plain facts s.fits held next;
       fits = fits_later w s.history c r request hand plain facts s.fits held next;
+      holds = holds_later w s.history c r request hand plain facts s.fits held next s.holds;
     };
   }
 

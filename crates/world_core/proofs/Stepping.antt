@@ -35,7 +35,7 @@ use Rattle.world_core.specs.Happenings.{IsNext, IsStep}
 use Rattle.world_core.proofs.Held.{next_for}
 use Rattle.world_core.proofs.Look.{look_done}
 use Rattle.world_core.proofs.Reserve.{reserve_ready, reserve_done, reserve_refused}
-use Rattle.world_core.proofs.Rows.{IsPlain}
+use Rattle.world_core.proofs.PlainRequests.{IsPlain}
 use Rattle.world_core.proofs.Serve.{served_step, serve_node, serve_ready, serve_done}
 
 -- what is there is not none
@@ -99,7 +99,7 @@ some_there (Some e) some = (e, refl, some)
 
 -- a step in which a node is asked to take the storage of a replica
 module _ (w : World) (c r k : ℕ) (next : IsNext w c (Serve r (Reserve k))) where
-  pub reserve_asks : IsShown w → (r < 8) × IsSomeAnd (entry_of k w.cluster.entries) (λ e. IsReservable e r)
+  pub reserve_asks : IsShown w → (r < 8) × IsSomeAnd (entry_of k w.cluster.entries) (IsReservable w.cluster r)
   reserve_asks = reserve_ready w c r k next.hand next.held next.next_is
 
   abbrev Goes : InHand → List (Option InHand) → OpWord → StepReply → Option Outcome → Reply → World → Type 0

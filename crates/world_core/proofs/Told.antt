@@ -35,7 +35,5 @@ module _ (w : World) (h : History) (c : ℕ) (hand : InHand) (done : StepDone) (
   pub told_fits : Fits (told_world w c hand done end) (with_step h c done)
   told_fits = record {
     replicas = fits.replicas;
-    reserved = fits.reserved;
-    fresh = fits.fresh;
     hands = fits_hand h w.hands c hand (left end (hand_taken done hand)) (done ∷ h.steps c) held (left_fits h c hand done end (hand_fits w h c hand held fits)) fits.hands;
   }

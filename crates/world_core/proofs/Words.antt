@@ -18,6 +18,7 @@ use Rattle.world_core.specs.Machine.{Machine}
 use Rattle.world_core.specs.Steps.{IsSaid, after}
 use Rattle.world_core.specs.Shows.{Does, History, machine_of, hand_at, shown_hand, where_not_complete, reserved_in}
 use Rattle.world_core.specs.Runs.{IsRunTo, step_word}
+use Rattle.world_core.proofs.HoldingLaws.{held_by_none}
 
 -- a word leaves the world as it is
 word_done : (w : World) (c : ℕ) (word : LineWord) (said : Said) → ((h : History) → IsSaid (machine_of w h) (Client c) word said) → Does w w (Word (Actor (Client c)) word said)
@@ -70,7 +71,8 @@ nodes_done w n R one empty R_is = subst (λ (R : RecordState). Does w (record w 
   shows = λ m s f. record {
     history = s.history;
     same = ap (λ m. after m (Nodes n)) s.same ∙ (λ i. record (machine_of (record w { cluster = brought_up n w.cluster }) s.history) { reserved = λ k r. same k r i });
-    fits = record { replicas = s.fits.replicas; reserved = s.fits.reserved; fresh = s.fits.fresh; hands = s.fits.hands };
+    fits = record { replicas = s.fits.replicas; hands = s.fits.hands };
+    holds = held_by_none w.cluster (brought_up n w.cluster) w.nodes (ap (λ (R : RecordState). R.entries) empty) s.holds;
   };
 }) where
   same : (k r : ℕ) → reserved_in w.cluster w.nodes k r ≡ reserved_in (brought_up n w.cluster) w.nodes k r

@@ -1,5 +1,5 @@
 -- What a call answers when it begins, by its arguments, the tables and the record: the first refusal that applies.
-use Rattle.std.specs.Prelude.{◌≡◌, ◌≢◌, ℕ, ◌<◌, List, length, Option, Some, None, Bool, true, false, not, ◌||◌, ◌==◌, nat_le, nat_lt, if◌then◌else◌, ℤ, pos, int_lt, Result, Ok, Err}
+use Rattle.std.specs.Prelude.{◌≡◌, ◌≢◌, ℕ, ◌+◌, ◌<◌, List, length, Option, Some, None, Bool, true, false, not, ◌||◌, ◌==◌, nat_le, nat_lt, if◌then◌else◌, ℤ, pos, int_lt, Result, Ok, Err}
 use Rattle.ckpt_types.specs.declared.ais_error.AisError.{AisError}
 use Rattle.ckpt_types.specs.declared.ais_error.AisError.TheVariants as errors
 use Rattle.ckpt_types.specs.declared.answers.Cause.TheVariants.{Plain}
@@ -16,13 +16,13 @@ use Rattle.ckpt_types.specs.declared.operation.Op.TheVariants as ops
 use Rattle.ckpt_types.specs.declared.update.Update.{Update}
 use Rattle.ckpt_types.specs.declared.update.Update.TheVariants as updates
 use Rattle.ckpt_types.specs.Attributes.{has_flag, has_bad_open_flags, open_flags_of, is_malformed}
-use Rattle.ckpt_types.specs.Limits.{checkpoint_create, vector_max, name_max, release, places_max, nodes_max, sections_any, major_min, major_max}
+use Rattle.ckpt_types.specs.Limits.{wr_active_replica, wr_active_replica_weak, checkpoint_collocated, checkpoint_create, vector_max, name_max, release, places_max, nodes_max, sections_any, major_min, major_max}
 use Rattle.client_handles.specs.declared.handle_view.HandleView.{HandleView}
 
 abbrev pub refused : AisError → Option Outcome
 refused error = Some (Refused error Plain)
 
--- the service speaks the release `B` in the major versions 1 and 2, each with any minor version
+-- the service speaks one release in two major versions, each with any minor version
 abbrev pub version_is_bad : Version → Bool
 version_is_bad version = not (version.release == release) || not ((version.major == major_min) || (version.major == major_max))
 
@@ -41,7 +41,7 @@ open_begin name flags timeout a =
     else if name_is_bad name || int_lt timeout (pos 0) || attributes_are_bad flags a then refused errors.InvalidParam
     else None
 
--- a vector has 1 to 64 elements
+-- a vector has elements, and not too many
 abbrev pub vector_is_bad : ℕ → Bool
 vector_is_bad n = (n == 0) || nat_lt vector_max n
 
@@ -63,7 +63,7 @@ may_read flags = flags.read
 abbrev pub may_always : OpenFlags → Bool
 may_always flags = true
 
--- a choice is one of five
+-- a choice is one of those that there are
 abbrev pub choice_is_bad : ℕ → Bool
 choice_is_bad chosen = (chosen == 0) || nat_lt sections_any chosen
 
@@ -164,12 +164,12 @@ takes_room op = false
 
 -- the operation starts an iteration with this choice, or goes on with one
 abbrev pub IsIterOf : Choice → Op → Type 0
-IsIterOf choice (ops.Iter iteration place chosen time) = (choice ≡ choice_of chosen time) × (iteration < places_max) × (place < places_max)
+IsIterOf choice (ops.Iter iteration place chosen time) = (choice ≡ choice_of chosen time) × (iteration < places_max)
 IsIterOf choice op = ⊥
 
 -- the operation closes a handle, sets this retention, or takes this name away
 abbrev pub IsCloseOf : Op → Type 0
-IsCloseOf (ops.Close place) = place < places_max
+IsCloseOf (ops.Close place) = Unit {0}
 IsCloseOf op = ⊥
 
 abbrev pub IsRetainOf : ℤ → Op → Type 0
@@ -195,17 +195,17 @@ pub record RegistersNone (callbacks : CallbackSet) : Type 0 where
   pub opens : callbacks.opens ≡ false
   pub syncs : callbacks.syncs ≡ false
 
--- of the attributes that pass their check, these are not built yet: updates on the active replica alone (creation flags 2,
--- collocated 10), and weak ones (4, collocated 12)
+-- of the attributes that pass their check, these are not built yet: updates on the active replica alone, and weak ones, each
+-- collocated or not
 pub record IsBuiltAttributes (a : CreationAttributes) : Type 0 where
-  pub not_active : (a.creation_flags ≢ 2) × (a.creation_flags ≢ 10)
-  pub not_weak : (a.creation_flags ≢ 4) × (a.creation_flags ≢ 12)
+  pub not_active : (a.creation_flags ≢ wr_active_replica) × (a.creation_flags ≢ wr_active_replica + checkpoint_collocated)
+  pub not_weak : (a.creation_flags ≢ wr_active_replica_weak) × (a.creation_flags ≢ wr_active_replica_weak + checkpoint_collocated)
 
 abbrev pub AreBuilt : Option CreationAttributes → Type 0
 AreBuilt None = Unit {0}
 AreBuilt (Some a) = IsBuiltAttributes a
 
--- an Initialize on one of eight nodes, an open, an update, a read, a status, iterations, a close, a retention, with places from 0 to 99, an unlink and a Finalize; the others are not built yet
+-- an Initialize on one of the nodes, an open, an update, a read, a status, iterations, a close, a retention, each with places that there are, an unlink and a Finalize; the others are not built yet
 abbrev pub IsBuilt : Op → Type 0
 IsBuilt (ops.Client r version callbacks) = (r < nodes_max) × RegistersNone callbacks
 IsBuilt (ops.Open place name flags timeout a) = (place < places_max) × AreBuilt a

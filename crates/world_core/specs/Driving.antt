@@ -11,6 +11,7 @@ use Rattle.ckpt_types.specs.declared.answers.Outcome.TheVariants.{Done, Refused,
 use Rattle.ckpt_types.specs.declared.identities.CallId.{CallId}
 use Rattle.ckpt_types.specs.declared.operation.Op.{Op}
 use Rattle.ckpt_types.specs.declared.operation.Op.TheVariants as ops
+use Rattle.ckpt_types.specs.Limits.{clients_max}
 use Rattle.node_msgs.specs.declared.replies.Reply.{Reply}
 use Rattle.node_msgs.specs.declared.replies.Reply.TheVariants as replies
 use Rattle.node_msgs.specs.declared.next.RecordStep.{RecordStep}
@@ -40,7 +41,7 @@ refused_cause op index = Plain
 
 -- by the record, and by what the client's own tables have a free place for
 abbrev pub driver_next : RecordState → Rooms → Driver → Next
-driver_next R rooms (drivers.Enter r) = if nat_le 64 (length R.clients) then End (Refused NoResources (Count 64)) else Event events.Enter
+driver_next R rooms (drivers.Enter r) = if nat_le clients_max (length R.clients) then End (Refused NoResources (Count clients_max)) else Event events.Enter
 driver_next R rooms (drivers.Open o) = open_next R rooms.handles o
 driver_next R rooms (drivers.Update u) = update_next R u
 driver_next R rooms (drivers.Active a) = active_next R rooms.iterations a

@@ -282,7 +282,7 @@ pub record IsFull (m : Machine) (s : CallState) (name : List ℕ) (a : Option Cr
   pub free : named name m.cluster.entries ≡ None
   pub asked : IsSome a
   pub room : room_of m (client_of s.call) ≡ true
-  pub full : 16 ≤ length m.cluster.entries
+  pub full : checkpoints_max ≤ length m.cluster.entries
   pub limit : n ≡ checkpoints_max
 
 -- the refusals of an open that the record and the tables decide, each where none before it applies: NOT_EXIST, TIMEOUT, EXIST, NO_RESOURCES

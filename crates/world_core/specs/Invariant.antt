@@ -1,5 +1,5 @@
 -- What holds in every state of a run of one node, one call at a time; from it follow the guards, and all that the code relies on.
-use Rattle.std.specs.Prelude.{◌≡◌, ◌≢◌, ◌⊎◌, ℕ, ◌<◌, ◌≤◌, List, [], ◌∷◌, length, Option, Some, None, IsSome, IsSomeAnd, IfSome, Contains, IsOk, true, false, ◌==◌, if◌then◌else◌, ℤ, slice_index}
+use Rattle.std.specs.Prelude.{◌≡◌, ◌≢◌, ◌⊎◌, ℕ, ◌<◌, ◌≤◌, List, [], ◌∷◌, length, Option, Some, None, IsSome, IsSomeAnd, IfSome, Contains, IsOk, true, false, ◌==◌, if◌then◌else◌, ℤ, pos, ◌≤ℤ◌, slice_index}
 use Rattle.ckpt_types.specs.declared.attributes.CreationAttributes.{CreationAttributes}
 use Rattle.ckpt_types.specs.declared.calls.OpenAsk.{OpenAsk}
 use Rattle.ckpt_types.specs.declared.identities.ActorName.{ActorName}
@@ -19,10 +19,11 @@ use Rattle.cluster_record.specs.DueOpen.{OpenState}
 use Rattle.cluster_record.specs.DueActive.{ActiveState}
 use Rattle.cluster_record.specs.declared.calls.ActiveKind.{ActiveKind}
 use Rattle.cluster_record.specs.declared.calls.ActiveKind.TheVariants as kinds
+use Rattle.cluster_record.specs.declared.clients.LiveClient.{LiveClient}
 use Rattle.cluster_record.specs.declared.entries.Entry.{Entry}
 use Rattle.cluster_record.specs.DueUpdate.{UpdateState}
 use Rattle.cluster_record.specs.declared.calls.UpdatePhase.TheVariants.{Staging}
-use Rattle.cluster_record.specs.Calls.{same_actor, client_of}
+use Rattle.cluster_record.specs.Calls.{IsClient, same_actor, client_of}
 use Rattle.cluster_record.specs.RecordState.{RecordState, entry_of, first_nodes, no_nodes, stays, is_live_client, is_up}
 use Rattle.world_core.specs.Serving.{update_of}
 use Rattle.cluster_record.specs.DueOpen.{IsBefore}
@@ -175,12 +176,15 @@ IsMakingOrNone m (Some making) = IsMakingAt m making
 
 pub record IsEnterAt (m : Machine) (s : CallState) (r : ℕ) : Type 0 where
   pub op : IsClientOf s.op r
+  pub client : IsClient s.call.actor
   pub up : is_up r m.cluster ≡ true
   pub not_live : is_live_client (client_of s.call) m.cluster ≡ false
 
 pub record IsOpenAt (m : Machine) (s : CallState) (o : OpenState) : Type 0 where
+  pub caller : IsClient s.call.actor
   pub client : o.ask.client ≡ client_of s.call
   pub within : o.ask.client < client_numbers
+  pub node : is_up o.ask.node m.cluster ≡ true
   pub built : IsBuilt s.op
   pub asks : OpensAs s.op o.ask
   pub named : name_is_bad o.ask.name ≡ false
@@ -223,6 +227,7 @@ pub record IsCloseAt (m : Machine) (s : CallState) (k : ℕ) : Type 0 where
 
 pub record IsRetainAt (m : Machine) (s : CallState) (k : ℕ) (duration : ℤ) : Type 0 where
   pub op : IsRetainOf duration s.op
+  pub from_zero : pos 0 ≤ℤ duration
   pub kept : s.kept.ckpt ≡ Some k
   pub made : WasMade m.cluster k
 
@@ -247,6 +252,8 @@ IsWorking m (Some w) = (driver_of w.state ≡ w.driver) × IsAt m w.state w.driv
 pub record InvariantWith (hand : Option Working) (m : Machine) : Type 0 where
   -- no node is up and no client live, or n0 alone is up
   pub up : ((m.cluster.up ≡ no_nodes) × (m.cluster.clients ≡ [])) ⊎ (m.cluster.up ≡ first_nodes 1)
+  -- each client that is live is on a node that is up
+  pub clients : (live : LiveClient) → Contains m.cluster.clients live → is_up live.node m.cluster ≡ true
   pub rises : IdentitiesRise m.cluster.entries
   pub up_to : AllUpTo m.cluster.last_identity m.cluster.entries
   pub swept : AllStay m.cluster.moment m.cluster.entries

@@ -8,6 +8,7 @@ use Rattle.ckpt_types.specs.declared.update.ReadElement.{ReadElement}
 use Rattle.ckpt_types.specs.declared.update.Update.{Update}
 use Rattle.ckpt_types.specs.declared.update.Update.TheVariants as updates
 use Rattle.ckpt_types.specs.Buffer.{Buffer}
+use Rattle.ckpt_types.specs.Limits.{generated_id_bytes}
 use Rattle.node_msgs.specs.declared.requests.Request.{Request}
 use Rattle.node_msgs.specs.declared.requests.Request.TheVariants as requests
 use Rattle.node_msgs.specs.declared.replies.Reply.{Reply}
@@ -29,7 +30,7 @@ pub record IsLentRead (elements : List ReadElement) (lent : Lent) : Type 0 where
 -- how long the identifier of a new section is
 abbrev pub id_length : NewId → ℕ
 id_length (Given id) = length id
-id_length Generated = 8
+id_length Generated = generated_id_bytes
 
 -- a creation is lent an empty buffer with room for the identifier that it tells
 pub record IsLentId (new : NewId) (read : Buffer) : Type 0 where

@@ -4,6 +4,7 @@ pub mod TableView
 pub mod NewTable
 pub mod Serving
 pub mod Freeing
+pub mod Holding
 pub mod Reserving
 pub mod CallStates
 pub mod Driving
@@ -13,9 +14,11 @@ pub mod Beginning
 pub mod Steps
 pub mod HandSteps
 pub mod Shows
+pub mod Parts
 pub mod Settling
 pub mod Guards
 pub mod Invariant
 pub mod Runs
+pub mod StepsLeft
 pub mod Refusals
 pub mod Happenings

@@ -6,6 +6,7 @@ use Rattle.ckpt_types.specs.declared.identities.ActorName.{ActorName}
 use Rattle.ckpt_types.specs.declared.identities.CallId.{CallId}
 use Rattle.ckpt_types.specs.declared.operation.Op.{Op}
 use Rattle.ckpt_types.specs.declared.update.Update.{Update}
+use Rattle.ckpt_types.specs.Limits.{places_max}
 use Rattle.ckpt_types.specs.Sections.{Section}
 use Rattle.client_handles.specs.declared.begun.BegunIteration.{BegunIteration}
 use Rattle.client_handles.specs.declared.handle_view.HandleView.{HandleView}
@@ -88,7 +89,7 @@ pub record Machine : Type 0 where
   pub operations : CallId → Option CallState
 
 abbrev pub no_iterations : IterationTable
-no_iterations = record { last = 0; begun = []; places = replicate 100 0 }
+no_iterations = record { last = 0; begun = []; places = replicate places_max 0 }
 
 -- no node is up, and nothing has happened
 abbrev pub empty_cluster : Machine

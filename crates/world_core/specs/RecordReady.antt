@@ -1,24 +1,27 @@
 -- What a step of a call asks of the record.
-use Rattle.std.specs.Prelude.{◌≡◌, ℕ, ◌+◌, ◌-◌, ◌^◌, ◌<◌, ◌≤◌, length, Some, None, IsSome, IsSomeAnd, false}
+use Rattle.std.specs.Prelude.{◌≡◌, ℕ, ◌+◌, ◌-◌, ◌^◌, ◌<◌, length, Some, None, IsSome, IsSomeAnd, false, pos, ◌≤ℤ◌}
 use Rattle.node_msgs.specs.declared.next.RecordStep.{RecordStep}
 use Rattle.node_msgs.specs.declared.next.RecordStep.TheVariants as events
 use Rattle.world_core.specs.declared.drivers.Driver.{Driver}
 use Rattle.world_core.specs.declared.drivers.Driver.TheVariants as drivers
 use Rattle.cluster_record.specs.DueOpen.{OpenState}
 use Rattle.ckpt_types.specs.declared.calls.OpenAsk.{OpenAsk}
-use Rattle.ckpt_types.specs.Limits.{name_max}
+use Rattle.ckpt_types.specs.declared.identities.CallId.{CallId}
+use Rattle.ckpt_types.specs.Limits.{clients_max}
 use Rattle.cluster_record.specs.declared.opening.OpenAnswer.{OpenAnswer}
 use Rattle.cluster_record.specs.declared.opening.OpenAnswer.TheVariants.{Opened, Made, Refused}
 use Rattle.cluster_record.specs.Opening.{open_answer}
-use Rattle.cluster_record.specs.RecordReady.{CanEnter, CanReferAt}
+use Rattle.cluster_record.specs.Calls.{IsClient}
+use Rattle.cluster_record.specs.RecordReady.{CanBecomeLive, CanOpen, CanReferAt}
 use Rattle.cluster_record.specs.RecordState.{RecordState, named, entry_of}
 use Rattle.cluster_record.specs.DueOpen.{making_ckpt}
 use Rattle.cluster_record.specs.LookUps.{identity_in}
 use Rattle.cluster_record.specs.Makings.{IsMakingOf}
 
--- an open can be asked of the record: its name fits, and no number is at its end
-pub record CanAsk (R : RecordState) (ask : OpenAsk) : Type 0 where
-  pub fits : length ask.name ≤ name_max
+-- an open can be asked of the record: by a client's call, as every open, and no number is at its end
+pub record CanAsk (call : CallId) (R : RecordState) (ask : OpenAsk) : Type 0 where
+  pub caller : IsClient call.actor
+  pub can : CanOpen ask R
   pub references : CanReferAt ask.client R.entries (identity_in (named ask.name R.entries))
   pub identity : R.last_identity < 2 ^ 32 - 1
 
@@ -29,16 +32,17 @@ IsGranted (Made k) = Unit {0}
 IsGranted (Refused refused) = ⊥
 
 -- a creation and an opening are the same call, and are answered as they were decided
-abbrev pub IsOpenReady : RecordState → OpenState → RecordStep → Type 0
-IsOpenReady R o events.Create = CanAsk R o.ask × (open_answer R o.ask ≡ Made (R.last_identity + 1))
-IsOpenReady R o events.Open = CanAsk R o.ask × ((k : ℕ) × (identity_in (named o.ask.name R.entries) ≡ Some k) × (open_answer R o.ask ≡ Opened k false))
-IsOpenReady R o events.Finish = CanReferAt o.ask.client R.entries (making_ckpt o.making) × IsMakingOf R o.ask.client (making_ckpt o.making)
-IsOpenReady R o events.Undo = IsMakingOf R o.ask.client (making_ckpt o.making)
-IsOpenReady R o step = Unit {0}
+abbrev pub IsOpenReady : CallId → RecordState → OpenState → RecordStep → Type 0
+IsOpenReady call R o events.Create = CanAsk call R o.ask × (open_answer R o.ask ≡ Made (R.last_identity + 1))
+IsOpenReady call R o events.Open = CanAsk call R o.ask × ((k : ℕ) × (identity_in (named o.ask.name R.entries) ≡ Some k) × (open_answer R o.ask ≡ Opened k false))
+IsOpenReady call R o events.Finish = IsMakingOf R o.ask.client (making_ckpt o.making)
+IsOpenReady call R o events.Undo = IsMakingOf R o.ask.client (making_ckpt o.making)
+IsOpenReady call R o step = Unit {0}
 
-abbrev pub IsRecordReady : RecordState → Driver → RecordStep → Type 0
-IsRecordReady R (drivers.Enter r) step = CanEnter r R
-IsRecordReady R (drivers.Open o) step = IsOpenReady R o step
-IsRecordReady R (drivers.Unlink name) step = IsSomeAnd (named name R.entries) (λ e. e.making ≡ None)
-IsRecordReady R (drivers.Retain k duration) step = IsSomeAnd (entry_of k R.entries) (λ e. IsSome e.name)
-IsRecordReady R driver step = Unit {0}
+-- a step of a call that drives so
+abbrev pub IsRecordReady : CallId → RecordState → Driver → RecordStep → Type 0
+IsRecordReady call R (drivers.Enter r) step = CanBecomeLive call r R × (length R.clients < clients_max)
+IsRecordReady call R (drivers.Open o) step = IsOpenReady call R o step
+IsRecordReady call R (drivers.Unlink name) step = IsSomeAnd (named name R.entries) (λ e. e.making ≡ None)
+IsRecordReady call R (drivers.Retain k duration) step = IsSomeAnd (entry_of k R.entries) (λ e. IsSome e.name) × (pos 0 ≤ℤ duration)
+IsRecordReady call R driver step = Unit {0}

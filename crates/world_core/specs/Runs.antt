@@ -1,5 +1,5 @@
 -- Runs of the machine that the world shows.
-use Rattle.std.specs.Prelude.{◌≡◌, ◌≢◌, ℕ, ◌+◌, ◌*◌, ◌-◌, ◌<◌, ◌≤◌, ◌^◌, List, [], ◌∷◌, ◌++◌, length, replicate, Option, Some, None, Bool, true, false, if◌then◌else◌, ℤ, slice_get, slice_index}
+use Rattle.std.specs.Prelude.{◌≡◌, ◌≢◌, ℕ, ◌+◌, ◌-◌, ◌<◌, ◌≤◌, ◌^◌, List, [], ◌∷◌, ◌++◌, length, replicate, Option, Some, None, Bool, true, false, ℤ, slice_get, slice_index}
 use Rattle.ckpt_types.specs.declared.answers.Outcome.{Outcome}
 use Rattle.ckpt_types.specs.declared.identities.ActorName.{ActorName}
 use Rattle.ckpt_types.specs.declared.identities.ActorName.TheVariants.{Client}
@@ -8,7 +8,7 @@ use Rattle.ckpt_types.specs.declared.identities.Who.{Who}
 use Rattle.ckpt_types.specs.declared.identities.Who.TheVariants as whos
 use Rattle.ckpt_types.specs.declared.operation.Op.{Op}
 use Rattle.ckpt_types.specs.declared.operation.Op.TheVariants as ops
-use Rattle.ckpt_types.specs.Limits.{client_numbers}
+use Rattle.ckpt_types.specs.Limits.{client_numbers, nodes_max}
 use Rattle.run_labels.specs.declared.labels.Label.{Label}
 use Rattle.run_labels.specs.declared.labels.Label.TheVariants as labels
 use Rattle.run_labels.specs.declared.words.LineWord.{LineWord}
@@ -17,18 +17,14 @@ use Rattle.run_labels.specs.declared.words.Said.{Said}
 use Rattle.run_labels.specs.declared.words.Said.TheVariants.{Down}
 use Rattle.run_labels.specs.OpWord.{word_of_op}
 use Rattle.client_handles.specs.ClientState.{new_client}
-use Rattle.world_core.specs.declared.drivers.Driver.{Driver}
-use Rattle.world_core.specs.declared.drivers.Driver.TheVariants as drivers
 use Rattle.world_core.specs.declared.hands.InHand.{InHand}
-use Rattle.cluster_record.specs.declared.calls.Making.{Making}
 use Rattle.cluster_record.specs.declared.entries.Entry.{Entry}
 use Rattle.world_core.specs.declared.world.Event.{Event}
 use Rattle.world_core.specs.declared.world.Event.TheVariants as happenings
 use Rattle.world_core.specs.declared.world.World.{World}
-use Rattle.cluster_record.specs.RecordState.{RecordState, entry_of, complete_of, empty_record, is_up, IsMomentFrom}
+use Rattle.cluster_record.specs.RecordState.{entry_of, empty_record, is_up, IsMomentFrom}
 use Rattle.world_core.specs.TableState.{TableState}
 use Rattle.world_core.specs.NewTable.{no_callbacks}
-use Rattle.cluster_record.specs.StepDone.{lacks, has}
 use Rattle.world_core.specs.Beginning.{IsBuilt}
 use Rattle.world_core.specs.Machine.{Machine, ReplicaState, empty_cluster}
 use Rattle.world_core.specs.Steps.{IsDue, after}
@@ -78,7 +74,7 @@ pub record IsRunTo (w : World) (log : List Label) : Type 0 where
 -- the world as it begins
 pub record IsNew (w : World) : Type 0 where
   pub cluster : w.cluster ≡ empty_record
-  pub nodes : w.nodes ≡ replicate 8 []
+  pub nodes : w.nodes ≡ replicate nodes_max []
   pub next : (c : ℕ) → next_in (slice_get w.tables c) ≡ 1
   pub tables : (c : ℕ) (t : TableState) → slice_get w.tables c ≡ Some t → t.client ≡ new_client no_callbacks
   pub hands : (c : ℕ) → hand_at w.hands c ≡ None
@@ -104,40 +100,6 @@ Comes w log (happenings.Begin a op) = NoneButOf w a × IsBuilt op
 Comes w log (happenings.Step who finish) = OneActor w who
 Comes w log (happenings.At t) = NoneInHand w × IsMomentFrom w.cluster.moment t
 
--- how many of the nodes the call lacks, and has
-abbrev pub lacking : List ℕ → List ℕ → ℕ
-lacking [] own = 0
-lacking (c ∷ cs) [] = 0
-lacking (c ∷ cs) (o ∷ os) = (if lacks c o then 1 else 0) + lacking cs os
-
-abbrev pub having : List ℕ → List ℕ → ℕ
-having [] own = 0
-having (c ∷ cs) [] = 0
-having (c ∷ cs) (o ∷ os) = (if has c o then 1 else 0) + having cs os
-
-abbrev pub making_left : RecordState → Option Making → ℕ
-making_left R None = 10
-making_left R (Some m) = if m.refused then 1 else lacking R.up m.reserved + 1
-
--- at most so many steps are left of a call
-abbrev pub steps_left : RecordState → Driver → ℕ
-steps_left R (drivers.Enter r) = 1
-steps_left R (drivers.Open o) = making_left R o.making
-steps_left R (drivers.Update u) = let complete = complete_of (entry_of u.ckpt R.entries) in 2 * lacking complete u.owned + having complete u.owned + 1
-steps_left R (drivers.Active a) = 1
-steps_left R drivers.Leave = 1
-steps_left R (drivers.Close k) = 1
-steps_left R (drivers.Unlink name) = 1
-steps_left R (drivers.Retain k duration) = 1
-
-abbrev pub hand_left : RecordState → Option InHand → ℕ
-hand_left R None = 0
-hand_left R (Some h) = steps_left R h.driver
-
-abbrev pub left_of : World → ActorName → ℕ
-left_of w (Client c) = hand_left w.cluster (hand_at w.hands c)
-left_of w a = 0
-
 -- a call is in hand after a label just where the label did not end it
 abbrev pub GoesOn : CallId → Op → Option Outcome → Option InHand → Type 0
 GoesOn call op (Some end) None = Unit {0}
@@ -161,9 +123,9 @@ AnswersBegin a op old new (labels.Began call begun end) = (call.actor ≡ a) × 
 AnswersBegin a op old new (labels.Word who word said) = (who ≡ whos.Actor a) × (word ≡ linewords.Op (word_of_op op)) × (new.hands ≡ old.hands) × SaysTrue op said old
 AnswersBegin a op old new label = ⊥
 
--- the label that answers a step of the call in hand: its next step, by which it ends or comes nearer to its end
+-- the label that answers a step of the call in hand: its next step
 abbrev pub IsStepOf : ActorName → Option InHand → World → World → Label → Type 0
-IsStepOf a (Some h) old new (labels.Stepped call op verb k r reply end pieces) = (call ≡ h.call) × GoesOnAt new h.call h.op end a × (left_of new a < left_of old a)
+IsStepOf a (Some h) old new (labels.Stepped call op verb k r reply end pieces) = (call ≡ h.call) × GoesOnAt new h.call h.op end a
 IsStepOf a hand old new label = ⊥
 
 abbrev pub step_word : Bool → LineWord

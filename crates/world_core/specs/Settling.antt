@@ -55,12 +55,11 @@ pub record CanGive (c : ℕ) (op : Op) (k : Option ℕ) (tables : List TableStat
 abbrev pub CanSettle : ℕ → Op → RecordStep → Option ℕ → List TableState → Type 0
 CanSettle c op events.Open k tables = CanGive c op k tables
 CanSettle c op events.Finish k tables = CanGive c op k tables
-CanSettle c op events.Close k tables = IfSome (closed_place op) (λ p. p < places_max)
 CanSettle c op step k tables = Unit {0}
 
 -- ---- what it finds
 
--- a table in which a handle's place is set has 100 places
+-- a table in which a handle's place is set has all its places
 abbrev pub HasPlaces : RecordStep → Option TableState → Type 0
 HasPlaces events.Open t = IsSomeAnd t (λ t. length t.client.places ≡ places_max)
 HasPlaces events.Finish t = IsSomeAnd t (λ t. length t.client.places ≡ places_max)

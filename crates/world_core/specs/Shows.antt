@@ -1,5 +1,5 @@
 -- How the world shows the machine's state.
-use Rattle.std.specs.Prelude.{◌≡◌, ℕ, ◌-◌, ◌^◌, ◌<◌, ◌≤◌, List, [], length, Option, Some, None, IsSome, IsSomeAnd, Contains, true, false, ◌==◌, if◌then◌else◌, ℤ, slice_get, slice_index}
+use Rattle.std.specs.Prelude.{◌≡◌, ℕ, ◌-◌, ◌^◌, ◌<◌, ◌≤◌, List, [], length, Option, Some, None, IsSome, IsSomeAnd, Contains, true, false, ◌==◌, if◌then◌else◌, ℤ, pos, ◌≤ℤ◌, slice_get, slice_index}
 use Rattle.ckpt_types.specs.declared.identities.ActorName.{ActorName}
 use Rattle.ckpt_types.specs.declared.identities.ActorName.TheVariants.{Client, Node}
 use Rattle.ckpt_types.specs.declared.identities.CallId.{CallId}
@@ -8,7 +8,7 @@ use Rattle.ckpt_types.specs.declared.operation.Op.TheVariants as ops
 use Rattle.ckpt_types.specs.declared.sections.Choice.{Choice}
 use Rattle.section_iter.specs.KeptIds.{KeptIds}
 use Rattle.ckpt_types.specs.Attributes.{is_malformed}
-use Rattle.ckpt_types.specs.Limits.{nodes_max, clients_max, checkpoints_max, name_max, places_max}
+use Rattle.ckpt_types.specs.Limits.{nodes_max, clients_max, checkpoints_max, places_max}
 use Rattle.node_msgs.specs.declared.requests.Request.{Request}
 use Rattle.node_msgs.specs.declared.requests.Request.TheVariants as requests
 use Rattle.node_msgs.specs.declared.next.RecordStep.{RecordStep}
@@ -28,13 +28,15 @@ use Rattle.cluster_record.specs.declared.entries.Entry.{Entry}
 use Rattle.world_core.specs.declared.replica.Replica.{Replica}
 use Rattle.world_core.specs.declared.replica.Slot.{Slot}
 use Rattle.world_core.specs.declared.world.World.{World}
-use Rattle.cluster_record.specs.Calls.{client_of, number_of}
+use Rattle.cluster_record.specs.Calls.{IsClient, client_of, number_of}
 use Rattle.cluster_record.specs.Identities.{IdentitiesRise, AllUpTo}
 use Rattle.cluster_record.specs.Places.{or_none}
-use Rattle.cluster_record.specs.RecordState.{RecordState, entry_of, complete_of, named}
+use Rattle.cluster_record.specs.RecordState.{RecordState, entry_of, complete_of, named, is_up}
 use Rattle.world_core.specs.TableState.{TableState}
 use Rattle.node_msgs.specs.Requests.{ckpt_of}
-use Rattle.world_core.specs.Serving.{replica_in, opened_replica, IsReadyFor}
+use Rattle.world_core.specs.Serving.{replica_in, IsReadyFor}
+use Rattle.world_core.specs.Holding.{HoldsOnlyWhatStands}
+use Rattle.cluster_record.specs.RecordReady.{CanBecomeLive, CanOpen}
 use Rattle.cluster_record.specs.StepDone.{StepDone}
 use Rattle.world_core.specs.Driving.{Kept, driver_state}
 use Rattle.world_core.specs.Beginning.{IsIterOf, IsNextOf, IsBuilt, closed_place}
@@ -167,48 +169,39 @@ abbrev pub FitsReplica : ℕ → Option Entry → List Effect → Option Replica
 FitsReplica k e effects None = Unit {0}
 FitsReplica k e effects (Some x) = (x.ckpt ≡ k) × HasAttributes e x × (length effects ≡ x.count)
 
-abbrev pub IsOpening : ℕ → Entry → Option Replica → Type 0
-IsOpening k e None = Unit {0}
-IsOpening k e (Some x) = x ≡ opened_replica k e.attributes e.made
-
--- what a node that is not complete has of a checkpoint is what a reservation makes
-abbrev pub FitsReserved : ℕ → Option Entry → ℕ → Option Replica → Type 0
-FitsReserved k None r x = Unit {0}
-FitsReserved k (Some e) r x = slice_index e.complete r ≡ 0 → IsOpening k e x
-
--- a call is where its steps have led it
--- the room that it has in hand for an iteration
+-- the room that a call has in hand for an iteration
 abbrev pub room_for : Op → ℕ → Option KeptIds
 room_for (ops.Iter iteration place chosen time) sections = Some (record { ids = []; room = sections })
 room_for op sections = None
 
+-- a call is where its steps have led it
 abbrev pub FitsHand : Kept → List StepDone → Option InHand → Type 0
 FitsHand kept steps None = Unit {0}
 FitsHand kept steps (Some h) = (h.driver ≡ driver_state h.call h.op kept steps) × (h.iteration ≡ room_for h.op kept.sections)
 
 pub record Fits (w : World) (h : History) : Type 0 where
   pub replicas : (k r : ℕ) → FitsReplica k (entry_of k w.cluster.entries) (h.effects k r) (complete_replica w.cluster w.nodes k r)
-  pub reserved : (k r : ℕ) → FitsReserved k (entry_of k w.cluster.entries) r (replica_in w.nodes k r)
-  -- of a checkpoint that is not made yet no node has one
-  pub fresh : (k r : ℕ) → w.cluster.last_identity < k → replica_in w.nodes k r ≡ None
   pub hands : (c : ℕ) → FitsHand (h.kept c) (h.steps c) (hand_at w.hands c)
 
--- the machine's state is the world's, with some history that fits
+-- the machine's state is the world's, with some history that fits, and the nodes have no other replicas
 pub record Shows (w : World) (m : Machine) : Type 0 where
   pub history : History
   pub same : m ≡ machine_of w history
   pub fits : Fits w history
+  pub holds : HoldsOnlyWhatStands w.cluster w.nodes
 
 -- ---- what the code may rely on in every state of a run
 
--- a replica can be reserved: the checkpoint is there, the node is not complete, and the attributes passed their check
-pub record IsReservable (e : Entry) (r : ℕ) : Type 0 where
+-- a replica can be reserved: the node is up, the checkpoint is in the making, the node is not complete, and the attributes passed their check
+pub record IsReservable (R : RecordState) (r : ℕ) (e : Entry) : Type 0 where
+  pub up : is_up r R ≡ true
+  pub making : IsSome e.making
   pub not_complete : slice_index e.complete r ≡ 0
   pub well_formed : is_malformed e.attributes ≡ false
 
 -- what a due request asks of its node
 abbrev pub IsServable : Machine → ℕ → Request → Type 0
-IsServable m r (requests.Reserve k) = IsSomeAnd (entry_of k m.cluster.entries) (λ e. IsReservable e r)
+IsServable m r (requests.Reserve k) = IsSomeAnd (entry_of k m.cluster.entries) (IsReservable m.cluster r)
 IsServable m r request = IsSomeAnd (seen_at m (ckpt_of request) r) (IsReadyFor request)
 
 abbrev pub IsFree : ReplicaState → Type 0
@@ -224,15 +217,15 @@ IsFinishable m (Some making) = AllReserved m making.ckpt × IsSomeAnd (entry_of 
 
 -- what a due step of the record asks of it
 abbrev pub IsEventReady : Machine → CallState → Driver → RecordStep → Type 0
-IsEventReady m s (drivers.Enter r) events.Enter = (r < nodes_max) × (length m.cluster.clients < clients_max)
-IsEventReady m s (drivers.Open o) events.Create = (length m.cluster.entries < checkpoints_max) × IsSomeAnd o.ask.attrs (λ a. Unit {0}) × (named o.ask.name m.cluster.entries ≡ None) × (length o.ask.name ≤ name_max)
-IsEventReady m s (drivers.Open o) events.Open = IsSomeAnd (named o.ask.name m.cluster.entries) (λ e. (e.making ≡ None) × (accepts o.ask.attrs e ≡ true)) × (length o.ask.name ≤ name_max)
+IsEventReady m s (drivers.Enter r) events.Enter = CanBecomeLive s.call r m.cluster × (length m.cluster.clients < clients_max)
+IsEventReady m s (drivers.Open o) events.Create = (length m.cluster.entries < checkpoints_max) × IsSomeAnd o.ask.attrs (λ a. Unit {0}) × (named o.ask.name m.cluster.entries ≡ None) × CanOpen o.ask m.cluster × IsClient s.call.actor
+IsEventReady m s (drivers.Open o) events.Open = IsSomeAnd (named o.ask.name m.cluster.entries) (λ e. (e.making ≡ None) × (accepts o.ask.attrs e ≡ true)) × CanOpen o.ask m.cluster × IsClient s.call.actor
 IsEventReady m s (drivers.Open o) events.Finish = IsFinishable m o.making × IsMakingOf m.cluster o.ask.client (making_ckpt o.making)
 IsEventReady m s (drivers.Open o) events.Undo = IsSomeAnd o.making (λ making. Unit {0}) × IsMakingOf m.cluster o.ask.client (making_ckpt o.making)
 IsEventReady m s drivers.Leave events.Leave = Unit {0}
 IsEventReady m s (drivers.Close k) events.Close = Unit {0}
 IsEventReady m s (drivers.Unlink name) events.Unlink = IsSomeAnd (named name m.cluster.entries) (λ e. e.making ≡ None)
-IsEventReady m s (drivers.Retain k duration) events.Retain = IsSomeAnd (entry_of k m.cluster.entries) (λ e. IsSome e.name)
+IsEventReady m s (drivers.Retain k duration) events.Retain = IsSomeAnd (entry_of k m.cluster.entries) (λ e. IsSome e.name) × (pos 0 ≤ℤ duration)
 IsEventReady m s driver step = ⊥
 
 -- a call to the active alone
@@ -255,7 +248,7 @@ pub record Facts (m : Machine) : Type 0 where
   pub starts : (a : ActorName) (s : CallState) (r : ℕ) (call : CallId) (k : ℕ) (choice : Choice) → m.in_hand a ≡ Some s → due m s ≡ Serve r (requests.Iterate call k choice) → (s.kept.sections ≡ sections_declared m.cluster (Some k)) × IsIterOf choice s.op × IsSome (named_handle m a s.op) × IsActive (driver_of s)
   pub goes_on : (a : ActorName) (s : CallState) (r : ℕ) (call : CallId) (k : ℕ) → m.in_hand a ≡ Some s → due m s ≡ Serve r (requests.Next call k) → IsNextOf s.op × IsSome (named_handle m a s.op)
   -- a handle is there that is closed
-  pub closes : (a : ActorName) (s : CallState) (place : ℕ) → m.in_hand a ≡ Some s → closed_place s.op ≡ Some place → (place < places_max) × IsSome (handle_in m (number_of a) (Some place))
+  pub closes : (a : ActorName) (s : CallState) (place : ℕ) → m.in_hand a ≡ Some s → closed_place s.op ≡ Some place → IsSome (handle_in m (number_of a) (Some place))
   -- the numbers of handles are from 1
   pub numbered : (c : ℕ) (h : HandleView) → Contains (m.handles c) h → 1 ≤ h.handle
 

@@ -18,7 +18,7 @@ pub fn apply(
     driver: &Driver,
     step: RecordStep,
 ) -> Result<(), AllocError>
-    requires { IsRecordReady cluster.old driver.now step }
+    requires { IsRecordReady call cluster.old driver.now step }
     ensures ok { OnOk result (cluster.new ≡ event_after call driver.now step cluster.old) }
     ensures err { OnErr result (cluster.new ≡ cluster.old) }
     ensures memory { OnErr result (IsTrue (takes_memory step)) }
@@ -34,7 +34,7 @@ fn change(
     driver: &Driver,
     step: RecordStep,
 ) -> Result<(), AllocError>
-    requires { IsRecordReady cluster.old driver.now step }
+    requires { IsRecordReady call cluster.old driver.now step }
     ensures ok { OnOk result (cluster.new ≡ event_change call driver.now step cluster.old) }
     ensures err { OnErr result (cluster.new ≡ cluster.old) }
     ensures memory { OnErr result (IsTrue (takes_memory step)) }
@@ -77,7 +77,7 @@ fn change_by_open(
     open_call: &OpenCall,
     step: RecordStep,
 ) -> Result<(), AllocError>
-    requires { IsOpenReady cluster.old open_call.now step }
+    requires { IsOpenReady call cluster.old open_call.now step }
     ensures ok { OnOk result (cluster.new ≡ event_change call (Open open_call.now) step cluster.old) }
     ensures err { OnErr result (cluster.new ≡ cluster.old) }
     ensures memory { OnErr result (IsTrue (takes_memory step)) }
@@ -102,7 +102,7 @@ fn change_by_open(
 
 // The record opens the checkpoint of the ask, or puts it into the making: that none of both is refused was decided before.
 fn ask(cluster: &mut Record, call: CallId, ask: &OpenAsk) -> Result<(), AllocError>
-    requires can { CanAsk cluster.old ask.now }
+    requires can { CanAsk call cluster.old ask.now }
     requires granted { IsGranted (open_answer cluster.old ask.now) }
     ensures ok { OnOk result (cluster.new ≡ after_open call ask.now cluster.old) }
     ensures err { OnErr result (cluster.new ≡ cluster.old) }

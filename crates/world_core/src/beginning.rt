@@ -5,8 +5,9 @@ ghost use Rattle.world_core.specs.Beginning.{refused, version_is_bad, name_is_ba
 ghost use Rattle.world_core.specs.Steps.{ckpt_of_handle};
 
 use ckpt_types::{
-    AisError, Answer, Bytes, CHECKPOINT_CREATE, Cause, Choice, CkptId, CreationAttributes, Moment,
-    NAME_MAX, OPEN_FLAGS_ALL, Op, OpenFlags, Outcome, RELEASE, Update, VECTOR_MAX, Version,
+    AisError, Answer, Bytes, CHECKPOINT_CREATE, Cause, Choice, CkptId, CreationAttributes,
+    MAJOR_MAX, MAJOR_MIN, Moment, NAME_MAX, OPEN_FLAGS_ALL, Op, OpenFlags, Outcome, RELEASE,
+    SECTIONS_ANY, Update, VECTOR_MAX, Version,
 };
 use client_handles::HandleView;
 
@@ -154,7 +155,11 @@ pub fn takes_room(op: &Op) -> bool
 pub fn choice_of(chosen: u64, time: Moment) -> Choice
     ensures { result ≡ choice_of chosen time }
 {
-    let chosen = if chosen <= 5 { chosen as u32 } else { 0 };
+    let chosen = if chosen <= u64::from(SECTIONS_ANY) {
+        chosen as u32
+    } else {
+        0
+    };
     Choice { chosen, time }
 }
 
@@ -220,7 +225,7 @@ fn client_begin(version: &Version) -> Option<Outcome>
 fn version_is_bad(version: &Version) -> bool
     ensures { result ≡ version_is_bad version.now }
 {
-    version.release != RELEASE || !(version.major == 1 || version.major == 2)
+    version.release != RELEASE || !(version.major == MAJOR_MIN || version.major == MAJOR_MAX)
 }
 
 fn open_begin(
@@ -311,7 +316,7 @@ fn read_begin(handle: &Option<HandleView>, bad: bool) -> Option<Outcome>
 fn choice_is_bad(chosen: u64) -> bool
     ensures { result ≡ choice_is_bad chosen }
 {
-    chosen == 0 || chosen > 5
+    chosen == 0 || chosen > u64::from(SECTIONS_ANY)
 }
 
 fn handle_begin(handle: &Option<HandleView>) -> Option<Outcome>

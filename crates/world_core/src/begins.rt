@@ -4,6 +4,7 @@ ghost use Rattle.ckpt_types.specs.declared.identities.Who.TheVariants.{Actor};
 ghost use Rattle.ckpt_types.specs.Limits.{client_numbers};
 ghost use Rattle.run_labels.specs.declared.words.LineWord.TheVariants as linewords;
 ghost use Rattle.run_labels.specs.declared.labels.Label.TheVariants as labels;
+ghost use Rattle.cluster_record.specs.LookUps.{sections_declared};
 ghost use Rattle.cluster_record.specs.RecordState.{empty_record};
 ghost use Rattle.world_core.specs.Beginning.{IsBuilt, handle_place, iteration_place};
 ghost use Rattle.world_core.specs.Steps.{MayBegin, IsBeginEnd};
@@ -16,15 +17,26 @@ use crate::beginning::{
 use crate::drivers::Driver;
 use crate::hands::InHand;
 use crate::world::World;
-use ckpt_types::{ActorName, CallId, CreationAttributes, Op, Outcome, Who};
+use ckpt_types::{ActorName, CallId, CkptId, CreationAttributes, Op, Outcome, Who};
 use client_handles::HandleView;
+use cluster_record::Record;
 use run_labels::{Label, LineWord, OpWord, Said};
 use section_iter::Iteration;
 use std::alloc::{AllocError, Global};
 
+/// What is declared where no checkpoint is.
+const DECLARES_NOTHING: CreationAttributes = CreationAttributes {
+    creation_flags: 0,
+    checkpoint_size: 0,
+    retention_duration: 0,
+    max_sections: 0,
+    max_section_size: 0,
+    max_section_id_size: 0,
+};
+
 impl World {
     /// The first nodes come up.
-    pub fn bring_up(&mut self, n: u8) -> Label
+    pub(crate) fn bring_up(&mut self, n: u8) -> Label
         requires first { n ≡ 1 }
         requires empty { self.old.cluster ≡ empty_record }
         ensures { BringsUp n self.old self.new result }
@@ -34,7 +46,7 @@ impl World {
     }
 
     /// A call of a client begins, or a word answers its line. Want of memory leaves the world as it was.
-    pub fn begin(&mut self, alloc: Global, c: u8, op: &Op) -> Result<Label, AllocError>
+    pub(crate) fn begin(&mut self, alloc: Global, c: u8, op: &Op) -> Result<Label, AllocError>
         requires client { c < client_numbers }
         requires built { IsBuilt op.now }
         requires shown { IsShown self.old }
@@ -75,7 +87,7 @@ impl World {
         let driver = Driver::start(call, op, &handle, &self.cluster)?;
         let own = copy(op)?;
         let begun = copy(op)?;
-        let declared = self.cluster.declared(ckpt_of_handle(&handle));
+        let declared = declared_by(&self.cluster, ckpt_of_handle(&handle));
         let (end, iteration) = take_room(alloc, op, &declared, due);
         let hand = InHand {
             call,
@@ -94,8 +106,7 @@ impl World {
 
     // The handle that the operation is about: that of the place of a handle, or else of an iteration.
     fn named_handle(&self, c: u8, op: &Op) -> Option<HandleView>
-        requires client { c < client_numbers }
-        requires built { IsBuilt op.now }
+        requires { c < client_numbers }
         ensures { result ≡ handle_named self.now c (handle_place op.now) (iteration_place op.now) }
     {
         if let Some(place) = handle_place(op) {
@@ -105,6 +116,19 @@ impl World {
             None => None,
             Some(place) => self.tables.iteration_handle(c, place),
         }
+    }
+}
+
+// What a checkpoint declares; one that is gone declares no section.
+fn declared_by(cluster: &Record, ckpt: Option<CkptId>) -> CreationAttributes
+    ensures { result.max_sections ≡ sections_declared cluster.now ckpt }
+{
+    let Some(ckpt) = ckpt else {
+        return DECLARES_NOTHING;
+    };
+    match cluster.declared(ckpt) {
+        None => DECLARES_NOTHING,
+        Some(attributes) => attributes,
     }
 }
 

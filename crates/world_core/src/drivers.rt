@@ -6,6 +6,9 @@ ghost use Rattle.world_core.specs.Driving.{driver_next, driver_taken, driver_end
 ghost use Rattle.cluster_record.specs.StepDone.{done_of};
 ghost use Rattle.cluster_record.specs.DueOpen.{making_ckpt};
 ghost use Rattle.cluster_record.specs.Calls.{client_of};
+ghost use Rattle.cluster_record.specs.LookUps.{node_of_client};
+ghost use Rattle.cluster_record.specs.Places.{find_key};
+ghost use Rattle.cluster_record.specs.RecordState.{client_key};
 ghost use Rattle.world_core.specs.Steps.{kept_at};
 ghost use Rattle.node_msgs.specs.declared.steps.StepReply.TheVariants as words;
 ghost use Rattle.world_core.specs.declared.drivers.Driver.TheVariants.{Close, Retain};
@@ -72,7 +75,7 @@ impl Driver {
                     name,
                     attrs: *attributes,
                     client,
-                    node: cluster.node_of(client),
+                    node: node_of(cluster, client),
                 };
                 let deadline = cluster.moment_after(*timeout);
                 Ok(Driver::Open(OpenCall::begin(call, ask, Some(deadline))))
@@ -208,6 +211,16 @@ impl Driver {
         if let Driver::Open(open_call) = self {
             open_call.told(cluster, step, ckpt, node, word);
         }
+    }
+}
+
+// The node of a client; 0 where it is not live, and then its open ends at once.
+fn node_of(cluster: &Record, client: u8) -> NodeId
+    ensures { result ≡ node_of_client (find_key client_key client cluster.now.clients) }
+{
+    match cluster.node_of(client) {
+        None => 0,
+        Some(node) => node,
     }
 }
 

@@ -15,8 +15,8 @@ ghost use Rattle.world_core.specs.declared.hands.InHand.{InHand};
 use crate::drivers::Driver;
 use crate::nodes::Lent;
 use ckpt_types::{
-    CallId, CkptId, NewId, NodeId, Op, Outcome, ReadBuf, ReadElement, ReadVector, SharedReads,
-    SharedUpdate, Update,
+    CLIENT_NUMBERS, CallId, CkptId, GENERATED_ID_BYTES, NewId, NodeId, Op, Outcome, ReadBuf,
+    ReadElement, ReadVector, SharedReads, SharedUpdate, Update,
 };
 use cluster_record::Record;
 use node_msgs::{RecordStep, Reply, Request, StepReply};
@@ -24,9 +24,6 @@ use run_labels::OpWord;
 use section_iter::Iteration;
 use std::alloc::{AllocError, Global};
 use std::marker::Model;
-
-/// How many bytes an identifier has that the service makes.
-const NUMBERED_LEN: usize = 8;
 
 /// A call that is begun and not ended.
 #[derive(Drop)]
@@ -49,6 +46,7 @@ pub struct Hands {
 
 impl Model for Hands {
     ghost use Rattle.std.specs.Prelude.{List, Option, length, ◌≡◌};
+    ghost use Rattle.ckpt_types.specs.Limits.{client_numbers};
     ghost use Rattle.world_core.specs.declared.hands.InHand.{InHand};
 
     ghost Value = { List (Option InHand) };
@@ -112,7 +110,7 @@ impl InHand {
 impl Hands {
     /// No call is in hand. All room is taken here.
     pub fn new(alloc: Global) -> Result<Hands, AllocError>
-        ensures { IfOk result (λ hands. hands ≡ replicate 100 None) }
+        ensures { IfOk result (λ hands. hands ≡ replicate client_numbers None) }
     {
         Ok(Hands {
             list: new_list(alloc)?,
@@ -211,10 +209,10 @@ impl Hands {
 }
 
 fn new_list(alloc: Global) -> Result<Vec<Option<InHand>>, AllocError>
-    ensures { IfOk result (λ list. list.items ≡ replicate 100 None) }
+    ensures { IfOk result (λ list. list.items ≡ replicate client_numbers None) }
 {
-    let mut list = Vec::with_capacity(alloc, 100)?;
-    for _n in 0..100u8 {
+    let mut list = Vec::with_capacity(alloc, CLIENT_NUMBERS)?;
+    for _n in 0..CLIENT_NUMBERS {
         list.push(None)?;
     }
     Ok(list)
@@ -371,7 +369,9 @@ fn reserve_id(alloc: Global, update: &Update) -> Result<ReadBuf, AllocError>
 {
     match update {
         Update::Create(NewId::Given(id), _, _) => ReadBuf::reserve(alloc, 1, id.as_slice().len()),
-        Update::Create(NewId::Generated, _, _) => ReadBuf::reserve(alloc, 1, NUMBERED_LEN),
+        Update::Create(NewId::Generated, _, _) => {
+            ReadBuf::reserve(alloc, 1, GENERATED_ID_BYTES as usize)
+        },
         _ => ReadBuf::reserve(alloc, 0, 0),
     }
 }

@@ -16,7 +16,7 @@ use std::alloc::{AllocError, Global};
 
 impl World {
     /// The call of a client starts an iteration, in the room that it took when it began. It takes no memory.
-    pub fn iterate_step(
+    pub(crate) fn iterate_step(
         &mut self,
         c: u8,
         r: NodeId,
@@ -69,7 +69,7 @@ impl World {
 
     /// The call of a client goes on with an iteration. Want of memory for the identifier that its label tells
     /// leaves the world as it was.
-    pub fn next_step(
+    pub(crate) fn next_step(
         &mut self,
         alloc: Global,
         c: u8,

@@ -19,12 +19,4 @@ mod tables;
 mod update_call;
 mod world;
 
-pub use drivers::{Driver, Rooms};
-pub use hands::{Hands, InHand};
-pub use nodes::{Lent, Node, Nodes};
-pub use open_call::OpenCall;
-pub use reading::ActiveCall;
-pub use replica::{RecordSeen, Replica, Slot};
-pub use tables::{Table, Tables};
-pub use update_call::UpdateCall;
 pub use world::{Event, World};

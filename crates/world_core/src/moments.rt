@@ -7,7 +7,7 @@ use run_labels::Label;
 
 impl World {
     /// The moment is set, and what is over then is swept away.
-    pub fn at(&mut self, t: Moment) -> Label
+    pub(crate) fn at(&mut self, t: Moment) -> Label
         requires { IsMomentFrom self.old.cluster.moment t }
         ensures { SetsMoment t self.old self.new result }
     {

@@ -11,8 +11,8 @@ ghost use Rattle.world_core.specs.Steps.{ended_pieces};
 
 use crate::replica::Replica;
 use ckpt_types::{
-    Answer, Choice, CkptId, CreationAttributes, Moment, NodeId, Op, Outcome, Pieces, ReadBuf,
-    SharedReads, SharedUpdate,
+    Answer, Choice, CkptId, CreationAttributes, Moment, NODES_MAX, NodeId, Op, Outcome, Pieces,
+    ReadBuf, SharedReads, SharedUpdate,
 };
 use cluster_record::Record;
 use node_msgs::{Reply, Request};
@@ -55,6 +55,7 @@ pub struct Nodes {
 
 impl Model for Nodes {
     ghost use Rattle.std.specs.Prelude.{List, length, ◌≡◌};
+    ghost use Rattle.ckpt_types.specs.Limits.{nodes_max};
     ghost use Rattle.world_core.specs.declared.replica.Replica.{Replica};
 
     ghost Value = { List (List Replica) };
@@ -69,7 +70,7 @@ impl Model for Nodes {
 impl Nodes {
     /// Eight nodes without a replica.
     pub fn new(alloc: Global) -> Result<Nodes, AllocError>
-        ensures { IfOk result (λ nodes. nodes ≡ replicate 8 []) }
+        ensures { IfOk result (λ nodes. nodes ≡ replicate nodes_max []) }
     {
         Ok(Nodes {
             list: new_nodes(alloc)?,
@@ -221,10 +222,10 @@ pub fn told_pieces(end: &Option<Outcome>, reply: &Reply, read: ReadBuf) -> Optio
 }
 
 fn new_nodes(alloc: Global) -> Result<Vec<Node>, AllocError>
-    ensures { IfOk result (λ nodes. nodes.items ≡ replicate 8 []) }
+    ensures { IfOk result (λ nodes. nodes.items ≡ replicate nodes_max []) }
 {
-    let mut nodes = Vec::with_capacity(alloc, 8)?;
-    for _n in 0..8u8 {
+    let mut nodes = Vec::with_capacity(alloc, NODES_MAX)?;
+    for _n in 0..NODES_MAX {
         nodes.push(Node {
             replicas: Vec::new(alloc),
         })?;

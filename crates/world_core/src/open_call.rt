@@ -8,7 +8,7 @@ ghost use Rattle.cluster_record.specs.StepDone.{done_of};
 
 use ckpt_types::{
     AisError, CHECKPOINTS_MAX, CallId, Cause, CkptId, CreationAttributes, HANDLES_MAX, Moment,
-    NodeId, OpenAsk, Outcome,
+    NODES_MAX, NodeId, OpenAsk, Outcome,
 };
 use cluster_record::{Entry, Making, Record, accepts, first_lacking};
 use moment_rules::reached;
@@ -146,7 +146,7 @@ fn made_of(ckpt: Option<CkptId>) -> Option<Making>
         None => None,
         Some(ckpt) => Some(Making {
             ckpt,
-            reserved: [0; 8],
+            reserved: [0; NODES_MAX],
             refused: false,
         }),
     }

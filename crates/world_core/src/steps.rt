@@ -7,6 +7,7 @@ ghost use Rattle.node_msgs.specs.declared.requests.Request.TheVariants as reques
 ghost use Rattle.run_labels.specs.declared.labels.Label.TheVariants as labels;
 ghost use Rattle.run_labels.specs.declared.words.Said.TheVariants.{Idle};
 ghost use Rattle.world_core.specs.Settling.{given, closed_at, settled, looked, CanGive, CanSettle, HasPlaces};
+ghost use Rattle.cluster_record.specs.LookUps.{creation_flags_of};
 ghost use Rattle.cluster_record.specs.RecordState.{entry_of};
 ghost use Rattle.world_core.specs.Beginning.{opened_place, closed_place};
 ghost use Rattle.world_core.specs.Reserving.{IsReserved};
@@ -35,7 +36,7 @@ impl World {
     /// the world as it was; where the step's own memory is refused, the call is told so instead.
     // Put in line: a call would copy its label once more.
     #[inline(always)]
-    pub fn step(&mut self, alloc: Global, c: u8, finish: bool) -> Result<Label, AllocError>
+    pub(crate) fn step(&mut self, alloc: Global, c: u8, finish: bool) -> Result<Label, AllocError>
         requires client { c < client_numbers }
         requires shown { IsShown self.old }
         requires roomy { IsRoomy self.old }
@@ -220,7 +221,7 @@ impl World {
     // A node takes the storage of a replica of the checkpoint, which is in the making.
     fn reserve(&mut self, alloc: Global, r: NodeId, ckpt: CkptId) -> Reply
         requires node { r < nodes_max }
-        requires ready { IsSomeAnd (entry_of ckpt self.old.cluster.entries) (λ e. IsReservable e r) }
+        requires ready { IsSomeAnd (entry_of ckpt self.old.cluster.entries) (IsReservable self.old.cluster r) }
         ensures reserved { IsReserved r ckpt self.old self.new result }
         ensures there { r < length self.old.nodes }
     {
@@ -272,8 +273,7 @@ fn settle(
 
 // Where the record alone says that a call is done, the handle that it closes is closed.
 fn settle_look(tables: &mut Tables, c: u8, op: &Op, end: &Outcome)
-    requires client { c < client_numbers }
-    requires place { IfSome (closed_place op.now) (λ p. p < places_max) }
+    requires { c < client_numbers }
     ensures { tables.new ≡ looked end.now c op.now tables.old }
 {
     match end {
@@ -284,8 +284,7 @@ fn settle_look(tables: &mut Tables, c: u8, op: &Op, end: &Outcome)
 
 // The handle at the place is closed, if there is a place.
 fn close(tables: &mut Tables, c: u8, place: Option<u8>)
-    requires client { c < client_numbers }
-    requires place { IfSome place (λ p. p < places_max) }
+    requires { c < client_numbers }
     ensures { tables.new ≡ closed_at c place tables.old }
 {
     if let Some(place) = place {
@@ -303,5 +302,21 @@ fn give(tables: &mut Tables, cluster: &Record, c: u8, op: &Op, ckpt: Option<Ckpt
     let (Some(ckpt), Some(place)) = (ckpt, opened_place(op)) else {
         unreachable!()
     };
-    tables.add(c, ckpt, opened_for(op), cluster.creation_flags(ckpt), place);
+    tables.add(
+        c,
+        ckpt,
+        opened_for(op),
+        creation_flags(cluster, ckpt),
+        place,
+    );
+}
+
+// The creation flags of a checkpoint; 0 where it is gone.
+fn creation_flags(cluster: &Record, ckpt: CkptId) -> u32
+    ensures { result ≡ creation_flags_of (entry_of ckpt cluster.now.entries) }
+{
+    match cluster.declared(ckpt) {
+        None => 0,
+        Some(attributes) => attributes.creation_flags,
+    }
 }

@@ -9,7 +9,7 @@ ghost use Rattle.world_core.specs.NewTable.{new_table};
 ghost use Rattle.world_core.specs.Shows.{next_in, handles_in, iterations_in, last_in, handle_in_place, handle_over_place};
 
 use crate::nodes::Nodes;
-use ckpt_types::{CallbackSet, CkptId, Moment, NodeId, OpenFlags, ReadBuf};
+use ckpt_types::{CLIENT_NUMBERS, CallbackSet, CkptId, Moment, NodeId, OpenFlags, ReadBuf};
 use client_handles::{Client, HandleView};
 use node_msgs::Reply;
 use section_iter::Iteration;
@@ -45,13 +45,14 @@ pub struct Tables {
 
 impl Model for Tables {
     ghost use Rattle.std.specs.Prelude.{List, length, ◌≡◌};
+    ghost use Rattle.ckpt_types.specs.Limits.{client_numbers};
     ghost use Rattle.world_core.specs.TableState.{TableState};
 
     ghost Value = { List TableState };
 
     ghost view = { λ tables. tables.list.items };
 
-    ghost invariant = { λ tables. length tables.list.items ≡ 100 };
+    ghost invariant = { λ tables. length tables.list.items ≡ client_numbers };
 }
 
 impl Table {
@@ -83,7 +84,6 @@ impl Table {
 
     // The handle for which a place stands.
     fn handle(&self, place: u8) -> Option<HandleView>
-        requires { place < places_max }
         ensures { result ≡ handle_at place self.now.client }
     {
         self.client.handle(place).ok()
@@ -97,7 +97,6 @@ impl Table {
 
     // The handle over which the iteration goes for which a place stands.
     fn iteration_handle(&self, place: u8) -> Option<HandleView>
-        requires { place < places_max }
         ensures { result ≡ handle_over self.now.client.handles (iteration_at place self.now.client) }
     {
         self.client.iteration_handle(place).ok()
@@ -147,7 +146,7 @@ impl Table {
     // One call more, which has ended the iteration of this place at once.
     fn begin(&mut self, ended: Option<u8>)
         requires number { self.old.next < 2 ^ 32 - 1 }
-        requires place { IfSome ended (λ p. (p < places_max) × IsSome (iteration_at p self.old.client)) }
+        requires place { IfSome ended (λ p. IsSome (iteration_at p self.old.client)) }
         ensures { self.new ≡ begun_with ended self.old }
     {
         if let Some(place) = ended {
@@ -163,7 +162,7 @@ impl Table {
         requires number { self.old.client.last_number < 2 ^ 32 - 1 }
         requires place { place < places_max }
         ensures new { self.new ≡ with_handle id flags creation_flags place self.old }
-        ensures places { length self.old.client.places ≡ 100 }
+        ensures places { length self.old.client.places ≡ places_max }
     {
         let Ok(number) = self.client.take_handle(id, flags, creation_flags) else {
             unreachable!()
@@ -173,7 +172,6 @@ impl Table {
 
     // The handle for which a place stands is closed, and the iterations over it end.
     fn close(&mut self, place: u8)
-        requires { place < places_max }
         ensures { self.new ≡ with_closed place self.old }
     {
         let _closed = self.client.drop_handle(place);
@@ -190,7 +188,7 @@ impl Table {
 impl Tables {
     /// The tables of clients that have begun no call. All their room is taken here.
     pub fn new(alloc: Global) -> Result<Tables, AllocError>
-        ensures { IfOk result (λ tables. tables ≡ replicate 100 new_table) }
+        ensures { IfOk result (λ tables. tables ≡ replicate client_numbers new_table) }
     {
         Ok(Tables {
             list: new_tables(alloc)?,
@@ -208,8 +206,7 @@ impl Tables {
 
     /// The handle for which a place of a client stands.
     pub fn handle(&self, c: u8, place: u8) -> Option<HandleView>
-        requires client { c < client_numbers }
-        requires place { place < places_max }
+        requires { c < client_numbers }
         ensures { result ≡ handle_in_place (slice_get self.now c) place }
     {
         self.list[c as usize].handle(place)
@@ -233,8 +230,7 @@ impl Tables {
 
     /// The handle over which the iteration goes for which a place of a client stands.
     pub fn iteration_handle(&self, c: u8, place: u8) -> Option<HandleView>
-        requires client { c < client_numbers }
-        requires place { place < places_max }
+        requires { c < client_numbers }
         ensures { result ≡ handle_over_place (slice_get self.now c) place }
     {
         self.list[c as usize].iteration_handle(place)
@@ -297,7 +293,7 @@ impl Tables {
     pub fn begin(&mut self, c: u8, ended: Option<u8>)
         requires client { c < client_numbers }
         requires number { next_in (slice_get self.old c) < 2 ^ 32 - 1 }
-        requires place { IfSome ended (λ p. (p < places_max) × IsSomeAnd (slice_get self.old c) (λ table. IsSome (iteration_at p table.client))) }
+        requires place { IfSome ended (λ p. IsSomeAnd (slice_get self.old c) (λ table. IsSome (iteration_at p table.client))) }
         ensures { IsSomeAnd (slice_get self.old c) (λ table. self.new ≡ slice_set self.old c (begun_with ended table)) }
     {
         begin_at(self.list.as_mut_slice(), c as usize, ended);
@@ -311,7 +307,7 @@ impl Tables {
         requires number { last_in (slice_get self.old c) < 2 ^ 32 - 1 }
         requires place { place < places_max }
         ensures new { IsSomeAnd (slice_get self.old c) (λ table. self.new ≡ slice_set self.old c (with_handle id flags creation_flags place table)) }
-        ensures places { IsSomeAnd (slice_get self.old c) (λ table. length table.client.places ≡ 100) }
+        ensures places { IsSomeAnd (slice_get self.old c) (λ table. length table.client.places ≡ places_max) }
     {
         add_at(
             self.list.as_mut_slice(),
@@ -326,8 +322,7 @@ impl Tables {
     /// The handle for which a place of a client stands is closed, and the iterations over it end. Where it
     /// stands for none nothing changes. It takes no memory.
     pub fn close(&mut self, c: u8, place: u8)
-        requires client { c < client_numbers }
-        requires place { place < places_max }
+        requires { c < client_numbers }
         ensures { IsSomeAnd (slice_get self.old c) (λ table. self.new ≡ slice_set self.old c (with_closed place table)) }
     {
         close_at(self.list.as_mut_slice(), c as usize, place);
@@ -344,10 +339,10 @@ impl Tables {
 }
 
 fn new_tables(alloc: Global) -> Result<Vec<Table>, AllocError>
-    ensures { IfOk result (λ tables. tables.items ≡ replicate 100 new_table) }
+    ensures { IfOk result (λ tables. tables.items ≡ replicate client_numbers new_table) }
 {
-    let mut tables = Vec::with_capacity(alloc, 100)?;
-    for _n in 0..100u8 {
+    let mut tables = Vec::with_capacity(alloc, CLIENT_NUMBERS)?;
+    for _n in 0..CLIENT_NUMBERS {
         tables.push(Table::new(alloc)?)?;
     }
     Ok(tables)
@@ -356,7 +351,7 @@ fn new_tables(alloc: Global) -> Result<Vec<Table>, AllocError>
 fn begin_at(tables: &mut [Table], c: usize, ended: Option<u8>)
     requires client { c < length tables.old }
     requires number { next_in (slice_get tables.old c) < 2 ^ 32 - 1 }
-    requires place { IfSome ended (λ p. (p < places_max) × IsSomeAnd (slice_get tables.old c) (λ table. IsSome (iteration_at p table.client))) }
+    requires place { IfSome ended (λ p. IsSomeAnd (slice_get tables.old c) (λ table. IsSome (iteration_at p table.client))) }
     ensures { IsSomeAnd (slice_get tables.old c) (λ table. tables.new ≡ slice_set tables.old c (begun_with ended table)) }
 {
     let table = &mut tables[c];
@@ -413,15 +408,14 @@ fn add_at(
     requires number { last_in (slice_get tables.old c) < 2 ^ 32 - 1 }
     requires place { place < places_max }
     ensures new { IsSomeAnd (slice_get tables.old c) (λ table. tables.new ≡ slice_set tables.old c (with_handle id flags creation_flags place table)) }
-    ensures places { IsSomeAnd (slice_get tables.old c) (λ table. length table.client.places ≡ 100) }
+    ensures places { IsSomeAnd (slice_get tables.old c) (λ table. length table.client.places ≡ places_max) }
 {
     let table = &mut tables[c];
     table.add(id, flags, creation_flags, place);
 }
 
 fn close_at(tables: &mut [Table], c: usize, place: u8)
-    requires client { c < length tables.old }
-    requires place { place < places_max }
+    requires { c < length tables.old }
     ensures { IsSomeAnd (slice_get tables.old c) (λ table. tables.new ≡ slice_set tables.old c (with_closed place table)) }
 {
     let table = &mut tables[c];

@@ -6,7 +6,7 @@ ghost use Rattle.node_msgs.specs.Steps.{verb_of};
 ghost use Rattle.cluster_record.specs.DueUpdate.{update_begun, commit_at, stage_at, by_phase, update_next, update_taken, commit_end, done_end_by, kept_moment};
 ghost use Rattle.cluster_record.specs.StepDone.{done_of, last_having};
 
-use ckpt_types::{AisError, Answer, CallId, Cause, CkptId, Moment, NodeId, Outcome};
+use ckpt_types::{AisError, Answer, CallId, Cause, CkptId, Moment, NODES_MAX, NodeId, Outcome};
 use cluster_record::{Record, UpdatePhase, first_lacking, last_having};
 use node_msgs::{Next, Request, StepReply};
 use std::marker::Model;
@@ -17,7 +17,7 @@ pub struct UpdateCall {
     call: CallId,
     ckpt: CkptId,
     // By node, the incarnation with which the call owns its slot, or 0.
-    owned: [u32; 8],
+    owned: [u32; NODES_MAX],
     // The moment of its slots.
     moment: Moment,
     phase: UpdatePhase,
@@ -41,7 +41,7 @@ impl UpdateCall {
         UpdateCall {
             call,
             ckpt,
-            owned: [0; 8],
+            owned: [0; NODES_MAX],
             moment: 0,
             phase: UpdatePhase::Staging,
         }

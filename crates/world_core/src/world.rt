@@ -1,8 +1,10 @@
 ghost use Rattle.std.specs.Prelude.{◌≡◌, IfOk, OnOk, OnErr, is_some};
-ghost use Rattle.world_core.specs.Shows.{hand_at, IsShown, IsRoomy};
+ghost use Rattle.world_core.specs.Shows.{IsShown, IsRoomy};
+ghost use Rattle.world_core.specs.Parts.{record_in, call_in_hand};
 ghost use Rattle.world_core.specs.Happenings.{ComesNow, IsAnswered};
 ghost use Rattle.world_core.specs.Runs.{IsNew, IsRunTo, MayHappen, Happens};
 ghost use Rattle.world_core.specs.Refusals.{RefusalLeaves};
+ghost use Rattle.world_core.specs.StepsLeft.{ComesNearer};
 
 use crate::hands::Hands;
 use crate::nodes::Nodes;
@@ -29,13 +31,13 @@ pub enum Event {
 #[derive(Drop)]
 pub struct World {
     /// What all nodes agree on.
-    pub cluster: Record,
+    pub(crate) cluster: Record,
     /// The nodes with their replicas.
-    pub nodes: Nodes,
+    pub(crate) nodes: Nodes,
     /// What each client keeps.
-    pub tables: Tables,
+    pub(crate) tables: Tables,
     /// The calls in hand.
-    pub hands: Hands,
+    pub(crate) hands: Hands,
 }
 
 impl World {
@@ -53,14 +55,14 @@ impl World {
 
     /// What all nodes agree on.
     pub fn record(&self) -> &Record
-        ensures { result.now ≡ self.now.cluster }
+        ensures { result.now ≡ record_in self.now }
     {
         &self.cluster
     }
 
     /// Whether the client has a call in hand.
     pub fn in_hand(&self, client: u8) -> bool
-        ensures { result ≡ is_some (hand_at self.now.hands client) }
+        ensures { result ≡ is_some (call_in_hand self.now client) }
     {
         self.hands.has(client)
     }
@@ -80,6 +82,9 @@ impl World {
         // A call that is refused leaves sections, names and handles as they were.
         ensures refused { OnOk result (RefusalLeaves log.old.labels log.new.labels) }
         ensures err { OnErr result ((self.new ≡ self.old) × (log.new.labels ≡ log.old.labels)) }
+
+        // For whoever steps a call to its end.
+        ensures nearer { OnOk result (ComesNearer event.now self.old self.new) }
     {
         log.reserve(1)?;
         let label = self.happen(alloc, event)?;

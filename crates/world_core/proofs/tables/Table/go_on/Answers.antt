@@ -12,8 +12,8 @@ use Rattle.world_core.specs.TableState.{TableState, kept_at, gone_on}
 use Rattle.world_core.proofs.GoingOn.{kept_iteration-there, kept_at-told, gone_on-told}
 use Rattle.world_core.proofs.tables.Table.go_on.Goals as goal
 
-pub lend_iteration-requires-clause-not_lent : goal.lend_iteration-requires-clause-not_lent
-lend_iteration-requires-clause-not_lent c = IsNotLent-none c.args.place c.self.inside.client c.self.invariant.none_lent
+pub lend_iteration-requires : goal.lend_iteration-requires
+lend_iteration-requires c = IsNotLent-none c.args.place c.self.inside.client c.self.invariant.none_lent
 
 pub unreachable-requires : goal.unreachable-requires
 unreachable-requires c =

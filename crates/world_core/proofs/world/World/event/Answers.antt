@@ -1,5 +1,5 @@
 use Rattle.std.proofs.Common.{ap, ◌∙◌, ◌++◌, ◌∷◌, []}
-use Rattle.world_core.proofs.Events.{run_with, happens_with}
+use Rattle.world_core.proofs.Events.{run_with, happens_with, nearer_with}
 use Rattle.world_core.proofs.Refusing.{run_leaves}
 use Rattle.world_core.proofs.Running.{shown, roomy}
 use Rattle.world_core.proofs.world.World.event.Goals as goal
@@ -24,3 +24,6 @@ pub returns-clause-refused : goal.returns-clause-refused
 returns-clause-refused c = run_leaves c.args.log.now.labels c.push.new.self.labels
     (run_with c.args.event.now c.args.self.now c.happen.new.self c.args.log.now.labels c.push.new.self.labels c.in_ok-label.label c.requires c.in_ok-label.ensures.ok
     (c.push.ensures.labels ∙ ap (λ labels. labels ++ c.in_ok-label.label ∷ []) c.reserve.ensures.labels)).run
+
+pub returns-clause-nearer : goal.returns-clause-nearer
+returns-clause-nearer c = nearer_with c.args.event.now c.args.log.now.labels c.args.self.now c.happen.new.self c.in_ok-label.label c.requires.run c.in_ok-label.ensures.ok

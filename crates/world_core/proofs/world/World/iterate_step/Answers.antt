@@ -15,12 +15,6 @@ unreachable-requires-in_default-started_place c =
     let s = started c.args.self.now c.args.c c.args.r c.args.asked c.args.ckpt c.args.choice c.in-Some.hand (sym c.in-Some.ensures.hand) c.requires.next c.requires.shown in
     absurd (let e : None ≡ Some s.place = sym c.in_default-started_place.is ∙ c.started_place.ensures ∙ s.starts in cc)
 
-pub handle-requires-clause-place : goal.handle-requires-clause-place
-handle-requires-clause-place c =
-    let s = started c.args.self.now c.args.c c.args.r c.args.asked c.args.ckpt c.args.choice c.in-Some.hand (sym c.in-Some.ensures.hand) c.requires.next c.requires.shown in
-    let over : s.over ≡ c.in-Some-handle_place.over = same_Some s.over c.in-Some-handle_place.over (sym s.handles ∙ sym c.handle_place.ensures ∙ c.in-Some-handle_place.is) in
-    subst (λ n. n < 100) over s.over_within
-
 pub unreachable-requires-in_default-handle : goal.unreachable-requires-in_default-handle
 unreachable-requires-in_default-handle c =
     let s = started c.args.self.now c.args.c c.args.r c.args.asked c.args.ckpt c.args.choice c.in-Some.hand (sym c.in-Some.ensures.hand) c.requires.next c.requires.shown in
