@@ -53,8 +53,6 @@ impl Model for Hands {
 
     ghost view = { λ hands. hands.list.items };
 
-    ghost use Rattle.ckpt_types.specs.Limits.{client_numbers};
-
     ghost invariant = { λ hands. length hands.list.items ≡ client_numbers };
 }
 

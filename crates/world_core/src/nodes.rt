@@ -62,8 +62,6 @@ impl Model for Nodes {
 
     ghost view = { λ nodes. nodes.list.items };
 
-    ghost use Rattle.ckpt_types.specs.Limits.{nodes_max};
-
     ghost invariant = { λ nodes. length nodes.list.items ≡ nodes_max };
 }
 
