@@ -1,4 +1,5 @@
 ghost use Rattle.std.specs.Prelude.{◌≡◌, IfSome, true};
+ghost use Rattle.ckpt_types.specs.declared.identities.ActorName.TheVariants.{Client};
 ghost use Rattle.ckpt_types.specs.Attributes.{IsWellFormed};
 
 use ckpt_types::{
@@ -18,7 +19,9 @@ const ATTRIBUTES: CreationAttributes = CreationAttributes {
     max_section_id_size: 8,
 };
 
-fn call_of(client: u8, number: u32) -> CallId {
+fn call_of(client: u8, number: u32) -> CallId
+    ensures { result ≡ record { actor = Client client; number = number } }
+{
     CallId {
         actor: ActorName::Client(client),
         number,
