@@ -1,5 +1,5 @@
 -- What follows from it that the nodes hold only what stands, and how it is shown.
-use Rattle.std.proofs.Common.{◌≡◌, ◌⊎◌, inl, inr, ℕ, zero, suc, ◌≤◌, Bool, true, false, cond, List, [], length, refl, sym, ap, subst, ◌∙◌, arith}
+use Rattle.std.proofs.Common.{◌≡◌, ◌⊎◌, inl, inr, ℕ, zero, suc, ◌≤◌, true, false, cond, List, [], length, refl, sym, ap, subst, ◌∙◌, arith}
 use Rattle.std.specs.Prelude.{Option, Some, None, IsSomeAnd, not, ◌==◌, nat_lt, replicate, slice_get, slice_set, slice_index}
 use Rattle.std.proofs.lemmas.Bool.{and_parts}
 use Rattle.cluster_record.specs.declared.entries.Entry.{Entry}

@@ -44,6 +44,7 @@ pub mod RecordSteps
 pub mod Recording
 pub mod Refusing
 pub mod Reserve
+pub mod Rows
 pub mod Running
 pub mod Serve
 pub mod Stepping

@@ -1,6 +1,6 @@
 -- A step whose answer the record alone decides.
-use Rattle.std.proofs.Common.{◌≡◌, ℕ, ◌<◌, List, [], refl, sym, ap, subst, ◌∙◌}
-use Rattle.std.specs.Prelude.{Option, Some, None, IfSome, slice_get, slice_set}
+use Rattle.std.proofs.Common.{◌≡◌, ℕ, List, [], refl, sym, ap, subst, ◌∙◌}
+use Rattle.std.specs.Prelude.{Option, Some, None, slice_get, slice_set}
 use Rattle.ckpt_types.specs.declared.answers.Outcome.{Outcome}
 use Rattle.ckpt_types.specs.declared.answers.Outcome.TheVariants.{Done}
 use Rattle.ckpt_types.specs.declared.identities.ActorName.{ActorName}
@@ -25,7 +25,7 @@ use Rattle.world_core.specs.Settling.{closed_at, looked}
 use Rattle.world_core.specs.TableState.{TableState}
 use Rattle.world_core.specs.Steps.{IsDue, IsDone, after, changed, stepped, step_of, look_word, handle_in, without_handle, with_closed}
 use Rattle.world_core.specs.Happenings.{rooms_in}
-use Rattle.world_core.specs.Shows.{Does, IsShown, Fits, Facts, History, machine_of, handles_in, hand_at}
+use Rattle.world_core.specs.Shows.{Does, Fits, Facts, History, machine_of, handles_in, hand_at}
 use Rattle.world_core.proofs.Beginnings.{none_has_zero}
 use Rattle.world_core.proofs.ClosedTables.{closed_is}
 use Rattle.world_core.proofs.Held.{state_in, in_hand_is, in_hand_at, actor_is, due_is}

@@ -5,7 +5,7 @@ use Rattle.ckpt_types.specs.declared.identities.ActorName.{ActorName}
 use Rattle.ckpt_types.specs.declared.identities.ActorName.TheVariants.{Client, Node}
 use Rattle.client_handles.specs.ClientState.{ClientState, new_client}
 use Rattle.world_core.specs.declared.world.World.{World}
-use Rattle.cluster_record.specs.RecordState.{RecordState, entry_of}
+use Rattle.cluster_record.specs.RecordState.{entry_of}
 use Rattle.world_core.specs.TableState.{TableState}
 use Rattle.world_core.specs.NewTable.{no_callbacks}
 use Rattle.world_core.specs.Serving.{replica_in}

@@ -1,6 +1,6 @@
 -- What a step of the record that is next for a call in hand asks of the world.
 use Rattle.std.proofs.Common.{◌≡◌, ℕ, ◌<◌, true, false, List, refl, sym, ap, subst, ◌∙◌}
-use Rattle.std.specs.Prelude.{Option, Some, None, Result, Ok, Err, is_err, OnOk, OnErr, IsSome, IsSomeAnd, IfSome, IsTrue, slice_get, slice_set}
+use Rattle.std.specs.Prelude.{Option, Some, None, Result, Ok, Err, is_err, OnOk, OnErr, IsSome, IsSomeAnd, IsTrue, slice_get, slice_set}
 use Rattle.ckpt_types.specs.declared.answers.Outcome.{Outcome}
 use Rattle.ckpt_types.specs.declared.answers.Outcome.TheVariants.{NoMemory}
 use Rattle.ckpt_types.specs.declared.identities.ActorName.TheVariants.{Client}
@@ -25,7 +25,7 @@ use Rattle.world_core.specs.RecordReady.{IsRecordReady}
 use Rattle.node_msgs.specs.Steps.{event_verb}
 use Rattle.world_core.specs.Driving.{driver_next, event_ckpt, event_node, event_end, event_after, takes_memory}
 use Rattle.cluster_record.specs.StepDone.{done_of}
-use Rattle.world_core.specs.Beginning.{opened_place, closed_place, IsBuilt}
+use Rattle.world_core.specs.Beginning.{opened_place, IsBuilt}
 use Rattle.world_core.specs.Freeing.{freed}
 use Rattle.world_core.specs.Settling.{settled, CanGive, CanSettle, HasPlaces}
 use Rattle.world_core.specs.Happenings.{IsStep, rooms_in}

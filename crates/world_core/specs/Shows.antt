@@ -8,7 +8,7 @@ use Rattle.ckpt_types.specs.declared.operation.Op.TheVariants as ops
 use Rattle.ckpt_types.specs.declared.sections.Choice.{Choice}
 use Rattle.section_iter.specs.KeptIds.{KeptIds}
 use Rattle.ckpt_types.specs.Attributes.{is_malformed}
-use Rattle.ckpt_types.specs.Limits.{nodes_max, clients_max, checkpoints_max, places_max}
+use Rattle.ckpt_types.specs.Limits.{nodes_max, clients_max, checkpoints_max}
 use Rattle.node_msgs.specs.declared.requests.Request.{Request}
 use Rattle.node_msgs.specs.declared.requests.Request.TheVariants as requests
 use Rattle.node_msgs.specs.declared.next.RecordStep.{RecordStep}

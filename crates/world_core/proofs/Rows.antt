@@ -1,0 +1,338 @@
+-- Worked examples of the machine, each by computation: which logs are runs, what a call answers, and what state is after it. A
+-- state has a name where the next example goes on from it.
+use Rattle.std.proofs.Common.{◌≡◌, ℕ, inl, List, [], ◌∷◌, ◌++◌, replicate, codes, pos, Option, Some, None, true, refl, sym, subst, ◌∙◌, arith}
+use Rattle.std.specs.Prelude.{◌+◌, ◌≤◌}
+use Rattle.std.specs.Option.{option_map}
+use Rattle.ckpt_types.specs.declared.ais_error.AisError.TheVariants as errors
+use Rattle.ckpt_types.specs.declared.answers.Answer.TheVariants as answers
+use Rattle.ckpt_types.specs.declared.answers.Cause.TheVariants.{Plain, Index, Count, Deadline}
+use Rattle.ckpt_types.specs.declared.answers.Outcome.{Outcome}
+use Rattle.ckpt_types.specs.declared.answers.Outcome.TheVariants.{Done, Refused}
+use Rattle.ckpt_types.specs.declared.attributes.CreationAttributes.{CreationAttributes}
+use Rattle.ckpt_types.specs.declared.identities.ActorName.TheVariants.{Client}
+use Rattle.ckpt_types.specs.declared.identities.CallId.{CallId}
+use Rattle.ckpt_types.specs.declared.operation.Op.{Op}
+use Rattle.ckpt_types.specs.declared.operation.Op.TheVariants as ops
+use Rattle.ckpt_types.specs.declared.sections.SectionState.TheVariants.{Valid}
+use Rattle.ckpt_types.specs.declared.update.IoElement.{IoElement}
+use Rattle.ckpt_types.specs.declared.update.Update.TheVariants as updates
+use Rattle.ckpt_types.specs.Limits.{wr_all_replicas, checkpoint_read, checkpoint_write, checkpoint_create, release, major_max, minor_answered, end_of_time}
+use Rattle.ckpt_types.specs.Sections.{Section}
+use Rattle.node_msgs.specs.declared.next.Next.{Next}
+use Rattle.node_msgs.specs.declared.next.Next.TheVariants.{Event, End}
+use Rattle.node_msgs.specs.declared.next.RecordStep.TheVariants as events
+use Rattle.node_msgs.specs.declared.replies.Reply.TheVariants as replies
+use Rattle.node_msgs.specs.declared.requests.Request.TheVariants as requests
+use Rattle.node_msgs.specs.declared.steps.StepReply.TheVariants as words
+use Rattle.node_msgs.specs.declared.steps.Verb.{Verb}
+use Rattle.node_msgs.specs.declared.steps.Verb.TheVariants as verbs
+use Rattle.run_labels.specs.declared.labels.Label.{Label}
+use Rattle.run_labels.specs.declared.labels.Label.TheVariants as labels
+use Rattle.run_labels.specs.OpWord.{word_of_op}
+use Rattle.run_labels.specs.declared.words.OpWord.{OpWord}
+use Rattle.client_handles.specs.declared.handle_view.HandleView.{HandleView}
+use Rattle.cluster_record.specs.declared.entries.Entry.{Entry}
+use Rattle.cluster_record.specs.Places.{put}
+use Rattle.cluster_record.specs.StepDone.{StepDone}
+use Rattle.cluster_record.specs.RecordState.{empty_record}
+use Rattle.world_core.specs.declared.replica.Replica.{Replica}
+use Rattle.world_core.specs.declared.drivers.Driver.{Driver}
+use Rattle.world_core.specs.Driving.{driver_end}
+use Rattle.world_core.specs.Guards.{Allowed, IsAllowedStep, Row, CommitOk}
+use Rattle.world_core.specs.Holding.{HoldsOnlyWhatStands}
+use Rattle.world_core.specs.Machine.{Machine, Applied, ReplicaState, CallState, empty_cluster}
+use Rattle.world_core.specs.NewTable.{no_callbacks}
+use Rattle.world_core.specs.Runs.{IsRun, last}
+use Rattle.world_core.specs.Serving.{record_seen, reply_at, replica_after, opened_replica}
+use Rattle.world_core.specs.Steps.{Told, due, kept_at, named_handle, seen_at}
+use Rattle.std.proofs.lemmas.Option.{same_Some}
+use Rattle.world_core.proofs.LawEnds.{is_up-none}
+
+-- ---- the words of the examples
+
+-- c0's call of that number
+abbrev c0 : ℕ → CallId
+c0 n = record { actor = Client 0; number = n }
+
+-- its Initialize on n0, by the last version and without callbacks
+abbrev starts : Op
+starts = ops.Client 0 (record { release = release; major = major_max; minor = minor_answered }) no_callbacks
+
+abbrev ck : List ℕ
+ck = codes "ck"
+
+-- a checkpoint of so many bytes, in so many sections of at most 16 bytes, that is not kept
+abbrev sized : ℕ → ℕ → CreationAttributes
+sized bytes sections = record { creation_flags = wr_all_replicas; checkpoint_size = bytes; retention_duration = pos 0; max_sections = sections; max_section_size = 16; max_section_id_size = 8 }
+
+-- an open for reading and writing that makes what is not there, and one of what is there
+abbrev makes : ℕ → List ℕ → CreationAttributes → Op
+makes place name a = ops.Open place name (checkpoint_read + checkpoint_write + checkpoint_create) end_of_time (Some a)
+
+abbrev opens : ℕ → List ℕ → Op
+opens place name = ops.Open place name checkpoint_read end_of_time None
+
+abbrev into : List ℕ → ℕ → List ℕ → IoElement
+into id offset bytes = record { id = id; offset = offset; bytes = bytes }
+
+abbrev writes : ℕ → List ℕ → Op
+writes place bytes = ops.Write place (updates.Write (into [] 0 bytes ∷ []))
+
+-- a call begins, and its steps
+abbrev begins : ℕ → Op → Label
+begins n op = labels.Began (c0 n) op None
+
+abbrev steps : ℕ → Op → Verb → Option ℕ → Option ℕ → Label
+steps n op verb k r = labels.Stepped (c0 n) (word_of_op op) verb k r words.Ok None None
+
+abbrev ends : ℕ → Op → Verb → Option ℕ → Option ℕ → Outcome → Label
+ends n op verb k r end = labels.Stepped (c0 n) (word_of_op op) verb k r words.Ok (Some end) None
+
+-- ---- a run, and no run
+
+-- `nodes 1`, `client c0 n0 B.2.2 none`, `unlink c0 'ck`
+abbrev comes_up : Label
+comes_up = labels.Nodes 1
+
+abbrev enters : Label
+enters = ends 1 starts verbs.Enter None (Some 0) (Done answers.Version)
+
+abbrev refused : Label
+refused = labels.Stepped (c0 2) (word_of_op (ops.Unlink ck)) verbs.Look None None words.Refused (Some (Refused errors.NotExist Plain)) None
+
+abbrev five : List Label
+five = comes_up ∷ begins 1 starts ∷ enters ∷ begins 2 (ops.Unlink ck) ∷ refused ∷ []
+
+-- the call that c0 has in hand
+abbrev in_hand : Machine → Option CallState
+in_hand m = m.in_hand (Client 0)
+
+abbrev begun : Machine → ℕ → Op → CallState
+begun m n op = record { call = c0 n; op = op; kept = kept_at m.cluster 0 (named_handle m (Client 0) op); steps = []; snapshot = None }
+
+abbrev started : Machine
+started = last (comes_up ∷ begins 1 starts ∷ [])
+
+abbrev asked : Machine
+asked = last (comes_up ∷ begins 1 starts ∷ enters ∷ begins 2 (ops.Unlink ck) ∷ [])
+
+pub five_labels_are_a_run : IsRun five
+five_labels_are_a_run = (
+  (omega arith, omega arith, λ r. is_up-none r empty_record refl),
+  (refl, refl),
+  (
+    first_begins,
+    first_begins,
+    (
+      record { state = begun (last (comes_up ∷ [])) 1 starts; in_hand = refl; call_is = refl; word = refl; row = ((refl, (record { up = refl; not_live = refl; few = omega arith }, refl)), refl) },
+      record { state = begun (last (comes_up ∷ [])) 1 starts; in_hand = refl; call_is = refl; word = refl; done = record { verb = refl; ckpt = refl; node = refl; pieces = refl; answer = inl (refl, refl) } },
+      (
+        then_begins,
+        then_begins,
+        (
+          record { state = begun (last (comes_up ∷ begins 1 starts ∷ enters ∷ [])) 2 (ops.Unlink ck); in_hand = refl; call_is = refl; word = refl; row = (refl, refl, refl, refl) },
+          record { state = begun (last (comes_up ∷ begins 1 starts ∷ enters ∷ [])) 2 (ops.Unlink ck); in_hand = refl; call_is = refl; word = refl; done = refl },
+          tt,
+        ),
+      ),
+    ),
+  ),
+) where
+  first_begins : Allowed (last (comes_up ∷ [])) (begins 1 starts)
+  first_begins = record { client = omega arith; built = (omega arith, record { opens = refl; syncs = refl }); number = refl; none_in_hand = refl; may = (refl, refl); answer = inl refl }
+
+  then_begins : Allowed (last (comes_up ∷ begins 1 starts ∷ enters ∷ [])) (begins 2 (ops.Unlink ck))
+  then_begins = record { client = omega arith; built = tt; number = refl; none_in_hand = refl; may = tt; answer = inl refl }
+
+-- with its step in front of its beginning
+pub a_step_before_its_call_is_no_run : IsRun (comes_up ∷ enters ∷ begins 1 starts ∷ begins 2 (ops.Unlink ck) ∷ refused ∷ []) → ⊥
+a_step_before_its_call_is_no_run run = let none : None ≡ Some run.2.0.state = run.2.0.in_hand in cc
+
+-- with the second call in front of the first, which has not ended
+pub two_calls_at_once_are_no_run : IsRun (comes_up ∷ begins 1 starts ∷ begins 2 (ops.Unlink ck) ∷ enters ∷ refused ∷ []) → ⊥
+two_calls_at_once_are_no_run run = let some : Some (begun (last (comes_up ∷ [])) 1 starts) ≡ None = run.2.2.0.none_in_hand in cc
+
+-- ---- a checkpoint that is made and written: `open c0 h0 'ck 7 end 1 16 0 1 16 8`, `write c0 h0 x 0 'abc`
+
+abbrev opening : Op
+opening = makes 0 ck (sized 16 1)
+
+abbrev log_opened : List Label
+log_opened = comes_up ∷ begins 1 starts ∷ enters ∷ begins 2 opening ∷ steps 2 opening verbs.Create (Some 1) None ∷ steps 2 opening verbs.Reserve (Some 1) (Some 0) ∷ ends 2 opening verbs.Finish (Some 1) None (Done (answers.Opened 1)) ∷ []
+
+abbrev opened : Machine
+opened = last log_opened
+
+abbrev section : List ℕ → Section
+section bytes = record { id = []; bytes = bytes; expiration = end_of_time; state = Valid; last_update = pos 0 }
+
+abbrev empty_replica : ReplicaState
+empty_replica = record { sections = section [] ∷ []; effects = []; generation = 1; slot = None; marks = None }
+
+-- what a step of c0 on n0, at checkpoint 1, tells that ends its call
+abbrev told : Verb → Told
+told verb = record { verb = verb; ckpt = Some 1; node = Some 0; reply = words.Ok; end = Some (Done answers.Nothing); pieces = None }
+
+pub made_with_its_one_section : opened.replicas 1 0 ≡ Some empty_replica
+made_with_its_one_section = refl
+
+pub opened_at_its_place : named_handle opened (Client 0) (ops.Close 0) ≡ Some (record { id = 1; flags = record { read = true; write = true; create = true }; creation_flags = wr_all_replicas; handle = 1 })
+opened_at_its_place = refl
+
+abbrev log_staged : List Label
+log_staged = begins 3 (writes 0 (codes "abc")) ∷ steps 3 (writes 0 (codes "abc")) verbs.Stage (Some 1) (Some 0) ∷ []
+
+abbrev log_written : List Label
+log_written = log_staged ++ ends 3 (writes 0 (codes "abc")) verbs.Commit (Some 1) (Some 0) (Done answers.Nothing) ∷ []
+
+abbrev staged : Machine
+staged = last (log_opened ++ log_staged)
+
+abbrev written : Machine
+written = last (log_opened ++ log_written)
+
+abbrev sections_of : Machine → Option (List Section)
+sections_of m = option_map (λ (x : ReplicaState). x.sections) (m.replicas 1 0)
+
+pub a_stage_leaves_the_sections : sections_of staged ≡ Some (section [] ∷ [])
+a_stage_leaves_the_sections = refl
+
+pub a_commit_writes_them : written.replicas 1 0 ≡ Some (record { sections = section (codes "abc") ∷ []; effects = Applied (c0 3) (updates.Write (into [] 0 (codes "abc") ∷ [])) (pos 0) ∷ []; generation = 1; slot = None; marks = None })
+a_commit_writes_them = refl
+
+abbrev before_stage : Machine
+before_stage = last (log_opened ++ begins 3 (writes 0 (codes "abc")) ∷ [])
+
+abbrev writing : CallState
+writing = begun opened 3 (writes 0 (codes "abc"))
+
+-- what an allowed step asks of the state, by the call that is in hand
+its_row : (m : Machine) (s : CallState) (word : OpWord) (t : Told) → m.in_hand s.call.actor ≡ Some s → IsAllowedStep m s.call word t → Row m s t.verb t
+its_row m s word t here allowed = subst (λ s. Row m s t.verb t) (sym (same_Some s allowed.state (sym here ∙ allowed.in_hand))) allowed.row
+
+-- a commit before its stage: there is no slot
+pub a_commit_before_its_stage_is_not_allowed : Allowed before_stage (ends 3 (writes 0 (codes "abc")) verbs.Commit (Some 1) (Some 0) (Done answers.Nothing)) → ⊥
+a_commit_before_its_stage_is_not_allowed allowed =
+    let row : CommitOk before_stage (c0 3) (updates.Write (into [] 0 (codes "abc") ∷ [])) 1 0 (Some (Done answers.Nothing)) None empty_replica = its_row before_stage writing (word_of_op writing.op) (told verbs.Commit) refl allowed in
+    let none : None ≡ Some row.slot = row.staged in
+    cc none
+
+-- an answer with its stage
+pub an_answer_with_its_stage_is_not_allowed : Allowed before_stage (ends 3 (writes 0 (codes "abc")) verbs.Stage (Some 1) (Some 0) (Done answers.Nothing)) → ⊥
+an_answer_with_its_stage_is_not_allowed allowed =
+    let none : Some (Done answers.Nothing) ≡ None = (its_row before_stage writing (word_of_op writing.op) (told verbs.Stage) refl allowed).0.1 in
+    cc none
+
+-- ---- a status after a write and a setting of the retention: `retain c0 h0 5`, `status c0 h0`
+
+abbrev retained : Machine
+retained = last (log_opened ++ log_written ++ begins 4 (ops.Retain 0 (pos 5)) ∷ ends 4 (ops.Retain 0 (pos 5)) verbs.Retain (Some 1) None (Done answers.Nothing) ∷ [])
+
+pub status_after_both : reply_at (requests.Status 1) (ops.Status 0) (record_seen retained.cluster 1) (seen_at retained 1 0)
+    ≡ replies.Done (answers.Status (record { attributes = record (sized 16 1) { retention_duration = pos 5 }; number_of_sections = 1; memory_used = 3 }))
+status_after_both = refl
+
+-- ---- an unlink and the last close: `unlink c0 'ck`, `close c0 h0`
+
+abbrev log_unlinked : List Label
+log_unlinked = begins 4 (ops.Unlink ck) ∷ ends 4 (ops.Unlink ck) verbs.Unlink (Some 1) None (Done answers.Nothing) ∷ []
+
+abbrev unlinked : Machine
+unlinked = last (log_opened ++ log_written ++ log_unlinked)
+
+pub an_unlinked_checkpoint_stays_open : sections_of unlinked ≡ Some (section (codes "abc") ∷ [])
+an_unlinked_checkpoint_stays_open = refl
+
+abbrev gone : Machine
+gone = last (log_opened ++ log_written ++ log_unlinked ++ begins 5 (ops.Close 0) ∷ ends 5 (ops.Close 0) verbs.Close (Some 1) None (Done answers.Nothing) ∷ [])
+
+pub its_last_close_deletes_it : gone.cluster.entries ≡ []
+its_last_close_deletes_it = refl
+
+pub with_its_replica : gone.replicas 1 0 ≡ None
+with_its_replica = refl
+
+pub and_its_handle : gone.handles 0 ≡ []
+and_its_handle = refl
+
+pub its_place_stands_for_none : named_handle gone (Client 0) (ops.Close 0) ≡ None
+its_place_stands_for_none = refl
+
+-- and so a node that kept the replica would show no state
+pub a_replica_of_what_is_gone_is_not_held : HoldsOnlyWhatStands gone.cluster ((opened_replica 1 (sized 16 1) (pos 0) ∷ []) ∷ []) → ⊥
+a_replica_of_what_is_gone_is_not_held holds = (holds.each 0 (opened_replica 1 (sized 16 1) (pos 0)) (0, omega arith, refl)).stands
+
+-- nor would one with two replicas of a checkpoint
+pub two_replicas_of_one_are_not_held : HoldsOnlyWhatStands opened.cluster ((opened_replica 1 (sized 16 1) (pos 0) ∷ opened_replica 1 (sized 16 1) (pos 0) ∷ []) ∷ []) → ⊥
+two_replicas_of_one_are_not_held holds = let two : 2 ≤ 1 = holds.once 0 1 in omega (arith, two)
+
+-- ---- what the record and the tables decide
+
+-- what is next for c0's third call
+abbrev next_of : Machine → Op → Next
+next_of m op = due m (begun m 3 op)
+
+abbrev a_handle : HandleView
+a_handle = record { id = 1; flags = record { read = true; write = true; create = true }; creation_flags = wr_all_replicas; handle = 1 }
+
+-- opened, with so many handles of c0
+abbrev with_handles : ℕ → Machine
+with_handles n = record opened { handles = put opened.handles 0 (replicate n a_handle) }
+
+pub the_32nd_handle_is_opened : next_of (with_handles 31) (opens 32 ck) ≡ Event events.Open
+the_32nd_handle_is_opened = refl
+
+pub the_33rd_handle_is_refused : next_of (with_handles 32) (opens 32 ck) ≡ End (Refused errors.NoResources (Count 32))
+the_33rd_handle_is_refused = refl
+
+-- opened, with so many checkpoints
+abbrev an_entry : Entry
+an_entry = record { identity = 1; name = Some ck; attributes = sized 16 1; retention = pos 0; made = pos 0; making = None; complete = 1 ∷ 0 ∷ 0 ∷ 0 ∷ 0 ∷ 0 ∷ 0 ∷ 0 ∷ []; active = Some 0; generation = 1; references = replicate 100 1; idle = pos 0; hold = None }
+
+abbrev with_entries : ℕ → Machine
+with_entries n = record opened { cluster = record opened.cluster { entries = replicate n an_entry } }
+
+pub the_16th_checkpoint_is_made : next_of (with_entries 15) (makes 1 (codes "no") (sized 16 1)) ≡ Event events.Create
+the_16th_checkpoint_is_made = refl
+
+pub the_17th_checkpoint_is_refused : next_of (with_entries 16) (makes 1 (codes "no") (sized 16 1)) ≡ End (Refused errors.NoResources (Count 16))
+the_17th_checkpoint_is_refused = refl
+
+pub with_32_handles_too_their_count_is_told : next_of (record (with_entries 16) { handles = put opened.handles 0 (replicate 32 a_handle) }) (makes 1 (codes "no") (sized 16 1)) ≡ End (Refused errors.NoResources (Count 32))
+with_32_handles_too_their_count_is_told = refl
+
+abbrev with_clients : ℕ → Machine
+with_clients n = record empty_cluster { cluster = record empty_record { clients = replicate n (record { client = 7; node = 0; incarnation = 1; initialize = 1 }) } }
+
+pub the_65th_client_is_refused : next_of (with_clients 64) starts ≡ End (Refused errors.NoResources (Count 64))
+the_65th_client_is_refused = refl
+
+-- `at 5`, and an open with the timeout 0; of a name that is not there, and not to be made, NOT_EXIST comes before
+pub a_timeout_of_0_is_reached : next_of (last (log_opened ++ labels.Moved (pos 5) ∷ [])) (ops.Open 1 ck checkpoint_read (pos 0) None) ≡ End (Refused errors.Timeout (Deadline (pos 5) (pos 5)))
+a_timeout_of_0_is_reached = refl
+
+pub not_exist_comes_before_timeout : next_of (last (log_opened ++ labels.Moved (pos 5) ∷ [])) (ops.Open 1 (codes "no") checkpoint_read (pos 0) None) ≡ End (Refused errors.NotExist Plain)
+not_exist_comes_before_timeout = refl
+
+pub exist_for_other_attributes : next_of opened (makes 1 ck (sized 15 1)) ≡ End (Refused errors.Exist Plain)
+exist_for_other_attributes = refl
+
+-- ---- an update that is refused: `write c0 h0 'a 0 'X 'b 0 'Y 'c 0 'Z` over sections a and b
+
+abbrev named_section : List ℕ → List ℕ → Section
+named_section id bytes = record { id = id; bytes = bytes; expiration = end_of_time; state = Valid; last_update = pos 0 }
+
+abbrev a_and_b : Replica
+a_and_b = record { ckpt = 1; store = record { attributes = sized 16 2; sections = named_section (codes "a") (codes "aa") ∷ named_section (codes "b") (codes "bb") ∷ [] }; count = 2; generation = 1; slot = None }
+
+abbrev three : Op
+three = ops.Write 0 (updates.Write (into (codes "a") 0 (codes "X") ∷ into (codes "b") 0 (codes "Y") ∷ into (codes "c") 0 (codes "Z") ∷ []))
+
+pub the_replica_refuses_with_the_index : reply_at (requests.Stage (c0 3) 1 (pos 0)) three (record_seen opened.cluster 1) (Some a_and_b) ≡ replies.Refused errors.NotExist 2
+the_replica_refuses_with_the_index = refl
+
+pub it_stays_as_it_was : replica_after (requests.Stage (c0 3) 1 (pos 0)) three a_and_b ≡ a_and_b
+it_stays_as_it_was = refl
+
+pub the_call_tells_the_index : (d : StepDone) (x : Driver) → driver_end three d (replies.Refused errors.NotExist 2) x ≡ Some (Refused errors.NotExist (Index 2))
+the_call_tells_the_index d x = refl
