@@ -21,4 +21,4 @@ returns-in-Some-clause-kept c =
     let R = c.args.self.now in
     let all : All (IsKeptEntry R.moment) R.entries = subst (λ (R : RecordState). All (IsKeptEntry R.moment) R.entries) c.self.view_is c.self.invariant.entries.each in
     found-kept R.moment c.in-Some.identity R.entries c.find_entry.result all
-        (subst (λ entries. MatchOption c.find_entry.result (entry_of c.in-Some.identity entries ≡ None) (λ entry. entry_of c.in-Some.identity entries ≡ Some entry.now)) (c.as_slice.ensures.value ∙ ap (λ (R : RecordState). R.entries) c.self.view_is) c.find_entry.ensures)
+    (subst (λ entries. MatchOption c.find_entry.result (entry_of c.in-Some.identity entries ≡ None) (λ entry. entry_of c.in-Some.identity entries ≡ Some entry.now)) (c.as_slice.ensures.value ∙ ap (λ (R : RecordState). R.entries) c.self.view_is) c.find_entry.ensures)
