@@ -1,5 +1,5 @@
 -- What is kept of each checkpoint is kept by each change of one.
-use Rattle.std.proofs.Common.{◌≡◌, ℕ, ◌+◌, ◌-◌, ◌<◌, ◌≤◌, zero, suc, List, [], ◌∷◌, length, replicate, All, Bool, true, false, cond, ◌==◌, refl, sym, ap, subst, ◌∙◌, arith}
+use Rattle.std.proofs.Common.{◌≡◌, ℕ, ◌+◌, ◌-◌, ◌<◌, ◌≤◌, zero, suc, List, [], ◌∷◌, length, replicate, Bool, true, false, cond, ◌==◌, refl, sym, ap, subst, ◌∙◌, arith}
 use Rattle.std.specs.Prelude.{Option, Some, None, IfSome, ℤ, pos, ◌≤ℤ◌, slice_set, slice_index}
 use Rattle.std.proofs.lemmas.Bool.{eqb-false}
 use Rattle.std.proofs.lemmas.Int.{ints}
@@ -11,7 +11,7 @@ use Rattle.ckpt_types.specs.Limits.{nodes_max, client_numbers}
 use Rattle.cluster_record.specs.declared.entries.Entry.{Entry}
 use Rattle.cluster_record.specs.Calls.{IsClient}
 use Rattle.cluster_record.specs.Kept.{IsName, IsMakingBy, IsComplete, IsKeptEntry}
-use Rattle.cluster_record.specs.RecordState.{RecordState, no_nodes, no_references, first_complete, has_references, referred, made_with, idle_from, released, released_all, unnamed, retaining, new_entry}
+use Rattle.cluster_record.specs.RecordState.{RecordState, first_complete, has_references, referred, made_with, idle_from, released, released_all, unnamed, retaining, new_entry}
 
 -- ---- what is in the making, or not
 

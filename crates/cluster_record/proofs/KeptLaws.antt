@@ -1,6 +1,6 @@
 -- A record stays as it is kept where its entries are changed, one comes, or some go.
 use Rattle.std.proofs.Common.{◌≡◌, ◌≢◌, ℕ, ◌+◌, ◌<◌, ◌≤◌, ◌-◌, List, [], ◌∷◌, ◌++◌, length, filter, map, All, Some, None, Bool, true, false, cond, ◌==◌, refl, sym, ap, subst, ◌∙◌, arith, length-append, Bor}
-use Rattle.std.specs.Prelude.{Option, IfSome, MatchOption, ℤ, pos, ◌≤ℤ◌, slice_set, slice_index, vec_capacity}
+use Rattle.std.specs.Prelude.{Option, IfSome, MatchOption, ℤ, ◌≤ℤ◌, slice_set, slice_index, vec_capacity}
 use Rattle.std.proofs.lemmas.List.{length-map}
 use Rattle.std.proofs.lemmas.List.Elements.{All-cons, All-head, All-tail, All-filter, All-map, All-push, All-weaker}
 use Rattle.std.proofs.lemmas.List.Kept.{AllPairs-filter}
@@ -11,7 +11,6 @@ use Rattle.name_table.proofs.TableLemmas.{EachOnce-filter}
 use Rattle.cluster_record.specs.declared.entries.Entry.{Entry}
 use Rattle.cluster_record.specs.declared.clients.LiveClient.{LiveClient}
 use Rattle.cluster_record.specs.declared.record.Record.TheInside.{Inside}
-use Rattle.cluster_record.specs.Identities.{IdentitiesRise, AllUpTo}
 use Rattle.cluster_record.specs.Kept.{IsKeptEntry, IsKeptClient, AreKeptClients}
 use Rattle.cluster_record.specs.NamesOf.{names_of, without_gone}
 use Rattle.cluster_record.specs.Places.{find_key, change_key}

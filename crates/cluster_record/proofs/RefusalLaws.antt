@@ -6,7 +6,6 @@ use Rattle.ckpt_types.specs.declared.attributes.CreationAttributes.{CreationAttr
 use Rattle.ckpt_types.specs.declared.identities.CallId.{CallId}
 use Rattle.ckpt_types.specs.Limits.{checkpoints_max}
 use Rattle.cluster_record.specs.declared.entries.Entry.{Entry}
-use Rattle.cluster_record.specs.declared.opening.OpenAnswer.{OpenAnswer}
 use Rattle.cluster_record.specs.declared.opening.OpenAnswer.TheVariants.{Opened, Made, Refused}
 use Rattle.cluster_record.specs.DueOpen.{accepts}
 use Rattle.cluster_record.specs.LookUps.{identity_in}

@@ -1,5 +1,5 @@
 -- What every record keeps: of each checkpoint, and of each client that is live.
-use Rattle.std.specs.Prelude.{◌≡◌, ◌≢◌, ℕ, ◌<◌, ◌≤◌, List, length, Option, IsSome, IfSome, None, All, AllPairs, ℤ, pos, ◌≤ℤ◌, slice_index}
+use Rattle.std.specs.Prelude.{◌≡◌, ◌≢◌, ℕ, ◌<◌, ◌≤◌, List, length, IsSome, IfSome, None, All, AllPairs, ℤ, pos, ◌≤ℤ◌, slice_index}
 use Rattle.ckpt_types.specs.declared.identities.CallId.{CallId}
 use Rattle.ckpt_types.specs.Attributes.{IsWellFormed}
 use Rattle.ckpt_types.specs.Limits.{nodes_max, client_numbers, name_max}

@@ -1,5 +1,5 @@
 -- An open as one step of the record: what it answers, and what the record becomes.
-use Rattle.std.specs.Prelude.{ℕ, ◌+◌, length, Option, Some, None, false, not, nat_le, if◌then◌else◌}
+use Rattle.std.specs.Prelude.{◌+◌, length, Option, Some, None, false, not, nat_le, if◌then◌else◌}
 use Rattle.ckpt_types.specs.declared.ais_error.AisError.TheVariants.{NotExist, Exist}
 use Rattle.ckpt_types.specs.declared.attributes.CreationAttributes.{CreationAttributes}
 use Rattle.ckpt_types.specs.declared.calls.OpenAsk.{OpenAsk}

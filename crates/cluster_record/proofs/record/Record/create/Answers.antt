@@ -1,5 +1,4 @@
 use Rattle.std.proofs.Common.{◌≡◌, ℕ, ◌+◌, ◌≤◌, length, Some, None, sym, ap, subst, ◌∙◌, arith, rules}
-use Rattle.std.specs.Prelude.{pos, ◌≤ℤ◌}
 use Rattle.ckpt_types.specs.Limits.{checkpoints_max}
 use Rattle.name_table.specs.Table.{found, linked}
 use Rattle.cluster_record.specs.declared.entries.Entry.{Entry}

@@ -1,7 +1,6 @@
-use Rattle.std.proofs.Common.{refl, rules, subst, sym, ◌≤◌, ℕ, w64}
+use Rattle.std.proofs.Common.{refl, rules, w64}
 use Rattle.std.proofs.lemmas.Int.{to_z-of_z}
 use mir.Val.{SFits}
-use Rattle.ckpt_types.specs.Limits.{clients_max}
 use Rattle.cluster_record.specs.declared.record.Record.TheInside.{Inside}
 use Rattle.cluster_record.specs.RecordView.{IsKept}
 use Rattle.cluster_record.specs.RecordState.{released_all}
