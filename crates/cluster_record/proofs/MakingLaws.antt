@@ -5,7 +5,6 @@ use Rattle.ckpt_types.specs.declared.identities.CallId.{CallId}
 use Rattle.cluster_record.specs.declared.entries.Entry.{Entry}
 use Rattle.cluster_record.specs.Calls.{client_of}
 use Rattle.cluster_record.specs.Makings.{making_call, finished_by, making_finished, undone_by, making_undone, IsOf}
-use Rattle.cluster_record.specs.RecordReady.{CanRefer}
 use Rattle.cluster_record.specs.RecordState.{RecordState, entry_of, finished, undone}
 
 finished-by : (o : Option CallId) (k c : ℕ) (R : RecordState) → IsOf c o → finished_by o k R ≡ finished k c R
@@ -21,10 +20,6 @@ undone-by (Some call) k c R own = refl
 
 pub undone-own : (k c : ℕ) (R : RecordState) → IsOf c (making_call (entry_of k R.entries)) → making_undone k R ≡ undone k R
 undone-own k c R own = undone-by (making_call (entry_of k R.entries)) k c R own
-
--- what the client can refer to, its call can finish
-pub refers-own : (c : ℕ) (o : Option CallId) (e : Option Entry) → IsOf c o → CanRefer c e → (call : CallId) → o ≡ Some call → CanRefer (client_of call) e
-refers-own c o e own can call is = subst (λ c. CanRefer c e) (sym (subst (IsOf c) is own)) can
 
 -- an entry that is in the making by a call is of that call's client
 pub making-own : (o : Option Entry) (call : CallId) (c : ℕ) → c ≡ client_of call → IsSomeAnd o (λ e. e.making ≡ Some call) → IsOf c (making_call o)

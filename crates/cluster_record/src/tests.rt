@@ -1,4 +1,5 @@
 ghost use Rattle.std.specs.Prelude.{◌≡◌, IfSome, true};
+ghost use Rattle.ckpt_types.specs.declared.identities.ActorName.TheVariants.{Client};
 ghost use Rattle.ckpt_types.specs.Attributes.{IsWellFormed};
 
 use crate::entries::{all_may_rise, new_entry};
@@ -19,7 +20,9 @@ const ATTRIBUTES: CreationAttributes = CreationAttributes {
     max_section_id_size: 8,
 };
 
-fn call_of(client: u8, number: u32) -> CallId {
+fn call_of(client: u8, number: u32) -> CallId
+    ensures { result ≡ record { actor = Client client; number = number } }
+{
     CallId {
         actor: ActorName::Client(client),
         number,
