@@ -1,5 +1,5 @@
 -- How the end of a call is printed.
-use Rattle.std.specs.Prelude.{ℕ, List, [], ◌++◌, Option, Some, None, Bool, true, false, if◌then◌else◌, codes, decimal}
+use Rattle.std.specs.Prelude.{ℕ, List, [], ◌∷◌, ◌++◌, Option, Some, None, Bool, true, false, if◌then◌else◌, codes, decimal}
 use Rattle.std.specs.List.{flat_map}
 use Rattle.ckpt_types.specs.declared.ais_error.AisError.{AisError}
 use Rattle.ckpt_types.specs.declared.ais_error.AisError.TheVariants as errors
@@ -14,14 +14,15 @@ use Rattle.ckpt_types.specs.declared.identities.CallId.{CallId}
 use Rattle.ckpt_types.specs.declared.sections.CheckpointDescriptor.{CheckpointDescriptor}
 use Rattle.ckpt_types.specs.declared.sections.SectionFacts.{SectionFacts}
 use Rattle.ckpt_types.specs.AisError.{word_of}
+use Rattle.ckpt_types.specs.Limits.{release, major_max, minor_answered}
 use Rattle.run_labels.specs.declared.words.OpWord.{OpWord}
 use Rattle.run_labels.specs.declared.words.OpWord.TheVariants as words
 use Rattle.run_labels.specs.OpWord.{op_text}
 use Rattle.run_labels.specs.Texts.{call_text, ckpt_text, time_text, bytes_text, state_text}
 
 -- the version that the service speaks
-abbrev pub version_text : List ℕ
-version_text = codes " B.2.2"
+unfoldable pub version_text : List ℕ
+version_text = codes " " ++ release ∷ codes "." ++ decimal major_max ++ codes "." ++ decimal minor_answered
 
 -- what shows that a refusal is right
 abbrev pub cause_text : Cause → List ℕ
@@ -33,7 +34,7 @@ cause_text (causes.Deadline deadline moment) = codes " " ++ time_text deadline +
 cause_text (causes.Count count) = codes " " ++ decimal count
 
 -- a refusal of the version tells the one that the service speaks
-abbrev pub told_version : AisError → List ℕ
+unfoldable pub told_version : AisError → List ℕ
 told_version errors.Version = version_text
 told_version _ = []
 

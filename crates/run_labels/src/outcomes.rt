@@ -1,16 +1,16 @@
 ghost use Rattle.std.specs.Prelude.{◌≡◌, ◌++◌, OnOk, Some, codes, decimal};
 ghost use Rattle.std.specs.List.{flat_map};
 ghost use Rattle.run_labels.specs.Texts.{time_text};
-ghost use Rattle.run_labels.specs.Outcomes.{cause_text, told_version, piece_text, pieces_text, facts_text, attributes_text, status_text, answer_text, head_text, done_line, refusal_line, result_line, end_text, stepped_end_text, is_async};
+ghost use Rattle.run_labels.specs.Outcomes.{version_text, cause_text, told_version, piece_text, pieces_text, facts_text, attributes_text, status_text, answer_text, head_text, done_line, refusal_line, result_line, end_text, stepped_end_text, is_async};
 
 use crate::texts::{
-    append_call, append_ckpt, append_spaced, append_spaced_bytes, append_spaced_state,
-    append_spaced_time, append_text,
+    append_call, append_ckpt, append_number, append_spaced, append_spaced_bytes,
+    append_spaced_state, append_spaced_time, append_text,
 };
 use crate::words::OpWord;
 use ckpt_types::{
-    AisError, Answer, CallId, Cause, CheckpointDescriptor, CreationAttributes, Outcome, Pieces,
-    SectionFacts,
+    AisError, Answer, CallId, Cause, CheckpointDescriptor, CreationAttributes, MAJOR_MAX,
+    MINOR_ANSWERED, Outcome, Pieces, RELEASE, SectionFacts,
 };
 use std::alloc::AllocError;
 
@@ -124,7 +124,7 @@ fn append_answer(
 {
     match answer {
         Answer::Nothing => Ok(()),
-        Answer::Version => append_text(out, " B.2.2"),
+        Answer::Version => append_version(out),
         Answer::Opened(ckpt) => {
             append_text(out, " ")?;
             append_ckpt(out, *ckpt)
@@ -195,13 +195,27 @@ fn append_attributes(out: &mut Vec<u8>, attributes: &CreationAttributes) -> Resu
 }
 
 /// The version that the service speaks, behind a refusal of another one.
+#[tactic(auto, unfolding(crate::specs::Outcomes::told_version))]
 fn append_told_version(out: &mut Vec<u8>, error: AisError) -> Result<(), AllocError>
     ensures { OnOk result (out.new.items ≡ out.old.items ++ told_version error) }
 {
     match error {
-        AisError::Version => append_text(out, " B.2.2"),
+        AisError::Version => append_version(out),
         _ => Ok(()),
     }
+}
+
+/// The version that the service speaks.
+#[tactic(auto, unfolding(crate::specs::Outcomes::version_text))]
+fn append_version(out: &mut Vec<u8>) -> Result<(), AllocError>
+    ensures { OnOk result (out.new.items ≡ out.old.items ++ version_text) }
+{
+    append_text(out, " ")?;
+    out.push(RELEASE)?;
+    append_text(out, ".")?;
+    append_number(out, u64::from(MAJOR_MAX))?;
+    append_text(out, ".")?;
+    append_number(out, u64::from(MINOR_ANSWERED))
 }
 
 /// What shows that a refusal is right.

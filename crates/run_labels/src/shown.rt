@@ -16,7 +16,7 @@ pub enum ShownSlot {
 pub struct ShownSection {
     /// What it is.
     pub descriptor: SectionDescriptor,
-    /// Its first bytes, at most 16.
+    /// Its first bytes.
     pub first: Bytes,
 }
 

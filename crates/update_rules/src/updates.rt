@@ -6,7 +6,9 @@ ghost use Rattle.update_rules.specs.Told.{told};
 use crate::present::{bytes_present, count_present, size_present};
 use crate::refused::{Refused, refuse};
 use crate::writes::check_write;
-use ckpt_types::{AisError, CreationAttributes, Moment, NewId, SectionId, Sections, Update};
+use ckpt_types::{
+    AisError, CreationAttributes, GENERATED_ID_BYTES, Moment, NewId, SectionId, Sections, Update,
+};
 use moment_rules::expired;
 
 /// Refuses an update that the rules refuse over the sections that are present at the moment. It takes no
@@ -74,7 +76,7 @@ fn is_bad_id(attrs: &CreationAttributes, new: &NewId) -> bool
             let len = id.as_slice().len() as u64;
             len == 0 || len > attrs.max_section_id_size
         }
-        NewId::Generated => attrs.max_section_id_size < 8,
+        NewId::Generated => attrs.max_section_id_size < GENERATED_ID_BYTES,
     }
 }
 
