@@ -1,20 +1,18 @@
 -- What the program's one call promises.
-use Rattle.std.specs.Prelude.{◌≡◌, ◌⊎◌, ℕ, Bool, false, List, [], ◌∷◌, ◌++◌, length, codes, bytes_eq, Option, Ok, Err}
+use Rattle.std.specs.Prelude.{◌≡◌, ◌⊎◌, ℕ, Bool, false, List, [], ◌∷◌, ◌++◌, codes, bytes_eq, Option, Ok, Err}
 use Rattle.std.specs.String.{string_bytes}
 use Rattle.std.specs.declared.string.String.{String}
 use Rattle.std.specs.declared.alloc.Global.{Global}
-use Rattle.std.specs.Io.KnownBytes.{Consumes, Appends, IsAtEnd}
-use Rattle.ckpt_types.specs.Limits.{script_bytes_max}
+use Rattle.std.specs.Io.KnownBytes.{Appends}
 use Rattle.run_labels.specs.declared.labels.Label.{Label}
 use Rattle.run_labels.specs.Lines.{lines_of}
 use Rattle.script_words.specs.declared.reason.Reason.TheVariants.{Length}
 use Rattle.script_lang.specs.declared.faults.ScriptFault.{ScriptFault}
 use Rattle.script_lang.specs.declared.lines.Line.{Line}
 use Rattle.script_lang.specs.Grammar.{script_of}
-use Rattle.session_run.specs.Follows.{Follows}
-use Rattle.world_core.specs.declared.world.World.{World}
-use Rattle.world_core.specs.Runs.{IsRun, last}
-use Rattle.world_core.specs.Shows.{Shows}
+use Rattle.session_run.specs.Follows.{Follows, FollowsFront}
+use Rattle.ckptsim.specs.Reading.{Reads, TakesFew}
+use Rattle.ckptsim.specs.declared.reading.Ended.TheVariants.{AtEnd, TooLong}
 use Rattle.ckptsim.specs.declared.running.Status.{Status}
 use Rattle.ckptsim.specs.declared.running.Status.TheVariants.{Ran, Usage, Script, ReadFault, WriteFault, NoMemory}
 
@@ -37,34 +35,34 @@ printed steps log = lines_of steps log
 abbrev pub WritesPart : Option (List ℕ) → Option (List ℕ) → List ℕ → Type 0
 WritesPart old new bytes = (front : List ℕ) × (back : List ℕ) × (front ++ back ≡ bytes) × Appends old new front
 
--- it ran: the source was read to its end, its bytes are a script, the log follows the script and is a run of
--- the checkpoint machine, the sink got the log's lines and nothing else, with the steps or without them, and the world
--- shows the machine's last state
-pub record HasRun (steps : Bool) (left_old left_new held_old held_new : Option (List ℕ)) (log : List Label) (world : World) : Type 0 where
-  pub bytes : List ℕ
-  pub read : Consumes left_old left_new bytes
-  pub whole : IsAtEnd left_new
-  pub script : List Line
-  pub is_script : script_of bytes ≡ Ok script
-  pub follows : Follows script log
-  pub run : IsRun log
-  pub written : Appends held_old held_new (printed steps log)
-  pub shows : Shows world (last log)
+-- the source was read to its end, and its bytes are this script
+abbrev pub ReadsScript : Option (List ℕ) → Option (List ℕ) → List Line → Type 0
+ReadsScript old new script = (bytes : List ℕ) × Reads old new bytes AtEnd × (script_of bytes ≡ Ok script)
 
--- the bytes read have just this fault: all bytes of the source, or one more than a script may have
+-- the bytes of the source have just this fault; or it is `length`, and one byte more was taken than a script may have
 abbrev pub HasFault : Option (List ℕ) → Option (List ℕ) → ScriptFault → Type 0
 HasFault old new fault =
-    ((bytes : List ℕ) × Consumes old new bytes × IsAtEnd new × (script_of bytes ≡ Err fault))
-    ⊎ ((bytes : List ℕ) × Consumes old new bytes × (length bytes ≡ script_bytes_max + 1) × (fault ≡ record { line = 0; reason = Length }))
+    ((bytes : List ℕ) × Reads old new bytes AtEnd × (script_of bytes ≡ Err fault))
+    ⊎ ((bytes : List ℕ) × Reads old new bytes TooLong × (fault ≡ record { line = 0; reason = Length }))
 
--- the answers after which nothing was written
-abbrev pub WroteNothing : Status → Type 0
-WroteNothing Usage = Unit {0}
-WroteNothing (Script fault) = Unit {0}
-WroteNothing ReadFault = Unit {0}
-WroteNothing Ran = ⊥
-WroteNothing WriteFault = ⊥
-WroteNothing NoMemory = ⊥
+-- WHAT WAS READ AND PLAYED, by how the run ends: the script was read whole, and the log follows it, or a front of it
+-- where memory was refused; or nothing was played
+abbrev pub HasPlayed : Status → Option (List ℕ) → Option (List ℕ) → List Label → Type 0
+HasPlayed Ran old new log = (script : List Line) × ReadsScript old new script × Follows script log
+HasPlayed WriteFault old new log = (script : List Line) × ReadsScript old new script × Follows script log
+HasPlayed NoMemory old new log = ((script : List Line) × ReadsScript old new script × FollowsFront script log) ⊎ (TakesFew old new × (log ≡ []))
+HasPlayed (Script fault) old new log = log ≡ []
+HasPlayed ReadFault old new log = TakesFew old new × (log ≡ [])
+HasPlayed Usage old new log = TakesFew old new × (log ≡ [])
+
+-- the answers after which nothing was played, and nothing written
+abbrev pub PlayedNothing : Status → Type 0
+PlayedNothing Usage = Unit {0}
+PlayedNothing (Script fault) = Unit {0}
+PlayedNothing ReadFault = Unit {0}
+PlayedNothing Ran = ⊥
+PlayedNothing WriteFault = ⊥
+PlayedNothing NoMemory = ⊥
 
 abbrev pub RanOrNoMemory : Status → Type 0
 RanOrNoMemory Ran = Unit {0}

@@ -6,27 +6,29 @@ mod reading;
 mod running;
 #[cfg(test)]
 mod tests;
+mod words;
 mod writing;
 
 use outside_io::{OpenGate, StdSink, StdSource};
 use run_labels::RunLog;
 use running::{Status, ckpt_run};
 use std::alloc::Global;
+use std::io;
 use std::process::ExitCode;
 use std::string::String;
 use std::sync::Wait;
 use std::thread::Threads;
-use std::{env, io};
+use words::words;
 use world_core::World;
 
 fn main(rt: HostRuntime) -> ExitCode {
-    let status = match words(&rt) {
+    let status = match words(&rt, rt.alloc()) {
         Ok(words) => {
             let mut source = StdSource::new(rt.stdin());
             let mut sink = StdSink::new(rt.stdout());
             run(&rt, rt.alloc(), words.as_slice(), &mut source, &mut sink)
         }
-        Err(_) => Status::NoMemory,
+        Err(status) => status,
     };
     // Where standard error takes nothing, the number still tells how it ended.
     let _told = tell(&rt, status);
@@ -48,15 +50,6 @@ fn run<R: Threads + Wait + Sync>(
     ckpt_run(
         rt, alloc, words, source, sink, &OpenGate, &mut log, &mut world,
     )
-}
-
-// The words of the command line behind the program's name.
-fn words(rt: &HostRuntime) -> io::Result<Vec<String>> {
-    let mut words = Vec::new(rt.alloc());
-    for word in env::args(rt)?.skip(1) {
-        words.push(word)?;
-    }
-    Ok(words)
 }
 
 // One line to standard error for each status but that of a run.

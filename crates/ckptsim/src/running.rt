@@ -1,9 +1,10 @@
-ghost use Rattle.std.specs.Prelude.{◌≡◌, ◌≤◌, [], length, IsTrue, ◌↔◌, codes, bytes_eq, IfSome, IsOk};
+ghost use Rattle.std.specs.Prelude.{◌≡◌, [], IsTrue, ◌↔◌, codes, bytes_eq, IfSome, IsOk};
+ghost use Rattle.std.specs.Io.KnownBytes.{Appends};
 ghost use Rattle.outside_io.specs.Causes.{Rose};
 ghost use Rattle.script_lang.specs.Grammar.{script_of};
-ghost use Rattle.world_core.specs.Runs.{IsNew};
-ghost use Rattle.ckptsim.specs.Headline.{IsCommand, asks_steps, HasRun, HasFault, WroteNothing, WritesPart, RanOrNoMemory, printed, status_number};
 ghost use Rattle.script_lang.specs.declared.faults.ScriptFault.{ScriptFault};
+ghost use Rattle.world_core.specs.Runs.{IsNew, IsRunTo};
+ghost use Rattle.ckptsim.specs.Headline.{IsCommand, asks_steps, HasFault, HasPlayed, PlayedNothing, WritesPart, RanOrNoMemory, printed, status_number};
 
 use crate::reading::{Ended, read_all};
 use crate::writing::write_lines;
@@ -92,8 +93,9 @@ fn wants_steps(words: &[String]) -> bool
     is_steps(second.as_str())
 }
 
-// The run, by its answers' causes.
-fn attempt<R: Threads + Wait + Sync, S: Source, K: Sink, G: Gate>(
+/// Reads a script from the source, plays it on the cluster, and writes the lines of its log to the sink.
+#[tactic(auto, using(crate::proofs::Played::nothing_ran))]
+pub fn ckpt_run<R: Threads + Wait + Sync, S: Source, K: Sink, G: Gate>(
     rt: &R,
     alloc: Global,
     words: &[String],
@@ -105,14 +107,28 @@ fn attempt<R: Threads + Wait + Sync, S: Source, K: Sink, G: Gate>(
 ) -> Status
     requires log { log.old.labels ≡ [] }
     requires world { IsNew world.old }
-    ensures ran { result ≡ Status.Ran → HasRun (asks_steps words.now) (S.left source.old) (S.left source.new) (K.held sink.old) (K.held sink.new) log.new.labels world.new }
+
+    // Whatever the answer, the log is a run of the checkpoint machine, and the world shows its last state.
+    ensures run { IsRunTo world.new log.new.labels }
+
+    // The log follows the script that was read, all of it or a front; or nothing was played.
+    ensures played { HasPlayed result (S.left source.old) (S.left source.new) log.new.labels }
+    ensures kept { PlayedNothing result → (sink.new ≡ sink.old) × (world.new ≡ world.old) }
+
+    // The log's lines were written, and nothing else; or a front of them.
+    ensures written { result ≡ Status.Ran → Appends (K.held sink.old) (K.held sink.new) (printed (asks_steps words.now) log.new.labels) }
+    ensures part { WritesPart (K.held sink.old) (K.held sink.new) (printed (asks_steps words.now) log.new.labels) }
+
+    // Each other answer has its cause.
     ensures usage { (result ≡ Status.Usage → IsCommand words.now → ⊥) × ((IsCommand words.now → ⊥) → result ≡ Status.Usage) }
     ensures unread { result ≡ Status.Usage → source.new ≡ source.old }
     ensures script { (fault : ScriptFault) → result ≡ Status.Script fault → HasFault (S.left source.old) (S.left source.new) fault }
     ensures read { result ≡ Status.ReadFault → Rose (S.faults source.old) (S.faults source.new) }
     ensures write { result ≡ Status.WriteFault → Rose (K.faults sink.old) (K.faults sink.new) }
-    ensures kept { WroteNothing result → sink.new ≡ sink.old }
-    ensures part { WritesPart (K.held sink.old) (K.held sink.new) (printed (asks_steps words.now) log.new.labels) }
+
+    // A command, a script and no fault: it ran, or memory ran out.
+    ensures complete { IsCommand words.now → IfSome (S.left source.old) (λ input. IsOk (script_of input) →
+        (Rose (S.faults source.old) (S.faults source.new) → ⊥) → (Rose (K.faults sink.old) (K.faults sink.new) → ⊥) → RanOrNoMemory result) }
 {
     if !is_command(words) {
         return Status::Usage;
@@ -141,39 +157,4 @@ fn attempt<R: Threads + Wait + Sync, S: Source, K: Sink, G: Gate>(
         Err(Trouble::Failed) => Status::WriteFault,
         Err(Trouble::Memory) => Status::NoMemory,
     }
-}
-
-/// Reads a script from the source, plays it on the cluster, and writes the lines of its log to the sink.
-pub fn ckpt_run<R: Threads + Wait + Sync, S: Source, K: Sink, G: Gate>(
-    rt: &R,
-    alloc: Global,
-    words: &[String],
-    source: &mut S,
-    sink: &mut K,
-    gate: &G,
-    log: &mut RunLog,
-    world: &mut World,
-) -> Status
-    requires log { log.old.labels ≡ [] }
-    requires world { IsNew world.old }
-
-    // What was printed, and every replica, is a run of the checkpoint machine that follows the script.
-    ensures ran { result ≡ Status.Ran → HasRun (asks_steps words.now) (S.left source.old) (S.left source.new) (K.held sink.old) (K.held sink.new) log.new.labels world.new }
-
-    // Each other answer has its cause.
-    ensures usage { (result ≡ Status.Usage → IsCommand words.now → ⊥) × ((IsCommand words.now → ⊥) → result ≡ Status.Usage) }
-    ensures unread { result ≡ Status.Usage → source.new ≡ source.old }
-    ensures script { (fault : ScriptFault) → result ≡ Status.Script fault → HasFault (S.left source.old) (S.left source.new) fault }
-    ensures read { result ≡ Status.ReadFault → Rose (S.faults source.old) (S.faults source.new) }
-    ensures write { result ≡ Status.WriteFault → Rose (K.faults sink.old) (K.faults sink.new) }
-
-    // What was written.
-    ensures kept { WroteNothing result → sink.new ≡ sink.old }
-    ensures part { WritesPart (K.held sink.old) (K.held sink.new) (printed (asks_steps words.now) log.new.labels) }
-
-    // A command, a script and no fault: it ran, or memory ran out.
-    ensures complete { IsCommand words.now → IfSome (S.left source.old) (λ input. IsOk (script_of input) → length input ≤ 262144 →
-        (Rose (S.faults source.old) (S.faults source.new) → ⊥) → (Rose (K.faults sink.old) (K.faults sink.new) → ⊥) → RanOrNoMemory result) }
-{
-    attempt(rt, alloc, words, source, sink, gate, log, world)
 }

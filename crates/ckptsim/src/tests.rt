@@ -1,4 +1,6 @@
+mod command_line;
 mod failing;
+mod lengths;
 mod played;
 mod small_pieces;
 mod words;

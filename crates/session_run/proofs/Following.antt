@@ -21,7 +21,7 @@ use Rattle.world_core.specs.Steps.{after}
 use Rattle.world_core.specs.Runs.{GoesOn, IsRunTo, SaysTrue, AnswersBegin, AnswersStep, NoneInHand, last, last_from, left_of}
 use Rattle.world_core.specs.Shows.{hand_at}
 use Rattle.session_run.specs.Follows.{StepsToEnd, SaysTrueIn, IsWholeCall, AnswersLine, FollowsFrom, Follows}
-use Rattle.session_run.specs.Growing.{GrowsBy, IsFinish, NoneBut}
+use Rattle.session_run.specs.Growing.{one_node_labels, GrowsBy, IsFinish, NoneBut}
 
 -- what is left of a call that goes on are the steps of the call in hand
 steps_of_hand : (call : CallId) (op : Op) (end : Option Outcome) (o : Option InHand) (more : List Label) → GoesOn call op end o → IsFinish o more → StepsToEnd call end more
@@ -87,7 +87,7 @@ last_from-append m (x ∷ xs) ys = last_from-append (after m x) xs ys
 
 -- one line more
 pub follows_line : (script rest : List Line) (line : Line) (others : List Line) (old new : List Label) → rest ≡ line ∷ others → GrowsBy old new (AnswersLine (last old) line) →
-    length new ≤ length old + 40 → ((more : List Label) → FollowsFrom (last old) rest more → Follows script (old ++ more)) → (more : List Label) → FollowsFrom (last new) others more → Follows script (new ++ more)
+    length new ≤ length old + one_node_labels → ((more : List Label) → FollowsFrom (last old) rest more → Follows script (old ++ more)) → (more : List Label) → FollowsFrom (last new) others more → Follows script (new ++ more)
 follows_line script rest line others old new e f few goes more h =
     let then : last new ≡ last_from (last old) f.0 = ap last f.1 ∙ last_from-append empty_cluster old f.0 in
     let later : FollowsFrom (last_from (last old) f.0) others more = subst (λ (m : Machine). FollowsFrom m others more) then h in

@@ -1,5 +1,5 @@
 -- A log follows a script: the lines in order, each with its labels.
-use Rattle.std.specs.Prelude.{◌≡◌, ◌≤◌, List, [], ◌∷◌, ◌++◌, length, Option, Some, None, false}
+use Rattle.std.specs.Prelude.{◌≡◌, ℕ, ◌≤◌, List, [], ◌∷◌, ◌++◌, length, Option, Some, None, false}
 use Rattle.ckpt_types.specs.declared.answers.Outcome.{Outcome}
 use Rattle.ckpt_types.specs.declared.identities.ActorName.{ActorName}
 use Rattle.ckpt_types.specs.declared.identities.ActorName.TheVariants.{Client}
@@ -46,12 +46,21 @@ AnswersLine m (lines.Call c op) log = IsWholeCall m (Client c) op log
 AnswersLine m (lines.At t) log = log ≡ labels.Moved t ∷ []
 AnswersLine m line log = ⊥
 
--- from this state the lines come in order, each with its labels, at most 1,000 of them, and each in the state after the
--- labels before it
+-- the most labels that a line gives
+abbrev pub line_labels_max : ℕ
+line_labels_max = 1000
+
+-- from this state the lines come in order, each with its labels, no more than a line gives, and each in the state after
+-- the labels before it
 abbrev pub FollowsFrom : Machine → List Line → List Label → Type 0
 FollowsFrom m [] log = log ≡ []
-FollowsFrom m (line ∷ lines) log = (front : List Label) × (back : List Label) × (log ≡ front ++ back) × AnswersLine m line front × (length front ≤ 1000) × FollowsFrom (last_from m front) lines back
+FollowsFrom m (line ∷ lines) log = (front : List Label) × (back : List Label) × (log ≡ front ++ back) × AnswersLine m line front × (length front ≤ line_labels_max) × FollowsFrom (last_from m front) lines back
 
 -- the log has the lines in order, from the empty cluster
 abbrev pub Follows : List Line → List Label → Type 0
 Follows lines log = FollowsFrom empty_cluster lines log
+
+-- the log is a front of one that follows the script: it has some first lines with all their labels, and of the next
+-- one a front of its labels
+abbrev pub FollowsFront : List Line → List Label → Type 0
+FollowsFront lines log = (more : List Label) × Follows lines (log ++ more)

@@ -1,5 +1,5 @@
 -- How a log grows while a line is played.
-use Rattle.std.specs.Prelude.{◌≡◌, ◌≢◌, ℕ, zero, suc, List, [], ◌++◌, Option, Some, None, ℤ}
+use Rattle.std.specs.Prelude.{◌≡◌, ◌≢◌, ◌≤◌, ℕ, zero, suc, List, [], ◌++◌, length, Option, Some, None, ℤ}
 use Rattle.script_lang.specs.declared.lines.Line.{Line}
 use Rattle.script_lang.specs.declared.lines.Line.TheVariants as lines
 use Rattle.run_labels.specs.declared.labels.Label.{Label}
@@ -9,9 +9,17 @@ use Rattle.world_core.specs.Shows.{hand_at}
 use Rattle.session_run.specs.Follows.{StepsToEnd}
 use Rattle.session_run.specs.Playable.{IsPlayableLine, ArePlayable, IsPlayable}
 
+-- the most labels that a line gives on one node
+abbrev pub one_node_labels : ℕ
+one_node_labels = 40
+
 -- the log is longer by labels that have this
 abbrev pub GrowsBy : List Label → List Label → (List Label → Type 0) → Type 0
 GrowsBy old new P = (more : List Label) × (new ≡ old ++ more) × P more
+
+-- with at most one label behind it, the log is longer by labels that have this
+abbrev pub GrowsTowards : List Label → List Label → (List Label → Type 0) → Type 0
+GrowsTowards old new P = (end : List Label) × (length end ≤ 1) × GrowsBy old (new ++ end) P
 
 -- the steps that are left of a call in hand, if there is one
 abbrev pub IsFinish : Option InHand → List Label → Type 0

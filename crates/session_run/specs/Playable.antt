@@ -1,11 +1,15 @@
 -- Which scripts can be played so far: of one node, with one call at a time.
-use Rattle.std.specs.Prelude.{List, [], ◌∷◌, ◌<◌, ℤ, pos}
+use Rattle.std.specs.Prelude.{ℕ, List, [], ◌∷◌, ◌<◌, ℤ, pos}
 use Rattle.ckpt_types.specs.Limits.{client_numbers}
 use Rattle.script_lang.specs.declared.lines.Line.{Line}
 use Rattle.script_lang.specs.declared.lines.Line.TheVariants as lines
 use Rattle.script_lang.specs.BuiltScripts.{IsOneNode, moment_behind}
 use Rattle.world_core.specs.Beginning.{IsBuilt}
 use Rattle.cluster_record.specs.RecordState.{IsMomentFrom}
+
+-- the most lines of a script that is played
+abbrev pub played_lines_max : ℕ
+played_lines_max = 2000000
 
 -- at this moment the line can be played with the node up: a call of a client, or a moment that does not go back
 abbrev pub IsPlayableLine : ℤ → Line → Type 0

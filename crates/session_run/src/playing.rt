@@ -8,9 +8,9 @@ ghost use Rattle.ckpt_types.specs.Limits.{client_numbers};
 ghost use Rattle.world_core.specs.declared.world.Event.TheVariants as happenings;
 ghost use Rattle.world_core.specs.Runs.{IsNew, IsRunTo, Happens, NoneInHand, last, left_of};
 ghost use Rattle.world_core.specs.Shows.{hand_at};
-ghost use Rattle.session_run.specs.Follows.{AnswersLine, Follows, IsWholeCall};
-ghost use Rattle.session_run.specs.Growing.{CanPlay, GrowsBy, IsFinish, NoneBut};
-ghost use Rattle.session_run.specs.Playable.{IsPlayable};
+ghost use Rattle.session_run.specs.Follows.{AnswersLine, Follows, FollowsFront, IsWholeCall};
+ghost use Rattle.session_run.specs.Growing.{CanPlay, one_node_labels, GrowsBy, GrowsTowards, IsFinish, NoneBut};
+ghost use Rattle.session_run.specs.Playable.{IsPlayable, played_lines_max};
 
 use ckpt_types::{ActorName, Op, Who};
 use outside_io::Gate;
@@ -22,7 +22,7 @@ use std::thread::Threads;
 use world_core::{Event, World};
 
 /// Plays a script. The log is a run that follows it, and the world shows the state after it. Where
-/// memory for the log or for an event is refused, the log is a run as far as it goes.
+/// memory for the log or for an event is refused, the log is a run all the same, and follows it as far as it goes.
 pub fn session<R: Threads + Wait + Sync, G: Gate>(
     _rt: &R,
     alloc: Global,
@@ -34,9 +34,10 @@ pub fn session<R: Threads + Wait + Sync, G: Gate>(
     requires log { log.old.labels ≡ [] }
     requires world { IsNew world.old }
     requires form { IsPlayable script.now }
-    requires lines { length script.now ≤ 2000000 }
+    requires lines { length script.now ≤ played_lines_max }
     ensures run { IsRunTo world.new log.new.labels }
     ensures follows { OnOk result (Follows script.now log.new.labels) }
+    ensures front { FollowsFront script.now log.new.labels }
 {
     play(alloc, script.as_slice(), log, world)
 }
@@ -50,9 +51,10 @@ fn play(
     requires log { log.old.labels ≡ [] }
     requires world { IsNew world.old }
     requires form { IsPlayable lines.now }
-    requires lines { length lines.now ≤ 2000000 }
+    requires lines { length lines.now ≤ played_lines_max }
     ensures run { IsRunTo world.new log.new.labels }
     ensures follows { OnOk result (Follows lines.now log.new.labels) }
+    ensures front { FollowsFront lines.now log.new.labels }
 {
     for line in lines {
         play_line(alloc, line, log, world)?;
@@ -70,12 +72,13 @@ fn play_line(
     requires run { IsRunTo world.old log.old.labels }
     requires comes { CanPlay world.old.cluster.moment log.old.labels line.now }
     requires idle { NoneInHand world.old }
-    requires room { length log.old.labels + 40 < 2 ^ 32 - 2 }
+    requires room { length log.old.labels + one_node_labels < 2 ^ 32 - 2 }
     ensures run { IsRunTo world.new log.new.labels }
-    ensures few { length log.new.labels ≤ length log.old.labels + 40 }
+    ensures few { length log.new.labels ≤ length log.old.labels + one_node_labels }
     ensures idle { OnOk result (NoneInHand world.new) }
     ensures moment { OnOk result (world.new.cluster.moment ≡ moment_behind world.old.cluster.moment line.now) }
     ensures answers { OnOk result (GrowsBy log.old.labels log.new.labels (AnswersLine (last log.old.labels) line.now)) }
+    ensures front { GrowsTowards log.old.labels log.new.labels (AnswersLine (last log.old.labels) line.now) }
 {
     match line {
         Line::Nodes(count) => world.event(alloc, &Event::Nodes(*count), log),
@@ -97,12 +100,13 @@ fn play_call(
     requires client { client < client_numbers }
     requires built { IsBuilt op.now }
     requires idle { NoneInHand world.old }
-    requires room { length log.old.labels + 40 < 2 ^ 32 - 2 }
+    requires room { length log.old.labels + one_node_labels < 2 ^ 32 - 2 }
     ensures run { IsRunTo world.new log.new.labels }
-    ensures few { length log.new.labels ≤ length log.old.labels + 40 }
+    ensures few { length log.new.labels ≤ length log.old.labels + one_node_labels }
     ensures idle { OnOk result (NoneInHand world.new) }
     ensures moment { OnOk result (world.new.cluster.moment ≡ world.old.cluster.moment) }
     ensures answers { OnOk result (GrowsBy log.old.labels log.new.labels (IsWholeCall (last log.old.labels) (Client client) op.now)) }
+    ensures front { GrowsTowards log.old.labels log.new.labels (IsWholeCall (last log.old.labels) (Client client) op.now) }
 {
     begin(alloc, client, op, log, world)?;
     finish(alloc, client, log, world)
@@ -119,6 +123,7 @@ fn finish(alloc: Global, client: u8, log: &mut RunLog, world: &mut World) -> Res
     ensures idle { OnOk result (NoneInHand world.new) }
     ensures moment { OnOk result (world.new.cluster.moment ≡ world.old.cluster.moment) }
     ensures steps { OnOk result (GrowsBy log.old.labels log.new.labels (IsFinish (hand_at world.old.hands client))) }
+    ensures front { GrowsTowards log.old.labels log.new.labels (IsFinish (hand_at world.old.hands client)) }
 {
     'stepping: while world.in_hand(client) {
         step(alloc, client, log, world)?;

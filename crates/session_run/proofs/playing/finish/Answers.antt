@@ -3,6 +3,7 @@ use Rattle.ckpt_types.specs.declared.identities.ActorName.TheVariants.{Client}
 use Rattle.world_core.specs.Shows.{hand_at}
 use Rattle.world_core.specs.Runs.{left_of}
 use Rattle.session_run.proofs.Following.{step_grows, GrowsBy-label, GrowsBy-end, none_if_not, finish_of_none}
+use Rattle.session_run.proofs.Fronts.{towards_end, towards_finish}
 use Rattle.session_run.proofs.playing.finish.Goals as goal
 
 pub step-requires-clause-room : goal.step-requires-clause-room
@@ -30,3 +31,12 @@ stepping-preserved c =
 pub returns-clause-steps : goal.returns-clause-steps
 returns-clause-steps c =
     GrowsBy-end c.args.log.now.labels c.stepping.log.labels (c.stepping.invariant.steps [] (finish_of_none (hand_at c.stepping.world.hands c.args.client) (none_if_not (hand_at c.stepping.world.hands c.args.client) (sym c.in_hand.ensures ∙ c.stepping-test.false))))
+
+pub returns-clause-front : goal.returns-clause-front
+returns-clause-front c =
+    towards_end c.args.log.now.labels c.stepping.log.labels
+    (GrowsBy-end c.args.log.now.labels c.stepping.log.labels (c.stepping.invariant.steps [] (finish_of_none (hand_at c.stepping.world.hands c.args.client) (none_if_not (hand_at c.stepping.world.hands c.args.client) (sym c.in_hand.ensures ∙ c.stepping-test.false)))))
+
+pub returns-in_err-step-clause-front : goal.returns-in_err-step-clause-front
+returns-in_err-step-clause-front c =
+    towards_finish c.args.log.now.labels c.stepping.log.labels c.step.new.log.labels (hand_at c.stepping.world.hands c.args.client) c.in_err-step.ensures.err c.stepping.invariant.steps

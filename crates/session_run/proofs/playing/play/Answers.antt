@@ -8,6 +8,7 @@ use Rattle.session_run.proofs.Following.{follows_line, follows_end, drop_item}
 use Rattle.world_core.proofs.Running.{new_run}
 use Rattle.session_run.specs.Growing.{AreLeft}
 use Rattle.session_run.proofs.Playable.{CanPlay-next, AreLeft-next}
+use Rattle.session_run.proofs.Fronts.{front_of_whole, front_in_line, rest_follows}
 use Rattle.session_run.proofs.playing.play.Goals as goal
 
 pub loop-line-init : goal.loop-line-init
@@ -50,3 +51,18 @@ loop-line-preserved c =
 pub returns-clause-follows : goal.returns-clause-follows
 returns-clause-follows c =
     follows_end c.args.lines.now (drop c.loop-line.line-index c.args.lines.now) c.loop-line.log.labels (drop_all c.loop-line.line-index c.args.lines.now c.loop-line-test.false) c.loop-line.invariant.follows
+
+pub returns-clause-front : goal.returns-clause-front
+returns-clause-front c =
+    front_of_whole c.args.lines.now c.loop-line.log.labels
+    (follows_end c.args.lines.now (drop c.loop-line.line-index c.args.lines.now) c.loop-line.log.labels (drop_all c.loop-line.line-index c.args.lines.now c.loop-line-test.false) c.loop-line.invariant.follows)
+
+pub returns-in_err-play_line-clause-front : goal.returns-in_err-play_line-clause-front
+returns-in_err-play_line-clause-front c =
+    let i = c.loop-line.line-index in
+    let t = c.loop-line.world.cluster.moment in
+    let line = c.line-item.result in
+    let others = drop (i + 1) c.args.lines.now in
+    let next = drop_item c.args.lines.now i line c.loop-line-test.true c.line-item.is in
+    let left = subst (AreLeft i t) next c.loop-line.invariant.form in
+    front_in_line c.args.lines.now (drop i c.args.lines.now) line others c.loop-line.log.labels c.play_line.new.log.labels next c.play_line.ensures.front c.play_line.ensures.few c.loop-line.invariant.follows (rest_follows i t line others left)

@@ -1,6 +1,8 @@
-use Rattle.std.proofs.Common.{◌≡◌, ◌+◌, [], ◌∷◌, length, ap, ◌∙◌, arith, length-append}
+use Rattle.std.proofs.Common.{◌≡◌, ◌+◌, [], ◌∷◌, length, refl, ap, ◌∙◌, arith, length-append}
+use Rattle.script_lang.specs.declared.lines.Line.TheVariants.{Call}
 use Rattle.session_run.proofs.Following.{begin_grows, GrowsBy-begin, OnOk-map}
 use Rattle.world_core.proofs.Running.{few_left}
+use Rattle.session_run.proofs.Fronts.{towards_begin, towards_one, could_answer}
 use Rattle.session_run.proofs.playing.play_call.Goals as goal
 
 pub finish-requires-clause-alone : goal.finish-requires-clause-alone
@@ -26,3 +28,13 @@ returns-clause-answers c =
     OnOk-map c.finish.result c.finish.ensures.steps (λ f.
     GrowsBy-begin c.args.log.now.labels c.begin.new.log.labels c.finish.new.log.labels h.label h.grows f
     (λ more g. begin_grows c.args.client c.args.op.now c.args.world.now c.begin.new.world c.args.log.now.labels h.label more c.requires.run h.answers (c.requires.idle c.args.client) g))
+
+pub returns-clause-front : goal.returns-clause-front
+returns-clause-front c =
+    let h = c.in_ok-begin.ensures.happens in
+    towards_begin c.args.log.now.labels c.begin.new.log.labels c.finish.new.log.labels h.label h.grows c.finish.ensures.front
+    (λ more g. begin_grows c.args.client c.args.op.now c.args.world.now c.begin.new.world c.args.log.now.labels h.label more c.requires.run h.answers (c.requires.idle c.args.client) g)
+
+pub returns-in_err-begin-clause-front : goal.returns-in_err-begin-clause-front
+returns-in_err-begin-clause-front c =
+    towards_one c.args.log.now.labels c.begin.new.log.labels (could_answer (Call c.args.client c.args.op.now)) c.in_err-begin.ensures.err (refl, refl, refl)

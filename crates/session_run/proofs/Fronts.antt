@@ -1,0 +1,105 @@
+-- A log that stops early is a front of one that follows its script: labels with which it could go on.
+use Rattle.std.proofs.Common.{◌≡◌, ℕ, zero, suc, ◌+◌, ◌≤◌, List, [], ◌∷◌, ◌++◌, length, ℤ, pos, refl, sym, ap, subst, ◌∙◌, append_assoc, append-nil, length-append, arith}
+use Rattle.std.specs.Prelude.{Option, Some, None, Result, Ok, Err, OnOk, OnErr}
+use Rattle.ckpt_types.specs.declared.answers.Outcome.TheVariants.{NoMemory}
+use Rattle.ckpt_types.specs.declared.identities.ActorName.TheVariants.{Client}
+use Rattle.node_msgs.specs.declared.steps.StepReply.TheVariants as replies
+use Rattle.node_msgs.specs.declared.steps.Verb.TheVariants.{Look}
+use Rattle.run_labels.specs.declared.labels.Label.{Label}
+use Rattle.run_labels.specs.declared.labels.Label.TheVariants as labels
+use Rattle.run_labels.specs.OpWord.{word_of_op}
+use Rattle.script_lang.specs.declared.lines.Line.{Line}
+use Rattle.script_lang.specs.declared.lines.Line.TheVariants as lines
+use Rattle.script_lang.specs.BuiltScripts.{moment_behind}
+use Rattle.world_core.specs.declared.hands.InHand.{InHand}
+use Rattle.world_core.specs.Machine.{Machine}
+use Rattle.world_core.specs.Runs.{last, last_from}
+use Rattle.session_run.specs.Follows.{AnswersLine, FollowsFrom, Follows, FollowsFront}
+use Rattle.session_run.specs.Growing.{one_node_labels, GrowsBy, GrowsTowards, IsFinish, AreLeft}
+use Rattle.session_run.specs.Playable.{IsPlayableLine, ArePlayable}
+
+-- ---- labels that could come
+
+-- a label with which a line could be answered
+abbrev pub could_answer : Line → Label
+could_answer (lines.Nodes n) = labels.Nodes n
+could_answer (lines.Call c op) = labels.Began (record { actor = Client c; number = 0 }) op (Some NoMemory)
+could_answer (lines.At t) = labels.Moved t
+could_answer line = labels.Nodes 0
+
+could_answer-answers : (m : Machine) (t : ℤ) (line : Line) → IsPlayableLine t line → AnswersLine m line (could_answer line ∷ [])
+could_answer-answers m t (lines.Call c op) playable = (refl, refl, refl)
+could_answer-answers m t (lines.At u) playable = refl
+could_answer-answers m t line playable = absurd playable
+
+-- lines that can be played could be answered one by one, from any state
+pub could_follow : (m : Machine) (t : ℤ) (xs : List Line) → ArePlayable t xs → (more : List Label) × FollowsFrom m xs more
+could_follow m t [] playable = ([], refl)
+could_follow m t (x ∷ xs) playable =
+    let front = could_answer x ∷ [] in
+    let back = could_follow (last_from m front) (moment_behind t x) xs playable.1 in
+    (front ++ back.0, (front, back.0, refl, could_answer-answers m t x playable.0, omega arith, back.1))
+
+-- the lines behind the next one can be played from some moment on
+pub rest_follows : (i : ℕ) (t : ℤ) (line : Line) (rest : List Line) → AreLeft i t (line ∷ rest) → (m : Machine) → (more : List Label) × FollowsFrom m rest more
+rest_follows zero t line rest left m = could_follow m (pos 0) rest left.1
+rest_follows (suc i) t line rest left m = could_follow m (moment_behind t line) rest left.1
+
+-- a step by which the call in hand could end
+abbrev pub could_finish : Option InHand → List Label
+could_finish None = []
+could_finish (Some h) = labels.Stepped h.call (word_of_op h.op) Look None None replies.Ok (Some NoMemory) None ∷ []
+
+could_finish-finishes : (o : Option InHand) → IsFinish o (could_finish o)
+could_finish-finishes None = refl
+could_finish-finishes (Some h) = (refl, refl)
+
+could_finish-few : (o : Option InHand) → length (could_finish o) ≤ 1
+could_finish-few None = omega arith
+could_finish-few (Some h) = omega arith
+
+-- ---- a line that is played so far
+
+-- it is played to its end
+pub towards_end : {P : List Label → Type 0} (old new : List Label) → GrowsBy old new P → GrowsTowards old new P
+towards_end old new f = ([], omega arith, (f.0, append-nil new ∙ f.1, f.2))
+
+-- nothing came yet, and one label could answer it
+pub towards_one : {P : List Label → Type 0} (old new : List Label) (l : Label) → new ≡ old → P (l ∷ []) → GrowsTowards old new P
+towards_one old new l same p = (l ∷ [], omega arith, (l ∷ [], ap (λ xs. xs ++ l ∷ []) same, p))
+
+-- one label answers it, or nothing came yet
+pub towards_label : {P : List Label → Type 0} {X E : Type 0} (A : Type 0) (r : Result X E) (old new : List Label) (l : Label) → P (l ∷ []) → OnOk r (new ≡ old ++ l ∷ []) → OnErr r (A × (new ≡ old)) → GrowsTowards old new P
+towards_label A (Ok x) old new l p ok err = towards_end old new (l ∷ [], ok, p)
+towards_label A (Err e) old new l p ok err = towards_one old new l err.1 p
+
+-- a step of the call in hand could end it
+pub towards_finish : {P : List Label → Type 0} (old log new : List Label) (o : Option InHand) → new ≡ log → ((more : List Label) → IsFinish o more → GrowsBy old (log ++ more) P) → GrowsTowards old new P
+towards_finish {P} old log new o same goes =
+    (could_finish o, could_finish-few o, subst (λ (xs : List Label). GrowsBy old (xs ++ could_finish o) P) (sym same) (goes (could_finish o) (could_finish-finishes o)))
+
+-- the label that answered a beginning, and then the steps
+pub towards_begin : {P Q : List Label → Type 0} (old middle new : List Label) (l : Label) → middle ≡ old ++ l ∷ [] → GrowsTowards middle new P → ((more : List Label) → P more → Q (l ∷ more)) → GrowsTowards old new Q
+towards_begin old middle new l e f goes =
+    let g = f.2 in
+    (f.0, f.1, (l ∷ g.0, g.1 ∙ ap (λ xs. xs ++ g.0) e ∙ append_assoc old (l ∷ []) g.0, goes g.0 g.2))
+
+-- ---- a script that is played so far
+
+-- all of its lines are played
+pub front_of_whole : (script : List Line) (log : List Label) → Follows script log → FollowsFront script log
+front_of_whole script log f = ([], subst (Follows script) (sym (append-nil log)) f)
+
+-- it stopped in a line
+pub front_in_line : (script rest : List Line) (line : Line) (others : List Line) (old new : List Label) → rest ≡ line ∷ others → GrowsTowards old new (AnswersLine (last old) line) → length new ≤ length old + one_node_labels
+    → ((more : List Label) → FollowsFrom (last old) rest more → Follows script (old ++ more)) → ((m : Machine) → (more : List Label) × FollowsFrom m others more) → FollowsFront script new
+front_in_line script rest line others old new e f few goes could =
+    let end : List Label = f.0 in
+    let front : List Label = f.2.0 in
+    let joined : new ++ end ≡ old ++ front = f.2.1 in
+    let back = could (last_from (last old) front) in
+    let short : length end ≤ 1 = f.1 in
+    let size : length new + length end ≡ length old + length front = sym (length-append new end) ∙ ap length joined ∙ length-append old front in
+    let all : FollowsFrom (last old) rest (front ++ back.0) = subst (λ r. FollowsFrom (last old) r (front ++ back.0)) (sym e) (front, back.0, refl, f.2.2, omega (arith, few, short, size), back.1) in
+    let same : old ++ (front ++ back.0) ≡ new ++ (end ++ back.0) = sym (append_assoc old front back.0) ∙ ap (λ xs. xs ++ back.0) (sym joined) ∙ append_assoc new end back.0 in
+    (end ++ back.0, subst (Follows script) same (goes (front ++ back.0) all))

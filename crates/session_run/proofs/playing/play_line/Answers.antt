@@ -1,0 +1,34 @@
+use Rattle.std.proofs.Common.{rules, w64, ◌++◌, [], ◌∷◌, refl, sym, ap, subst, ◌∙◌}
+use Rattle.std.proofs.lemmas.Int.{to_z-of_z}
+use Rattle.std.specs.Int.RustNames.{FitsSigned}
+use Rattle.run_labels.specs.declared.labels.Label.{Label}
+use Rattle.run_labels.specs.declared.labels.Label.TheVariants as labels
+use Rattle.script_lang.specs.declared.lines.Line.{Line}
+use Rattle.world_core.specs.Runs.{last}
+use Rattle.session_run.specs.Follows.{AnswersLine}
+use Rattle.session_run.specs.Growing.{GrowsTowards}
+use Rattle.session_run.proofs.Following.{OnOk-map}
+use Rattle.session_run.proofs.Fronts.{towards_label}
+use Rattle.session_run.proofs.playing.play_line.Goals as goal
+
+pub returns-in-Nodes-clause-front : goal.returns-in-Nodes-clause-front
+returns-in-Nodes-clause-front c =
+    let old = c.args.log.now.labels in
+    let label = labels.Nodes c.in-Nodes.count in
+    subst (λ (line : Line). GrowsTowards old c.event.new.log.labels (AnswersLine (last old) line)) (sym c.in-Nodes.is)
+    (towards_label _ c.event.result old c.event.new.log.labels label refl
+    (OnOk-map c.event.result c.event.ensures.happens (λ h. h.grows ∙ ap (λ (l : Label). old ++ l ∷ []) h.answers.0)) c.event.ensures.err)
+
+pub returns-in-Call-clause-front : goal.returns-in-Call-clause-front
+returns-in-Call-clause-front c =
+    let old = c.args.log.now.labels in
+    subst (λ (line : Line). GrowsTowards old c.play_call.new.log.labels (AnswersLine (last old) line)) (sym c.in-Call.is) c.play_call.ensures.front
+
+pub returns-in-At-clause-front : goal.returns-in-At-clause-front
+returns-in-At-clause-front c =
+    let old = c.args.log.now.labels in
+    let label = labels.Moved c.in-At.t in
+    let fits : FitsSigned w64 c.in-At.t = search rules in
+    let grows = OnOk-map c.event-in-At.result c.event-in-At.ensures.happens (λ h. h.grows ∙ ap (λ (l : Label). old ++ l ∷ []) h.answers.0) in
+    subst (λ (line : Line). GrowsTowards old c.event-in-At.new.log.labels (AnswersLine (last old) line)) (sym c.in-At.is)
+    (towards_label _ c.event-in-At.result old c.event-in-At.new.log.labels label refl (simp to_z-of_z at grows) c.event-in-At.ensures.err)
