@@ -2,7 +2,7 @@
 use Rattle.std.proofs.Common.{◌≡◌, ℕ, ◌+◌, ◌<◌, ◌≤◌, List, [], ◌∷◌, ◌++◌, length, drop, get_or, refl, sym, ap, subst, ◌∙◌, append_assoc, append-nil, length-append, arith, add-one, eqb, eqb-true, suc}
 use Rattle.std.proofs.Math.Seq.{drop-cons}
 use Rattle.std.proofs.lemmas.Bool.{eqb-false}
-use Rattle.std.specs.Prelude.{Option, Some, None, is_some, Bool, true, false, Result, Ok, Err, OnOk}
+use Rattle.std.specs.Prelude.{Option, Some, None, IfSome, is_some, Bool, true, false, Result, Ok, Err, OnOk}
 use Rattle.ckpt_types.specs.declared.answers.Outcome.{Outcome}
 use Rattle.ckpt_types.specs.declared.identities.ActorName.TheVariants.{Client}
 use Rattle.ckpt_types.specs.declared.identities.CallId.{CallId}
@@ -18,7 +18,7 @@ use Rattle.world_core.specs.declared.world.World.{World}
 use Rattle.cluster_record.specs.RecordState.{is_up}
 use Rattle.world_core.specs.Machine.{Machine, empty_cluster}
 use Rattle.world_core.specs.Steps.{after}
-use Rattle.world_core.specs.Runs.{GoesOn, IsRunTo, SaysTrue, AnswersBegin, AnswersStep, NoneInHand, last, last_from, left_of}
+use Rattle.world_core.specs.Runs.{GoesOn, IsRunTo, SaysTrue, AnswersBegin, AnswersStep, NoneInHand, last, last_from}
 use Rattle.world_core.specs.Shows.{hand_at}
 use Rattle.session_run.specs.Follows.{StepsToEnd, SaysTrueIn, IsWholeCall, AnswersLine, FollowsFrom, Follows}
 use Rattle.session_run.specs.Growing.{one_node_labels, GrowsBy, IsFinish, NoneBut}
@@ -30,12 +30,17 @@ steps_of_hand call op (Some e) (Some h) more goes f = absurd goes
 steps_of_hand call op None None more goes f = absurd goes
 steps_of_hand call op None (Some h) more goes f = subst (λ c. StepsToEnd c None more) goes.0 f
 
--- a step of the call in hand brings it nearer to its end, and stands before the steps that are then left
+-- what is so of a call in hand is so where there is one
+pub IfSome-held : {A P : Type 0} (o : Option A) → is_some o ≡ true → IfSome o (λ x. P) → P
+IfSome-held None held so = absurd cc
+IfSome-held (Some x) held so = so
+
+-- a step of the call in hand stands before the steps that are then left
 pub step_grows : (c : ℕ) (o : Option InHand) (old new : World) (l : Label) → AnswersStep (Client c) false o old new l → is_some o ≡ true →
-    (left_of new (Client c) < left_of old (Client c)) × ((more : List Label) → IsFinish (hand_at new.hands c) more → IsFinish o (l ∷ more))
-step_grows c None old new l answers held = absurd cc
-step_grows c (Some h) old new (labels.Stepped call op verb k r reply end pieces) answers held = (answers.2, λ more f. (answers.0, steps_of_hand h.call h.op end (hand_at new.hands c) more answers.1 f))
-step_grows c (Some h) old new l answers held = absurd answers
+    (more : List Label) → IsFinish (hand_at new.hands c) more → IsFinish o (l ∷ more)
+step_grows c None old new l answers held more f = absurd cc
+step_grows c (Some h) old new (labels.Stepped call op verb k r reply end pieces) answers held more f = (answers.0, steps_of_hand h.call h.op end (hand_at new.hands c) more answers.1 f)
+step_grows c (Some h) old new l answers held more f = absurd answers
 
 -- what a word says of the world, it says of the machine's state that the world shows
 SaysTrueIn-shown : (op : Op) (said : Said) (w : World) (m : Machine) → m.cluster ≡ w.cluster → SaysTrue op said w → SaysTrueIn op said m

@@ -6,7 +6,8 @@ ghost use Rattle.std.specs.Prelude.{false};
 ghost use Rattle.ckpt_types.specs.declared.identities.Who.TheVariants.{Actor};
 ghost use Rattle.ckpt_types.specs.Limits.{client_numbers};
 ghost use Rattle.world_core.specs.declared.world.Event.TheVariants as happenings;
-ghost use Rattle.world_core.specs.Runs.{IsNew, IsRunTo, Happens, NoneInHand, last, left_of};
+ghost use Rattle.world_core.specs.Runs.{IsNew, IsRunTo, Happens, NoneInHand, last};
+ghost use Rattle.world_core.specs.StepsLeft.{ComesNearer, left_of};
 ghost use Rattle.world_core.specs.Shows.{hand_at};
 ghost use Rattle.session_run.specs.Follows.{AnswersLine, Follows, FollowsFront, IsWholeCall};
 ghost use Rattle.session_run.specs.Growing.{CanPlay, one_node_labels, GrowsBy, GrowsTowards, IsFinish, NoneBut};
@@ -160,6 +161,7 @@ fn step(alloc: Global, client: u8, log: &mut RunLog, world: &mut World) -> Resul
     requires room { length log.old.labels < 2 ^ 32 - 2 }
     ensures run { IsRunTo world.new log.new.labels }
     ensures happens { OnOk result (Happens (happenings.Step (Actor (Client client)) false) world.old world.new log.old.labels log.new.labels) }
+    ensures nearer { OnOk result (ComesNearer (happenings.Step (Actor (Client client)) false) world.old world.new) }
     ensures err { OnErr result (log.new.labels ≡ log.old.labels) }
 {
     let event = Event::Step(Who::Actor(ActorName::Client(client)), false);

@@ -1,8 +1,8 @@
 use Rattle.std.proofs.Common.{◌≡◌, ◌+◌, ◌<◌, [], ◌∷◌, length, sym, ap, ◌∙◌, arith, length-append}
 use Rattle.ckpt_types.specs.declared.identities.ActorName.TheVariants.{Client}
 use Rattle.world_core.specs.Shows.{hand_at}
-use Rattle.world_core.specs.Runs.{left_of}
-use Rattle.session_run.proofs.Following.{step_grows, GrowsBy-label, GrowsBy-end, none_if_not, finish_of_none}
+use Rattle.world_core.specs.StepsLeft.{left_of}
+use Rattle.session_run.proofs.Following.{IfSome-held, step_grows, GrowsBy-label, GrowsBy-end, none_if_not, finish_of_none}
 use Rattle.session_run.proofs.Fronts.{towards_end, towards_finish}
 use Rattle.session_run.proofs.playing.finish.Goals as goal
 
@@ -10,22 +10,21 @@ pub step-requires-clause-room : goal.step-requires-clause-room
 step-requires-clause-room c = omega (arith, c.stepping.invariant.few, c.requires.room)
 
 pub stepping-smaller : goal.stepping-smaller
-stepping-smaller c =
-    let h = c.in_ok-step.ensures.happens in
-    (step_grows c.args.client (hand_at c.stepping.world.hands c.args.client) c.stepping.world c.step.new.world h.label h.answers (sym c.in_hand.ensures ∙ c.stepping-test.true)).0
+stepping-smaller c = IfSome-held (hand_at c.stepping.world.hands c.args.client) (sym c.in_hand.ensures ∙ c.stepping-test.true) c.in_ok-step.ensures.nearer
 
 pub stepping-preserved : goal.stepping-preserved
 stepping-preserved c =
     let h = c.in_ok-step.ensures.happens in
-    let grows = step_grows c.args.client (hand_at c.stepping.world.hands c.args.client) c.stepping.world c.step.new.world h.label h.answers (sym c.in_hand.ensures ∙ c.stepping-test.true) in
-    let nearer : left_of c.step.new.world (Client c.args.client) < left_of c.stepping.world (Client c.args.client) = grows.0 in
+    let held = sym c.in_hand.ensures ∙ c.stepping-test.true in
+    let grows = step_grows c.args.client (hand_at c.stepping.world.hands c.args.client) c.stepping.world c.step.new.world h.label h.answers held in
+    let nearer : left_of c.step.new.world (Client c.args.client) < left_of c.stepping.world (Client c.args.client) = IfSome-held (hand_at c.stepping.world.hands c.args.client) held c.in_ok-step.ensures.nearer in
     let longer : length c.step.new.log.labels ≡ length c.stepping.log.labels + 1 = ap length h.grows ∙ length-append c.stepping.log.labels (h.label ∷ []) in
     record {
       run = c.step.ensures.run;
       alone = λ d apart. h.others d apart ∙ c.stepping.invariant.alone d apart;
       few = omega (arith, c.stepping.invariant.few, nearer);
       moment = h.moment ∙ c.stepping.invariant.moment;
-      steps = λ more f. GrowsBy-label c.args.log.now.labels c.stepping.log.labels c.step.new.log.labels h.label more h.grows (c.stepping.invariant.steps (h.label ∷ more) (grows.1 more f));
+      steps = λ more f. GrowsBy-label c.args.log.now.labels c.stepping.log.labels c.step.new.log.labels h.label more h.grows (c.stepping.invariant.steps (h.label ∷ more) (grows more f));
     }
 
 pub returns-clause-steps : goal.returns-clause-steps

@@ -1,7 +1,8 @@
 use Rattle.std.proofs.Common.{◌≡◌, ◌+◌, ◌≤◌, List, ◌++◌, length}
 use Rattle.ckpt_types.specs.declared.identities.ActorName.TheVariants.{Client}
 use Rattle.run_labels.specs.declared.labels.Label.{Label}
-use Rattle.world_core.specs.Runs.{IsRunTo, left_of}
+use Rattle.world_core.specs.Runs.{IsRunTo}
+use Rattle.world_core.specs.StepsLeft.{left_of}
 use Rattle.world_core.specs.Shows.{hand_at}
 use Rattle.session_run.specs.Growing.{GrowsBy, IsFinish, NoneBut}
 use Rattle.session_run.proofs.playing.finish.Given as goal
