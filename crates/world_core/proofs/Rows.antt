@@ -34,7 +34,7 @@ use Rattle.client_handles.specs.declared.handle_view.HandleView.{HandleView}
 use Rattle.cluster_record.specs.declared.entries.Entry.{Entry}
 use Rattle.cluster_record.specs.Places.{put}
 use Rattle.cluster_record.specs.StepDone.{StepDone}
-use Rattle.cluster_record.specs.RecordState.{empty_record}
+use Rattle.cluster_record.specs.RecordState.{RecordState, empty_record}
 use Rattle.world_core.specs.declared.replica.Replica.{Replica}
 use Rattle.world_core.specs.declared.drivers.Driver.{Driver}
 use Rattle.world_core.specs.Driving.{driver_end}
@@ -43,6 +43,8 @@ use Rattle.world_core.specs.Holding.{HoldsOnlyWhatStands}
 use Rattle.world_core.specs.Machine.{Machine, Applied, ReplicaState, CallState, empty_cluster}
 use Rattle.world_core.specs.NewTable.{no_callbacks}
 use Rattle.world_core.specs.Runs.{IsRun, last}
+use Rattle.world_core.specs.declared.world.World.{World}
+use Rattle.world_core.specs.Shows.{Shows}
 use Rattle.world_core.specs.Serving.{record_seen, reply_at, replica_after, opened_replica}
 use Rattle.world_core.specs.Steps.{Told, due, kept_at, named_handle, seen_at}
 use Rattle.std.proofs.lemmas.Option.{same_Some}
@@ -261,6 +263,9 @@ its_place_stands_for_none = refl
 -- and so a node that kept the replica would show no state
 pub a_replica_of_what_is_gone_is_not_held : HoldsOnlyWhatStands gone.cluster ((opened_replica 1 (sized 16 1) (pos 0) ∷ []) ∷ []) → ⊥
 a_replica_of_what_is_gone_is_not_held holds = (holds.each 0 (opened_replica 1 (sized 16 1) (pos 0)) (0, omega arith, refl)).stands
+
+pub a_world_that_keeps_it_shows_no_state : (w : World) (m : Machine) → w.cluster ≡ gone.cluster → w.nodes ≡ (opened_replica 1 (sized 16 1) (pos 0) ∷ []) ∷ [] → Shows w m → ⊥
+a_world_that_keeps_it_shows_no_state w m record_is nodes_are shows = a_replica_of_what_is_gone_is_not_held (subst (λ (y : RecordState × List (List Replica)). HoldsOnlyWhatStands y.0 y.1) (λ i. (record_is i, nodes_are i)) shows.holds)
 
 -- nor would one with two replicas of a checkpoint
 pub two_replicas_of_one_are_not_held : HoldsOnlyWhatStands opened.cluster ((opened_replica 1 (sized 16 1) (pos 0) ∷ opened_replica 1 (sized 16 1) (pos 0) ∷ []) ∷ []) → ⊥
