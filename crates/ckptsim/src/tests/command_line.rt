@@ -1,17 +1,26 @@
 use crate::running::Status;
 use crate::words::words;
+use std::alloc::Global;
 use std::env::{Env, FillError};
-use std::test::Fail;
+use std::string::String;
 
-/// The arguments with which a program was called, its name among them.
+/// The arguments with which a program was called: its name, and at most two words behind it.
 #[derive(Drop)]
 struct Called<'a> {
-    args: &'a [&'a [u8]],
+    name: &'a [u8],
+    first: Option<&'a [u8]>,
+    second: Option<&'a [u8]>,
 }
 
 impl Env for Called<'_> {
     fn arg(&self, i: usize, buf: &mut [u8]) -> Result<usize, FillError> {
-        let Some(arg) = self.args.get(i) else {
+        let arg = match i {
+            0 => Some(self.name),
+            1 => self.first,
+            2 => self.second,
+            _ => None,
+        };
+        let Some(arg) = arg else {
             return Err(FillError::NotPresent);
         };
         if arg.len() > buf.len() {
@@ -30,44 +39,90 @@ impl Env for Called<'_> {
     }
 }
 
-#[test]
-fn the_words_behind_the_name_are_read(rt: HostRuntime) -> Result<(), Fail> {
-    let cases: [(&[&[u8]], &[&str]); 5] = [
-        (&[], &[]),
-        (&[b"ckptsim"], &[]),
-        (&[b"ckptsim", b"run", b"--steps"], &["run", "--steps"]),
-        (&[b"name \xff", b"run"], &["run"]),
-        (&[b"ckptsim", b"", "k\u{e4}".as_bytes()], &["", "k\u{e4}"]),
-    ];
-    for (number, (args, wanted)) in cases.iter().enumerate() {
-        let read = match words(&Called { args: *args }, rt.alloc()) {
-            Ok(read) => read,
-            Err(status) => {
-                assert_eq!(rt; status, Status::Ran, "case {number}");
-                return Ok(());
-            }
-        };
-        assert_eq!(rt; read.len(), wanted.len(), "case {number}");
-        for (word, text) in read.iter().zip(wanted.iter()) {
-            assert_eq!(rt; word.as_str(), *text, "case {number}");
-        }
+/// Whether the word at a place is this one; where there is none, whether none is wanted.
+fn is_word(read: &[String], place: usize, wanted: Option<&str>) -> bool {
+    match (read.get(place), wanted) {
+        (Some(word), Some(wanted)) => word.as_str() == wanted,
+        (None, None) => true,
+        _ => false,
     }
-    Ok(())
+}
+
+/// Whether just these words are read behind the name.
+fn are_read(alloc: Global, called: &Called<'_>, first: Option<&str>, second: Option<&str>) -> bool {
+    let Ok(read) = words(called, alloc) else {
+        return false;
+    };
+    if !is_word(read.as_slice(), 0, first) {
+        return false;
+    }
+    is_word(read.as_slice(), 1, second)
 }
 
 #[test]
-fn a_word_that_is_no_text_is_no_command(rt: HostRuntime) -> Result<(), Fail> {
-    let long = [b'r'; 65];
-    let cases: [&[&[u8]]; 5] = [
-        &[b"ckptsim", b"\xff"],
-        &[b"ckptsim", b"run", b"\xc3"],
-        &[b"ckptsim", b"run\x80", b"--steps"],
-        &[b"\xff", b"\xff"],
-        &[b"ckptsim", &long],
-    ];
-    for (number, args) in cases.iter().enumerate() {
-        let ended = words(&Called { args: *args }, rt.alloc()).err();
-        assert_eq!(rt; ended, Some(Status::Usage), "case {number}");
+fn the_words_behind_the_name_are_read(rt: HostRuntime) {
+    let alloc = rt.alloc();
+    let name = b"ckptsim".as_slice();
+    let none = Called {
+        name,
+        first: None,
+        second: None,
+    };
+    assert!(rt; are_read(alloc, &none, None, None), "a name alone");
+    let both = Called {
+        name,
+        first: Some(b"run"),
+        second: Some(b"--steps"),
+    };
+    assert!(rt;
+        are_read(alloc, &both, Some("run"), Some("--steps")),
+        "two words"
+    );
+    let named = Called {
+        name: b"name \xff",
+        first: Some(b"run"),
+        second: None,
+    };
+    assert!(rt;
+        are_read(alloc, &named, Some("run"), None),
+        "a name that is no text"
+    );
+    let others = Called {
+        name,
+        first: Some(b""),
+        second: Some("k\u{e4}".as_bytes()),
+    };
+    assert!(rt;
+        are_read(alloc, &others, Some(""), Some("k\u{e4}")),
+        "no letter, and one of two bytes"
+    );
+}
+
+/// Whether the program ends with the usage.
+fn is_usage(alloc: Global, first: &[u8], second: Option<&[u8]>) -> bool {
+    let called = Called {
+        name: b"ckptsim",
+        first: Some(first),
+        second,
+    };
+    match words(&called, alloc) {
+        Err(Status::Usage) => true,
+        _ => false,
     }
-    Ok(())
+}
+
+#[test]
+fn a_word_that_is_no_text_is_no_command(rt: HostRuntime) {
+    let alloc = rt.alloc();
+    assert!(rt; is_usage(alloc, b"\xff", None), "no first byte of a letter");
+    assert!(rt; is_usage(alloc, b"run", Some(b"\xc3")), "half of a letter");
+    assert!(rt;
+        is_usage(alloc, b"run\x80", Some(b"--steps")),
+        "a letter's second byte"
+    );
+    assert!(rt; is_usage(alloc, b"\xff", Some(b"\xff")), "both words");
+    assert!(rt;
+        is_usage(alloc, &[b'r'; 65], None),
+        "a word longer than each of a command"
+    );
 }
