@@ -223,47 +223,44 @@ fn the_first_fault_of_a_line_is_told(rt: HostRuntime) -> Result<(), Fail> {
     tells_each(rt.alloc(), OPENED, FAULTS_BEHIND)
 }
 
-/// This is told of a script that starts so, and goes on with the same text so many times.
-fn tells_of_many(
+/// Whether this is told of a script that starts so, and goes on with a text so many times.
+fn is_told_of_many(
     alloc: Global,
     start: &str,
     text: &str,
     count: usize,
     want: &str,
-) -> Result<(), Fail> {
+) -> Result<bool, AllocError> {
     let mut script = script_of(alloc, "nodes 1|", start)?;
     add(&mut script, text, count)?;
-    if told(alloc, &script)?.as_str() == want {
-        Ok(())
-    } else {
-        Err(Fail::new(format_args!("not {want} of {count} times {text}")))
-    }
+    Ok(told(alloc, &script)?.as_str() == want)
 }
 
 #[test]
 fn a_script_has_10000_lines_and_262144_bytes_at_most(rt: HostRuntime) -> Result<(), Fail> {
     let alloc = rt.alloc();
     let read = "read c0 h0 x 0 1|";
-    tells_of_many(alloc, "", read, 9_999, "ok 10000")?;
-    tells_of_many(alloc, "", read, 10_000, "10001 lines")?;
-    tells_of_many(alloc, "", "|", 9_999, "ok 1")?;
-    tells_of_many(alloc, "", "|", 10_000, "10001 lines")?;
-    tells_of_many(alloc, "", "#|", 12_000, "10001 lines")?;
-    tells_of_many(alloc, "", "#", SCRIPT_BYTES_MAX - 8, "ok 1")?;
-    tells_of_many(alloc, "", "#", SCRIPT_BYTES_MAX - 7, "0 length")
+    assert!(rt; is_told_of_many(alloc, "", read, 9_999, "ok 10000")?);
+    assert!(rt; is_told_of_many(alloc, "", read, 10_000, "10001 lines")?);
+    assert!(rt; is_told_of_many(alloc, "", "|", 9_999, "ok 1")?);
+    assert!(rt; is_told_of_many(alloc, "", "|", 10_000, "10001 lines")?);
+    assert!(rt; is_told_of_many(alloc, "", "#|", 12_000, "10001 lines")?);
+    assert!(rt; is_told_of_many(alloc, "", "#", SCRIPT_BYTES_MAX - 8, "ok 1")?);
+    assert!(rt; is_told_of_many(alloc, "", "#", SCRIPT_BYTES_MAX - 7, "0 length")?);
+    Ok(())
 }
 
 #[test]
 fn a_write_and_a_read_have_256_elements_at_most(rt: HostRuntime) -> Result<(), Fail> {
     let alloc = rt.alloc();
-    for (start, element) in [
-        ("write c0 h0", " 'id 0 x00"),
-        ("read c0 h0", " 'id 0 65536"),
-    ] {
-        tells_of_many(alloc, start, element, 0, "2 count")?;
-        tells_of_many(alloc, start, element, 256, "ok 2")?;
-        tells_of_many(alloc, start, element, 257, "2 count")?;
-    }
+    let (write, element) = ("write c0 h0", " 'id 0 x00");
+    assert!(rt; is_told_of_many(alloc, write, element, 0, "2 count")?);
+    assert!(rt; is_told_of_many(alloc, write, element, 256, "ok 2")?);
+    assert!(rt; is_told_of_many(alloc, write, element, 257, "2 count")?);
+    let (read, element) = ("read c0 h0", " 'id 0 65536");
+    assert!(rt; is_told_of_many(alloc, read, element, 0, "2 count")?);
+    assert!(rt; is_told_of_many(alloc, read, element, 256, "ok 2")?);
+    assert!(rt; is_told_of_many(alloc, read, element, 257, "2 count")?);
     Ok(())
 }
 
