@@ -1,13 +1,16 @@
 ghost use Rattle.std.specs.Prelude.{◌≡◌, IfSome, true};
 ghost use Rattle.ckpt_types.specs.declared.identities.ActorName.TheVariants.{Client};
 ghost use Rattle.ckpt_types.specs.Attributes.{IsWellFormed};
+ghost use Rattle.ckpt_types.specs.declared.identities.ActorName.TheVariants.{Client};
 
+use crate::values::long;
 use ckpt_types::{
     ActorName, AisError, Bytes, CLIENT_NUMBERS, CallId, Cause, CkptId, CreationAttributes, Moment,
     NodeId, OpenAsk, SectionId, WR_ALL_REPLICAS, name_fits,
 };
 use cluster_record::{OpenAnswer, Record, RecordRefused};
 use std::alloc::{AllocError, Global};
+use std::process::Abort;
 use std::test::Fail;
 
 const ATTRIBUTES: CreationAttributes = CreationAttributes {
@@ -89,11 +92,10 @@ fn find(record: &Record, alloc: Global, name: &[u8]) -> Result<Option<CkptId>, A
 /// Takes a client in; why not, where it is refused.
 fn enter(record: &mut Record, client: u8, node: NodeId, number: u32) -> Option<RecordRefused> {
     let known = usize::from(client) < CLIENT_NUMBERS;
-    if known && record.is_up(node) && !record.is_live_client(client) {
-        record.enter(call_of(client, number), node).err()
-    } else {
-        None
+    if !known || !record.is_up(node) || record.is_live_client(client) {
+        return None;
     }
+    record.enter(call_of(client, number), node).err()
 }
 
 /// Why an unlink is refused, where it is.
@@ -116,9 +118,13 @@ fn retain(record: &mut Record, identity: CkptId, duration: i64) -> Option<Record
 }
 
 fn set_moment(record: &mut Record, t: Moment) {
-    if record.now() <= t && t < Moment::MAX {
-        record.set_moment(t);
+    if t == Moment::MAX {
+        return;
     }
+    if t < record.now() {
+        return;
+    }
+    record.set_moment(t);
 }
 
 fn identity_at(record: &Record, place: u32) -> Option<CkptId> {
@@ -179,10 +185,22 @@ fn a_65th_client_is_refused(rt: HostRuntime) -> Result<(), Fail> {
 /// Who began a call, its number, whether it is live, and what that shows.
 type LiveRow<'a> = (ActorName, u32, bool, &'a str);
 
+/// Each call is live, or is not, as its row says.
+fn live_as(record: &Record, rows: &[LiveRow<'_>]) -> Result<(), Fail> {
+    for (actor, number, live, says) in rows {
+        let call = CallId {
+            actor: *actor,
+            number: *number,
+        };
+        if record.live(call) != *live {
+            return Err(Fail::new(*says));
+        }
+    }
+    Ok(())
+}
+
 #[test]
 fn a_call_is_live_in_the_life_in_which_it_began(rt: HostRuntime) -> Result<(), Fail> {
-    let mut record = Record::new(rt.alloc(), 2)?;
-    assert_eq!(rt; enter(&mut record, 3, 1, 7), None);
     let rows: [LiveRow<'_>; 8] = [
         (ActorName::Client(3), 7, true, "the Initialize call"),
         (ActorName::Client(3), 8, true, "a later one"),
@@ -198,16 +216,9 @@ fn a_call_is_live_in_the_life_in_which_it_began(rt: HostRuntime) -> Result<(), F
         (ActorName::Node(2), 1, false, "a node that is down"),
         (ActorName::Node(8), 1, false, "there is no ninth node"),
     ];
-    for (actor, number, live, says) in &rows {
-        let call = CallId {
-            actor: *actor,
-            number: *number,
-        };
-        if record.live(call) != *live {
-            return Err(Fail::new(*says));
-        }
-    }
-    Ok(())
+    let mut record = Record::new(rt.alloc(), 2)?;
+    assert_eq!(rt; enter(&mut record, 3, 1, 7), None);
+    live_as(&record, &rows)
 }
 
 #[test]
@@ -216,6 +227,11 @@ fn the_first_nodes_are_up_in_their_first_life(rt: HostRuntime) -> Result<(), Fai
     assert_eq!(rt; record.up(0), None);
     record.bring_up(2);
     assert_eq!(rt; record.up(1), Some((1, 1)));
+    Ok(())
+}
+
+#[test]
+fn a_record_begins_with_its_first_nodes_up(rt: HostRuntime) -> Result<(), Fail> {
     let record = Record::new(rt.alloc(), 2)?;
     assert_eq!(rt; record.up(0), Some((1, 1)));
     assert_eq!(rt; record.up(1), Some((1, 1)));
@@ -225,40 +241,60 @@ fn the_first_nodes_are_up_in_their_first_life(rt: HostRuntime) -> Result<(), Fai
     Ok(())
 }
 
-#[test]
-fn a_copy_goes_its_own_way(rt: HostRuntime) -> Result<(), Fail> {
-    let alloc = rt.alloc();
-    let mut record = Record::new(alloc, 2)?;
-    assert_eq!(rt; enter(&mut record, 3, 1, 7), None);
-    create(&mut record, alloc, b"a")?;
-    set_moment(&mut record, 5);
-    let mut copy = record.copy(alloc)?;
-    assert_eq!(rt; create(&mut copy, alloc, b"b")?, Some(2));
+/// What comes of two equal records, in which c3 is making the checkpoint `a`.
+fn go_apart(
+    rt: &impl Abort,
+    alloc: Global,
+    record: &Record,
+    copy: &mut Record,
+) -> Result<(), AllocError> {
+    assert_eq!(rt; create(copy, alloc, b"b")?, Some(2));
     assert_eq!(rt; copy.now(), 5);
     assert_eq!(rt; copy.client(3), Some((1, 1, 7)));
-    assert_eq!(rt; find(&copy, alloc, b"a")?, Some(1));
-    assert_eq!(rt; find(&record, alloc, b"b")?, None);
+    assert_eq!(rt; find(copy, alloc, b"a")?, Some(1));
+    assert_eq!(rt; find(record, alloc, b"b")?, None);
+    Ok(())
+}
+
+/// A copy of the record goes its own way.
+fn copy_goes_apart(rt: &impl Abort, alloc: Global, record: &Record) -> Result<(), AllocError> {
+    let mut copy = record.copy(alloc)?;
+    go_apart(rt, alloc, record, &mut copy)
+}
+
+#[test]
+fn a_copy_goes_its_own_way(rt: HostRuntime) -> Result<(), Fail> {
+    let mut record = Record::new(rt.alloc(), 2)?;
+    assert_eq!(rt; enter(&mut record, 3, 1, 7), None);
+    create(&mut record, rt.alloc(), b"a")?;
+    set_moment(&mut record, 5);
+    copy_goes_apart(&rt, rt.alloc(), &record)?;
+    Ok(())
+}
+
+/// Checkpoints are made, and one of them undone.
+fn identities_rise(rt: &impl Abort, alloc: Global, record: &mut Record) -> Result<(), AllocError> {
+    assert_eq!(rt; create(record, alloc, b"a")?, Some(1));
+    assert_eq!(rt; create(record, alloc, b"ab")?, Some(2));
+    assert_eq!(rt; find(record, alloc, b"abc")?, None);
+    assert_eq!(rt; identity_at(record, 0), Some(1));
+    assert_eq!(rt; identity_at(record, 1), Some(2));
+    assert_eq!(rt; identity_at(record, 2), None);
+    record.undo_create(1);
+    assert_eq!(rt; find(record, alloc, b"a")?, None);
+    assert_eq!(rt; identity_at(record, 0), Some(2));
+    assert_eq!(rt; create(record, alloc, b"a")?, Some(3));
+    assert!(rt;
+        record.entry(1).is_none(),
+        "what was undone does not come back"
+    );
     Ok(())
 }
 
 #[test]
 fn identities_rise_and_none_is_given_again(rt: HostRuntime) -> Result<(), Fail> {
-    let alloc = rt.alloc();
-    let mut record = Record::new(alloc, 1)?;
-    assert_eq!(rt; create(&mut record, alloc, b"a")?, Some(1));
-    assert_eq!(rt; create(&mut record, alloc, b"ab")?, Some(2));
-    assert_eq!(rt; find(&record, alloc, b"abc")?, None);
-    assert_eq!(rt; identity_at(&record, 0), Some(1));
-    assert_eq!(rt; identity_at(&record, 1), Some(2));
-    assert_eq!(rt; identity_at(&record, 2), None);
-    record.undo_create(1);
-    assert_eq!(rt; find(&record, alloc, b"a")?, None);
-    assert_eq!(rt; identity_at(&record, 0), Some(2));
-    assert_eq!(rt; create(&mut record, alloc, b"a")?, Some(3));
-    assert!(rt;
-        record.entry(1).is_none(),
-        "what was undone does not come back"
-    );
+    let mut record = Record::new(rt.alloc(), 1)?;
+    identities_rise(&rt, rt.alloc(), &mut record)?;
     Ok(())
 }
 
@@ -303,10 +339,13 @@ fn an_open_makes_what_is_not_there(rt: HostRuntime) -> Result<(), Fail> {
     Ok(())
 }
 
-#[test]
-fn an_open_asks_for_the_attributes_that_are_there(rt: HostRuntime) -> Result<(), Fail> {
-    let mut record = Record::new(rt.alloc(), 1)?;
-    create(&mut record, rt.alloc(), b"a")?;
+/// c4 and c5 open what c3 has made.
+fn opens_what_is_there(
+    rt: &impl Abort,
+    alloc: Global,
+    record: &mut Record,
+) -> Result<(), AllocError> {
+    create(record, alloc, b"a")?;
     record.finish_create(1);
     let mut others = ATTRIBUTES;
     others.max_sections = 2;
@@ -318,54 +357,82 @@ fn an_open_asks_for_the_attributes_that_are_there(rt: HostRuntime) -> Result<(),
         (5, Some(others), refused(AisError::Exist, Cause::Plain)),
         (4, None, OpenAnswer::Opened(1, false)),
     ];
-    assert!(rt; all_get(&mut record, rt.alloc(), &rows)?);
-    assert_eq!(rt; references(&record, 1, 4), 2);
-    assert_eq!(rt; references(&record, 1, 5), 0);
+    assert!(rt; all_get(record, alloc, &rows)?);
+    assert_eq!(rt; references(record, 1, 4), 2);
+    assert_eq!(rt; references(record, 1, 5), 0);
     Ok(())
 }
 
-/// A name of 256 bytes, told by the last of them.
-fn long(last: u8) -> [u8; 256] {
-    let mut name = [120; 256];
-    name[255] = last;
-    name
+#[test]
+fn an_open_asks_for_the_attributes_that_are_there(rt: HostRuntime) -> Result<(), Fail> {
+    let mut record = Record::new(rt.alloc(), 1)?;
+    opens_what_is_there(&rt, rt.alloc(), &mut record)?;
+    Ok(())
+}
+
+/// c3 makes 16 checkpoints, and asks for one more.
+fn makes_16(rt: &impl Abort, alloc: Global, record: &mut Record) -> Result<(), AllocError> {
+    let new = (3, Some(ATTRIBUTES));
+    for last in 0..16u8 {
+        let made = OpenAnswer::Made(u32::from(last) + 1);
+        assert!(rt; gets(record, alloc, &long(last), new, made)?);
+    }
+    let full = refused(AisError::NoResources, Cause::Count(16));
+    assert!(rt; gets(record, alloc, &long(16), new, full)?);
+    assert_eq!(rt; record.last_identity(), 16);
+    record.undo_create(9);
+    assert!(rt; gets(record, alloc, &long(16), new, OpenAnswer::Made(17))?);
+    Ok(())
 }
 
 #[test]
 fn a_17th_checkpoint_is_refused(rt: HostRuntime) -> Result<(), Fail> {
-    let alloc = rt.alloc();
-    let mut record = Record::new(alloc, 1)?;
-    let new = (3, Some(ATTRIBUTES));
-    for last in 0..16u8 {
-        let made = OpenAnswer::Made(u32::from(last) + 1);
-        assert!(rt; gets(&mut record, alloc, &long(last), new, made)?);
-    }
-    let full = refused(AisError::NoResources, Cause::Count(16));
-    assert!(rt; gets(&mut record, alloc, &long(16), new, full)?);
-    assert_eq!(rt; record.last_identity(), 16);
-    record.undo_create(9);
-    assert!(rt; gets(&mut record, alloc, &long(16), new, OpenAnswer::Made(17))?);
+    let mut record = Record::new(rt.alloc(), 1)?;
+    makes_16(&rt, rt.alloc(), &mut record)?;
+    Ok(())
+}
+
+/// c3 makes a checkpoint, and others open it.
+fn makes_one(rt: &impl Abort, alloc: Global, record: &mut Record) -> Result<(), AllocError> {
+    create(record, alloc, b"a")?;
+    assert!(rt; !is_made(record, 1), "it is in the making");
+    record.finish_create(1);
+    assert!(rt; is_made(record, 1));
+    assert_eq!(rt; references(record, 1, 3), 1);
+    record.finish_create(1);
+    assert_eq!(rt; references(record, 1, 3), 1);
+    record.undo_create(1);
+    assert!(rt; is_made(record, 1), "a making that is over stays so");
+    open(record, alloc, 3, b"a")?;
+    open(record, alloc, 99, b"a")?;
+    assert_eq!(rt; references(record, 1, 3), 2);
+    assert_eq!(rt; references(record, 1, 99), 1);
+    assert_eq!(rt; references(record, 1, 0), 0);
     Ok(())
 }
 
 #[test]
 fn a_making_ends_with_its_first_reference(rt: HostRuntime) -> Result<(), Fail> {
-    let alloc = rt.alloc();
-    let mut record = Record::new(alloc, 2)?;
-    create(&mut record, alloc, b"a")?;
-    assert!(rt; !is_made(&record, 1), "it is in the making");
+    let mut record = Record::new(rt.alloc(), 2)?;
+    makes_one(&rt, rt.alloc(), &mut record)?;
+    Ok(())
+}
+
+/// Of three checkpoints nobody has `idle` open.
+fn sweeps(rt: &impl Abort, alloc: Global, record: &mut Record) -> Result<(), AllocError> {
+    create(record, alloc, b"open")?;
     record.finish_create(1);
-    assert!(rt; is_made(&record, 1));
-    assert_eq!(rt; references(&record, 1, 3), 1);
-    record.finish_create(1);
-    assert_eq!(rt; references(&record, 1, 3), 1);
-    record.undo_create(1);
-    assert!(rt; is_made(&record, 1), "a making that is over stays so");
-    open(&mut record, alloc, 3, b"a")?;
-    open(&mut record, alloc, 99, b"a")?;
-    assert_eq!(rt; references(&record, 1, 3), 2);
-    assert_eq!(rt; references(&record, 1, 99), 1);
-    assert_eq!(rt; references(&record, 1, 0), 0);
+    create(record, alloc, b"idle")?;
+    record.finish_create(2);
+    record.close(3, 2);
+    create(record, alloc, b"in the making")?;
+    set_moment(record, 9);
+    assert_eq!(rt; record.entries_len(), 3);
+    set_moment(record, 10);
+    assert_eq!(rt; record.now(), 10);
+    assert_eq!(rt; find(record, alloc, b"open")?, Some(1));
+    assert_eq!(rt; find(record, alloc, b"idle")?, None);
+    assert_eq!(rt; find(record, alloc, b"in the making")?, Some(3));
     Ok(())
 }
 
@@ -373,21 +440,8 @@ fn a_making_ends_with_its_first_reference(rt: HostRuntime) -> Result<(), Fail> {
 fn the_sweep_takes_what_nobody_has_open_once_its_retention_is_over(
     rt: HostRuntime,
 ) -> Result<(), Fail> {
-    let alloc = rt.alloc();
-    let mut record = Record::new(alloc, 1)?;
-    create(&mut record, alloc, b"open")?;
-    record.finish_create(1);
-    create(&mut record, alloc, b"idle")?;
-    record.finish_create(2);
-    record.close(3, 2);
-    create(&mut record, alloc, b"in the making")?;
-    set_moment(&mut record, 9);
-    assert_eq!(rt; record.entries_len(), 3);
-    set_moment(&mut record, 10);
-    assert_eq!(rt; record.now(), 10);
-    assert_eq!(rt; find(&record, alloc, b"open")?, Some(1));
-    assert_eq!(rt; find(&record, alloc, b"idle")?, None);
-    assert_eq!(rt; find(&record, alloc, b"in the making")?, Some(3));
+    let mut record = Record::new(rt.alloc(), 1)?;
+    sweeps(&rt, rt.alloc(), &mut record)?;
     Ok(())
 }
 
@@ -583,9 +637,8 @@ fn a_client_leaves_with_its_makings_and_its_references(rt: HostRuntime) -> Resul
 
 #[test]
 fn a_record_with_few_numbers_has_some_left(rt: HostRuntime) -> Result<(), Fail> {
-    let alloc = rt.alloc();
-    let mut record = Record::new(alloc, 1)?;
-    create(&mut record, alloc, b"a")?;
+    let mut record = Record::new(rt.alloc(), 1)?;
+    create(&mut record, rt.alloc(), b"a")?;
     assert!(rt; record.numbers_left());
     Ok(())
 }

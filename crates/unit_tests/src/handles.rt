@@ -1,10 +1,9 @@
 mod iterations;
 
-ghost use Rattle.std.specs.Prelude.{◌≡◌, ◌+◌, ◌-◌, ◌^◌, ◌<◌, ◌≤◌, length};
-ghost use Rattle.ckpt_types.specs.Limits.{places_max};
-
 use ckpt_types::{AisError, CallbackSet, CkptId, Count, OpenFlags, PLACES_MAX, WR_ALL_REPLICAS};
 use client_handles::{Client, HandleView};
+use std::alloc::{AllocError, Global};
+use std::process::Abort;
 use std::test::Fail;
 
 const NO_CALLBACKS: CallbackSet = CallbackSet {
@@ -47,48 +46,58 @@ fn told_by_number(client: &Client, number: u32) -> Option<CkptId> {
     Some(client.handle_numbered(number)?.id)
 }
 
-fn open_at(client: &mut Client, place: u8, id: CkptId) -> Option<(CkptId, u32)>
-    requires place { place < places_max }
-    requires number { client.old.last_number < 2 ^ 32 - 1 }
-    ensures { client.new.last_number ≤ client.old.last_number + 1 }
-{
-    let _room = client.handle_room();
-    let Ok(number) = client.take_handle(id, READS, WR_ALL_REPLICAS) else {
-        return None;
-    };
+/// Lets a place stand for the handle of that number, where there are such.
+fn bind(client: &mut Client, place: u8, number: u32) -> bool {
+    if usize::from(place) >= PLACES_MAX {
+        return false;
+    }
+    if client.handle_numbered(number).is_none() {
+        return false;
+    }
     client.bind(place, number);
-    Some((id, number))
+    true
 }
 
-fn set_at(client: &mut Client, place: u8, from: u8) -> Option<(CkptId, u32)>
-    requires { place < places_max }
-    ensures { client.new.last_number ≡ client.old.last_number }
-{
+/// The number of a new handle, for which no place stands yet.
+fn take(client: &mut Client, id: CkptId) -> Option<u32> {
+    if client.handle_numbers_left() {
+        client.take_handle(id, READS, WR_ALL_REPLICAS).ok()
+    } else {
+        None
+    }
+}
+
+fn open_at(client: &mut Client, place: u8, id: CkptId) -> Option<(CkptId, u32)> {
+    let number = take(client, id)?;
+    if bind(client, place, number) {
+        Some((id, number))
+    } else {
+        None
+    }
+}
+
+fn set_at(client: &mut Client, place: u8, from: u8) -> Option<(CkptId, u32)> {
     let Ok(handle) = client.handle(from) else {
         return None;
     };
-    client.bind(place, handle.handle);
-    Some((handle.id, handle.handle))
+    if bind(client, place, handle.handle) {
+        Some((handle.id, handle.handle))
+    } else {
+        None
+    }
 }
 
-fn do_at(client: &mut Client, place: u8, what: Act) -> Option<(CkptId, u32)>
-    requires { client.old.last_number < 2 ^ 32 - 1 }
-    ensures { client.new.last_number ≤ client.old.last_number + 1 }
-{
+fn do_at(client: &mut Client, place: u8, what: Act) -> Option<(CkptId, u32)> {
     match what {
-        Act::Open(id) if (place as usize) < PLACES_MAX => open_at(client, place, id),
-        Act::Set(from) if (place as usize) < PLACES_MAX => set_at(client, place, from),
-        Act::Open(_) | Act::Set(_) => None,
+        Act::Open(id) => open_at(client, place, id),
+        Act::Set(from) => set_at(client, place, from),
         Act::Look => told(client.handle(place)),
         Act::Close => told(client.drop_handle(place)),
     }
 }
 
 /// Goes through the rows, and fails with the words of the first that tells something else.
-fn play(client: &mut Client, rows: &[Row<'_>]) -> Result<(), Fail>
-    requires { client.old.last_number + length rows.now < 2 ^ 32 - 1 }
-    ensures { client.new.last_number ≤ client.old.last_number + length rows.now }
-{
+fn play(client: &mut Client, rows: &[Row<'_>]) -> Result<(), Fail> {
     for (says, place, what, wanted) in rows {
         if do_at(client, *place, *what) != *wanted {
             return Err(Fail::new(*says));
@@ -98,34 +107,29 @@ fn play(client: &mut Client, rows: &[Row<'_>]) -> Result<(), Fail>
 }
 
 /// Opens handles of the checkpoint 7 at the places from 0 on, with the numbers from 1 on.
-fn fill(client: &mut Client, count: u8) -> Result<(), Fail>
-    requires count { count ≤ places_max }
-    requires number { client.old.last_number ≡ 0 }
-    ensures { client.new.last_number ≤ count }
-{
+fn fill(client: &mut Client, count: u8) -> Result<(), Fail> {
     for place in 0..count {
-        if open_at(client, place, 7) != Some((7, place as u32 + 1)) {
-            return Err(Fail::new(format_args!("no handle at the place {place}")));
+        if open_at(client, place, 7) != Some((7, u32::from(place) + 1)) {
+            return Err(Fail::new("a handle with the next number"));
         }
     }
     Ok(())
 }
 
-#[test]
-fn thirty_two_handles_are_open_at_most(rt: HostRuntime) -> Result<(), Fail> {
-    let mut client = Client::new(rt.alloc(), NO_CALLBACKS)?;
-    assert!(rt; client.iteration_room());
-    fill(&mut client, 31)?;
+/// What comes after 31 handles of `fill`.
+fn ends_at_32(rt: &impl Abort, client: &mut Client) -> Result<(), Fail> {
     assert!(rt; client.handle_room(), "the 32nd may still be taken");
     play(
-        &mut client,
+        client,
         &[("the 32nd is given", 31, Act::Open(7), Some((7, 32)))],
     )?;
     assert!(rt; !client.handle_room(), "32 are open");
     assert!(rt; client.handle_numbers_left(), "though there are numbers");
-    assert_eq!(rt; client.take_handle(9, READS, 1), Err(Count { count: 32 }));
+    if client.handle_numbers_left() {
+        assert_eq!(rt; client.take_handle(9, READS, 1), Err(Count { count: 32 }));
+    }
     play(
-        &mut client,
+        client,
         &[
             ("the 33rd is refused", 40, Act::Open(9), None),
             ("its place stands for none", 40, Act::Look, None),
@@ -137,6 +141,14 @@ fn thirty_two_handles_are_open_at_most(rt: HostRuntime) -> Result<(), Fail> {
             ("again there is no more", 41, Act::Open(9), None),
         ],
     )
+}
+
+#[test]
+fn thirty_two_handles_are_open_at_most(rt: HostRuntime) -> Result<(), Fail> {
+    let mut client = Client::new(rt.alloc(), NO_CALLBACKS)?;
+    assert!(rt; client.iteration_room());
+    fill(&mut client, 31)?;
+    ends_at_32(&rt, &mut client)
 }
 
 #[test]
@@ -199,25 +211,30 @@ fn a_closed_place_stands_for_none_though_its_slot_is_used_again(
     )
 }
 
-#[test]
-fn a_handle_that_was_given_back_is_gone_and_its_number_too(rt: HostRuntime) -> Result<(), Fail> {
-    let mut client = Client::new(rt.alloc(), NO_CALLBACKS)?;
-    fill(&mut client, 2)?;
-    assert_eq!(rt; client.take_handle(9, READS, WR_ALL_REPLICAS), Ok(3));
-    assert_eq!(rt; told_by_number(&client, 3), Some(9));
+/// What comes after 2 handles of `fill`.
+fn gives_back(rt: &impl Abort, client: &mut Client) -> Result<(), Fail> {
+    assert_eq!(rt; take(client, 9), Some(3));
+    assert_eq!(rt; told_by_number(client, 3), Some(9));
     client.release(3);
-    assert_eq!(rt; told_by_number(&client, 3), None);
-    assert_eq!(rt; told_by_number(&client, 2), Some(7));
+    assert_eq!(rt; told_by_number(client, 3), None);
+    assert_eq!(rt; told_by_number(client, 2), Some(7));
     client.release(4);
     client.release(0);
     play(
-        &mut client,
+        client,
         &[
             ("the first is open", 0, Act::Look, Some((7, 1))),
             ("the second is open", 1, Act::Look, Some((7, 2))),
             ("the next has another number", 2, Act::Open(8), Some((8, 4))),
         ],
     )
+}
+
+#[test]
+fn a_handle_that_was_given_back_is_gone_and_its_number_too(rt: HostRuntime) -> Result<(), Fail> {
+    let mut client = Client::new(rt.alloc(), NO_CALLBACKS)?;
+    fill(&mut client, 2)?;
+    gives_back(&rt, &mut client)
 }
 
 #[test]
@@ -233,10 +250,10 @@ fn a_handle_tells_what_it_was_taken_with(rt: HostRuntime) -> Result<(), Fail> {
         write: true,
         create: true,
     };
-    let _room = client.handle_room();
-    if let Ok(number) = client.take_handle(6, flags, 12) {
-        client.bind(7, number);
+    if client.handle_numbers_left() {
+        assert_eq!(rt; client.take_handle(6, flags, 12), Ok(1));
     }
+    assert!(rt; bind(&mut client, 7, 1));
     let wanted = HandleView {
         id: 6,
         flags,
@@ -251,9 +268,7 @@ fn a_handle_tells_what_it_was_taken_with(rt: HostRuntime) -> Result<(), Fail> {
 }
 
 /// What comes after 30 handles of `fill`, of which the fifth was closed, and one more at h60.
-fn goes_on(client: &mut Client) -> Result<(), Fail>
-    requires { client.old.last_number ≤ 1000 }
-{
+fn goes_on(client: &mut Client) -> Result<(), Fail> {
     play(
         client,
         &[
@@ -268,6 +283,12 @@ fn goes_on(client: &mut Client) -> Result<(), Fail>
     )
 }
 
+fn copy_goes_on(alloc: Global, client: &mut Client) -> Result<(), Fail> {
+    let mut copy = client.copy(alloc)?;
+    goes_on(client)?;
+    goes_on(&mut copy)
+}
+
 #[test]
 fn a_copy_goes_on_by_itself(rt: HostRuntime) -> Result<(), Fail> {
     let mut client = Client::new(rt.alloc(), NO_CALLBACKS)?;
@@ -279,26 +300,28 @@ fn a_copy_goes_on_by_itself(rt: HostRuntime) -> Result<(), Fail> {
             ("one is given", 60, Act::Open(8), Some((8, 31))),
         ],
     )?;
-    let mut copy = client.copy(rt.alloc())?;
-    goes_on(&mut client)?;
-    goes_on(&mut copy)
+    copy_goes_on(rt.alloc(), &mut client)
+}
+
+/// Opens a handle at the place of the round, and closes the one of 20 rounds before.
+fn comes_and_goes(client: &mut Client, round: u32) -> bool {
+    let place = (round % 100) as u8;
+    if open_at(client, place, round) != Some((round, round.saturating_add(1))) {
+        return false;
+    }
+    if round < 20 {
+        return true;
+    }
+    let older = ((round - 20) % 100) as u8;
+    told(client.drop_handle(older)) == Some((round - 20, round - 19))
+        && client.handle(older) == Err(AisError::BadHandle)
 }
 
 #[test]
 fn many_handles_may_come_and_go(rt: HostRuntime) -> Result<(), Fail> {
     let mut client = Client::new(rt.alloc(), NO_CALLBACKS)?;
     for round in 0..5_000u32 {
-        let place = (round % 100) as u8;
-        assert_eq!(rt;
-            open_at(&mut client, place, round),
-            Some((round, round + 1))
-        );
-        if round >= 20 {
-            let older = ((round - 20) % 100) as u8;
-            let gone = client.drop_handle(older);
-            assert_eq!(rt; told(gone), Some((round - 20, round - 19)));
-            assert_eq!(rt; client.handle(older), Err(AisError::BadHandle));
-        }
+        assert!(rt; comes_and_goes(&mut client, round), "at the round {round}");
     }
     Ok(())
 }

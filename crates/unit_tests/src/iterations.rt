@@ -1,8 +1,8 @@
-use crate::listed::{Kept, Listed};
+use crate::listed::{Given, Listed, sections_of};
 use ckpt_types::{
-    Bytes, Choice, CreationAttributes, Moment, NEVER, SECTIONS_ANY, SECTIONS_CORRUPTED,
-    SECTIONS_FOREVER, SECTIONS_GEQ_EXPIRATION_TIME, SECTIONS_LEQ_EXPIRATION_TIME, SectionId,
-    SectionState, Sections, WR_ALL_REPLICAS,
+    Choice, CreationAttributes, Moment, NEVER, SECTIONS_ANY, SECTIONS_CORRUPTED, SECTIONS_FOREVER,
+    SECTIONS_GEQ_EXPIRATION_TIME, SECTIONS_LEQ_EXPIRATION_TIME, SectionState, Sections,
+    WR_ALL_REPLICAS,
 };
 use section_iter::{Iteration, NoSections};
 use std::alloc::Global;
@@ -17,26 +17,6 @@ const EIGHT: CreationAttributes = CreationAttributes {
     max_section_id_size: 8,
 };
 
-/// Identifier, bytes, expiration and state of a section.
-type Given<'a> = (&'a str, &'a str, Moment, SectionState);
-
-fn id_of(text: &str) -> SectionId {
-    SectionId::from_slice(text.as_bytes()).unwrap_or(SectionId::default())
-}
-
-fn kept(alloc: Global, given: &[Given<'_>]) -> Result<Vec<Kept>, Fail> {
-    let mut items = Vec::new(alloc);
-    for (id, bytes, expiration, state) in given {
-        items.push(Kept {
-            id: id_of(id),
-            bytes: Bytes::from_slice(alloc, bytes.as_bytes())?,
-            expiration: *expiration,
-            state: *state,
-        })?;
-    }
-    Ok(items)
-}
-
 /// Begins an iteration over these sections.
 fn start(
     alloc: Global,
@@ -45,7 +25,7 @@ fn start(
     choice: Choice,
     now: Moment,
 ) -> Result<(), Fail> {
-    let items = kept(alloc, given)?;
+    let items = sections_of(alloc, given)?;
     let Some(sections) = Listed::new(items.as_slice()) else {
         return Err(Fail::new("the identifiers do not rise"));
     };
@@ -64,7 +44,7 @@ fn gives(
     now: Moment,
     wanted: &[Option<(&str, u64)>],
 ) -> Result<(), Fail> {
-    let items = kept(alloc, given)?;
+    let items = sections_of(alloc, given)?;
     let Some(sections) = Listed::new(items.as_slice()) else {
         return Err(Fail::new("the identifiers do not rise"));
     };

@@ -1,7 +1,7 @@
 use ckpt_types::{
-    ActorName, AisError, Answer, Bytes, CallId, Cause, CheckpointDescriptor, CreationAttributes,
-    Given, NEVER, Op, Outcome, Pieces, ReadBuf, SectionDescriptor, SectionId, SectionState, Vector,
-    Who,
+    ActorName, AisError, Answer, Bytes, CallId, Cause, CheckpointDescriptor, CkptId,
+    CreationAttributes, Given, NEVER, Op, Outcome, Pieces, ReadBuf, SectionDescriptor, SectionId,
+    SectionState, Vector, Who,
 };
 use node_msgs::{StepReply, Verb};
 use run_labels::{
@@ -9,8 +9,13 @@ use run_labels::{
     ShownSlot, append_line, render_line,
 };
 use std::alloc::{AllocError, Global};
-use std::process::Abort;
 use std::test::Fail;
+
+/// The call of most rows.
+const C0_5: CallId = CallId {
+    actor: ActorName::Client(0),
+    number: 5,
+};
 
 fn client(client: u8, number: u32) -> CallId {
     CallId {
@@ -24,10 +29,6 @@ fn node(node: u8, number: u32) -> CallId {
         actor: ActorName::Node(node),
         number,
     }
-}
-
-fn actor(number: u8) -> Who {
-    Who::Actor(ActorName::Client(number))
 }
 
 /// A step of a write on K1 at a node.
@@ -56,14 +57,6 @@ fn ended(call: CallId, op: OpWord, end: Outcome) -> Label {
         end: Some(end),
         pieces: None,
     }
-}
-
-fn answered(op: OpWord, answer: Answer) -> Label {
-    ended(client(0, 5), op, Outcome::Done(answer))
-}
-
-fn refused(op: OpWord, error: AisError, cause: Cause) -> Label {
-    ended(client(0, 5), op, Outcome::Refused(error, cause))
 }
 
 /// The pieces that came with an answer.
@@ -147,26 +140,26 @@ fn replica(
     })
 }
 
-/// Each label prints its own line, and with steps the line of its step before it.
-fn print(rt: &impl Abort, alloc: Global, rows: &[(Label, &str, &str)]) -> Result<(), AllocError> {
-    for (label, step, own) in rows {
-        let whole = format!(in alloc; "{step}{own}")?;
-        let text = render_line(alloc, label, true)?;
-        assert_eq!(rt; text.as_slice(), whole.as_bytes(), "with steps: {whole}");
-        let text = render_line(alloc, label, false)?;
-        assert_eq!(rt; text.as_slice(), own.as_bytes(), "without steps: {own}");
+/// Whether the label prints its own line, and with steps the line of its step before it.
+fn does_print(alloc: Global, label: &Label, step: &str, own: &str) -> Result<bool, AllocError> {
+    let whole = format!(in alloc; "{step}{own}")?;
+    let with_steps = render_line(alloc, label, true)?;
+    let without = render_line(alloc, label, false)?;
+    Ok(with_steps.as_slice() == whole.as_bytes() && without.as_slice() == own.as_bytes())
+}
+
+/// The label prints these lines: that of its step, where steps are asked for, and its own.
+fn prints(alloc: Global, label: Label, step: &str, own: &str) -> Result<(), Fail> {
+    match does_print(alloc, &label, step, own) {
+        Ok(true) => Ok(()),
+        Ok(false) => Err(Fail::new(if own.is_empty() { step } else { own })),
+        Err(AllocError) => Err(Fail::new("there is memory")),
     }
-    Ok(())
 }
 
 #[test]
 fn a_call_prints_its_steps_only_where_they_are_asked_for(rt: HostRuntime) -> Result<(), Fail> {
     let alloc = rt.alloc();
-    let begins = Label::Began {
-        call: client(0, 2),
-        op: Op::Open(0, Bytes::from_slice(alloc, b"ck")?, 7, NEVER, None),
-        end: None,
-    };
     let enters = Label::Stepped {
         call: client(0, 1),
         op: OpWord::Client,
@@ -177,6 +170,20 @@ fn a_call_prints_its_steps_only_where_they_are_asked_for(rt: HostRuntime) -> Res
         end: Some(Outcome::Done(Answer::Version)),
         pieces: None,
     };
+    prints(
+        alloc,
+        enters,
+        "+ c0.1 enter n0 ok\n",
+        "c0.1 client OK B.2.2\n",
+    )?;
+    let begins = Label::Began {
+        call: client(0, 2),
+        op: Op::Open(0, Bytes::from_slice(alloc, b"ck")?, 7, NEVER, None),
+        end: None,
+    };
+    prints(alloc, begins, "+ c0.2 begin open\n", "")?;
+    let stages = step(client(0, 3), Verb::Stage, 0, StepReply::Ok);
+    prints(alloc, stages, "+ c0.3 stage K1 n0 ok\n", "")?;
     let commits = Label::Stepped {
         call: client(0, 3),
         op: OpWord::Write,
@@ -187,69 +194,91 @@ fn a_call_prints_its_steps_only_where_they_are_asked_for(rt: HostRuntime) -> Res
         end: Some(Outcome::Done(Answer::Nothing)),
         pieces: None,
     };
-    let stages = step(client(0, 3), Verb::Stage, 0, StepReply::Ok);
-    let rows = [
-        (enters, "+ c0.1 enter n0 ok\n", "c0.1 client OK B.2.2\n"),
-        (begins, "+ c0.2 begin open\n", ""),
-        (stages, "+ c0.3 stage K1 n0 ok\n", ""),
-        (commits, "+ c0.3 commit K1 n0 ok\n", "c0.3 write OK\n"),
-        (Label::Nodes(3), "", ""),
-    ];
-    print(&rt, alloc, &rows)?;
-    Ok(())
+    prints(
+        alloc,
+        commits,
+        "+ c0.3 commit K1 n0 ok\n",
+        "c0.3 write OK\n",
+    )?;
+    prints(alloc, Label::Nodes(3), "", "")
+}
+
+/// This is printed of a step of c0.5.
+fn steps(alloc: Global, verb: Verb, node: u8, reply: StepReply, line: &str) -> Result<(), Fail> {
+    prints(alloc, step(C0_5, verb, node, reply), line, "")
 }
 
 #[test]
 fn a_step_tells_its_reply(rt: HostRuntime) -> Result<(), Fail> {
-    let call = client(0, 5);
+    let alloc = rt.alloc();
     let held = StepReply::Held(client(1, 3));
+    let free = StepReply::Free(1);
+    steps(
+        alloc,
+        Verb::Stage,
+        0,
+        held,
+        "+ c0.5 stage K1 n0 held c1.3\n",
+    )?;
+    steps(
+        alloc,
+        Verb::Claim,
+        0,
+        StepReply::Ok,
+        "+ c0.5 claim K1 n0 ok\n",
+    )?;
+    steps(alloc, Verb::Claim, 2, free, "+ c0.5 claim K1 n2 free 1\n")?;
+    steps(
+        alloc,
+        Verb::Withdraw,
+        0,
+        StepReply::Ok,
+        "+ c0.5 withdraw K1 n0 ok\n",
+    )?;
+    steps(
+        alloc,
+        Verb::Install,
+        1,
+        StepReply::Older,
+        "+ c0.5 install K1 n1 older\n",
+    )?;
+    steps(
+        alloc,
+        Verb::Apply,
+        1,
+        StepReply::Refused,
+        "+ c0.5 apply K1 n1 refused\n",
+    )?;
+    steps(
+        alloc,
+        Verb::Reserve,
+        7,
+        StepReply::Memory,
+        "+ c0.5 reserve K1 n7 memory\n",
+    )?;
     let copied = ended(node(1, 2), OpWord::Copy, Outcome::Done(Answer::Nothing));
-    let rows = [
-        (
-            step(call, Verb::Stage, 0, held),
-            "+ c0.5 stage K1 n0 held c1.3\n",
-            "",
-        ),
-        (
-            step(call, Verb::Claim, 0, StepReply::Ok),
-            "+ c0.5 claim K1 n0 ok\n",
-            "",
-        ),
-        (
-            step(call, Verb::Claim, 2, StepReply::Free(1)),
-            "+ c0.5 claim K1 n2 free 1\n",
-            "",
-        ),
-        (
-            step(call, Verb::Withdraw, 0, StepReply::Ok),
-            "+ c0.5 withdraw K1 n0 ok\n",
-            "",
-        ),
-        (
-            step(call, Verb::Install, 1, StepReply::Older),
-            "+ c0.5 install K1 n1 older\n",
-            "",
-        ),
-        (
-            step(call, Verb::Apply, 1, StepReply::Refused),
-            "+ c0.5 apply K1 n1 refused\n",
-            "",
-        ),
-        (
-            step(call, Verb::Reserve, 7, StepReply::Memory),
-            "+ c0.5 reserve K1 n7 memory\n",
-            "",
-        ),
-        (copied, "+ n1.2 look done\n", "n1.2 copy OK\n"),
-    ];
-    print(&rt, rt.alloc(), &rows)?;
-    Ok(())
+    prints(alloc, copied, "+ n1.2 look done\n", "n1.2 copy OK\n")
 }
 
-#[test]
-fn an_answer_has_its_details(rt: HostRuntime) -> Result<(), Fail> {
-    let look = "+ c0.5 look done\n";
-    let status = Answer::Status(CheckpointDescriptor {
+/// The line of the step by which c0.5 ends.
+const LOOK: &str = "+ c0.5 look done\n";
+
+/// This is printed of an answer of c0.5.
+fn answers(alloc: Global, op: OpWord, answer: Answer, line: &str) -> Result<(), Fail> {
+    prints(alloc, ended(C0_5, op, Outcome::Done(answer)), LOOK, line)
+}
+
+/// This is printed of an answer of c0.5 that told an identifier.
+fn tells(alloc: Global, op: OpWord, answer: Answer, id: &[u8], line: &str) -> Result<(), Fail> {
+    match told(alloc, op, answer, id) {
+        Ok(label) => prints(alloc, label, LOOK, line),
+        Err(AllocError) => Err(Fail::new("there is memory")),
+    }
+}
+
+/// The status of a checkpoint.
+fn status() -> Answer {
+    Answer::Status(CheckpointDescriptor {
         attributes: CreationAttributes {
             creation_flags: 1,
             checkpoint_size: 65536,
@@ -260,251 +289,327 @@ fn an_answer_has_its_details(rt: HostRuntime) -> Result<(), Fail> {
         },
         number_of_sections: 64,
         memory_used: 448,
-    });
+    })
+}
+
+#[test]
+fn an_answer_has_its_details(rt: HostRuntime) -> Result<(), Fail> {
     let alloc = rt.alloc();
+    answers(alloc, OpWord::Open, Answer::Opened(1), "c0.5 open OK K1\n")?;
+    tells(
+        alloc,
+        OpWord::Create,
+        Answer::Created,
+        b"c",
+        "c0.5 create OK x63\n",
+    )?;
     let first = facts(NEVER, 0, SectionState::Valid);
+    tells(
+        alloc,
+        OpWord::Next,
+        first,
+        b"a",
+        "c0.5 next OK x61 end 0 VALID 0\n",
+    )?;
     let corrupted = facts(20, 4, SectionState::Corrupted);
+    tells(
+        alloc,
+        OpWord::Next,
+        corrupted,
+        b"a",
+        "c0.5 next OK x61 20 4 CORRUPTED 0\n",
+    )?;
+    let line = "c0.5 status OK 1 65536 3600000000000 64 1024 8 64 448\n";
+    answers(alloc, OpWord::Status, status(), line)?;
+    answers(alloc, OpWord::Sync, Answer::Pulled(1), "c0.5 sync OK 1\n")?;
     let dispatched = Answer::Dispatched(Given { given: 1, left: 0 });
-    let status_line = "c0.5 status OK 1 65536 3600000000000 64 1024 8 64 448\n";
-    let rows = [
-        (
-            answered(OpWord::Open, Answer::Opened(1)),
-            look,
-            "c0.5 open OK K1\n",
-        ),
-        (
-            told(alloc, OpWord::Create, Answer::Created, b"c")?,
-            look,
-            "c0.5 create OK x63\n",
-        ),
-        (
-            told(alloc, OpWord::Next, first, b"a")?,
-            look,
-            "c0.5 next OK x61 end 0 VALID 0\n",
-        ),
-        (
-            told(alloc, OpWord::Next, corrupted, b"a")?,
-            look,
-            "c0.5 next OK x61 20 4 CORRUPTED 0\n",
-        ),
-        (answered(OpWord::Status, status), look, status_line),
-        (
-            answered(OpWord::Sync, Answer::Pulled(1)),
-            look,
-            "c0.5 sync OK 1\n",
-        ),
-        (
-            answered(OpWord::Dispatch, dispatched),
-            look,
-            "c0.5 dispatch OK 1 0\n",
-        ),
-    ];
-    print(&rt, rt.alloc(), &rows)?;
-    Ok(())
+    answers(
+        alloc,
+        OpWord::Dispatch,
+        dispatched,
+        "c0.5 dispatch OK 1 0\n",
+    )
+}
+
+/// This is printed of a read that gave these pieces.
+fn reads(alloc: Global, bytes: &[&[u8]], line: &str) -> Result<(), Fail> {
+    match read(alloc, bytes) {
+        Ok(label) => prints(alloc, label, "+ c0.6 read K1 n0 ok\n", line),
+        Err(AllocError) => Err(Fail::new("there is memory")),
+    }
 }
 
 #[test]
 fn a_read_prints_a_word_for_each_element(rt: HostRuntime) -> Result<(), Fail> {
     let alloc = rt.alloc();
-    let look = "+ c0.6 read K1 n0 ok\n";
-    let rows = [
-        (read(alloc, &[b"old!"])?, look, "c0.6 read OK x6f6c6421\n"),
-        (
-            read(alloc, &[b"XXaa", b"bbbb"])?,
-            look,
-            "c0.6 read OK x58586161 x62626262\n",
-        ),
-        (read(alloc, &[b""])?, look, "c0.6 read OK x\n"),
-        (
-            read(alloc, &[&[0, 10, 255]])?,
-            look,
-            "c0.6 read OK x000aff\n",
-        ),
-    ];
-    print(&rt, alloc, &rows)?;
-    Ok(())
+    reads(alloc, &[b"old!"], "c0.6 read OK x6f6c6421\n")?;
+    reads(
+        alloc,
+        &[b"XXaa", b"bbbb"],
+        "c0.6 read OK x58586161 x62626262\n",
+    )?;
+    reads(alloc, &[b""], "c0.6 read OK x\n")?;
+    reads(alloc, &[&[0, 10, 255]], "c0.6 read OK x000aff\n")
+}
+
+/// This is printed of a refusal of c0.5.
+fn refuses(
+    alloc: Global,
+    op: OpWord,
+    error: AisError,
+    cause: Cause,
+    line: &str,
+) -> Result<(), Fail> {
+    prints(
+        alloc,
+        ended(C0_5, op, Outcome::Refused(error, cause)),
+        LOOK,
+        line,
+    )
 }
 
 #[test]
 fn a_refusal_has_its_cause(rt: HostRuntime) -> Result<(), Fail> {
-    let look = "+ c0.5 look done\n";
-    let holder = Cause::Holder(client(0, 4));
-    let version = refused(OpWord::Client, AisError::Version, Cause::Plain);
-    let index = refused(OpWord::Write, AisError::NotExist, Cause::Index(2));
-    let plain = refused(OpWord::Over, AisError::NoSpace, Cause::Plain);
-    let held = Outcome::Refused(AisError::TryAgain, holder);
-    let changed = refused(OpWord::Write, AisError::TryAgain, Cause::Generations(1, 2));
-    let late = refused(OpWord::Sync, AisError::Timeout, Cause::Deadline(5, 6));
-    let full = refused(OpWord::Open, AisError::NoResources, Cause::Count(32));
-    let rows = [
-        (version, look, "c0.5 client VERSION B.2.2\n"),
-        (index, look, "c0.5 write NOT_EXIST 2\n"),
-        (plain, look, "c0.5 over NO_SPACE\n"),
-        (
-            ended(node(1, 1), OpWord::Copy, held),
-            "+ n1.1 look done\n",
-            "n1.1 copy TRY_AGAIN c0.4\n",
-        ),
-        (changed, look, "c0.5 write TRY_AGAIN 1 2\n"),
-        (late, look, "c0.5 sync TIMEOUT 5 6\n"),
-        (full, look, "c0.5 open NO_RESOURCES 32\n"),
-        (
-            ended(client(0, 5), OpWord::Open, Outcome::NoMemory),
-            look,
-            "c0.5 open NO_MEMORY\n",
-        ),
-        (
-            ended(client(0, 5), OpWord::Write, Outcome::Abandoned),
-            look,
-            "",
-        ),
-    ];
-    print(&rt, rt.alloc(), &rows)?;
-    Ok(())
+    let alloc = rt.alloc();
+    let (plain, index) = (Cause::Plain, Cause::Index(2));
+    let changed = Cause::Generations(1, 2);
+    let late = Cause::Deadline(5, 6);
+    let full = Cause::Count(32);
+    refuses(
+        alloc,
+        OpWord::Client,
+        AisError::Version,
+        plain,
+        "c0.5 client VERSION B.2.2\n",
+    )?;
+    refuses(
+        alloc,
+        OpWord::Write,
+        AisError::NotExist,
+        index,
+        "c0.5 write NOT_EXIST 2\n",
+    )?;
+    refuses(
+        alloc,
+        OpWord::Over,
+        AisError::NoSpace,
+        plain,
+        "c0.5 over NO_SPACE\n",
+    )?;
+    refuses(
+        alloc,
+        OpWord::Write,
+        AisError::TryAgain,
+        changed,
+        "c0.5 write TRY_AGAIN 1 2\n",
+    )?;
+    refuses(
+        alloc,
+        OpWord::Sync,
+        AisError::Timeout,
+        late,
+        "c0.5 sync TIMEOUT 5 6\n",
+    )?;
+    refuses(
+        alloc,
+        OpWord::Open,
+        AisError::NoResources,
+        full,
+        "c0.5 open NO_RESOURCES 32\n",
+    )
+}
+
+#[test]
+fn a_call_that_was_not_done_ends_with_its_line(rt: HostRuntime) -> Result<(), Fail> {
+    let alloc = rt.alloc();
+    let held = Outcome::Refused(AisError::TryAgain, Cause::Holder(client(0, 4)));
+    let copies = ended(node(1, 1), OpWord::Copy, held);
+    prints(
+        alloc,
+        copies,
+        "+ n1.1 look done\n",
+        "n1.1 copy TRY_AGAIN c0.4\n",
+    )?;
+    let opens = ended(client(0, 5), OpWord::Open, Outcome::NoMemory);
+    prints(alloc, opens, LOOK, "c0.5 open NO_MEMORY\n")?;
+    let writes = ended(client(0, 5), OpWord::Write, Outcome::Abandoned);
+    prints(alloc, writes, LOOK, "")
+}
+
+/// A call that ended where it began.
+fn began(call: CallId, op: Op, end: Outcome) -> Label {
+    Label::Began {
+        call,
+        op,
+        end: Some(end),
+    }
 }
 
 #[test]
 fn a_call_that_ends_where_it_begins_prints_its_result(rt: HostRuntime) -> Result<(), Fail> {
-    let closes = Label::Began {
-        call: client(0, 4),
-        op: Op::Close(5),
-        end: Some(Outcome::Refused(AisError::BadHandle, Cause::Plain)),
-    };
-    let begins = Label::Began {
-        call: client(0, 4),
-        op: Op::SyncAsync(0, 9),
-        end: Some(Outcome::Done(Answer::Nothing)),
-    };
-    let ends = ended(
-        client(0, 4),
-        OpWord::SyncAsync,
-        Outcome::Done(Answer::Pulled(1)),
-    );
-    let opens = Label::Began {
-        call: client(1, 2),
-        op: Op::OpenAsync(0, 100, Bytes::from_slice(rt.alloc(), b"ck")?, 3, None),
-        end: Some(Outcome::Done(Answer::Nothing)),
-    };
+    let alloc = rt.alloc();
+    let nothing = Outcome::Done(Answer::Nothing);
+    let bad = Outcome::Refused(AisError::BadHandle, Cause::Plain);
+    let closes = began(client(0, 4), Op::Close(5), bad);
+    prints(
+        alloc,
+        closes,
+        "+ c0.4 begin close\n",
+        "c0.4 close BAD_HANDLE\n",
+    )?;
+    let begins = began(client(0, 4), Op::SyncAsync(0, 9), nothing);
+    prints(
+        alloc,
+        begins,
+        "+ c0.4 begin syncasync\n",
+        "c0.4 syncasync OK\n",
+    )?;
+    let pulled = Outcome::Done(Answer::Pulled(1));
+    let ends = ended(client(0, 4), OpWord::SyncAsync, pulled);
+    prints(alloc, ends, "+ c0.4 look done\n", "")?;
+    let name = Bytes::from_slice(alloc, b"ck")?;
+    let opens = began(client(1, 2), Op::OpenAsync(0, 100, name, 3, None), nothing);
+    prints(
+        alloc,
+        opens,
+        "+ c1.2 begin openasync\n",
+        "c1.2 openasync OK\n",
+    )?;
     let opened = ended(
         client(1, 2),
         OpWord::OpenAsync,
         Outcome::Done(Answer::Opened(1)),
     );
-    let rows = [
-        (closes, "+ c0.4 begin close\n", "c0.4 close BAD_HANDLE\n"),
-        (begins, "+ c0.4 begin syncasync\n", "c0.4 syncasync OK\n"),
-        (ends, "+ c0.4 look done\n", ""),
-        (opens, "+ c1.2 begin openasync\n", "c1.2 openasync OK\n"),
-        (opened, "+ c1.2 look done\n", ""),
-    ];
-    print(&rt, rt.alloc(), &rows)?;
-    Ok(())
+    prints(alloc, opened, "+ c1.2 look done\n", "")
+}
+
+/// This is printed of a moment that was set.
+fn moves(alloc: Global, moment: i64, line: &str) -> Result<(), Fail> {
+    prints(alloc, Label::Moved(moment), line, "")
+}
+
+#[test]
+fn a_moment_that_was_set_is_a_step(rt: HostRuntime) -> Result<(), Fail> {
+    let alloc = rt.alloc();
+    moves(alloc, 0, "+ at 0\n")?;
+    moves(alloc, i64::MIN, "+ at -9223372036854775808\n")?;
+    moves(alloc, 9223372036854775806, "+ at 9223372036854775806\n")?;
+    moves(alloc, 9223372036854775807, "+ at end\n")
+}
+
+/// The label prints this line of its own, and has no step.
+fn says(alloc: Global, label: Label, own: &str) -> Result<(), Fail> {
+    prints(alloc, label, "", own)
 }
 
 #[test]
 fn other_events_have_their_own_lines(rt: HostRuntime) -> Result<(), Fail> {
+    let alloc = rt.alloc();
     let marked = PullReply::Held(client(0, 3));
-    let rows = [
-        (Label::Moved(0), "+ at 0\n", ""),
-        (Label::Moved(i64::MIN), "+ at -9223372036854775808\n", ""),
-        (
-            Label::Moved(9223372036854775806),
-            "+ at 9223372036854775806\n",
-            "",
-        ),
-        (Label::Moved(9223372036854775807), "+ at end\n", ""),
-        (Label::Failed(1, true), "", "n1 fail OK\n"),
-        (Label::Failed(0, false), "", "n0 fail DOWN\n"),
-        (Label::Joined(1, Some(2)), "", "n1 join OK 2\n"),
-        (Label::Joined(1, None), "", "n1 join LIVE\n"),
-        (Label::Pulled(1, PullReply::Ok(1)), "", "K1 pull OK 1\n"),
-        (Label::Pulled(1, marked), "", "K1 pull HELD c0.3\n"),
-        (Label::Pulled(9, PullReply::Nothing), "", "K9 pull NONE\n"),
-        (Label::Put(1, 1, PutReply::Ok(1)), "", "K1 put n1 OK 1\n"),
-        (
-            Label::Put(1, 2, PutReply::Stale(1, 2)),
-            "",
-            "K1 put n2 STALE 1 2\n",
-        ),
-        (
-            Label::Put(1, 2, PutReply::Old(2, 1)),
-            "",
-            "K1 put n2 OLD 2 1\n",
-        ),
-        (Label::Put(1, 2, PutReply::Nothing), "", "K1 put n2 NONE\n"),
-    ];
-    print(&rt, rt.alloc(), &rows)?;
-    Ok(())
+    says(alloc, Label::Failed(1, true), "n1 fail OK\n")?;
+    says(alloc, Label::Failed(0, false), "n0 fail DOWN\n")?;
+    says(alloc, Label::Joined(1, Some(2)), "n1 join OK 2\n")?;
+    says(alloc, Label::Joined(1, None), "n1 join LIVE\n")?;
+    says(alloc, Label::Pulled(1, PullReply::Ok(1)), "K1 pull OK 1\n")?;
+    says(alloc, Label::Pulled(1, marked), "K1 pull HELD c0.3\n")?;
+    says(
+        alloc,
+        Label::Pulled(9, PullReply::Nothing),
+        "K9 pull NONE\n",
+    )?;
+    says(alloc, Label::Put(1, 1, PutReply::Ok(1)), "K1 put n1 OK 1\n")?;
+    says(
+        alloc,
+        Label::Put(1, 2, PutReply::Stale(1, 2)),
+        "K1 put n2 STALE 1 2\n",
+    )?;
+    says(
+        alloc,
+        Label::Put(1, 2, PutReply::Old(2, 1)),
+        "K1 put n2 OLD 2 1\n",
+    )?;
+    says(
+        alloc,
+        Label::Put(1, 2, PutReply::Nothing),
+        "K1 put n2 NONE\n",
+    )
+}
+
+/// This is printed of the word that answers a line of a client.
+fn said(alloc: Global, number: u8, line: LineWord, word: Said, own: &str) -> Result<(), Fail> {
+    let actor = Who::Actor(ActorName::Client(number));
+    says(alloc, Label::Word(actor, line, word), own)
 }
 
 #[test]
 fn a_word_answers_a_line(rt: HostRuntime) -> Result<(), Fail> {
-    let copying = Who::Actor(ActorName::Node(1));
+    let alloc = rt.alloc();
     let initialize = LineWord::Op(OpWord::Client);
-    let finished = Who::Call(client(0, 4));
-    let rows = [
-        (
-            Label::Word(actor(0), initialize, Said::Live),
-            "",
-            "c0 client LIVE\n",
-        ),
-        (
-            Label::Word(actor(1), initialize, Said::Down),
-            "",
-            "c1 client DOWN\n",
-        ),
-        (
-            Label::Word(actor(0), LineWord::Op(OpWord::Read), Said::Busy),
-            "",
-            "c0 read BUSY\n",
-        ),
-        (
-            Label::Word(actor(0), LineWord::Step, Said::Idle),
-            "",
-            "c0 step IDLE\n",
-        ),
-        (
-            Label::Word(finished, LineWord::Finish, Said::Idle),
-            "",
-            "c0.4 finish IDLE\n",
-        ),
-        (
-            Label::Word(copying, LineWord::Op(OpWord::Copy), Said::Down),
-            "",
-            "n1 copy DOWN\n",
-        ),
-    ];
-    print(&rt, rt.alloc(), &rows)?;
-    Ok(())
+    let reads = LineWord::Op(OpWord::Read);
+    let copies = LineWord::Op(OpWord::Copy);
+    said(alloc, 0, initialize, Said::Live, "c0 client LIVE\n")?;
+    said(alloc, 1, initialize, Said::Down, "c1 client DOWN\n")?;
+    said(alloc, 0, reads, Said::Busy, "c0 read BUSY\n")?;
+    said(alloc, 0, LineWord::Step, Said::Idle, "c0 step IDLE\n")?;
+    let call = Who::Call(client(0, 4));
+    says(
+        alloc,
+        Label::Word(call, LineWord::Finish, Said::Idle),
+        "c0.4 finish IDLE\n",
+    )?;
+    let copying = Who::Actor(ActorName::Node(1));
+    says(
+        alloc,
+        Label::Word(copying, copies, Said::Down),
+        "n1 copy DOWN\n",
+    )
 }
 
-#[test]
-fn a_checkpoint_is_shown_replica_by_replica(rt: HostRuntime) -> Result<(), Fail> {
-    let alloc = rt.alloc();
+/// This is printed of a checkpoint with these two replicas.
+fn shows(
+    alloc: Global,
+    ckpt: CkptId,
+    first: ShownReplica,
+    second: ShownReplica,
+    lines: &str,
+) -> Result<(), Fail> {
+    let Ok(both) = vec![in alloc; first, second] else {
+        return Err(Fail::new("there is memory"));
+    };
+    says(
+        alloc,
+        Label::Shown(ckpt, Some(Vector::from_vec(both))),
+        lines,
+    )
+}
+
+/// K2: the active holds an update and has no section, and n1 is marked.
+fn shows_held(alloc: Global, lines: &str) -> Result<(), Fail> {
     let mut staged = replica(alloc, 0, true, (1, 0), b"a")?;
     staged.slot = ShownSlot::Held(client(0, 3));
     staged.sections = Vector::from_vec(Vec::new(alloc));
     let mut marked = replica(alloc, 1, false, (1, 0), b"abc")?;
     marked.slot = ShownSlot::Mark(client(0, 3));
-    let held = vec![in alloc; staged, marked]?;
+    shows(alloc, 2, staged, marked, lines)
+}
+
+#[test]
+fn a_checkpoint_is_shown_replica_by_replica(rt: HostRuntime) -> Result<(), Fail> {
+    let alloc = rt.alloc();
     let active = replica(alloc, 1, true, (3, 3), b"new")?;
     let other = replica(alloc, 2, false, (2, 3), b"new")?;
-    let free = vec![in alloc; active, other]?;
-    let rows = [
-        (
-            Label::Shown(1, Some(Vector::from_vec(free))),
-            "",
-            "K1 n1* g3 u3 free x VALID end 3 x6e6577\nK1 n2 g2 u3 free x VALID end 3 x6e6577\n",
-        ),
-        (
-            Label::Shown(2, Some(Vector::from_vec(held))),
-            "",
-            "K2 n0* g1 u0 held c0.3\nK2 n1 g1 u0 mark c0.3 x VALID end 3 x616263\n",
-        ),
-        (Label::Shown(3, None), "", "K3 gone\n"),
-    ];
-    print(&rt, alloc, &rows)?;
-    Ok(())
+    shows(
+        alloc,
+        1,
+        active,
+        other,
+        "K1 n1* g3 u3 free x VALID end 3 x6e6577\nK1 n2 g2 u3 free x VALID end 3 x6e6577\n",
+    )?;
+    shows_held(
+        alloc,
+        "K2 n0* g1 u0 held c0.3\nK2 n1 g1 u0 mark c0.3 x VALID end 3 x616263\n",
+    )?;
+    says(alloc, Label::Shown(3, None), "K3 gone\n")
 }
 
 #[test]

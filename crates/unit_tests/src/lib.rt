@@ -22,4 +22,6 @@ mod store;
 #[cfg(test)]
 mod types;
 #[cfg(test)]
+mod values;
+#[cfg(test)]
 mod words;

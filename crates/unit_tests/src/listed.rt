@@ -2,7 +2,9 @@ ghost use Rattle.std.specs.Prelude.{◌≡◌, ◌<◌, length, IfSome, slice_ge
 ghost use Rattle.std.specs.Bool.{OnTrue};
 ghost use Rattle.ckpt_types.specs.Sections.{IsBelowAll, Rises, place_of, section_of};
 
+use crate::values::{bytes_of, id_of};
 use ckpt_types::{Bytes, Moment, SectionId, SectionRef, SectionState, Sections};
+use std::alloc::{AllocError, Global};
 use std::cmp::Ordering;
 use std::marker::Model;
 
@@ -22,6 +24,23 @@ impl Model for Kept {
     ghost Value = { Section };
 
     ghost view = { λ k. record { id = k.id; bytes = k.bytes; expiration = k.expiration; state = k.state; last_update = pos 0 } };
+}
+
+/// Identifier, bytes, expiration and state of a section.
+pub type Given<'a> = (&'a str, &'a str, Moment, SectionState);
+
+/// These sections, in this order.
+pub fn sections_of(alloc: Global, given: &[Given<'_>]) -> Result<Vec<Kept>, AllocError> {
+    let mut items = Vec::new(alloc);
+    for (id, bytes, expiration, state) in given {
+        items.push(Kept {
+            id: id_of(id),
+            bytes: bytes_of(alloc, bytes)?,
+            expiration: *expiration,
+            state: *state,
+        })?;
+    }
+    Ok(items)
 }
 
 /// Sections in the order of their identifiers.

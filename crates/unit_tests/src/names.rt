@@ -1,3 +1,6 @@
+ghost use Rattle.std.specs.Prelude.{◌≤◌};
+
+use crate::values::long;
 use ckpt_types::{Bytes, CHECKPOINTS_MAX, CkptId};
 use name_table::Names;
 use std::alloc::Global;
@@ -19,11 +22,13 @@ fn link(names: &mut Names, name: Bytes, id: CkptId) -> bool {
     if names.len() >= CHECKPOINTS_MAX {
         return false;
     }
-    if names.look_up(&name).is_some() {
-        return false;
+    match names.look_up(&name) {
+        Some(_other) => false,
+        None => {
+            names.link(name, id);
+            true
+        }
     }
-    names.link(name, id);
-    true
 }
 
 /// Whether the table gives the answer of the row.
@@ -80,13 +85,6 @@ fn the_empty_name_is_a_name(rt: HostRuntime) -> Result<(), Fail> {
         (Ask::Link(9), b"", "it comes back under another identity"),
     ];
     answers_all(rt.alloc(), &mut names, &rows)
-}
-
-/// A name of 256 bytes, told by the last of them.
-fn long(last: u8) -> [u8; 256] {
-    let mut name = [120; 256];
-    name[255] = last;
-    name
 }
 
 #[test]
@@ -146,54 +144,90 @@ fn change_one(
     Ok(())
 }
 
-#[test]
-fn sixteen_places_serve_any_number_of_links_and_unlinks(rt: HostRuntime) -> Result<(), Fail> {
-    let alloc = rt.alloc();
-    let mut names = Names::new(alloc)?;
-    let mut numbers = [0; 16];
+/// Links 16 names.
+fn fill(alloc: Global, names: &mut Names, numbers: &mut [u32; 16]) -> Result<(), Fail> {
     for number in 0..16u32 {
-        let asked = Ask::Link(id_of(number));
-        answers_all(
-            alloc,
-            &mut names,
-            &[(asked, &number.to_be_bytes(), "a place is spare")],
-        )?;
+        let row = (
+            Ask::Link(id_of(number)),
+            number.to_be_bytes(),
+            "a place is spare",
+        );
+        answers_all(alloc, names, &[(row.0, &row.1, row.2)])?;
         numbers[number as usize] = number;
     }
-    for round in 0..600u32 {
-        assert_eq!(rt; names.len(), 16, "before round {round}");
+    Ok(())
+}
+
+/// Changes one of 16 names at a time, so many times.
+fn change_many(
+    alloc: Global,
+    names: &mut Names,
+    numbers: &mut [u32; 16],
+    rounds: u32,
+) -> Result<(), Fail>
+    requires { rounds ≤ 1000 }
+{
+    for round in 0..rounds {
+        if names.len() != 16 {
+            return Err(Fail::new("there are not 16 names"));
+        }
         // The places in an order of their own: 7 has no divisor in common with 16.
-        change_one(alloc, &mut names, &mut numbers, 16 + 7 * round)?;
+        change_one(alloc, names, numbers, 16 + 7 * round)?;
     }
     Ok(())
 }
 
 #[test]
-fn a_copy_has_the_same_names_and_places_of_its_own(rt: HostRuntime) -> Result<(), Fail> {
-    let alloc = rt.alloc();
-    let mut names = Names::new(alloc)?;
-    let two: [Row<'_>; 2] = [(Ask::Link(1), b"a", "one"), (Ask::Link(2), b"b", "two")];
-    answers_all(alloc, &mut names, &two)?;
-    let mut copy = names.copy(alloc)?;
+fn sixteen_places_serve_any_number_of_links_and_unlinks(rt: HostRuntime) -> Result<(), Fail> {
+    let mut numbers = [0; 16];
+    let mut names = Names::new(rt.alloc())?;
+    fill(rt.alloc(), &mut names, &mut numbers)?;
+    change_many(rt.alloc(), &mut names, &mut numbers, 600)
+}
+
+/// Fills the places that two names leave.
+fn fill_up(alloc: Global, names: &mut Names) -> Result<(), Fail> {
+    for number in 2..16u32 {
+        let name = number.to_be_bytes();
+        answers_all(
+            alloc,
+            names,
+            &[(Ask::Link(number), &name, "a place of its own")],
+        )?;
+    }
+    Ok(())
+}
+
+/// What comes of two tables with the same two names.
+fn go_apart(alloc: Global, names: &mut Names, copy: &mut Names) -> Result<(), Fail> {
     let here: [Row<'_>; 2] = [
         (Ask::Unlink(Some(1)), b"a", "it goes here"),
         (Ask::Link(3), b"c", "another comes"),
     ];
-    answers_all(alloc, &mut names, &here)?;
+    answers_all(alloc, names, &here)?;
     let there: [Row<'_>; 3] = [
         (Ask::LookUp(Some(1)), b"a", "the copy keeps what went"),
         (Ask::LookUp(Some(2)), b"b", "and has what stayed"),
         (Ask::LookUp(None), b"c", "but not what came"),
     ];
-    answers_all(alloc, &mut copy, &there)?;
-    for number in 2..16u32 {
-        let asked = Ask::Link(number);
-        answers_all(
-            alloc,
-            &mut copy,
-            &[(asked, &number.to_be_bytes(), "a place of its own")],
-        )?;
+    answers_all(alloc, copy, &there)?;
+    fill_up(alloc, copy)?;
+    if names.len() == 2 && copy.len() == 16 {
+        Ok(())
+    } else {
+        Err(Fail::new("2 names here, and 16 in the copy"))
     }
-    assert_eq!(rt; (names.len(), copy.len()), (2, 16));
-    Ok(())
+}
+
+fn copy_goes_apart(alloc: Global, names: &mut Names) -> Result<(), Fail> {
+    let mut copy = names.copy(alloc)?;
+    go_apart(alloc, names, &mut copy)
+}
+
+#[test]
+fn a_copy_has_the_same_names_and_places_of_its_own(rt: HostRuntime) -> Result<(), Fail> {
+    let mut names = Names::new(rt.alloc())?;
+    let two: [Row<'_>; 2] = [(Ask::Link(1), b"a", "one"), (Ask::Link(2), b"b", "two")];
+    answers_all(rt.alloc(), &mut names, &two)?;
+    copy_goes_apart(rt.alloc(), &mut names)
 }

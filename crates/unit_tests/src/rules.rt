@@ -1,7 +1,8 @@
-use crate::listed::{Kept, Listed};
+use crate::listed::{Given, Listed, sections_of};
+use crate::values::{bytes_of, id_of};
 use ckpt_types::{
-    AisError, Bytes, CreationAttributes, IoElement, IoVector, Moment, NEVER, NewId, ReadElement,
-    SectionId, SectionState, Update, Vector, WR_ALL_REPLICAS,
+    CreationAttributes, IoElement, IoVector, Moment, NEVER, NewId, ReadElement, SectionState,
+    Update, Vector, WR_ALL_REPLICAS,
 };
 use std::alloc::Global;
 use std::test::Fail;
@@ -17,13 +18,12 @@ const TWO: CreationAttributes = CreationAttributes {
     max_section_id_size: 8,
 };
 
+const VALID: SectionState = SectionState::Valid;
+
 /// The identifiers that the service makes first.
 const FIRST: &str = "\0\0\0\0\0\0\0\u{1}";
 
 const SECOND: &str = "\0\0\0\0\0\0\0\u{2}";
-
-/// Identifier, bytes and expiration of a section.
-type Given<'a> = (&'a str, &'a str, Moment);
 
 /// An update, in words.
 #[derive(Clone, Copy)]
@@ -46,68 +46,41 @@ struct Case<'a> {
 }
 
 impl Case<'_> {
-    fn answers(
-        &self,
-        alloc: Global,
-        call: Call<'_>,
-        want: Result<(), Refused>,
-    ) -> Result<(), Fail> {
-        let items = kept(alloc, self.given)?;
+    /// Whether an update is answered so.
+    fn answers(&self, alloc: Global, call: Call<'_>, want: &str) -> Result<bool, Fail> {
+        let items = sections_of(alloc, self.given)?;
         let update = update_of(alloc, call)?;
         let Some(sections) = Listed::new(items.as_slice()) else {
             return Err(Fail::new("the identifiers do not rise"));
         };
-        expect(check(&self.attrs, &sections, &update, self.now), want)
+        is_told(
+            alloc,
+            check(&self.attrs, &sections, &update, self.now),
+            want,
+        )
     }
 
-    fn reads(
-        &self,
-        alloc: Global,
-        elements: &[ReadElement],
-        want: Result<(), Refused>,
-    ) -> Result<(), Fail> {
-        let items = kept(alloc, self.given)?;
+    /// Whether a read is answered so.
+    fn reads(&self, alloc: Global, elements: &[ReadElement], want: &str) -> Result<bool, Fail> {
+        let items = sections_of(alloc, self.given)?;
         let Some(sections) = Listed::new(items.as_slice()) else {
             return Err(Fail::new("the identifiers do not rise"));
         };
         if elements.len() > 2 {
             return Err(Fail::new("many elements"));
         }
-        expect(check_read(&sections, elements, self.now), want)
+        is_told(alloc, check_read(&sections, elements, self.now), want)
     }
 }
 
-fn expect(got: Result<(), Refused>, want: Result<(), Refused>) -> Result<(), Fail> {
-    if got == want {
-        Ok(())
-    } else {
-        Err(Fail::new(format_args!("{got:?} in place of {want:?}")))
-    }
-}
-
-fn refused(error: AisError, index: u32) -> Result<(), Refused> {
-    Err(Refused { error, index })
-}
-
-fn id_of(text: &str) -> SectionId {
-    SectionId::from_slice(text.as_bytes()).unwrap_or(SectionId::default())
-}
-
-fn bytes_of(alloc: Global, text: &str) -> Result<Bytes, Fail> {
-    Ok(Bytes::from_slice(alloc, text.as_bytes())?)
-}
-
-fn kept(alloc: Global, given: &[Given<'_>]) -> Result<Vec<Kept>, Fail> {
-    let mut items = Vec::new(alloc);
-    for (id, bytes, expiration) in given {
-        items.push(Kept {
-            id: id_of(id),
-            bytes: bytes_of(alloc, bytes)?,
-            expiration: *expiration,
-            state: SectionState::Valid,
-        })?;
-    }
-    Ok(items)
+/// Whether an answer is told so: `ok`, or its error and index.
+fn is_told(alloc: Global, answer: Result<(), Refused>, want: &str) -> Result<bool, Fail> {
+    let Err(refused) = answer else {
+        return Ok(want == "ok");
+    };
+    let word = refused.error.word();
+    let told = format!(in alloc; "{word} {}", refused.index)?;
+    Ok(told.as_str() == want)
 }
 
 fn update_of(alloc: Global, call: Call<'_>) -> Result<Update, Fail> {
@@ -145,28 +118,29 @@ fn a_write_is_refused_with_the_first_element_that_is_refused(rt: HostRuntime) ->
     let alloc = rt.alloc();
     let case = Case {
         attrs: TWO,
-        given: &[("a", "abcd\0f\0h", NEVER)],
+        given: &[("a", "abcd\0f\0h", NEVER, VALID)],
         now: 0,
     };
-    case.answers(alloc, Call::Write(&[("a", 7, "h")]), Ok(()))?;
-    let past = refused(AisError::InvalidParam, 0);
-    case.answers(alloc, Call::Write(&[("a", 8, "i")]), past)?;
+    assert!(rt; case.answers(alloc, Call::Write(&[("a", 7, "h")]), "ok")?);
+    assert!(rt; case.answers(alloc, Call::Write(&[("a", 8, "i")]), "INVALID_PARAM 0")?);
     let case = Case {
-        given: &[("a", "aa", NEVER), ("b", "bb", NEVER)],
+        given: &[("a", "aa", NEVER, VALID), ("b", "bb", NEVER, VALID)],
         ..case
     };
     let third = [("a", 0, "X"), ("b", 0, "Y"), ("c", 0, "Z")];
-    let missing = refused(AisError::NotExist, 2);
-    case.answers(alloc, Call::Write(&third), missing)?;
+    assert!(rt; case.answers(alloc, Call::Write(&third), "NOT_EXIST 2")?);
     let case = Case {
-        given: &[("a", "", NEVER)],
+        given: &[("a", "", NEVER, VALID)],
         ..case
     };
-    case.answers(
-        alloc,
-        Call::Write(&[("a", 0, "abcd"), ("a", 2, "xy")]),
-        Ok(()),
-    )
+    assert!(rt;
+        case.answers(
+            alloc,
+            Call::Write(&[("a", 0, "abcd"), ("a", 2, "xy")]),
+            "ok"
+        )?
+    );
+    Ok(())
 }
 
 #[test]
@@ -177,26 +151,29 @@ fn bytes_together_follow_the_earlier_elements(rt: HostRuntime) -> Result<(), Fai
             checkpoint_size: 10,
             ..TWO
         },
-        given: &[("a", "12345678", NEVER), ("b", "12", NEVER)],
+        given: &[("a", "12345678", NEVER, VALID), ("b", "12", NEVER, VALID)],
         now: 0,
     };
-    let full = refused(AisError::NoSpace, 0);
-    case.answers(alloc, Call::Write(&[("b", 2, "3")]), full)?;
+    assert!(rt; case.answers(alloc, Call::Write(&[("b", 2, "3")]), "NO_SPACE 0")?);
     let case = Case {
-        given: &[("a", "", NEVER), ("b", "123", NEVER)],
+        given: &[("a", "", NEVER, VALID), ("b", "123", NEVER, VALID)],
         ..case
     };
-    case.answers(
-        alloc,
-        Call::Write(&[("a", 0, "12345"), ("a", 5, "67")]),
-        Ok(()),
-    )?;
-    let second = refused(AisError::NoSpace, 1);
-    case.answers(
-        alloc,
-        Call::Write(&[("a", 0, "1234567"), ("a", 7, "8")]),
-        second,
-    )
+    assert!(rt;
+        case.answers(
+            alloc,
+            Call::Write(&[("a", 0, "12345"), ("a", 5, "67")]),
+            "ok"
+        )?
+    );
+    assert!(rt;
+        case.answers(
+            alloc,
+            Call::Write(&[("a", 0, "1234567"), ("a", 7, "8")]),
+            "NO_SPACE 1"
+        )?
+    );
+    Ok(())
 }
 
 #[test]
@@ -207,17 +184,15 @@ fn an_overwrite_is_refused_past_what_was_declared(rt: HostRuntime) -> Result<(),
             checkpoint_size: 10,
             ..TWO
         },
-        given: &[("a", "12345678", NEVER), ("b", "12", 30)],
+        given: &[("a", "12345678", NEVER, VALID), ("b", "12", 30, VALID)],
         now: 29,
     };
-    let full = refused(AisError::NoSpace, 0);
-    case.answers(alloc, Call::Overwrite("b", "123"), full)?;
-    case.answers(alloc, Call::Overwrite("b", "xy"), Ok(()))?;
-    let long = refused(AisError::InvalidParam, 0);
-    case.answers(alloc, Call::Overwrite("a", "123456789"), long)?;
+    assert!(rt; case.answers(alloc, Call::Overwrite("b", "123"), "NO_SPACE 0")?);
+    assert!(rt; case.answers(alloc, Call::Overwrite("b", "xy"), "ok")?);
+    assert!(rt; case.answers(alloc, Call::Overwrite("a", "123456789"), "INVALID_PARAM 0")?);
     let case = Case { now: 30, ..case };
-    let expired = refused(AisError::NotExist, 0);
-    case.answers(alloc, Call::Overwrite("b", "xy"), expired)
+    assert!(rt; case.answers(alloc, Call::Overwrite("b", "xy"), "NOT_EXIST 0")?);
+    Ok(())
 }
 
 #[test]
@@ -228,21 +203,19 @@ fn a_section_is_made_where_there_is_room(rt: HostRuntime) -> Result<(), Fail> {
         given: &[],
         now: 10,
     };
-    let wrong = refused(AisError::InvalidParam, 0);
-    case.answers(alloc, Call::Create("a", 10, ""), wrong)?;
-    case.answers(alloc, Call::Create("", 20, "x"), wrong)?;
-    case.answers(alloc, Call::Create("a", 20, "x"), Ok(()))?;
+    assert!(rt; case.answers(alloc, Call::Create("a", 10, ""), "INVALID_PARAM 0")?);
+    assert!(rt; case.answers(alloc, Call::Create("", 20, "x"), "INVALID_PARAM 0")?);
+    assert!(rt; case.answers(alloc, Call::Create("a", 20, "x"), "ok")?);
     let case = Case {
-        given: &[("a", "x", 20), ("b", "y", NEVER)],
+        given: &[("a", "x", 20, VALID), ("b", "y", NEVER, VALID)],
         ..case
     };
-    case.answers(alloc, Call::Create("c", 10, "z"), wrong)?;
-    let again = refused(AisError::Exist, 0);
-    case.answers(alloc, Call::Create("a", 20, "x"), again)?;
-    let full = refused(AisError::NoSpace, 0);
-    case.answers(alloc, Call::Create("c", NEVER, "z"), full)?;
+    assert!(rt; case.answers(alloc, Call::Create("c", 10, "z"), "INVALID_PARAM 0")?);
+    assert!(rt; case.answers(alloc, Call::Create("a", 20, "x"), "EXIST 0")?);
+    assert!(rt; case.answers(alloc, Call::Create("c", NEVER, "z"), "NO_SPACE 0")?);
     let case = Case { now: 20, ..case };
-    case.answers(alloc, Call::Create("c", NEVER, "z"), Ok(()))
+    assert!(rt; case.answers(alloc, Call::Create("c", NEVER, "z"), "ok")?);
+    Ok(())
 }
 
 #[test]
@@ -250,15 +223,14 @@ fn another_expiration_is_later_than_now(rt: HostRuntime) -> Result<(), Fail> {
     let alloc = rt.alloc();
     let case = Case {
         attrs: TWO,
-        given: &[("a", "x", 20)],
+        given: &[("a", "x", 20, VALID)],
         now: 19,
     };
-    case.answers(alloc, Call::Expire("a", 20), Ok(()))?;
-    let wrong = refused(AisError::InvalidParam, 0);
-    case.answers(alloc, Call::Expire("a", 19), wrong)?;
-    let missing = refused(AisError::NotExist, 0);
-    case.answers(alloc, Call::Expire("b", 19), missing)?;
-    case.answers(alloc, Call::Nothing, Ok(()))
+    assert!(rt; case.answers(alloc, Call::Expire("a", 20), "ok")?);
+    assert!(rt; case.answers(alloc, Call::Expire("a", 19), "INVALID_PARAM 0")?);
+    assert!(rt; case.answers(alloc, Call::Expire("b", 19), "NOT_EXIST 0")?);
+    assert!(rt; case.answers(alloc, Call::Nothing, "ok")?);
+    Ok(())
 }
 
 #[test]
@@ -270,15 +242,14 @@ fn the_default_section_stays_alone(rt: HostRuntime) -> Result<(), Fail> {
             max_section_size: 16,
             ..TWO
         },
-        given: &[("", "", NEVER)],
+        given: &[("", "", NEVER, VALID)],
         now: 0,
     };
-    let another = refused(AisError::Exist, 0);
-    case.answers(alloc, Call::Create("a", NEVER, ""), another)?;
-    let wrong = refused(AisError::InvalidParam, 0);
-    case.answers(alloc, Call::Delete(""), wrong)?;
-    case.answers(alloc, Call::Expire("", NEVER), wrong)?;
-    case.answers(alloc, Call::Write(&[("", 0, "abc")]), Ok(()))
+    assert!(rt; case.answers(alloc, Call::Create("a", NEVER, ""), "EXIST 0")?);
+    assert!(rt; case.answers(alloc, Call::Delete(""), "INVALID_PARAM 0")?);
+    assert!(rt; case.answers(alloc, Call::Expire("", NEVER), "INVALID_PARAM 0")?);
+    assert!(rt; case.answers(alloc, Call::Write(&[("", 0, "abc")]), "ok")?);
+    Ok(())
 }
 
 #[test]
@@ -291,25 +262,24 @@ fn a_generated_identifier_needs_8_bytes_of_room(rt: HostRuntime) -> Result<(), F
             max_section_size: 16,
             ..TWO
         },
-        given: &[(FIRST, "", NEVER), (SECOND, "", NEVER)],
+        given: &[(FIRST, "", NEVER, VALID), (SECOND, "", NEVER, VALID)],
         now: 0,
     };
-    case.answers(alloc, Call::Generate, Ok(()))?;
-    case.answers(alloc, Call::Delete(FIRST), Ok(()))?;
+    assert!(rt; case.answers(alloc, Call::Generate, "ok")?);
+    assert!(rt; case.answers(alloc, Call::Delete(FIRST), "ok")?);
     let case = Case {
-        given: &[(SECOND, "", NEVER)],
+        given: &[(SECOND, "", NEVER, VALID)],
         ..case
     };
-    case.answers(alloc, Call::Generate, Ok(()))?;
-    let missing = refused(AisError::NotExist, 0);
-    case.answers(alloc, Call::Delete(FIRST), missing)?;
+    assert!(rt; case.answers(alloc, Call::Generate, "ok")?);
+    assert!(rt; case.answers(alloc, Call::Delete(FIRST), "NOT_EXIST 0")?);
     let attrs = CreationAttributes {
         max_section_id_size: 7,
         ..case.attrs
     };
     let case = Case { attrs, ..case };
-    let wrong = refused(AisError::InvalidParam, 0);
-    case.answers(alloc, Call::Generate, wrong)
+    assert!(rt; case.answers(alloc, Call::Generate, "INVALID_PARAM 0")?);
+    Ok(())
 }
 
 #[test]
@@ -317,7 +287,7 @@ fn a_read_is_refused_with_the_first_element_that_is_refused(rt: HostRuntime) -> 
     let alloc = rt.alloc();
     let case = Case {
         attrs: TWO,
-        given: &[("a", "abcd\0f\0h", 20), ("b", "", NEVER)],
+        given: &[("a", "abcd\0f\0h", 20, VALID), ("b", "", NEVER, VALID)],
         now: 19,
     };
     let element = |name: &str, offset: u64| ReadElement {
@@ -325,11 +295,16 @@ fn a_read_is_refused_with_the_first_element_that_is_refused(rt: HostRuntime) -> 
         offset,
         len: 16,
     };
-    case.reads(alloc, &[element("a", 0), element("a", 8)], Ok(()))?;
-    let past = refused(AisError::InvalidParam, 1);
-    case.reads(alloc, &[element("a", 0), element("a", 9)], past)?;
-    let missing = refused(AisError::NotExist, 0);
-    case.reads(alloc, &[element("c", 0), element("a", 9)], missing)?;
+    assert!(rt; case.reads(alloc, &[element("a", 0), element("a", 8)], "ok")?);
+    assert!(rt;
+        case.reads(
+            alloc,
+            &[element("a", 0), element("a", 9)],
+            "INVALID_PARAM 1"
+        )?
+    );
+    assert!(rt; case.reads(alloc, &[element("c", 0), element("a", 9)], "NOT_EXIST 0")?);
     let case = Case { now: 20, ..case };
-    case.reads(alloc, &[element("a", 0)], missing)
+    assert!(rt; case.reads(alloc, &[element("a", 0)], "NOT_EXIST 0")?);
+    Ok(())
 }

@@ -1,250 +1,345 @@
 use ckpt_types::{ActorName, CallId, CallbackSet, NEVER, NewId, Version, Who};
 use script_words::{
-    LineError, Reason, bytes, callbacks, ckpt, client, id, iteration, moment, new_id, node, number,
-    place, time, version, who, write_bytes, write_callbacks, write_time, write_version, write_who,
+    LineError, bytes, callbacks, ckpt, client, id, iteration, moment, new_id, node, number, place,
+    time, version, who, write_bytes, write_callbacks, write_time, write_version, write_who,
 };
 use std::alloc::{AllocError, Global};
+use std::test::Fail;
+
+/// What a word is read as.
+#[derive(Clone, Copy)]
+enum Kind {
+    Client,
+    Node,
+    Place,
+    Iteration,
+    Checkpoint,
+    /// A number of this range.
+    Number(u64, u64),
+    Time,
+    Moment,
+    Bytes,
+    NewId,
+    Version,
+    Callbacks,
+    Who,
+}
+
+/// The number that a word says.
+fn value_of(kind: Kind, word: &[u8]) -> Option<i128> {
+    match kind {
+        Kind::Client => Some(client(word).ok()? as i128),
+        Kind::Node => Some(node(word).ok()? as i128),
+        Kind::Place => Some(place(word).ok()? as i128),
+        Kind::Iteration => Some(iteration(word).ok()? as i128),
+        Kind::Checkpoint => Some(ckpt(word).ok()? as i128),
+        Kind::Number(low, high) => Some(number(low, high, word).ok()? as i128),
+        Kind::Time => Some(time(word).ok()? as i128),
+        Kind::Moment => Some(moment(word).ok()? as i128),
+        _ => None,
+    }
+}
+
+fn number_told(alloc: Global, value: Option<i128>) -> Result<String, AllocError> {
+    match value {
+        Some(value) => format!(in alloc; "{value}"),
+        None => String::from_str(alloc, "none"),
+    }
+}
+
+/// Why a word was not read.
+fn error_told(alloc: Global, error: LineError) -> Result<String, AllocError> {
+    match error {
+        LineError::Fault(reason) => String::from_str(alloc, reason.word()),
+        LineError::NoMemory => Err(AllocError),
+    }
+}
+
+/// How many bytes a word says.
+fn bytes_told(alloc: Global, word: &[u8]) -> Result<String, AllocError> {
+    match bytes(alloc, word) {
+        Ok(found) => number_told(alloc, Some(found.as_slice().len() as i128)),
+        Err(error) => error_told(alloc, error),
+    }
+}
+
+fn new_id_told(alloc: Global, word: &[u8]) -> Result<String, AllocError> {
+    match new_id(alloc, word) {
+        Ok(NewId::Generated) => String::from_str(alloc, "generated"),
+        Ok(NewId::Given(_)) => String::from_str(alloc, "given"),
+        Err(error) => error_told(alloc, error),
+    }
+}
+
+fn version_told(alloc: Global, word: &[u8]) -> Result<String, AllocError> {
+    match version(word) {
+        Ok(found) => {
+            let release = char::from(found.release);
+            format!(in alloc; "{release} {} {}", found.major, found.minor)
+        }
+        Err(_error) => String::from_str(alloc, "none"),
+    }
+}
+
+fn callbacks_told(alloc: Global, word: &[u8]) -> Result<String, AllocError> {
+    match callbacks(word) {
+        Ok(found) => format!(in alloc; "opens {} syncs {}", found.opens, found.syncs),
+        Err(error) => error_told(alloc, error),
+    }
+}
+
+fn actor_told(alloc: Global, actor: ActorName) -> Result<String, AllocError> {
+    match actor {
+        ActorName::Client(client) => format!(in alloc; "client {client}"),
+        ActorName::Node(node) => format!(in alloc; "node {node}"),
+    }
+}
+
+fn call_told(alloc: Global, call: CallId) -> Result<String, AllocError> {
+    let actor = actor_told(alloc, call.actor)?;
+    format!(in alloc; "call {} of {}", call.number, actor.as_str())
+}
+
+fn who_told(alloc: Global, word: &[u8]) -> Result<String, AllocError> {
+    match who(word) {
+        Ok(Who::Actor(actor)) => actor_told(alloc, actor),
+        Ok(Who::Call(call)) => call_told(alloc, call),
+        Err(_error) => String::from_str(alloc, "none"),
+    }
+}
+
+/// What a word is read as, or why it was not.
+fn told(alloc: Global, kind: Kind, word: &[u8]) -> Result<String, AllocError> {
+    match kind {
+        Kind::Bytes => bytes_told(alloc, word),
+        Kind::NewId => new_id_told(alloc, word),
+        Kind::Version => version_told(alloc, word),
+        Kind::Callbacks => callbacks_told(alloc, word),
+        Kind::Who => who_told(alloc, word),
+        kind => number_told(alloc, value_of(kind, word)),
+    }
+}
+
+/// Each row of the table is a word, and what it is read as.
+fn tells_each(alloc: Global, kind: Kind, table: &str) -> Result<(), Fail> {
+    for row in table.lines() {
+        let Some((word, want)) = row.split_once(" => ") else {
+            return Err(Fail::new(row));
+        };
+        if told(alloc, kind, word.as_bytes())?.as_str() != want {
+            return Err(Fail::new(row));
+        }
+    }
+    Ok(())
+}
+
+const CLIENTS: &str = "\
+c0 => 0
+c99 => 99
+c100 => none
+c00 => none
+c07 => none
+c => none
+c-1 => none
+C1 => none
+n1 => none
+ => none";
+
+const NODES: &str = "\
+n0 => 0
+n7 => 7
+n8 => none
+c0 => none";
+
+const PLACES: &str = "\
+h0 => 0
+h99 => 99
+h100 => none
+i0 => none";
+
+const ITERATIONS: &str = "\
+i0 => 0
+i99 => 99
+i100 => none
+h0 => none";
+
+const CHECKPOINTS: &str = "\
+K1 => 1
+K9999 => 9999
+K0 => none
+K10000 => none";
 
 #[test]
-fn clients_and_nodes_and_places_end_where_they_should(rt: HostRuntime) {
-    let rows = [
-        ("c0", Some(0)),
-        ("c99", Some(99)),
-        ("c100", None),
-        ("c00", None),
-        ("c07", None),
-        ("c", None),
-        ("c-1", None),
-        ("C1", None),
-        ("n1", None),
-        ("", None),
-    ];
-    for (word, value) in rows {
-        assert_eq!(rt; client(word.as_bytes()).ok(), value, "client {word}");
-    }
-    for (word, value) in [("n0", Some(0)), ("n7", Some(7)), ("n8", None), ("c0", None)] {
-        assert_eq!(rt; node(word.as_bytes()).ok(), value, "node {word}");
-    }
-    for (word, value) in [
-        ("h0", Some(0)),
-        ("h99", Some(99)),
-        ("h100", None),
-        ("i0", None),
-    ] {
-        assert_eq!(rt; place(word.as_bytes()).ok(), value, "place {word}");
-    }
-    for (word, value) in [
-        ("i0", Some(0)),
-        ("i99", Some(99)),
-        ("i100", None),
-        ("h0", None),
-    ] {
-        assert_eq!(rt; iteration(word.as_bytes()).ok(), value, "iteration {word}");
-    }
-    for (word, value) in [
-        ("K1", Some(1)),
-        ("K9999", Some(9999)),
-        ("K0", None),
-        ("K10000", None),
-    ] {
-        assert_eq!(rt; ckpt(word.as_bytes()).ok(), value, "checkpoint {word}");
-    }
+fn clients_and_nodes_and_places_end_where_they_should(rt: HostRuntime) -> Result<(), Fail> {
+    tells_each(rt.alloc(), Kind::Client, CLIENTS)?;
+    tells_each(rt.alloc(), Kind::Node, NODES)?;
+    tells_each(rt.alloc(), Kind::Place, PLACES)?;
+    tells_each(rt.alloc(), Kind::Iteration, ITERATIONS)?;
+    tells_each(rt.alloc(), Kind::Checkpoint, CHECKPOINTS)
 }
+
+const FROM_0_TO_9: &str = "\
+0 => 0
+9 => 9
+10 => none
+00 => none
+ => none
++1 => none";
+
+const OF_64_BITS: &str = "\
+18446744073709551615 => 18446744073709551615
+18446744073709551616 => none
+184467440737095516150 => none";
 
 #[test]
-fn numbers_end_at_their_range(rt: HostRuntime) {
-    let rows = [
-        ("0", 0, 9, Some(0)),
-        ("9", 0, 9, Some(9)),
-        ("10", 0, 9, None),
-        ("0", 1, 9, None),
-        ("00", 0, 9, None),
-        ("", 0, 9, None),
-        ("+1", 0, 9, None),
-        ("1a", 0, 99, None),
-        ("18446744073709551615", 0, u64::MAX, Some(u64::MAX)),
-        ("18446744073709551616", 0, u64::MAX, None),
-        ("184467440737095516150", 0, u64::MAX, None),
-    ];
-    for (word, low, high, value) in rows {
-        assert_eq!(rt;
-            number(low, high, word.as_bytes()).ok(),
-            value,
-            "number {word}"
-        );
-    }
+fn numbers_end_at_their_range(rt: HostRuntime) -> Result<(), Fail> {
+    tells_each(rt.alloc(), Kind::Number(0, 9), FROM_0_TO_9)?;
+    tells_each(rt.alloc(), Kind::Number(1, 9), "0 => none")?;
+    tells_each(rt.alloc(), Kind::Number(0, 99), "1a => none")?;
+    tells_each(rt.alloc(), Kind::Number(0, u64::MAX), OF_64_BITS)
 }
+
+const TIMES: &str = "\
+0 => 0
+5 => 5
+-1 => -1
+end => 9223372036854775807
+9223372036854775807 => 9223372036854775807
+9223372036854775808 => none
+-9223372036854775808 => -9223372036854775808
+-9223372036854775809 => none
+-0 => none
+-01 => none
+01 => none
+- => none
+ends => none
+End => none
+ => none";
+
+const MOMENTS: &str = "\
+0 => 0
+9223372036854775806 => 9223372036854775806
+9223372036854775807 => none
+-1 => none
+end => none";
 
 #[test]
-fn times_have_a_sign_and_an_end(rt: HostRuntime) {
-    let rows = [
-        ("0", Some(0)),
-        ("5", Some(5)),
-        ("-1", Some(-1)),
-        ("end", Some(NEVER)),
-        ("9223372036854775807", Some(NEVER)),
-        ("9223372036854775808", None),
-        ("-9223372036854775808", Some(i64::MIN)),
-        ("-9223372036854775809", None),
-        ("-0", None),
-        ("-01", None),
-        ("01", None),
-        ("-", None),
-        ("ends", None),
-        ("End", None),
-        ("", None),
-    ];
-    for (word, value) in rows {
-        assert_eq!(rt; time(word.as_bytes()).ok(), value, "time {word}");
-    }
-    let moments = [
-        ("0", Some(0)),
-        ("9223372036854775806", Some(NEVER - 1)),
-        ("9223372036854775807", None),
-        ("-1", None),
-        ("end", None),
-    ];
-    for (word, value) in moments {
-        assert_eq!(rt; moment(word.as_bytes()).ok(), value, "moment {word}");
-    }
+fn times_have_a_sign_and_an_end(rt: HostRuntime) -> Result<(), Fail> {
+    assert_eq!(rt; NEVER, 9_223_372_036_854_775_807);
+    tells_each(rt.alloc(), Kind::Time, TIMES)?;
+    tells_each(rt.alloc(), Kind::Moment, MOMENTS)
 }
 
-// How many bytes a word says.
-fn bytes_in(alloc: Global, word: &str) -> Result<usize, LineError> {
-    let found = bytes(alloc, word.as_bytes())?;
-    Ok(found.as_slice().len())
-}
-
-fn no_bytes() -> Result<usize, LineError> {
-    Err(LineError::Fault(Reason::Bytes))
-}
+const BYTES: &str = "\
+x => 0
+x00 => 1
+xaBcDEf09 => 4
+'! => 1
+'~'x => 3
+xa => bytes
+xag => bytes
+X00 => bytes
+' => bytes
+'\u{7f} => bytes
+'\u{1f} => bytes
+abc => bytes
+ => bytes";
 
 #[test]
-fn bytes_are_digits_in_either_case_or_printing_bytes(rt: HostRuntime) {
-    let rows = [
-        ("x", Ok(0)),
-        ("x00", Ok(1)),
-        ("xaBcDEf09", Ok(4)),
-        ("'!", Ok(1)),
-        ("'~'x", Ok(3)),
-        ("xa", no_bytes()),
-        ("xag", no_bytes()),
-        ("X00", no_bytes()),
-        ("'", no_bytes()),
-        ("'\u{7f}", no_bytes()),
-        ("'\u{1f}", no_bytes()),
-        ("abc", no_bytes()),
-        ("", no_bytes()),
-    ];
-    for (word, len) in rows {
-        assert_eq!(rt; bytes_in(rt.alloc(), word), len, "bytes {word}");
-    }
+fn bytes_are_digits_in_either_case_or_printing_bytes(rt: HostRuntime) -> Result<(), Fail> {
+    tells_each(rt.alloc(), Kind::Bytes, BYTES)?;
     let Ok(found) = bytes(rt.alloc(), b"xfF0a") else {
-        panic!(rt; "these are bytes")
+        return Err(Fail::new("these are bytes"));
     };
     assert!(rt; found.as_slice() == [255, 10].as_slice());
+    Ok(())
 }
 
-#[test]
-fn identifiers_have_at_most_256_bytes(rt: HostRuntime) {
-    let mut word = Vec::from_slice(rt.alloc(), b"'").expect(&rt, "there is memory");
-    for _ in 0..256 {
-        word.push(b'a').expect(&rt, "there is memory");
+/// How long the identifier is that a word says.
+fn id_told(alloc: Global, word: &[u8]) -> Result<String, AllocError> {
+    match id(alloc, word) {
+        Ok(found) => number_told(alloc, Some(found.as_slice().len() as i128)),
+        Err(error) => error_told(alloc, error),
     }
-    let Ok(found) = id(rt.alloc(), word.as_slice()) else {
-        panic!(rt; "256 bytes are an identifier")
-    };
-    assert_eq!(rt; found.as_slice().len(), 256);
-    word.push(b'a').expect(&rt, "there is memory");
-    let long = id(rt.alloc(), word.as_slice());
+}
+
+const NEW_IDS: &str = "\
+gen => generated
+'gen => given
+genx => bytes";
+
+#[test]
+fn identifiers_have_at_most_256_bytes(rt: HostRuntime) -> Result<(), Fail> {
+    let alloc = rt.alloc();
+    let mut word = Vec::from_slice(alloc, b"'")?;
+    for _ in 0..256 {
+        word.push(b'a')?;
+    }
     assert!(rt;
-        matches!(long, Err(LineError::Fault(Reason::Bytes))),
+        id_told(alloc, &word)?.as_str() == "256",
+        "256 bytes are one"
+    );
+    word.push(b'a')?;
+    assert!(rt;
+        id_told(alloc, &word)?.as_str() == "bytes",
         "257 bytes are none"
     );
-    let made = new_id(rt.alloc(), b"gen");
-    assert!(rt; matches!(made, Ok(NewId::Generated)), "gen asks for one");
-    let given = new_id(rt.alloc(), b"'gen");
-    assert!(rt; matches!(given, Ok(NewId::Given(_))), "a quoted gen is one");
-    let other = new_id(rt.alloc(), b"genx");
-    assert!(rt;
-        matches!(other, Err(LineError::Fault(Reason::Bytes))),
-        "genx is none"
-    );
+    tells_each(alloc, Kind::NewId, NEW_IDS)
 }
+
+const VERSIONS: &str = "\
+A.0.0 => A 0 0
+Z.255.255 => Z 255 255
+B.256.0 => none
+B.0.256 => none
+b.2.2 => none
+[.2.2 => none
+@.2.2 => none
+B.2 => none
+B.2.2.2 => none
+B.02.2 => none
+B..2 => none
+BB.2.2 => none
+B => none
+ => none";
 
 #[test]
-fn versions_have_a_letter_and_two_numbers(rt: HostRuntime) {
-    let rows = [
-        ("A.0.0", Some((b'A', 0, 0))),
-        ("Z.255.255", Some((b'Z', 255, 255))),
-        ("B.256.0", None),
-        ("B.0.256", None),
-        ("b.2.2", None),
-        ("[.2.2", None),
-        ("@.2.2", None),
-        ("B.2", None),
-        ("B.2.2.2", None),
-        ("B.02.2", None),
-        ("B..2", None),
-        ("BB.2.2", None),
-        ("B", None),
-        ("", None),
-    ];
-    for (word, parts) in rows {
-        let found = version(word.as_bytes()).ok();
-        let told = match parts {
-            Some((release, major, minor)) => Some(Version {
-                release,
-                major,
-                minor,
-            }),
-            None => None,
-        };
-        assert_eq!(rt; found, told, "version {word}");
-    }
+fn versions_have_a_letter_and_two_numbers(rt: HostRuntime) -> Result<(), Fail> {
+    tells_each(rt.alloc(), Kind::Version, VERSIONS)
 }
+
+const CALLBACKS: &str = "\
+none => opens false syncs false
+open => opens true syncs false
+sync => opens false syncs true
+both => opens true syncs true
+None => word";
 
 #[test]
-fn callbacks_have_four_words(rt: HostRuntime) {
-    let rows = [
-        ("none", false, false),
-        ("open", true, false),
-        ("sync", false, true),
-        ("both", true, true),
-    ];
-    for (word, opens, syncs) in rows {
-        let told = Ok(CallbackSet { opens, syncs });
-        assert_eq!(rt; callbacks(word.as_bytes()), told, "callbacks {word}");
-    }
-    assert_eq!(rt; callbacks(b"None"), Err(LineError::Fault(Reason::Word)));
+fn callbacks_have_four_words(rt: HostRuntime) -> Result<(), Fail> {
+    tells_each(rt.alloc(), Kind::Callbacks, CALLBACKS)
 }
+
+const WHOSE_STEPS: &str = "\
+c5 => client 5
+n7 => node 7
+c99.4294967295 => call 4294967295 of client 99
+c99.4294967296 => none
+c0.0 => none
+c0.01 => none
+c0. => none
+c0.1.1 => none
+c100.1 => none
+n1.2 => none
+n8 => none
+ => none";
 
 #[test]
-fn steps_are_of_a_client_a_node_or_a_call(rt: HostRuntime) {
-    let last = CallId {
-        actor: ActorName::Client(99),
-        number: 4_294_967_295,
-    };
-    let rows = [
-        ("c5", Some(Who::Actor(ActorName::Client(5)))),
-        ("n7", Some(Who::Actor(ActorName::Node(7)))),
-        ("c99.4294967295", Some(Who::Call(last))),
-        ("c99.4294967296", None),
-        ("c0.0", None),
-        ("c0.01", None),
-        ("c0.", None),
-        ("c0.1.1", None),
-        ("c100.1", None),
-        ("n1.2", None),
-        ("n8", None),
-        ("", None),
-    ];
-    for (word, told) in rows {
-        assert_eq!(rt; who(word.as_bytes()).ok(), told, "steps of {word}");
-    }
+fn steps_are_of_a_client_a_node_or_a_call(rt: HostRuntime) -> Result<(), Fail> {
+    tells_each(rt.alloc(), Kind::Who, WHOSE_STEPS)
 }
 
-// A word of each kind, as it is written.
+/// A word of each kind, as it is written.
 fn written(alloc: Global) -> Result<Vec<u8>, AllocError> {
     let mut out = Vec::new(alloc);
     write_bytes(alloc, &mut out, &[0, 171, 255])?;

@@ -1,12 +1,9 @@
-ghost use Rattle.std.specs.Prelude.{◌≡◌, ◌+◌, ◌-◌, ◌^◌, ◌<◌, ◌≤◌, length, IfSome};
-ghost use Rattle.ckpt_types.specs.Limits.{places_max};
-ghost use Rattle.client_handles.specs.ClientState.{IsLent, NoneLent};
-
-use super::{NO_CALLBACKS, READS};
+use super::{NO_CALLBACKS, bind, take};
 use ckpt_types::{AisError, Count, CreationAttributes, PLACES_MAX, WR_ALL_REPLICAS};
 use client_handles::Client;
 use section_iter::Iteration;
 use std::alloc::{AllocError, Global};
+use std::process::Abort;
 use std::test::Fail;
 
 /// What is done at a place for iterations.
@@ -45,35 +42,32 @@ fn iteration_of(alloc: Global, room: u32) -> Result<Iteration, AllocError> {
     )
 }
 
-fn open(client: &mut Client, from: u8) -> Option<u32>
-    requires place { from < places_max }
-    requires handles { client.old.last_number < 1000 }
-    requires kept { NoneLent client.old }
-    ensures handles { client.new.last_number ≤ client.old.last_number + 1 }
-    ensures iterations { client.new.last_iteration ≡ client.old.last_iteration }
-    ensures kept { NoneLent client.new }
-{
-    let _room = client.handle_room();
-    let Ok(number) = client.take_handle(7, READS, WR_ALL_REPLICAS) else {
-        return None;
-    };
-    client.bind(from, number);
-    Some(number)
+fn open(client: &mut Client, from: u8) -> Option<u32> {
+    let number = take(client, 7)?;
+    if bind(client, from, number) {
+        Some(number)
+    } else {
+        None
+    }
 }
 
-fn begin_at(client: &mut Client, place: u8, from: u8, iteration: Iteration) -> Option<u32>
-    requires place { place < places_max }
-    requires iterations { client.old.last_iteration < 1000 }
-    requires kept { NoneLent client.old }
-    ensures handles { client.new.last_number ≡ client.old.last_number }
-    ensures iterations { client.new.last_iteration ≤ client.old.last_iteration + 1 }
-    ensures kept { NoneLent client.new }
-{
+/// Begins an iteration over the handle of that number, where there is such, and a number left.
+fn add(client: &mut Client, place: u8, handle: u32, iteration: Iteration) -> Result<(), Count> {
+    if usize::from(place) >= PLACES_MAX || !client.iteration_numbers_left() {
+        return Err(Count { count: 0 });
+    }
+    if client.handle_numbered(handle).is_none() {
+        return Err(Count { count: 0 });
+    }
+    client.add_iteration(place, handle, iteration)
+}
+
+fn begin_at(client: &mut Client, place: u8, from: u8, iteration: Iteration) -> Option<u32> {
     let room = iteration.room();
     let Ok(handle) = client.handle(from) else {
         return None;
     };
-    match client.add_iteration(place, handle.handle, iteration) {
+    match add(client, place, handle.handle, iteration) {
         Ok(()) => Some(room),
         Err(_full) => None,
     }
@@ -86,39 +80,47 @@ fn whose(client: &Client, place: u8) -> Option<u32> {
     }
 }
 
-fn pass_at(client: &mut Client, place: u8) -> Option<u32>
-    requires place { place < places_max }
-    requires kept { NoneLent client.old }
-    ensures handles { client.new.last_number ≡ client.old.last_number }
-    ensures iterations { client.new.last_iteration ≡ client.old.last_iteration }
-    ensures kept { NoneLent client.new }
-{
-    let Ok(iteration) = client.lend_iteration(place) else {
+/// Lends the iteration of a place, where it is kept.
+fn lend(client: &mut Client, place: u8) -> Option<Iteration> {
+    if client.is_lent(place) {
         return None;
-    };
-    let room = iteration.room();
-    client.return_iteration(place, iteration);
-    Some(room)
+    }
+    match client.lend_iteration(place) {
+        Ok(iteration) => Some(iteration),
+        Err(_none) => None,
+    }
 }
 
-fn end_at(client: &mut Client, place: u8) -> Option<u32>
-    requires { NoneLent client.old }
-    ensures handles { client.new.last_number ≡ client.old.last_number }
-    ensures iterations { client.new.last_iteration ≡ client.old.last_iteration }
-    ensures kept { NoneLent client.new }
-{
+/// Gives an iteration back to its place, where it is lent.
+fn give_back(client: &mut Client, place: u8, iteration: Iteration) -> bool {
+    if usize::from(place) >= PLACES_MAX {
+        return false;
+    }
+    if !client.is_lent(place) {
+        return false;
+    }
+    client.return_iteration(place, iteration);
+    true
+}
+
+fn pass_at(client: &mut Client, place: u8) -> Option<u32> {
+    let iteration = lend(client, place)?;
+    let room = iteration.room();
+    if give_back(client, place, iteration) {
+        Some(room)
+    } else {
+        None
+    }
+}
+
+fn end_at(client: &mut Client, place: u8) -> Option<u32> {
     match client.end_iteration(place) {
         Ok(()) => Some(0),
         Err(_none) => None,
     }
 }
 
-fn close_at(client: &mut Client, from: u8) -> Option<u32>
-    requires { NoneLent client.old }
-    ensures handles { client.new.last_number ≡ client.old.last_number }
-    ensures iterations { client.new.last_iteration ≡ client.old.last_iteration }
-    ensures kept { NoneLent client.new }
-{
+fn close_at(client: &mut Client, from: u8) -> Option<u32> {
     match client.drop_handle(from) {
         Ok(handle) => Some(handle.handle),
         Err(_none) => None,
@@ -130,36 +132,19 @@ fn do_at(
     client: &mut Client,
     place: u8,
     what: Act,
-) -> Result<Option<u32>, AllocError>
-    requires handles { client.old.last_number < 1000 }
-    requires iterations { client.old.last_iteration < 1000 }
-    requires kept { NoneLent client.old }
-    ensures handles { client.new.last_number ≤ client.old.last_number + 1 }
-    ensures iterations { client.new.last_iteration ≤ client.old.last_iteration + 1 }
-    ensures kept { NoneLent client.new }
-{
-    match what {
-        Act::Open(from) if (from as usize) < PLACES_MAX => Ok(open(client, from)),
-        Act::Begin(from, room) if (place as usize) < PLACES_MAX => {
-            Ok(begin_at(client, place, from, iteration_of(alloc, room)?))
-        }
-        Act::Close(from) => Ok(close_at(client, from)),
-        Act::Whose => Ok(whose(client, place)),
-        Act::Pass if (place as usize) < PLACES_MAX => Ok(pass_at(client, place)),
-        Act::End => Ok(end_at(client, place)),
-        _no_place => Ok(None),
-    }
+) -> Result<Option<u32>, AllocError> {
+    Ok(match what {
+        Act::Open(from) => open(client, from),
+        Act::Begin(from, room) => begin_at(client, place, from, iteration_of(alloc, room)?),
+        Act::Close(from) => close_at(client, from),
+        Act::Whose => whose(client, place),
+        Act::Pass => pass_at(client, place),
+        Act::End => end_at(client, place),
+    })
 }
 
 /// Goes through the rows, and fails with the words of the first that tells something else.
-fn play(alloc: Global, client: &mut Client, rows: &[Row<'_>]) -> Result<(), Fail>
-    requires handles { client.old.last_number + length rows.now < 1000 }
-    requires iterations { client.old.last_iteration + length rows.now < 1000 }
-    requires kept { NoneLent client.old }
-    ensures handles { client.new.last_number ≤ client.old.last_number + length rows.now }
-    ensures iterations { client.new.last_iteration ≤ client.old.last_iteration + length rows.now }
-    ensures kept { NoneLent client.new }
-{
+fn play(alloc: Global, client: &mut Client, rows: &[Row<'_>]) -> Result<(), Fail> {
     for (says, place, what, wanted) in rows {
         if do_at(alloc, client, *place, *what)? != *wanted {
             return Err(Fail::new(*says));
@@ -168,12 +153,10 @@ fn play(alloc: Global, client: &mut Client, rows: &[Row<'_>]) -> Result<(), Fail
     Ok(())
 }
 
-#[test]
-fn eight_iterations_are_begun_at_most(rt: HostRuntime) -> Result<(), Fail> {
-    let mut client = Client::new(rt.alloc(), NO_CALLBACKS)?;
+fn begins_eight(rt: &impl Abort, alloc: Global, client: &mut Client) -> Result<(), Fail> {
     play(
-        rt.alloc(),
-        &mut client,
+        alloc,
+        client,
         &[
             ("a handle", 0, Act::Open(0), Some(1)),
             ("the first", 0, Act::Begin(0, 1), Some(1)),
@@ -187,15 +170,15 @@ fn eight_iterations_are_begun_at_most(rt: HostRuntime) -> Result<(), Fail> {
     )?;
     assert!(rt; client.iteration_room(), "the eighth may still be begun");
     play(
-        rt.alloc(),
-        &mut client,
+        alloc,
+        client,
         &[("the eighth", 7, Act::Begin(0, 8), Some(8))],
     )?;
     assert!(rt; !client.iteration_room(), "8 were begun");
     assert!(rt; client.iteration_numbers_left(), "though there are numbers");
     play(
-        rt.alloc(),
-        &mut client,
+        alloc,
+        client,
         &[
             ("the ninth is refused", 20, Act::Begin(0, 9), None),
             ("its place stands for none", 20, Act::Whose, None),
@@ -211,6 +194,12 @@ fn eight_iterations_are_begun_at_most(rt: HostRuntime) -> Result<(), Fail> {
             ("again there is no more", 3, Act::Begin(0, 10), None),
         ],
     )
+}
+
+#[test]
+fn eight_iterations_are_begun_at_most(rt: HostRuntime) -> Result<(), Fail> {
+    let mut client = Client::new(rt.alloc(), NO_CALLBACKS)?;
+    begins_eight(&rt, rt.alloc(), &mut client)
 }
 
 #[test]
@@ -290,72 +279,86 @@ fn the_iterations_of_a_handle_end_with_it(rt: HostRuntime) -> Result<(), Fail> {
     )
 }
 
-/// Begins an iteration over the handle of a place, and lends it.
-fn lend_new(client: &mut Client, place: u8, from: u8, iteration: Iteration) -> Option<Iteration>
-    requires place { place < places_max }
-    requires iterations { client.old.last_iteration < 1000 }
-    requires kept { NoneLent client.old }
-    ensures lent { IfSome result (λ it. IsLent place client.new) }
-{
-    begin_at(client, place, from, iteration)?;
-    let Ok(lent) = client.lend_iteration(place) else {
-        return None;
-    };
-    Some(lent)
+/// Opens a handle at h0, begins an iteration over it at i3, and lends it.
+fn lend_new(alloc: Global, client: &mut Client) -> Result<Iteration, Fail> {
+    let fresh = iteration_of(alloc, 5)?;
+    open(client, 0);
+    begin_at(client, 3, 0, fresh);
+    match lend(client, 3) {
+        Some(lent) => Ok(lent),
+        None => Err(Fail::new("none was lent")),
+    }
+}
+
+/// The iteration of i3 may be given back.
+fn takes_back(rt: &impl Abort, client: &mut Client, lent: Iteration) {
+    assert_eq!(rt; lent.room(), 5);
+    assert!(rt; client.is_lent(3), "i3 is lent");
+    assert_eq!(rt; whose(client, 3), Some(1));
+    assert!(rt; give_back(client, 3, lent));
+    assert!(rt; !client.is_lent(3), "i3 was returned");
+    assert_eq!(rt; whose(client, 3), Some(1));
+}
+
+/// A copy of a client that lends i3 takes it back, too.
+fn copy_takes_back(
+    rt: &impl Abort,
+    alloc: Global,
+    client: &Client,
+    lent: &Iteration,
+) -> Result<(), AllocError> {
+    let again = lent.copy(alloc)?;
+    let mut copy = client.copy(alloc)?;
+    takes_back(rt, &mut copy, again);
+    Ok(())
 }
 
 #[test]
 fn a_place_stands_for_an_iteration_that_is_lent(rt: HostRuntime) -> Result<(), Fail> {
     let mut client = Client::new(rt.alloc(), NO_CALLBACKS)?;
-    open(&mut client, 0);
-    let fresh = iteration_of(rt.alloc(), 5)?;
-    let Some(lent) = lend_new(&mut client, 3, 0, fresh) else {
-        return Err(Fail::new("none was lent"));
-    };
-    assert_eq!(rt; lent.room(), 5);
-    assert!(rt; client.is_lent(3), "i3 is lent");
+    let lent = lend_new(rt.alloc(), &mut client)?;
     assert!(rt; !client.is_lent(4), "i4 stands for none");
     assert!(rt; !client.is_lent(103), "there is no i103");
-    assert_eq!(rt; whose(&client, 3), Some(1));
     assert_eq!(rt; whose(&client, 4), None);
-    let mut copy = client.copy(rt.alloc())?;
-    let again = lent.copy(rt.alloc())?;
-    client.return_iteration(3, lent);
-    assert!(rt; !client.is_lent(3), "i3 was returned");
-    assert_eq!(rt; whose(&client, 3), Some(1));
-    copy.return_iteration(3, again);
-    assert_eq!(rt; whose(&copy, 3), Some(1));
+    copy_takes_back(&rt, rt.alloc(), &client, &lent)?;
+    takes_back(&rt, &mut client, lent);
     Ok(())
 }
 
-#[test]
-fn an_iteration_that_is_lent_ends_too(rt: HostRuntime) -> Result<(), Fail> {
-    let mut client = Client::new(rt.alloc(), NO_CALLBACKS)?;
-    open(&mut client, 0);
-    let fresh = iteration_of(rt.alloc(), 5)?;
-    let Some(_lent) = lend_new(&mut client, 3, 0, fresh) else {
-        return Err(Fail::new("none was lent"));
-    };
-    let mut copy = client.copy(rt.alloc())?;
-    let mut left = client.copy(rt.alloc())?;
-    assert_eq!(rt; client.end_iteration(3), Ok(()));
-    assert_eq!(rt; client.end_iteration(3), Err(AisError::BadHandle));
-    assert_eq!(rt; whose(&copy, 3), Some(1));
-    copy.release(1);
-    assert_eq!(rt; whose(&copy, 3), None);
-    assert_eq!(rt; copy.end_iteration(3), Err(AisError::BadHandle));
+/// i3 ends with all others, in a copy.
+fn copy_leaves(rt: &impl Abort, alloc: Global, client: &Client) -> Result<(), AllocError> {
+    let mut left = client.copy(alloc)?;
     left.close_all();
     assert_eq!(rt; whose(&left, 3), None);
     assert_eq!(rt; left.handle(0), Err(AisError::BadHandle));
     Ok(())
 }
 
+/// i3, which is lent, ends, and in a copy it ends with its handle.
+fn ends_lent(rt: &impl Abort, alloc: Global, client: &mut Client) -> Result<(), AllocError> {
+    let mut copy = client.copy(alloc)?;
+    assert_eq!(rt; client.end_iteration(3), Ok(()));
+    assert_eq!(rt; client.end_iteration(3), Err(AisError::BadHandle));
+    assert_eq!(rt; whose(&copy, 3), Some(1));
+    copy.release(1);
+    assert_eq!(rt; whose(&copy, 3), None);
+    assert_eq!(rt; copy.end_iteration(3), Err(AisError::BadHandle));
+    Ok(())
+}
+
 #[test]
-fn a_client_that_leaves_keeps_nothing(rt: HostRuntime) -> Result<(), Fail> {
+fn an_iteration_that_is_lent_ends_too(rt: HostRuntime) -> Result<(), Fail> {
     let mut client = Client::new(rt.alloc(), NO_CALLBACKS)?;
+    let _lent = lend_new(rt.alloc(), &mut client)?;
+    copy_leaves(&rt, rt.alloc(), &client)?;
+    ends_lent(&rt, rt.alloc(), &mut client)?;
+    Ok(())
+}
+
+fn leaves(alloc: Global, client: &mut Client) -> Result<(), Fail> {
     play(
-        rt.alloc(),
-        &mut client,
+        alloc,
+        client,
         &[
             ("a handle at h0", 0, Act::Open(0), Some(1)),
             ("and one at h99", 0, Act::Open(99), Some(2)),
@@ -365,8 +368,8 @@ fn a_client_that_leaves_keeps_nothing(rt: HostRuntime) -> Result<(), Fail> {
     )?;
     client.close_all();
     play(
-        rt.alloc(),
-        &mut client,
+        alloc,
+        client,
         &[
             ("i0 stands for none", 0, Act::Whose, None),
             ("i99 stands for none", 99, Act::End, None),
@@ -382,11 +385,26 @@ fn a_client_that_leaves_keeps_nothing(rt: HostRuntime) -> Result<(), Fail> {
 }
 
 #[test]
-fn a_ninth_iteration_is_told_the_count(rt: HostRuntime) -> Result<(), Fail> {
+fn a_client_that_leaves_keeps_nothing(rt: HostRuntime) -> Result<(), Fail> {
     let mut client = Client::new(rt.alloc(), NO_CALLBACKS)?;
+    leaves(rt.alloc(), &mut client)
+}
+
+/// An iteration may be begun in a copy where one was ended, and in nothing else.
+fn copy_has_room(rt: &impl Abort, alloc: Global, client: &Client) -> Result<(), AllocError> {
+    let mut copy = client.copy(alloc)?;
+    assert!(rt; !copy.iteration_room(), "the copy has 8, too");
+    assert_eq!(rt; copy.end_iteration(7), Ok(()));
+    assert!(rt; copy.iteration_room(), "one may be begun in the copy");
+    assert!(rt; !client.iteration_room(), "and none where it was copied");
+    assert_eq!(rt; whose(client, 7), Some(1));
+    Ok(())
+}
+
+fn refuses_a_ninth(rt: &impl Abort, alloc: Global, client: &mut Client) -> Result<(), Fail> {
     play(
-        rt.alloc(),
-        &mut client,
+        alloc,
+        client,
         &[
             ("a handle", 0, Act::Open(0), Some(1)),
             ("the first", 0, Act::Begin(0, 1), Some(1)),
@@ -399,16 +417,14 @@ fn a_ninth_iteration_is_told_the_count(rt: HostRuntime) -> Result<(), Fail> {
             ("the eighth", 7, Act::Begin(0, 1), Some(1)),
         ],
     )?;
-    let ninth = iteration_of(rt.alloc(), 1)?;
-    if let Ok(handle) = client.handle(0) {
-        let told = client.add_iteration(8, handle.handle, ninth);
-        assert_eq!(rt; told, Err(Count { count: 8 }));
-    }
-    let mut copy = client.copy(rt.alloc())?;
-    assert!(rt; !copy.iteration_room(), "the copy has 8, too");
-    assert_eq!(rt; copy.end_iteration(7), Ok(()));
-    assert!(rt; copy.iteration_room(), "one may be begun in the copy");
-    assert!(rt; !client.iteration_room(), "and none where it was copied");
-    assert_eq!(rt; whose(&client, 7), Some(1));
+    let ninth = iteration_of(alloc, 1)?;
+    assert_eq!(rt; add(client, 8, 1, ninth), Err(Count { count: 8 }));
+    copy_has_room(rt, alloc, client)?;
     Ok(())
+}
+
+#[test]
+fn a_ninth_iteration_is_told_the_count(rt: HostRuntime) -> Result<(), Fail> {
+    let mut client = Client::new(rt.alloc(), NO_CALLBACKS)?;
+    refuses_a_ninth(&rt, rt.alloc(), &mut client)
 }
