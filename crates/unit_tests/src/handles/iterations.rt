@@ -176,6 +176,10 @@ fn begins_eight(rt: &impl Abort, alloc: Global, client: &mut Client) -> Result<(
     )?;
     assert!(rt; !client.iteration_room(), "8 were begun");
     assert!(rt; client.iteration_numbers_left(), "though there are numbers");
+    ends_one_of_eight(alloc, client)
+}
+
+fn ends_one_of_eight(alloc: Global, client: &mut Client) -> Result<(), Fail> {
     play(
         alloc,
         client,
