@@ -57,17 +57,39 @@ fn gives(
             _ => false,
         };
         if !fits {
-            return Err(Fail::new(format_args!("not {want:?}")));
+            return Err(Fail::new(match want {
+                Some((id, _)) => *id,
+                None => "no section",
+            }));
         }
     }
     Ok(())
+}
+
+/// What the iteration over `a` to `d` gives that has given `a`, once `b` is gone, `c` was written, and
+/// `e` is there.
+fn goes_on(alloc: Global, it: &mut Iteration, ends: &[Option<(&str, u64)>]) -> Result<(), Fail> {
+    let ok = SectionState::Valid;
+    let later = [
+        ("a", "", NEVER, ok),
+        ("c", "q", NEVER, ok),
+        ("d", "", NEVER, ok),
+        ("e", "", NEVER, ok),
+    ];
+    gives(alloc, it, &later, 0, &[Some(("c", 1)), Some(("d", 0))])?;
+    gives(alloc, it, &later, 0, ends)
+}
+
+fn copy_goes_on(alloc: Global, it: &mut Iteration) -> Result<(), Fail> {
+    let mut again = it.copy(alloc)?;
+    goes_on(alloc, it, &[None, None])?;
+    goes_on(alloc, &mut again, &[None])
 }
 
 #[test]
 fn sections_are_told_by_the_identifiers_kept(rt: HostRuntime) -> Result<(), Fail> {
     let alloc = rt.alloc();
     let ok = SectionState::Valid;
-    let mut it = Iteration::reserve(alloc, &EIGHT)?;
     let first = [
         ("a", "", NEVER, ok),
         ("b", "", NEVER, ok),
@@ -78,29 +100,10 @@ fn sections_are_told_by_the_identifiers_kept(rt: HostRuntime) -> Result<(), Fail
         chosen: SECTIONS_ANY,
         time: 0,
     };
+    let mut it = Iteration::reserve(alloc, &EIGHT)?;
     start(alloc, &mut it, &first, any, 0)?;
     gives(alloc, &mut it, &first, 0, &[Some(("a", 0))])?;
-    let mut again = it.copy(alloc)?;
-    let later = [
-        ("a", "", NEVER, ok),
-        ("c", "q", NEVER, ok),
-        ("d", "", NEVER, ok),
-        ("e", "", NEVER, ok),
-    ];
-    gives(
-        alloc,
-        &mut it,
-        &later,
-        0,
-        &[Some(("c", 1)), Some(("d", 0)), None, None],
-    )?;
-    gives(
-        alloc,
-        &mut again,
-        &later,
-        0,
-        &[Some(("c", 1)), Some(("d", 0)), None],
-    )
+    copy_goes_on(alloc, &mut it)
 }
 
 #[test]
@@ -124,6 +127,18 @@ fn nothing_given_drops_nothing(rt: HostRuntime) -> Result<(), Fail> {
     )
 }
 
+/// What an iteration gives at the moment 10 that was begun then with this choice.
+fn chooses(
+    alloc: Global,
+    given: &[Given<'_>],
+    choice: Choice,
+    wanted: &[Option<(&str, u64)>],
+) -> Result<(), Fail> {
+    let mut it = Iteration::reserve(alloc, &EIGHT)?;
+    start(alloc, &mut it, given, choice, 10)?;
+    gives(alloc, &mut it, given, 10, wanted)
+}
+
 #[test]
 fn a_choice_takes_by_expiration_and_state(rt: HostRuntime) -> Result<(), Fail> {
     let alloc = rt.alloc();
@@ -143,9 +158,7 @@ fn a_choice_takes_by_expiration_and_state(rt: HostRuntime) -> Result<(), Fail> {
         (SECTIONS_ANY, 0, [a, b, c]),
         (6, 0, [None, None, None]),
     ] {
-        let mut it = Iteration::reserve(alloc, &EIGHT)?;
-        start(alloc, &mut it, &given, Choice { chosen, time }, 10)?;
-        gives(alloc, &mut it, &given, 10, &wanted)?;
+        chooses(alloc, &given, Choice { chosen, time }, &wanted)?;
     }
     Ok(())
 }

@@ -157,19 +157,24 @@ fn prints(alloc: Global, label: Label, step: &str, own: &str) -> Result<(), Fail
     }
 }
 
+/// The step at n0 by which a call of c0 ends.
+fn last(number: u32, words: (OpWord, Verb), ckpt: Option<CkptId>, answer: Answer) -> Label {
+    Label::Stepped {
+        call: client(0, number),
+        op: words.0,
+        verb: words.1,
+        ckpt,
+        node: Some(0),
+        reply: StepReply::Ok,
+        end: Some(Outcome::Done(answer)),
+        pieces: None,
+    }
+}
+
 #[test]
 fn a_call_prints_its_steps_only_where_they_are_asked_for(rt: HostRuntime) -> Result<(), Fail> {
     let alloc = rt.alloc();
-    let enters = Label::Stepped {
-        call: client(0, 1),
-        op: OpWord::Client,
-        verb: Verb::Enter,
-        ckpt: None,
-        node: Some(0),
-        reply: StepReply::Ok,
-        end: Some(Outcome::Done(Answer::Version)),
-        pieces: None,
-    };
+    let enters = last(1, (OpWord::Client, Verb::Enter), None, Answer::Version);
     prints(
         alloc,
         enters,
@@ -184,16 +189,7 @@ fn a_call_prints_its_steps_only_where_they_are_asked_for(rt: HostRuntime) -> Res
     prints(alloc, begins, "+ c0.2 begin open\n", "")?;
     let stages = step(client(0, 3), Verb::Stage, 0, StepReply::Ok);
     prints(alloc, stages, "+ c0.3 stage K1 n0 ok\n", "")?;
-    let commits = Label::Stepped {
-        call: client(0, 3),
-        op: OpWord::Write,
-        verb: Verb::Commit,
-        ckpt: Some(1),
-        node: Some(0),
-        reply: StepReply::Ok,
-        end: Some(Outcome::Done(Answer::Nothing)),
-        pieces: None,
-    };
+    let commits = last(3, (OpWord::Write, Verb::Commit), Some(1), Answer::Nothing);
     prints(
         alloc,
         commits,
@@ -235,6 +231,12 @@ fn a_step_tells_its_reply(rt: HostRuntime) -> Result<(), Fail> {
         StepReply::Ok,
         "+ c0.5 withdraw K1 n0 ok\n",
     )?;
+    Ok(())
+}
+
+#[test]
+fn a_step_that_was_not_done_tells_why(rt: HostRuntime) -> Result<(), Fail> {
+    let alloc = rt.alloc();
     steps(
         alloc,
         Verb::Install,
@@ -372,9 +374,6 @@ fn refuses(
 fn a_refusal_has_its_cause(rt: HostRuntime) -> Result<(), Fail> {
     let alloc = rt.alloc();
     let (plain, index) = (Cause::Plain, Cause::Index(2));
-    let changed = Cause::Generations(1, 2);
-    let late = Cause::Deadline(5, 6);
-    let full = Cause::Count(32);
     refuses(
         alloc,
         OpWord::Client,
@@ -396,6 +395,15 @@ fn a_refusal_has_its_cause(rt: HostRuntime) -> Result<(), Fail> {
         plain,
         "c0.5 over NO_SPACE\n",
     )?;
+    Ok(())
+}
+
+#[test]
+fn a_refusal_has_the_numbers_of_its_cause(rt: HostRuntime) -> Result<(), Fail> {
+    let alloc = rt.alloc();
+    let changed = Cause::Generations(1, 2);
+    let late = Cause::Deadline(5, 6);
+    let full = Cause::Count(32);
     refuses(
         alloc,
         OpWord::Write,

@@ -1,14 +1,12 @@
-ghost use Rattle.std.specs.Prelude.{◌≡◌, [], ◌∷◌, IfOk};
-ghost use Rattle.ckpt_types.specs.declared.update.NewId.TheVariants.{Generated};
-ghost use Rattle.ckpt_types.specs.declared.update.Update.TheVariants as updates;
-
 use ckpt_types::{
     Bytes, CreationAttributes, IoElement, Moment, NEVER, NewId, ReadBuf, ReadElement, SectionId,
     SectionState, Sections, Update, Vector, WR_ALL_REPLICAS,
 };
 use section_store::Store;
 use std::alloc::{AllocError, Global};
+use std::process::Abort;
 use std::test::Fail;
+use update_rules::{check, check_read};
 
 const ONE: CreationAttributes = CreationAttributes {
     creation_flags: WR_ALL_REPLICAS,
@@ -29,9 +27,7 @@ const TWO: CreationAttributes = CreationAttributes {
 };
 
 /// A write of one element into the default section.
-fn write(alloc: Global, offset: u64, bytes: &[u8]) -> Result<Update, AllocError>
-    ensures { IfOk result (λ u. u ≡ updates.Write (record { id = []; offset = offset; bytes = bytes.now } ∷ [])) }
-{
+fn write(alloc: Global, offset: u64, bytes: &[u8]) -> Result<Update, AllocError> {
     let mut elements = Vec::with_capacity(alloc, 1)?;
     elements.push_reserved(IoElement {
         id: SectionId::default(),
@@ -42,28 +38,72 @@ fn write(alloc: Global, offset: u64, bytes: &[u8]) -> Result<Update, AllocError>
 }
 
 /// A creation of a section, under an identifier that the service makes.
-fn create(alloc: Global, expiration: Moment, bytes: &[u8]) -> Result<Update, AllocError>
-    ensures { IfOk result (λ u. u ≡ updates.Create Generated expiration bytes.now) }
-{
+fn create(alloc: Global, expiration: Moment, bytes: &[u8]) -> Result<Update, AllocError> {
     let bytes = Bytes::from_slice(alloc, bytes)?;
     Ok(Update::Create(NewId::Generated, expiration, bytes))
+}
+
+/// Makes the update, where it is not refused.
+fn make(store: &mut Store, update: &Update, now: Moment) -> bool {
+    let attrs = store.descriptor(now).attributes;
+    if check(&attrs, &*store, update, now).is_err() {
+        return false;
+    }
+    store.apply(update, now);
+    true
+}
+
+/// Makes a creation of a section at a moment.
+fn creates(
+    store: &mut Store,
+    alloc: Global,
+    expiration: Moment,
+    bytes: &[u8],
+    now: Moment,
+) -> Result<bool, AllocError> {
+    let update = create(alloc, expiration, bytes)?;
+    Ok(make(store, &update, now))
+}
+
+/// Makes a write into the default section at a moment.
+fn writes(
+    store: &mut Store,
+    alloc: Global,
+    offset: u64,
+    bytes: &[u8],
+    now: Moment,
+) -> Result<bool, AllocError> {
+    let update = write(alloc, offset, bytes)?;
+    Ok(make(store, &update, now))
+}
+
+/// Whether a read of the default section gives these bytes.
+fn gives(
+    store: &Store,
+    alloc: Global,
+    offset: u64,
+    bytes: &[u8],
+    now: Moment,
+) -> Result<bool, AllocError> {
+    let element = ReadElement {
+        id: SectionId::default(),
+        offset,
+        len: 2,
+    };
+    let mut out = ReadBuf::reserve(alloc, 1, 8)?;
+    if check_read(store, &[element], now).is_err() {
+        return Ok(false);
+    }
+    store.read_into(&[element], now, &mut out);
+    Ok(out.len() == 1 && out.piece(0) == bytes)
 }
 
 #[test]
 fn a_gap_before_what_is_written_is_zeros(rt: HostRuntime) -> Result<(), Fail> {
     let alloc = rt.alloc();
     let mut store = Store::reserve(alloc, &ONE, 5)?;
-    let update = write(alloc, 2, b"ab")?;
-    store.apply(&update, 7);
-    let mut out = ReadBuf::reserve(alloc, 1, 8)?;
-    let element = ReadElement {
-        id: SectionId::default(),
-        offset: 1,
-        len: 2,
-    };
-    store.read_into(&[element], 7, &mut out);
-    assert_eq!(rt; out.len(), 1);
-    assert_eq!(rt; out.piece(0), [0, 97].as_slice());
+    assert!(rt; writes(&mut store, alloc, 2, b"ab", 7)?);
+    assert!(rt; gives(&store, alloc, 1, &[0, 97], 7)?);
     store.corrupt(&SectionId::default());
     assert_eq!(rt; store.len(), 1);
     let section = store.at(0);
@@ -73,29 +113,36 @@ fn a_gap_before_what_is_written_is_zeros(rt: HostRuntime) -> Result<(), Fail> {
     Ok(())
 }
 
+/// The store has two sections: the first of all, and one of these bytes.
+fn has_two(rt: &impl Abort, store: &Store, bytes: &[u8]) {
+    assert_eq!(rt; store.len(), 2);
+    assert_eq!(rt; store.at(0).bytes, b"abcd".as_slice());
+    assert_eq!(rt; store.at(1).bytes, bytes);
+    assert_eq!(rt;
+        store.at(1).id.as_slice(),
+        [0, 0, 0, 0, 0, 0, 0, 2].as_slice()
+    );
+}
+
+/// A third section takes the place of what has expired, and none in a copy.
+fn makes_room(rt: &impl Abort, alloc: Global, store: &mut Store) -> Result<(), AllocError> {
+    let copy = store.copy(alloc)?;
+    assert!(rt; creates(store, alloc, NEVER, b"ijkl", 10)?);
+    has_two(rt, store, b"ijkl");
+    has_two(rt, &copy, b"efgh");
+    Ok(())
+}
+
 #[test]
 fn what_has_expired_makes_room_in_a_full_store(rt: HostRuntime) -> Result<(), Fail> {
     let alloc = rt.alloc();
     let mut store = Store::reserve(alloc, &TWO, 5)?;
-    let first = create(alloc, NEVER, b"abcd")?;
-    store.apply(&first, 6);
-    let second = create(alloc, 10, b"efgh")?;
-    store.apply(&second, 6);
+    assert!(rt; creates(&mut store, alloc, NEVER, b"abcd", 6)?);
+    assert!(rt; creates(&mut store, alloc, 10, b"efgh", 6)?);
     let full = store.descriptor(9);
     assert_eq!(rt; (full.number_of_sections, full.memory_used), (2, 8));
     let half = store.descriptor(10);
     assert_eq!(rt; (half.number_of_sections, half.memory_used), (1, 4));
-    let copy = store.copy(alloc)?;
-    let third = create(alloc, NEVER, b"ijkl")?;
-    store.apply(&third, 10);
-    for (each, bytes) in [(&store, b"ijkl".as_slice()), (&copy, b"efgh")] {
-        assert_eq!(rt; each.len(), 2);
-        assert_eq!(rt; each.at(0).bytes, b"abcd".as_slice());
-        assert_eq!(rt; each.at(1).bytes, bytes);
-        assert_eq!(rt;
-            each.at(1).id.as_slice(),
-            [0, 0, 0, 0, 0, 0, 0, 2].as_slice()
-        );
-    }
+    makes_room(&rt, alloc, &mut store)?;
     Ok(())
 }

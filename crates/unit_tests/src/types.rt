@@ -75,128 +75,76 @@ fn a_buffer_gives_back_its_pieces(rt: HostRuntime) -> Result<(), Fail> {
     Ok(())
 }
 
-#[test]
-fn each_rule_refuses_its_attributes(rt: HostRuntime) {
-    let a = ATTRIBUTES;
-    let flagged = |flags: u32| CreationAttributes {
+/// Whether these attributes pass their check.
+fn passes(attributes: &CreationAttributes) -> bool {
+    attributes.check() == Ok(())
+}
+
+/// Whether these attributes are refused.
+fn fails(attributes: &CreationAttributes) -> bool {
+    attributes.check() == Err(AisError::InvalidParam)
+}
+
+fn flagged(flags: u32) -> CreationAttributes {
+    CreationAttributes {
         creation_flags: flags,
-        ..a
-    };
-    let rows = [
-        ("well formed", a, true),
-        ("active", flagged(WR_ACTIVE_REPLICA), true),
-        (
-            "weak, collocated",
-            flagged(WR_ACTIVE_REPLICA_WEAK | CHECKPOINT_COLLOCATED),
-            true,
-        ),
-        ("no option", flagged(CHECKPOINT_COLLOCATED), false),
-        (
-            "two options",
-            flagged(WR_ALL_REPLICAS | WR_ACTIVE_REPLICA),
-            false,
-        ),
-        ("an unknown flag", flagged(WR_ACTIVE_REPLICA | 16), false),
-        (
-            "all, collocated",
-            flagged(WR_ALL_REPLICAS | CHECKPOINT_COLLOCATED),
-            false,
-        ),
-        (
-            "no bytes",
-            CreationAttributes {
-                checkpoint_size: 0,
-                ..a
-            },
-            false,
-        ),
-        (
-            "no sections",
-            CreationAttributes {
-                max_sections: 0,
-                ..a
-            },
-            false,
-        ),
-        (
-            "one byte too many",
-            CreationAttributes {
-                checkpoint_size: 17,
-                ..a
-            },
-            false,
-        ),
-        (
-            "a negative retention",
-            CreationAttributes {
-                retention_duration: -1,
-                ..a
-            },
-            false,
-        ),
-        (
-            "64 bytes of identifiers",
-            CreationAttributes {
-                max_section_id_size: 64,
-                ..a
-            },
-            true,
-        ),
-        (
-            "65 bytes of identifiers",
-            CreationAttributes {
-                max_section_id_size: 65,
-                ..a
-            },
-            false,
-        ),
-        (
-            "1,024 sections of 1,024 bytes",
-            CreationAttributes {
-                max_sections: 1024,
-                max_section_size: 1024,
-                ..a
-            },
-            true,
-        ),
-        (
-            "1,025 sections",
-            CreationAttributes {
-                max_sections: 1025,
-                ..a
-            },
-            false,
-        ),
-        (
-            "a product of 96 bits",
-            CreationAttributes {
-                max_sections: 1024,
-                max_section_size: u64::MAX,
-                ..a
-            },
-            false,
-        ),
-    ];
-    for (what, attributes, passes) in rows {
-        let want = if passes {
-            Ok(())
-        } else {
-            Err(AisError::InvalidParam)
-        };
-        assert_eq!(rt; attributes.check(), want, "{what}");
+        ..ATTRIBUTES
     }
-    assert!(rt;
-        a.same_but_retention(&CreationAttributes {
-            retention_duration: 9,
-            ..a
-        })
-    );
-    assert!(rt;
-        !a.same_but_retention(&CreationAttributes {
-            checkpoint_size: 15,
-            ..a
-        })
-    );
+}
+
+#[test]
+fn each_rule_refuses_its_flags(rt: HostRuntime) {
+    let (weak, active) = (WR_ACTIVE_REPLICA_WEAK, WR_ACTIVE_REPLICA);
+    let (all, collocated) = (WR_ALL_REPLICAS, CHECKPOINT_COLLOCATED);
+    assert!(rt; passes(&ATTRIBUTES), "well formed");
+    assert!(rt; passes(&flagged(active)), "active");
+    assert!(rt; passes(&flagged(weak | collocated)), "weak, collocated");
+    assert!(rt; fails(&flagged(collocated)), "no option");
+    assert!(rt; fails(&flagged(all | active)), "two options");
+    assert!(rt; fails(&flagged(active | 16)), "an unknown flag");
+    assert!(rt; fails(&flagged(all | collocated)), "all, collocated");
+}
+
+/// These attributes, with other sizes of a checkpoint and of identifiers.
+fn sized(checkpoint_size: u64, max_section_id_size: u64) -> CreationAttributes {
+    CreationAttributes {
+        checkpoint_size,
+        max_section_id_size,
+        ..ATTRIBUTES
+    }
+}
+
+/// These attributes, with other numbers and sizes of sections.
+fn with_sections(max_sections: u32, max_section_size: u64) -> CreationAttributes {
+    CreationAttributes {
+        max_sections,
+        max_section_size,
+        ..ATTRIBUTES
+    }
+}
+
+/// These attributes, with another retention.
+fn retained(retention_duration: i64) -> CreationAttributes {
+    CreationAttributes {
+        retention_duration,
+        ..ATTRIBUTES
+    }
+}
+
+#[test]
+fn each_rule_refuses_its_numbers(rt: HostRuntime) {
+    let (many, product) = (with_sections(1024, 1024), with_sections(1024, u64::MAX));
+    assert!(rt; fails(&sized(0, 8)), "no bytes");
+    assert!(rt; fails(&with_sections(0, 8)), "no sections");
+    assert!(rt; fails(&sized(17, 8)), "one byte too many");
+    assert!(rt; fails(&retained(-1)), "a negative retention");
+    assert!(rt; passes(&sized(16, 64)), "64 bytes of identifiers");
+    assert!(rt; fails(&sized(16, 65)), "65 bytes of identifiers");
+    assert!(rt; passes(&many), "1,024 sections of 1,024 bytes");
+    assert!(rt; fails(&with_sections(1025, 8)), "1,025 sections");
+    assert!(rt; fails(&product), "a product of 96 bits");
+    assert!(rt; ATTRIBUTES.same_but_retention(&retained(9)));
+    assert!(rt; !ATTRIBUTES.same_but_retention(&sized(15, 8)));
 }
 
 #[test]

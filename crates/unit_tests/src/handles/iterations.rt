@@ -176,6 +176,10 @@ fn begins_eight(rt: &impl Abort, alloc: Global, client: &mut Client) -> Result<(
     )?;
     assert!(rt; !client.iteration_room(), "8 were begun");
     assert!(rt; client.iteration_numbers_left(), "though there are numbers");
+    ends_one_of_eight(alloc, client)
+}
+
+fn ends_one_of_eight(alloc: Global, client: &mut Client) -> Result<(), Fail> {
     play(
         alloc,
         client,
@@ -307,22 +311,25 @@ fn copy_takes_back(
     client: &Client,
     lent: &Iteration,
 ) -> Result<(), AllocError> {
-    let again = lent.copy(alloc)?;
     let mut copy = client.copy(alloc)?;
-    takes_back(rt, &mut copy, again);
+    takes_back(rt, &mut copy, lent.copy(alloc)?);
+    Ok(())
+}
+
+fn lends(rt: &impl Abort, alloc: Global, client: &mut Client) -> Result<(), Fail> {
+    let lent = lend_new(alloc, client)?;
+    assert!(rt; !client.is_lent(4), "i4 stands for none");
+    assert!(rt; !client.is_lent(103), "there is no i103");
+    assert_eq!(rt; whose(client, 4), None);
+    copy_takes_back(rt, alloc, client, &lent)?;
+    takes_back(rt, client, lent);
     Ok(())
 }
 
 #[test]
 fn a_place_stands_for_an_iteration_that_is_lent(rt: HostRuntime) -> Result<(), Fail> {
     let mut client = Client::new(rt.alloc(), NO_CALLBACKS)?;
-    let lent = lend_new(rt.alloc(), &mut client)?;
-    assert!(rt; !client.is_lent(4), "i4 stands for none");
-    assert!(rt; !client.is_lent(103), "there is no i103");
-    assert_eq!(rt; whose(&client, 4), None);
-    copy_takes_back(&rt, rt.alloc(), &client, &lent)?;
-    takes_back(&rt, &mut client, lent);
-    Ok(())
+    lends(&rt, rt.alloc(), &mut client)
 }
 
 /// i3 ends with all others, in a copy.
@@ -346,13 +353,17 @@ fn ends_lent(rt: &impl Abort, alloc: Global, client: &mut Client) -> Result<(), 
     Ok(())
 }
 
+fn lends_and_ends(rt: &impl Abort, alloc: Global, client: &mut Client) -> Result<(), Fail> {
+    let _lent = lend_new(alloc, client)?;
+    copy_leaves(rt, alloc, client)?;
+    ends_lent(rt, alloc, client)?;
+    Ok(())
+}
+
 #[test]
 fn an_iteration_that_is_lent_ends_too(rt: HostRuntime) -> Result<(), Fail> {
     let mut client = Client::new(rt.alloc(), NO_CALLBACKS)?;
-    let _lent = lend_new(rt.alloc(), &mut client)?;
-    copy_leaves(&rt, rt.alloc(), &client)?;
-    ends_lent(&rt, rt.alloc(), &mut client)?;
-    Ok(())
+    lends_and_ends(&rt, rt.alloc(), &mut client)
 }
 
 fn leaves(alloc: Global, client: &mut Client) -> Result<(), Fail> {
