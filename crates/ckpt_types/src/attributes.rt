@@ -6,6 +6,7 @@ use crate::limits::{
     CHECKPOINT_COLLOCATED, CREATION_FLAGS_ALL, DECLARED_BYTES_MAX, DECLARED_ID_MAX, SECTIONS_MAX,
     WR_ACTIVE_REPLICA, WR_ACTIVE_REPLICA_WEAK, WR_ALL_REPLICAS,
 };
+use crate::shared::Shared;
 
 /// What a checkpoint is declared to have when it is made.
 #[derive(Clone, Copy, Debug, PartialEq, Eq, Hash)]
@@ -23,6 +24,9 @@ pub struct CreationAttributes {
     /// The most bytes of an identifier.
     pub max_section_id_size: u64,
 }
+
+/// The attributes of an open, if it has any, which the operation, its driver and the log share.
+pub type SharedAttributes = Shared<Option<CreationAttributes>>;
 
 impl CreationAttributes {
     /// Refuses malformed attributes with `InvalidParam`: an unknown creation flag; not just one of the

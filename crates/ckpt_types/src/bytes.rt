@@ -7,6 +7,7 @@ ghost use Rattle.std.specs.Cmp;
 ghost use Rattle.ckpt_types.specs.Limits.{name_max};
 
 use crate::limits::NAME_MAX;
+use crate::shared::Shared;
 use std::alloc::{AllocError, Global};
 use std::hash::{Hash, Hasher};
 use std::marker::Model;
@@ -88,6 +89,9 @@ impl Hash for Bytes {
         self.as_slice().hash(state);
     }
 }
+
+/// The name of a checkpoint that an operation, its driver and the log share.
+pub type SharedName = Shared<Bytes>;
 
 /// Whether the bytes fit as a checkpoint's name: 1 to 256 of them.
 pub fn name_fits(name: &Bytes) -> bool

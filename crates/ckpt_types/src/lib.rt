@@ -19,8 +19,8 @@ mod vector;
 
 pub use ais_error::AisError;
 pub use answers::{Answer, Cause, Given, Outcome};
-pub use attributes::CreationAttributes;
-pub use bytes::{Bytes, name_fits};
+pub use attributes::{CreationAttributes, SharedAttributes};
+pub use bytes::{Bytes, SharedName, name_fits};
 pub use calls::{AsyncKind, CallbackSet, Count, Held, OpenAsk, RaceBlock, RaceLine, Version};
 pub use identities::{ActorName, CallId, CkptId, Incarnation, Moment, NodeId, Who};
 pub use limits::{

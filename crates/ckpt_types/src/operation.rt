@@ -1,5 +1,5 @@
-use crate::attributes::CreationAttributes;
-use crate::bytes::Bytes;
+use crate::attributes::SharedAttributes;
+use crate::bytes::{Bytes, SharedName};
 use crate::calls::{CallbackSet, Version};
 use crate::identities::{Moment, NodeId};
 use crate::update::{SharedReads, SharedUpdate};
@@ -13,9 +13,9 @@ pub enum Op {
     /// Finalize.
     Finalize,
     /// CheckpointOpen: the handle's place, name, open flags, timeout, and attributes.
-    Open(u8, Bytes, u32, Moment, Option<CreationAttributes>),
+    Open(u8, SharedName, u32, Moment, SharedAttributes),
     /// CheckpointOpenAsync: the handle's place, invocation, name, open flags, and attributes.
-    OpenAsync(u8, u64, Bytes, u32, Option<CreationAttributes>),
+    OpenAsync(u8, u64, SharedName, u32, SharedAttributes),
     /// CheckpointClose, of the handle at a place.
     Close(u8),
     /// CheckpointUnlink, of a name.

@@ -14,6 +14,7 @@ use run_labels::RunLog;
 use running::{Status, ckpt_run};
 use std::alloc::Global;
 use std::io;
+use std::mem;
 use std::process::ExitCode;
 use std::string::String;
 use std::sync::Wait;
@@ -47,9 +48,13 @@ fn run<R: Threads + Wait + Sync>(
         return Status::NoMemory;
     };
     let mut log = RunLog::new(alloc);
-    ckpt_run(
+    let status = ckpt_run(
         rt, alloc, words, source, sink, &OpenGate, &mut log, &mut world,
-    )
+    );
+    // The program ends here, and gives all memory back at once.
+    mem::forget(log);
+    mem::forget(world);
+    status
 }
 
 // One line to standard error for each status but that of a run.

@@ -1,13 +1,15 @@
 ghost use Rattle.std.specs.Prelude.{◌≡◌, ◌<◌, ◌≤◌, ◌*◌, ◌/◌, ◌%◌, ◌^◌, length, drop};
 ghost use Rattle.ckpt_types.specs.Limits.{line_elements_max};
 ghost use Rattle.script_words.specs.Reasons.{Reads};
+ghost use Rattle.script_words.specs.Words.{read, some_bytes};
 ghost use Rattle.script_lang.specs.declared.forms.LineWord.TheVariants as word;
 ghost use Rattle.script_lang.specs.Faults.{Gives};
 ghost use Rattle.script_lang.specs.Table.{texts, said_by, made, one_made, gather, attributes, attributes_of, io_group, io_element, read_group, read_element};
 
 use crate::lines::Line;
 use ckpt_types::{
-    CreationAttributes, IoElement, LINE_ELEMENTS_MAX, Op, ReadElement, Shared, Update, Vector,
+    CreationAttributes, IoElement, LINE_ELEMENTS_MAX, Op, ReadElement, Shared, SharedName,
+    Update, Vector,
 };
 use script_words::{LineError, Reason};
 use std::alloc::Global;
@@ -268,15 +270,16 @@ pub fn open_line(alloc: Global, words: &[&[u8]]) -> Result<Line, LineError>
     }
     let client = script_words::client(client)?;
     let place = script_words::place(place)?;
-    let name = script_words::bytes(alloc, name)?;
+    let name = shared_name(alloc, name)?;
     let flags = script_words::number(0, FLAGS_MAX, flags)?;
     let timeout = script_words::time(timeout)?;
     if rest.is_empty() {
-        let op = Op::Open(place, name, flags as u32, timeout, None);
+        let attributes = Shared::new(alloc, None)?;
+        let op = Op::Open(place, name, flags as u32, timeout, attributes);
         return Ok(Line::Call(client, op));
     }
-    let attributes = attributes_in(rest)?;
-    let op = Op::Open(place, name, flags as u32, timeout, Some(attributes));
+    let attributes = Shared::new(alloc, Some(attributes_in(rest)?))?;
+    let op = Op::Open(place, name, flags as u32, timeout, attributes);
     Ok(Line::Call(client, op))
 }
 
@@ -294,15 +297,24 @@ pub fn open_async_line(alloc: Global, words: &[&[u8]]) -> Result<Line, LineError
     let client = script_words::client(client)?;
     let place = script_words::place(place)?;
     let invocation = script_words::number(0, u64::MAX, invocation)?;
-    let name = script_words::bytes(alloc, name)?;
+    let name = shared_name(alloc, name)?;
     let flags = script_words::number(0, FLAGS_MAX, flags)?;
     if rest.is_empty() {
-        let op = Op::OpenAsync(place, invocation, name, flags as u32, None);
+        let attributes = Shared::new(alloc, None)?;
+        let op = Op::OpenAsync(place, invocation, name, flags as u32, attributes);
         return Ok(Line::Call(client, op));
     }
-    let attributes = attributes_in(rest)?;
-    let op = Op::OpenAsync(place, invocation, name, flags as u32, Some(attributes));
+    let attributes = Shared::new(alloc, Some(attributes_in(rest)?))?;
+    let op = Op::OpenAsync(place, invocation, name, flags as u32, attributes);
     Ok(Line::Call(client, op))
+}
+
+// The name that a word says.
+fn shared_name(alloc: Global, word: &[u8]) -> Result<SharedName, LineError>
+    ensures { Reads result (read some_bytes word.now) }
+{
+    let name = script_words::bytes(alloc, word)?;
+    Ok(Shared::new(alloc, name)?)
 }
 
 // The creation attributes that six words say.

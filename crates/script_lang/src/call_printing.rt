@@ -31,10 +31,10 @@ pub fn write_call(alloc: Global, out: &mut Vec<u8>, client: u8, op: &Op) -> Resu
                 out,
                 client,
                 *place,
-                name,
+                name.value(),
                 *flags,
                 *timeout,
-                *attributes,
+                *attributes.value(),
             )
         }
         Op::OpenAsync(place, invocation, name, flags, attributes) => open_async_call(
@@ -43,9 +43,9 @@ pub fn write_call(alloc: Global, out: &mut Vec<u8>, client: u8, op: &Op) -> Resu
             client,
             *place,
             *invocation,
-            name,
+            name.value(),
             *flags,
-            *attributes,
+            *attributes.value(),
         ),
         Op::Close(place) => close_call(out, client, *place),
         Op::Unlink(name) => unlink_call(alloc, out, client, name),

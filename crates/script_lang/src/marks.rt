@@ -204,8 +204,8 @@ fn is_later_op(op: &Op) -> bool
 {
     match op {
         Op::Client(_, _, callbacks) => callbacks.opens || callbacks.syncs,
-        Op::Open(_, _, _, _, attributes) => is_later_attributes(attributes),
-        Op::OpenAsync(_, _, _, _, attributes) => is_later_attributes(attributes),
+        Op::Open(_, _, _, _, attributes) => is_later_attributes(attributes.value()),
+        Op::OpenAsync(_, _, _, _, attributes) => is_later_attributes(attributes.value()),
         _ => false,
     }
 }

@@ -1,7 +1,7 @@
 use ckpt_types::{
     ActorName, AisError, Answer, Bytes, CallId, Cause, CheckpointDescriptor, CkptId,
     CreationAttributes, Given, NEVER, Op, Outcome, Pieces, ReadBuf, SectionDescriptor, SectionId,
-    SectionState, Vector, Who,
+    SectionState, Shared, Vector, Who,
 };
 use node_msgs::{StepReply, Verb};
 use run_labels::{
@@ -183,7 +183,7 @@ fn a_call_prints_its_steps_only_where_they_are_asked_for(rt: HostRuntime) -> Res
     )?;
     let begins = Label::Began {
         call: client(0, 2),
-        op: Op::Open(0, Bytes::from_slice(alloc, b"ck")?, 7, NEVER, None),
+        op: Op::Open(0, Shared::new(alloc, Bytes::from_slice(alloc, b"ck")?)?, 7, NEVER, Shared::new(alloc, None)?),
         end: None,
     };
     prints(alloc, begins, "+ c0.2 begin open\n", "")?;
@@ -475,8 +475,9 @@ fn a_call_that_ends_where_it_begins_prints_its_result(rt: HostRuntime) -> Result
     let pulled = Outcome::Done(Answer::Pulled(1));
     let ends = ended(client(0, 4), OpWord::SyncAsync, pulled);
     prints(alloc, ends, "+ c0.4 look done\n", "")?;
-    let name = Bytes::from_slice(alloc, b"ck")?;
-    let opens = began(client(1, 2), Op::OpenAsync(0, 100, name, 3, None), nothing);
+    let name = Shared::new(alloc, Bytes::from_slice(alloc, b"ck")?)?;
+    let open = Op::OpenAsync(0, 100, name, 3, Shared::new(alloc, None)?);
+    let opens = began(client(1, 2), open, nothing);
     prints(
         alloc,
         opens,

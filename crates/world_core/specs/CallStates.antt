@@ -1,13 +1,18 @@
 -- What each driver keeps, as its fields have it.
+use Rattle.ckpt_types.specs.declared.calls.OpenAsk.{OpenAsk}
 use Rattle.cluster_record.specs.DueActive.{ActiveState}
 use Rattle.cluster_record.specs.DueOpen.{OpenState}
 use Rattle.cluster_record.specs.DueUpdate.{UpdateState}
 use Rattle.world_core.specs.declared.open_call.OpenCall.TheInside as opening
+use Rattle.world_core.specs.declared.open_call.SharedAsk.TheInside as asked
 use Rattle.world_core.specs.declared.reading.ActiveCall.TheInside as asking
 use Rattle.world_core.specs.declared.update_call.UpdateCall.TheInside as updating
 
 abbrev pub update_state : updating.Inside → UpdateState
 update_state u = record { call = u.call; ckpt = u.ckpt; owned = u.owned; moment = u.moment; phase = u.phase }
+
+abbrev pub ask_of : asked.Inside → OpenAsk
+ask_of a = record { name = a.name; attrs = a.attributes; client = a.client; node = a.node }
 
 abbrev pub open_state : opening.Inside → OpenState
 open_state o = record { call = o.call; ask = o.ask; deadline = o.deadline; making = o.making }

@@ -5,8 +5,8 @@ ghost use Rattle.world_core.specs.Driving.{event_change, event_after, takes_memo
 ghost use Rattle.world_core.specs.declared.drivers.Driver.TheVariants.{Open};
 
 use crate::drivers::Driver;
-use crate::open_call::OpenCall;
-use ckpt_types::{CallId, OpenAsk};
+use crate::open_call::{OpenCall, SharedAsk};
+use ckpt_types::CallId;
 use cluster_record::{OpenAnswer, Record, number_of};
 use node_msgs::RecordStep;
 use std::alloc::AllocError;
@@ -101,26 +101,15 @@ fn change_by_open(
 }
 
 // The record opens the checkpoint of the ask, or puts it into the making: that none of both is refused was decided before.
-fn ask(cluster: &mut Record, call: CallId, ask: &OpenAsk) -> Result<(), AllocError>
+fn ask(cluster: &mut Record, call: CallId, ask: &SharedAsk) -> Result<(), AllocError>
     requires can { CanAsk call cluster.old ask.now }
     requires granted { IsGranted (open_answer cluster.old ask.now) }
     ensures ok { OnOk result (cluster.new ≡ after_open call ask.now cluster.old) }
     ensures err { OnErr result (cluster.new ≡ cluster.old) }
 {
-    let ask = copy(ask)?;
+    let ask = ask.to_ask()?;
     if let OpenAnswer::Refused(_) = cluster.open(call, ask) {
         unreachable!()
     }
     Ok(())
-}
-
-fn copy(ask: &OpenAsk) -> Result<OpenAsk, AllocError>
-    ensures { IfOk result (λ copied. copied ≡ ask.now) }
-{
-    Ok(OpenAsk {
-        name: ask.name.clone()?,
-        attrs: ask.attrs,
-        client: ask.client,
-        node: ask.node,
-    })
 }

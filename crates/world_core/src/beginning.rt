@@ -20,7 +20,7 @@ pub fn begin_end(live: bool, handle: &Option<HandleView>, op: &Op) -> Option<Out
         Op::Client(_, version, _) => client_begin(version),
         Op::Open(_, name, flags, timeout, attributes) => {
             if live {
-                open_begin(name, *flags, *timeout, attributes)
+                open_begin(name.value(), *flags, *timeout, attributes.value())
             } else {
                 refused(AisError::BadHandle)
             }

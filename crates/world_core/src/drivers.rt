@@ -15,11 +15,11 @@ ghost use Rattle.world_core.specs.declared.drivers.Driver.TheVariants.{Close, Re
 
 use crate::beginning::{choice_of, ckpt_of_handle};
 use crate::one_step::{close_next, retain_next, unlink_next};
-use crate::open_call::OpenCall;
+use crate::open_call::{OpenCall, SharedAsk};
 use crate::reading::ActiveCall;
 use crate::update_call::UpdateCall;
 use ckpt_types::{
-    AisError, Answer, Bytes, CLIENTS_MAX, CallId, Cause, CkptId, NodeId, Op, OpenAsk, Outcome,
+    AisError, Answer, Bytes, CLIENTS_MAX, CallId, Cause, CkptId, NodeId, Op, Outcome,
 };
 use client_handles::HandleView;
 use cluster_record::{ActiveKind, Record, number_of};
@@ -69,11 +69,10 @@ impl Driver {
         match op {
             Op::Client(r, _, _) => Ok(Driver::Enter(*r)),
             Op::Open(_, name, _, timeout, attributes) => {
-                let name = name.clone()?;
                 let client = number_of(&call.actor);
-                let ask = OpenAsk {
-                    name,
-                    attrs: *attributes,
+                let ask = SharedAsk {
+                    name: name.share()?,
+                    attributes: attributes.share()?,
                     client,
                     node: node_of(cluster, client),
                 };
@@ -277,7 +276,7 @@ pub fn event_ckpt(cluster: &Record, driver: &Driver, step: &RecordStep) -> Optio
 {
     match (driver, step) {
         (Driver::Open(_), RecordStep::Create) => Some(cluster.last_identity() + 1),
-        (Driver::Open(open_call), RecordStep::Open) => cluster.find(&open_call.ask().name),
+        (Driver::Open(open_call), RecordStep::Open) => cluster.find(open_call.name()),
         (Driver::Open(open_call), RecordStep::Finish | RecordStep::Undo) => open_call.making(),
         (Driver::Unlink(name), RecordStep::Unlink) => cluster.find(name),
         (Driver::Close(ckpt), RecordStep::Close) => Some(*ckpt),

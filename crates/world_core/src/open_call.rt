@@ -7,19 +7,57 @@ ghost use Rattle.cluster_record.specs.DueOpen.{open_begun, making_ckpt, in_time,
 ghost use Rattle.cluster_record.specs.StepDone.{done_of};
 
 use ckpt_types::{
-    AisError, CHECKPOINTS_MAX, CallId, Cause, CkptId, CreationAttributes, HANDLES_MAX, Moment,
-    NODES_MAX, NodeId, OpenAsk, Outcome,
+    AisError, Bytes, CHECKPOINTS_MAX, CallId, Cause, CkptId, CreationAttributes, HANDLES_MAX,
+    Moment, NODES_MAX, NodeId, OpenAsk, Outcome, SharedAttributes, SharedName,
 };
 use cluster_record::{Entry, Making, Record, accepts, first_lacking};
 use moment_rules::reached;
 use node_msgs::{Next, RecordStep, Request, StepReply};
+use std::alloc::AllocError;
 use std::marker::Model;
+
+/// What an open asks of the record, whose name and attributes its operation and the log share.
+#[derive(Debug, Drop)]
+pub struct SharedAsk {
+    /// The checkpoint's name.
+    pub name: SharedName,
+    /// The attributes to make it with, where it may be made.
+    pub attributes: SharedAttributes,
+    /// The client that opens it.
+    pub client: u8,
+    /// That client's node.
+    pub node: NodeId,
+}
+
+impl Model for SharedAsk {
+    ghost use Rattle.ckpt_types.specs.declared.calls.OpenAsk.{OpenAsk};
+
+    ghost Value = { OpenAsk };
+
+    ghost use Rattle.world_core.specs.CallStates.{ask_of};
+
+    ghost view = { ask_of };
+}
+
+impl SharedAsk {
+    /// The same, with a name of its own.
+    pub fn to_ask(&self) -> Result<OpenAsk, AllocError>
+        ensures { IfOk result (λ ask. ask ≡ self.now) }
+    {
+        Ok(OpenAsk {
+            name: self.name.value().clone()?,
+            attrs: *self.attributes.value(),
+            client: self.client,
+            node: self.node,
+        })
+    }
+}
 
 /// The driver of an open.
 #[derive(Debug, Drop)]
 pub struct OpenCall {
     call: CallId,
-    ask: OpenAsk,
+    ask: SharedAsk,
     // The moment from which on it is too late, if it has a timeout.
     deadline: Option<Moment>,
     // What it is making, if it is.
@@ -38,7 +76,7 @@ impl Model for OpenCall {
 
 impl OpenCall {
     /// The open of a call that begins: it is making nothing.
-    pub fn begin(call: CallId, ask: OpenAsk, deadline: Option<Moment>) -> OpenCall
+    pub fn begin(call: CallId, ask: SharedAsk, deadline: Option<Moment>) -> OpenCall
         ensures { result ≡ open_begun call ask deadline }
     {
         OpenCall {
@@ -50,10 +88,17 @@ impl OpenCall {
     }
 
     /// What it asks of the record.
-    pub fn ask(&self) -> &OpenAsk
+    pub fn ask(&self) -> &SharedAsk
         ensures { result.now ≡ self.now.ask }
     {
         &self.ask
+    }
+
+    /// The name of the checkpoint that it asks for.
+    pub fn name(&self) -> &Bytes
+        ensures { result.now ≡ self.now.ask.name }
+    {
+        self.ask.name.value()
     }
 
     /// The checkpoint that it is making, if it is.
@@ -79,10 +124,10 @@ impl OpenCall {
     fn named_next(&self, cluster: &Record, room: bool) -> Next
         ensures { result ≡ on_named cluster.now room self.now.deadline self.now.ask.attrs (named self.now.ask.name cluster.now.entries) }
     {
-        match cluster.named(&self.ask.name) {
-            None => free_next(cluster, room, self.deadline, &self.ask.attrs),
+        match cluster.named(self.ask.name.value()) {
+            None => free_next(cluster, room, self.deadline, self.ask.attributes.value()),
             Some(entry) => {
-                let next = entry_next(room, &self.ask.attrs, entry);
+                let next = entry_next(room, self.ask.attributes.value(), entry);
                 in_time(self.deadline, cluster.now(), next)
             }
         }
