@@ -1,8 +1,8 @@
 -- Pieces that stand one behind another: one more at the end, and the one at a place.
-use Rattle.std.proofs.Common.{◌≡◌, ℕ, zero, suc, ◌+◌, ◌-◌, ◌≤◌, ◌<◌, List, [], ◌∷◌, ◌++◌, length, take, drop, Some, refl, sym, ap, ◌∙◌, arith, length-drop}
+use Rattle.std.proofs.Common.{◌≡◌, ℕ, zero, suc, ◌+◌, ◌-◌, ◌≤◌, ◌<◌, List, [], ◌∷◌, ◌++◌, length, take, drop, Some, refl, sym, ap, ◌∙◌, arith, length-append, length-drop}
 use Rattle.std.proofs.lemmas.List.{take-append-le, drop-append-le, drop_at, take_all}
 use Rattle.std.specs.Prelude.{slice_get, slice_index}
-use Rattle.ckpt_types.specs.Ends.{pieces_between, start_before, AreEnds}
+use Rattle.ckpt_types.specs.Ends.{pieces_between, start_before, AreEnds, ends_of, pieces_in, ArePieces}
 
 -- an end behind the last
 pub AreEnds-push : (start : ℕ) (ends : List ℕ) (len more : ℕ) → AreEnds start ends len → len ≤ more → AreEnds start (ends ++ more ∷ []) more
@@ -50,3 +50,51 @@ slice_index-le start (end ∷ ends) len (suc i) are there = slice_index-le end e
 pub length-pieces_between : (start : ℕ) (ends bytes : List ℕ) → length (pieces_between start ends bytes) ≡ length ends
 length-pieces_between start [] bytes = refl
 length-pieces_between start (end ∷ ends) bytes = ap suc (length-pieces_between end ends bytes)
+
+-- ---- pieces that are kept by their number and by the ends of all but the last
+
+-- where there is a piece, its end is behind those before
+pub ends_of-some : (count : ℕ) (breaks : List ℕ) (len : ℕ) → 1 ≤ count → ends_of count breaks len ≡ breaks ++ len ∷ []
+ends_of-some zero breaks len some = absurd (omega arith)
+ends_of-some (suc count) breaks len some = refl
+
+-- there are as many ends as pieces
+pub length-ends_of : (count : ℕ) (breaks : List ℕ) (len : ℕ) → length breaks ≡ count - 1 → length (ends_of count breaks len) ≡ count
+length-ends_of zero breaks len many = refl
+length-ends_of (suc count) breaks len many =
+    let all : length (breaks ++ len ∷ []) ≡ length breaks + 1 = length-append breaks (len ∷ []) in
+    omega arith
+
+-- one more piece ends with the bytes, and the others as they did
+pub ends_of-push : (count : ℕ) (breaks : List ℕ) (len more : ℕ) → ends_of (count + 1) (ends_of count breaks len) more ≡ ends_of count breaks len ++ more ∷ []
+ends_of-push count breaks len more = ends_of-some (count + 1) (ends_of count breaks len) more (omega arith)
+
+pub length-pieces_in : (count : ℕ) (breaks bytes : List ℕ) → ArePieces count breaks (length bytes) → length (pieces_in count breaks bytes) ≡ count
+length-pieces_in count breaks bytes are =
+    length-pieces_between 0 (ends_of count breaks (length bytes)) bytes ∙ length-ends_of count breaks (length bytes) are.many
+
+-- a piece begins where the one before ends, also where one more end stands behind
+pub start_before-append : (start : ℕ) (breaks : List ℕ) (len i : ℕ) → i ≤ length breaks → start_before start (breaks ++ len ∷ []) i ≡ start_before start breaks i
+start_before-append start breaks len zero there = refl
+start_before-append start [] len (suc i) there = absurd (omega arith)
+start_before-append start (end ∷ breaks) len (suc zero) there = refl
+start_before-append start (end ∷ breaks) len (suc (suc i)) there = start_before-append start breaks len (suc i) (omega arith)
+
+-- the bytes of the piece at a place
+pub record IsPart (breaks bytes : List ℕ) (place start end : ℕ) : Type 0 where
+  pub begins : start ≤ end
+  pub ends : end ≤ length bytes
+  pub piece : slice_get (pieces_between 0 (breaks ++ length bytes ∷ []) bytes) place ≡ Some (take (end - start) (drop start bytes))
+
+pub IsPart-at : (breaks bytes : List ℕ) (place start end : ℕ) → AreEnds 0 (breaks ++ length bytes ∷ []) (length bytes) → place ≤ length breaks
+    → start ≡ start_before 0 breaks place → end ≡ slice_index (breaks ++ length bytes ∷ []) place → IsPart breaks bytes place start end
+IsPart-at breaks bytes place start end are there starts ends =
+    let all : List ℕ = breaks ++ length bytes ∷ [] in
+    let count : length all ≡ length breaks + 1 = length-append breaks (length bytes ∷ []) in
+    let within : place < length all = omega arith in
+    let first : start ≡ start_before 0 all place = starts ∙ sym (start_before-append 0 breaks (length bytes) place there) in
+    record {
+      begins = rw (first, ends) (start_before-le 0 all (length bytes) place are within);
+      ends = rw ends (slice_index-le 0 all (length bytes) place are within);
+      piece = rw (first, ends) (slice_get-pieces_between 0 all bytes place within);
+    }

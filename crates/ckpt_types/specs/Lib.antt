@@ -1,6 +1,8 @@
 pub mod AisError
 pub mod Attributes
 pub mod Buffer
+pub mod Bytes
+pub mod Elements
 pub mod Ends
 pub mod Limits
 pub mod ReadBuf

@@ -7,21 +7,39 @@ ghost use Rattle.std.specs.Cmp;
 ghost use Rattle.ckpt_types.specs.Limits.{name_max};
 
 use crate::limits::NAME_MAX;
+use crate::section_id::fill_front;
 use crate::shared::Shared;
 use std::alloc::{AllocError, Global};
 use std::hash::{Hash, Hasher};
 use std::marker::Model;
 
-/// A string of bytes: a checkpoint's name, or the data of a section.
+/// How many bytes lie in place.
+const SHORT_MAX: usize = 30;
+
+/// A string of bytes: a checkpoint's name, or the data of a section. A short one lies in place.
 #[derive(Debug, Drop)]
 pub struct Bytes {
-    items: Vec<u8>,
+    text: Text,
+}
+
+#[derive(Debug, Drop)]
+enum Text {
+    /// So many bytes, at the front.
+    Short(u8, [u8; SHORT_MAX]),
+    /// Bytes in a list.
+    Long(Vec<u8>),
 }
 
 impl Model for Bytes {
+    ghost use Rattle.std.specs.Prelude.{List, ℕ};
+
     ghost Value = { List ℕ };
 
-    ghost view = { λ bytes. bytes.items.items };
+    ghost use Rattle.ckpt_types.specs.Bytes.{bytes_in, IsWithin};
+
+    ghost view = { λ bytes. bytes_in bytes.text };
+
+    ghost invariant = { λ bytes. IsWithin bytes.text };
 }
 
 impl Bytes {
@@ -29,8 +47,15 @@ impl Bytes {
     pub fn from_slice(alloc: Global, bytes: &[u8]) -> Result<Bytes, AllocError>
         ensures { IfOk result (λ copy. copy ≡ bytes.now) }
     {
+        let len = bytes.len();
+        if len > SHORT_MAX {
+            let items = Vec::from_slice(alloc, bytes)?;
+            return Ok(Bytes::from_vec(items));
+        }
+        let mut front = [0; SHORT_MAX];
+        fill_front(&mut front, bytes);
         Ok(Bytes {
-            items: Vec::from_slice(alloc, bytes)?,
+            text: Text::Short(len as u8, front),
         })
     }
 
@@ -38,21 +63,19 @@ impl Bytes {
     pub fn from_vec(items: Vec<u8>) -> Bytes
         ensures { result ≡ items.items }
     {
-        Bytes { items }
-    }
-
-    /// The list of the bytes. It takes no memory.
-    pub fn into_vec(self) -> Vec<u8>
-        ensures { result.items ≡ self }
-    {
-        self.items
+        Bytes {
+            text: Text::Long(items),
+        }
     }
 
     /// The bytes in order.
     pub fn as_slice(&self) -> &[u8]
         ensures { result.now ≡ self.now }
     {
-        self.items.as_slice()
+        match &self.text {
+            Text::Short(len, front) => &front[..*len as usize],
+            Text::Long(items) => items.as_slice(),
+        }
     }
 }
 
@@ -60,9 +83,12 @@ impl Clone for Bytes {
     ghost is_clone = { λ bytes copy. copy ≡ bytes };
 
     fn clone(&self) -> Result<Bytes, AllocError> {
-        Ok(Bytes {
-            items: Vec::from_slice(*self.items.allocator(), self.items.as_slice())?,
-        })
+        match &self.text {
+            Text::Short(len, front) => Ok(Bytes {
+                text: Text::Short(*len, *front),
+            }),
+            Text::Long(items) => Bytes::from_slice(*items.allocator(), items.as_slice()),
+        }
     }
 }
 

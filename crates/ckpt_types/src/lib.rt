@@ -6,6 +6,7 @@ mod answers;
 mod attributes;
 mod bytes;
 mod calls;
+mod elements;
 mod identities;
 mod limits;
 mod open_flags;
@@ -22,6 +23,7 @@ pub use answers::{Answer, Cause, Given, Outcome};
 pub use attributes::{CreationAttributes, SharedAttributes};
 pub use bytes::{Bytes, SharedName, name_fits};
 pub use calls::{AsyncKind, CallbackSet, Count, Held, OpenAsk, RaceBlock, RaceLine, Version};
+pub use elements::Elements;
 pub use identities::{ActorName, CallId, CkptId, Incarnation, Moment, NodeId, Who};
 pub use limits::{
     BLOCK_LINES_MAX, CHECKPOINT_COLLOCATED, CHECKPOINT_CREATE, CHECKPOINT_READ, CHECKPOINT_WRITE,

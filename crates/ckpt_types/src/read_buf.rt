@@ -1,6 +1,6 @@
-ghost use Rattle.std.specs.Prelude.{◌≡◌, ◌+◌, ◌-◌, ◌≤◌, ◌<◌, List, [], ℕ, ◌++◌, IfOk, length, slice_get, Some, vec_capacity};
+ghost use Rattle.std.specs.Prelude.{◌≡◌, ◌+◌, ◌-◌, ◌≤◌, ◌<◌, [], ◌∷◌, ◌++◌, IfOk, length, slice_get, slice_index, Some, vec_capacity};
 ghost use Rattle.ckpt_types.specs.Buffer.{with_piece};
-ghost use Rattle.ckpt_types.specs.Ends.{pieces_between, start_before, AreEnds};
+ghost use Rattle.ckpt_types.specs.Ends.{pieces_between, start_before, ends_of, AreEnds};
 
 use std::alloc::{AllocError, Global};
 use std::marker::Model;
@@ -10,8 +10,10 @@ use std::marker::Model;
 pub struct ReadBuf {
     /// The bytes of all pieces, one behind another.
     bytes: Vec<u8>,
-    /// Where each piece ends in `bytes`.
-    ends: Vec<usize>,
+    /// Where each piece before the last ends in `bytes`, and the next begins.
+    breaks: Vec<usize>,
+    /// How many pieces there are.
+    count: usize,
     max_bytes: usize,
     max_pieces: usize,
 }
@@ -35,7 +37,8 @@ impl ReadBuf {
     {
         Ok(ReadBuf {
             bytes: Vec::with_capacity(alloc, bytes)?,
-            ends: Vec::with_capacity(alloc, pieces)?,
+            breaks: Vec::with_capacity(alloc, pieces.saturating_sub(1))?,
+            count: 0,
             max_bytes: bytes,
             max_pieces: pieces,
         })
@@ -47,7 +50,7 @@ impl ReadBuf {
         ensures bytes { result.1 ≡ self.now.spare_bytes }
     {
         (
-            self.max_pieces - self.ends.len(),
+            self.max_pieces - self.count,
             self.max_bytes - self.bytes.len(),
         )
     }
@@ -58,16 +61,17 @@ impl ReadBuf {
         requires room { length piece.now ≤ self.old.spare_bytes }
         ensures { self.new ≡ with_piece piece.now self.old }
     {
+        let end = self.bytes.len();
+        end_last(&mut self.breaks, self.count, end);
         extend_reserved(&mut self.bytes, piece);
-        let end = self.bytes.as_slice().len();
-        self.ends.push_reserved(end);
+        self.count += 1;
     }
 
     /// How many pieces there are.
     pub fn len(&self) -> usize
         ensures { result ≡ length self.now.pieces }
     {
-        self.ends.as_slice().len()
+        self.count
     }
 
     /// The piece at a place, counted from 0.
@@ -75,7 +79,19 @@ impl ReadBuf {
         requires { place < length self.now.pieces }
         ensures { slice_get self.now.pieces place ≡ Some result.now }
     {
-        piece_between(self.bytes.as_slice(), self.ends.as_slice(), place)
+        piece_between(self.bytes.as_slice(), self.breaks.as_slice(), place)
+    }
+}
+
+/// Keeps where the last of so many pieces ends, if there is one, before another comes.
+fn end_last(breaks: &mut Vec<usize>, count: usize, end: usize)
+    requires many { length breaks.old.items ≡ count - 1 }
+    requires room { count ≤ vec_capacity breaks.old }
+    ensures items { breaks.new.items ≡ ends_of count breaks.old.items end }
+    ensures capacity { vec_capacity breaks.new ≡ vec_capacity breaks.old }
+{
+    if count != 0 {
+        breaks.push_reserved(end);
     }
 }
 
@@ -90,34 +106,57 @@ fn extend_reserved(bytes: &mut Vec<u8>, more: &[u8])
     };
 }
 
-/// The piece at a place, where the pieces have these ends.
-fn piece_between<'a>(bytes: &'a [u8], ends: &[usize], place: usize) -> &'a [u8]
-    requires ends { AreEnds 0 ends.now (length bytes.now) }
-    requires there { place < length ends.now }
-    ensures { slice_get (pieces_between 0 ends.now bytes.now) place ≡ Some result.now }
+/// The piece at a place, where all but the last have these ends.
+fn piece_between<'a>(bytes: &'a [u8], breaks: &[usize], place: usize) -> &'a [u8]
+    requires ends { AreEnds 0 (breaks.now ++ length bytes.now ∷ []) (length bytes.now) }
+    requires there { place ≤ length breaks.now }
+    ensures { slice_get (pieces_between 0 (breaks.now ++ length bytes.now ∷ []) bytes.now) place ≡ Some result.now }
 {
-    let start = start_before(ends, place);
-    &bytes[start..ends[place]]
+    let start = start_before(breaks, place);
+    let end = end_at(breaks, bytes.len(), place);
+    &bytes[start..end]
 }
 
 /// Where the piece at a place begins.
-fn start_before(ends: &[usize], place: usize) -> usize
-    requires { place < length ends.now }
-    ensures { result ≡ start_before 0 ends.now place }
+fn start_before(breaks: &[usize], place: usize) -> usize
+    requires { place ≤ length breaks.now }
+    ensures { result ≡ start_before 0 breaks.now place }
 {
-    if place == 0 { 0 } else { ends[place - 1] }
+    if place == 0 { 0 } else { breaks[place - 1] }
+}
+
+/// Where the piece at a place ends, and the last with the bytes.
+fn end_at(breaks: &[usize], len: usize, place: usize) -> usize
+    requires { place ≤ length breaks.now }
+    ensures { result ≡ slice_index (breaks.now ++ len ∷ []) place }
+{
+    if place < breaks.len() {
+        breaks[place]
+    } else {
+        len
+    }
 }
 
 /// The pieces that a read gave, as the log keeps them.
 #[derive(Debug, Drop)]
 pub struct Pieces {
-    buf: ReadBuf,
+    /// The bytes of all pieces, one behind another.
+    bytes: Vec<u8>,
+    /// Where each piece before the last ends in `bytes`, and the next begins.
+    breaks: Vec<usize>,
+    /// How many pieces there are.
+    count: usize,
 }
 
 impl Model for Pieces {
+    ghost use Rattle.std.specs.Prelude.{List, ℕ, length};
+    ghost use Rattle.ckpt_types.specs.Ends.{pieces_in, ArePieces};
+
     ghost Value = { List (List ℕ) };
 
-    ghost view = { λ p. p.buf.pieces };
+    ghost view = { λ p. pieces_in p.count p.breaks.items p.bytes.items };
+
+    ghost invariant = { λ p. ArePieces p.count p.breaks.items (length p.bytes.items) };
 }
 
 impl Pieces {
@@ -125,14 +164,24 @@ impl Pieces {
     pub fn from_buf(buf: ReadBuf) -> Pieces
         ensures { result ≡ buf.pieces }
     {
-        Pieces { buf }
+        let ReadBuf {
+            bytes,
+            breaks,
+            count,
+            ..
+        } = buf;
+        Pieces {
+            bytes,
+            breaks,
+            count,
+        }
     }
 
     /// How many pieces there are.
     pub fn len(&self) -> usize
         ensures { result ≡ length self.now }
     {
-        self.buf.len()
+        self.count
     }
 
     /// The piece at a place, counted from 0.
@@ -140,6 +189,6 @@ impl Pieces {
         requires { place < length self.now }
         ensures { slice_get self.now place ≡ Some result.now }
     {
-        self.buf.piece(place)
+        piece_between(self.bytes.as_slice(), self.breaks.as_slice(), place)
     }
 }

@@ -119,7 +119,7 @@ impl Hash for SectionId {
 }
 
 /// Copies the bytes to the front.
-fn fill_front(all: &mut [u8], bytes: &[u8])
+pub(crate) fn fill_front(all: &mut [u8], bytes: &[u8])
     requires { length bytes.now ≤ length all.old }
     ensures { all.new ≡ bytes.now ++ drop (length bytes.now) all.old }
 {

@@ -1,8 +1,8 @@
 use crate::bytes::Bytes;
+use crate::elements::Elements;
 use crate::identities::Moment;
 use crate::section_id::SectionId;
 use crate::shared::Shared;
-use crate::vector::Vector;
 
 /// One element of a write: bytes, and where in which section they go.
 #[derive(Debug, Drop)]
@@ -27,10 +27,10 @@ pub struct ReadElement {
 }
 
 /// The elements of a write, fewer than 2^32.
-pub type IoVector = Vector<IoElement>;
+pub type IoVector = Elements<IoElement>;
 
 /// The elements of a read, fewer than 2^32.
-pub type ReadVector = Vector<ReadElement>;
+pub type ReadVector = Elements<ReadElement>;
 
 /// The identifier of a new section.
 #[derive(Clone, Copy, Debug)]

@@ -2,7 +2,7 @@ use crate::listed::{Given, Listed, sections_of};
 use crate::values::{bytes_of, id_of};
 use ckpt_types::{
     CreationAttributes, IoElement, IoVector, Moment, NEVER, NewId, ReadElement, SectionState,
-    Update, Vector, WR_ALL_REPLICAS,
+    Update, WR_ALL_REPLICAS,
 };
 use std::alloc::Global;
 use std::test::Fail;
@@ -110,7 +110,7 @@ fn vector_of(alloc: Global, elements: &[(&str, u64, &str)]) -> Result<IoVector, 
     if items.len() > 64 {
         return Err(Fail::new("many elements"));
     }
-    Ok(Vector::from_vec(items))
+    Ok(IoVector::from_vec(items))
 }
 
 #[test]

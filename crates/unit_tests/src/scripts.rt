@@ -1,5 +1,5 @@
 //! In a table `|` is the end of a line of a script, and `_` a space that would be overlooked.
-use ckpt_types::SCRIPT_BYTES_MAX;
+use ckpt_types::{Bytes, SCRIPT_BYTES_MAX};
 use script_lang::{ParseError, parse, print};
 use std::alloc::{AllocError, Global};
 use std::test::Fail;
@@ -265,9 +265,9 @@ fn a_write_and_a_read_have_256_elements_at_most(rt: HostRuntime) -> Result<(), F
 }
 
 /// The one spelling of a script.
-fn spelled(alloc: Global, script: &[u8]) -> Result<Vec<u8>, ParseError> {
+fn spelled(alloc: Global, script: &[u8]) -> Result<Bytes, ParseError> {
     match parse(alloc, script) {
-        Ok(lines) => Ok(print(alloc, &lines)?.into_vec()),
+        Ok(lines) => Ok(print(alloc, &lines)?),
         Err(error) => Err(error),
     }
 }

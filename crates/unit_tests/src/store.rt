@@ -1,6 +1,6 @@
 use ckpt_types::{
-    Bytes, CreationAttributes, IoElement, Moment, NEVER, NewId, ReadBuf, ReadElement, SectionId,
-    SectionState, Sections, Update, Vector, WR_ALL_REPLICAS,
+    Bytes, CreationAttributes, IoElement, IoVector, Moment, NEVER, NewId, ReadBuf, ReadElement,
+    SectionId, SectionState, Sections, Update, WR_ALL_REPLICAS,
 };
 use section_store::Store;
 use std::alloc::{AllocError, Global};
@@ -28,13 +28,12 @@ const TWO: CreationAttributes = CreationAttributes {
 
 /// A write of one element into the default section.
 fn write(alloc: Global, offset: u64, bytes: &[u8]) -> Result<Update, AllocError> {
-    let mut elements = Vec::with_capacity(alloc, 1)?;
-    elements.push_reserved(IoElement {
+    let element = IoElement {
         id: SectionId::default(),
         offset,
         bytes: Bytes::from_slice(alloc, bytes)?,
-    });
-    Ok(Update::Write(Vector::from_vec(elements)))
+    };
+    Ok(Update::Write(IoVector::one(element)))
 }
 
 /// A creation of a section, under an identifier that the service makes.

@@ -1,8 +1,9 @@
 use ckpt_types::{
-    AisError, Bytes, CHECKPOINT_COLLOCATED, CreationAttributes, IoElement, Op, OpenFlags, Pieces,
-    ReadBuf, ReadElement, SectionId, SharedReads, SharedUpdate, Update, Vector, WR_ACTIVE_REPLICA,
-    WR_ACTIVE_REPLICA_WEAK, WR_ALL_REPLICAS, name_fits,
+    AisError, Bytes, CHECKPOINT_COLLOCATED, CreationAttributes, IoElement, IoVector, Op, OpenFlags,
+    Pieces, ReadBuf, ReadElement, ReadVector, SectionId, SharedReads, SharedUpdate, Update,
+    WR_ACTIVE_REPLICA, WR_ACTIVE_REPLICA_WEAK, WR_ALL_REPLICAS, name_fits,
 };
+use std::alloc::{AllocError, Global};
 use std::test::Fail;
 
 const ATTRIBUTES: CreationAttributes = CreationAttributes {
@@ -19,13 +20,12 @@ fn copies_and_shares_give_the_value(rt: HostRuntime) -> Result<(), Fail> {
     let alloc = rt.alloc();
     let name = Bytes::from_slice(alloc, b"calls")?;
     assert_eq!(rt; name.clone()?.as_slice(), b"calls".as_slice());
-    let mut elements = Vec::new(alloc);
-    elements.push(IoElement {
+    let element = IoElement {
         id: SectionId::default(),
         offset: 3,
         bytes: name,
-    })?;
-    let write = SharedUpdate::new(alloc, Update::Write(Vector::from_vec(elements)))?;
+    };
+    let write = SharedUpdate::new(alloc, Update::Write(IoVector::one(element)))?;
     let op = Op::Write(7, write.share()?);
     let Op::Write(place, share) = op.clone()? else {
         return Err(Fail::new("another operation"));
@@ -49,11 +49,44 @@ fn the_elements_of_a_read_are_shared(rt: HostRuntime) -> Result<(), Fail> {
         offset: 2,
         len: 16,
     })?;
-    let reads = SharedReads::new(alloc, Vector::from_vec(elements))?;
+    let reads = SharedReads::new(alloc, ReadVector::from_vec(elements))?;
     let again = reads.share()?;
     let element = again.value().as_slice().first().ok_or("no element")?;
     assert_eq!(rt; (element.offset, element.len), (2, 16));
     assert_eq!(rt; element.id.as_slice(), b"s63".as_slice());
+    Ok(())
+}
+
+/// A copy of a copy of the bytes.
+fn copied_twice(alloc: Global, bytes: &[u8]) -> Result<Bytes, AllocError> {
+    Bytes::from_slice(alloc, bytes)?.clone()
+}
+
+#[test]
+fn bytes_of_any_length_are_copied(rt: HostRuntime) -> Result<(), Fail> {
+    let text = b"0123456789012345678901234567890";
+    for len in [0, 30, 31] {
+        let copy = copied_twice(rt.alloc(), &text[..len])?;
+        assert!(rt; copy.as_slice() == &text[..len], "another text");
+    }
+    Ok(())
+}
+
+#[test]
+fn a_buffer_may_have_no_piece(rt: HostRuntime) -> Result<(), Fail> {
+    let pieces = Pieces::from_buf(ReadBuf::reserve(rt.alloc(), 2, 5)?);
+    assert_eq!(rt; pieces.len(), 0);
+    Ok(())
+}
+
+#[test]
+fn a_buffer_for_one_piece_gives_it_back(rt: HostRuntime) -> Result<(), Fail> {
+    let mut buf = ReadBuf::reserve(rt.alloc(), 1, 5)?;
+    buf.push(b"abc");
+    assert_eq!(rt; buf.spare(), (0, 2));
+    let pieces = Pieces::from_buf(buf);
+    assert_eq!(rt; pieces.len(), 1);
+    assert_eq!(rt; pieces.piece(0), b"abc".as_slice());
     Ok(())
 }
 

@@ -1,6 +1,6 @@
-use Rattle.std.proofs.Common.{length, sym, ap, ◌∙◌}
-use Rattle.ckpt_types.proofs.EndsLemmas.{length-pieces_between}
+use Rattle.std.proofs.Common.{sym}
+use Rattle.ckpt_types.proofs.EndsLemmas.{length-pieces_in}
 use Rattle.ckpt_types.proofs.read_buf.ReadBuf.len.Goals as goal
 
 pub returns : goal.returns
-returns c = rw (← c.self.view_is) (ap length c.as_slice.ensures.value ∙ sym (length-pieces_between 0 c.self.inside.ends.items c.self.inside.bytes.items))
+returns c = rw (← c.self.view_is) (sym (length-pieces_in c.self.inside.count c.self.inside.breaks.items c.self.inside.bytes.items c.self.invariant.pieces))

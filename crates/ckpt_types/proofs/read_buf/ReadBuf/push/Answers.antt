@@ -1,4 +1,4 @@
-use Rattle.std.proofs.Common.{rules, ap, ◌∙◌}
+use Rattle.std.proofs.Common.{rules, ap, ◌∙◌, ◌+◌}
 use Rattle.ckpt_types.specs.declared.read_buf.ReadBuf.TheInside.{Inside}
 use Rattle.ckpt_types.specs.Buffer.{with_piece}
 use Rattle.ckpt_types.proofs.Pushing.{Pushes, IsRoomy-push, buffer_of-push}
@@ -9,6 +9,6 @@ invariant_of-self c = IsRoomy-push c.self.inside _ c.args.piece.now (search rule
 
 pub returns : goal.returns
 returns c =
-    let new : Inside = record { bytes = c.extend_reserved.new.bytes; ends = c.push_reserved.new.self; max_bytes = c.self.inside.max_bytes; max_pieces = c.self.inside.max_pieces } in
+    let new : Inside = record { bytes = c.extend_reserved.new.bytes; breaks = c.end_last.new.breaks; count = c.self.inside.count + 1; max_bytes = c.self.inside.max_bytes; max_pieces = c.self.inside.max_pieces } in
     let pushes : Pushes c.self.inside new c.args.piece.now = search rules in
     buffer_of-push c.self.inside new c.args.piece.now pushes c.self.invariant ∙ ap (with_piece c.args.piece.now) c.self.view_is
