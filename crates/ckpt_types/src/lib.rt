@@ -41,7 +41,7 @@ pub use read_buf::{Pieces, ReadBuf};
 pub use section_id::SectionId;
 pub use sections::{
     CheckpointDescriptor, Choice, SectionDescriptor, SectionFacts, SectionRef, SectionState,
-    Sections,
+    Sections, Totals,
 };
 pub use shared::Shared;
 pub use update::{

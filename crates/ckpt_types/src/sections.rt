@@ -1,4 +1,4 @@
-ghost use Rattle.std.specs.Prelude.{◌≡◌, ◌<◌, List, length, slice_get, Option, Some, None, MatchOption};
+ghost use Rattle.std.specs.Prelude.{◌≡◌, ◌<◌, ◌-◌, ◌^◌, List, length, slice_get, Option, Some, None, MatchOption};
 
 use crate::attributes::CreationAttributes;
 use crate::identities::Moment;
@@ -92,9 +92,18 @@ pub struct CheckpointDescriptor {
     pub memory_used: u64,
 }
 
+/// What the sections that are present come to.
+#[derive(Clone, Copy, Debug, PartialEq, Eq)]
+pub struct Totals {
+    /// How many they are.
+    pub count: usize,
+    /// How many bytes they have together.
+    pub bytes: u128,
+}
+
 /// A finite map of sections, by identifier, in the order of the identifiers.
 pub trait Sections {
-    ghost use Rattle.ckpt_types.specs.Sections.{Section, Rises, place_of, section_at, section_of};
+    ghost use Rattle.ckpt_types.specs.Sections.{Section, Rises, place_of, section_at, section_of, present, memory_used};
 
     /// The sections, in the order of their identifiers.
     ghost sections: { Self → List Section };
@@ -113,4 +122,10 @@ pub trait Sections {
     fn find(&self, id: &SectionId) -> Option<usize>
         ensures place { result ≡ place_of id.now (sections self.now) }
         ensures section { MatchOption result (section_at id.now (sections self.now) ≡ None) (λ place. section_at id.now (sections self.now) ≡ slice_get (sections self.now) place) };
+
+    /// How many sections are present, and how many bytes they have together.
+    fn totals(&self, now: Moment) -> Totals
+        ensures count { result.count ≡ length (present now (sections self.now)) }
+        ensures bytes { result.bytes ≡ memory_used (present now (sections self.now)) }
+        ensures small { result.bytes < 2 ^ 128 - 2 ^ 64 };
 }

@@ -30,20 +30,35 @@ fn present_to_front(kept: &mut [Box<Stored>], now: Moment) -> usize
     let mut front = 0;
     for place in 0..kept.len() {
         if kept[place].is_present(now) {
-            kept.swap(front, place);
+            if front < place {
+                kept.swap(front, place);
+            }
             front += 1;
         }
     }
     front
 }
 
-/// The earliest expiration of the sections.
-pub(crate) fn earliest(kept: &[Box<Stored>]) -> Moment
-    ensures { ExpireFrom result (sections_of kept.now) }
+/// What is kept of the sections beside them.
+#[derive(Clone, Copy, Debug)]
+pub(crate) struct Summary {
+    /// No section expires before this moment.
+    pub earliest: Moment,
+    /// How many bytes they have together.
+    pub used: usize,
+}
+
+/// The earliest expiration of the sections, and how many bytes they have together.
+pub(crate) fn summary(kept: &[Box<Stored>]) -> Summary
+    requires { memory_used (sections_of kept.now) < 2 ^ 64 }
+    ensures earliest { ExpireFrom result.earliest (sections_of kept.now) }
+    ensures used { result.used ≡ memory_used (sections_of kept.now) }
 {
     let mut earliest = NEVER;
+    let mut used = 0;
     for stored in kept {
         earliest = earliest.min(stored.expiration);
+        used += stored.bytes.len();
     }
-    earliest
+    Summary { earliest, used }
 }

@@ -7,33 +7,53 @@ use crate::order::find_near;
 use crate::stored::Stored;
 use ckpt_types::{Moment, NewId, SectionId};
 
-/// The identifier of a new section.
-pub(crate) fn new_id(new: &NewId, kept: &[Box<Stored>], now: Moment) -> SectionId
-    requires { Rises (sections_of kept.now) }
-    ensures { result ≡ new_id new.now (present now (sections_of kept.now)) }
-{
+/// The identifier of a new section, and a number below which all are taken once it is there.
+#[derive(Clone, Copy, Debug)]
+pub(crate) struct Made {
+    pub id: SectionId,
+    pub first: u64,
+}
+
+/// The identifier of a new section, where all numbers below the first one are taken.
+pub(crate) fn new_id(new: &NewId, kept: &[Box<Stored>], first: u64, now: Moment) -> Made {
     match new {
-        NewId::Given(id) => *id,
-        NewId::Generated => generated(kept, now),
+        NewId::Given(id) => Made { id: *id, first },
+        NewId::Generated => {
+            let number = free_number(kept, first, now);
+            Made {
+                id: numbered(number),
+                first: number + 1,
+            }
+        }
     }
 }
 
-/// The identifier of the least number that is free.
-pub(crate) fn generated(kept: &[Box<Stored>], now: Moment) -> SectionId
-    requires { Rises (sections_of kept.now) }
-    ensures { result ≡ generated_id (present now (sections_of kept.now)) }
+/// The least number that is free, where all below the first one that is tried are taken.
+pub(crate) fn free_number(kept: &[Box<Stored>], first: u64, now: Moment) -> u64
+    requires rises { Rises (sections_of kept.now) }
+    requires taken { AreTaken first (present now (sections_of kept.now)) }
+    ensures { result ≡ free_number (present now (sections_of kept.now)) }
 {
-    let mut number: u64 = 1;
+    let mut number = first;
     let mut near = 0;
     while let Some(place) = place_taken(kept, &numbered(number), near, now) {
         number += 1;
         near = place + 1;
     }
-    numbered(number)
+    number
+}
+
+/// A number up to which all are taken still when the section at a place is gone.
+pub(crate) fn first_without(kept: &[Box<Stored>], first: u64, place: usize) -> u64
+    requires there { place < length kept.now }
+    requires taken { AreTaken first (sections_of kept.now) }
+    ensures { AreTaken result (remove (sections_of kept.now) place) }
+{
+    first.min(kept[place].id.key().max(1))
 }
 
 /// The identifier of a number.
-fn numbered(number: u64) -> SectionId
+pub(crate) fn numbered(number: u64) -> SectionId
     ensures { result ≡ numbered_id number }
 {
     let Some(id) = SectionId::from_slice(&number.to_be_bytes()) else {

@@ -3,6 +3,7 @@
 
 mod expiry;
 mod identifiers;
+mod keyed;
 mod order;
 mod reads;
 mod store;

@@ -5,6 +5,7 @@ ghost use Rattle.ckpt_types.specs.declared.sections.SectionState.TheVariants.{Va
 ghost use Rattle.section_store.specs.Places.{count_below, changed_at};
 ghost use Rattle.section_store.specs.Stored.{section_of, sections_of, HaveRoom};
 
+use crate::keyed::{Keyed, compare, key_of};
 use crate::stored::{Stored, put_all, write_at};
 use ckpt_types::{Moment, SectionId, SectionRef, SectionState, Sections};
 use std::alloc::{AllocError, Global};
@@ -16,11 +17,12 @@ pub(crate) fn place_for(kept: &[Box<Stored>], id: &SectionId) -> usize
     ensures place { result ≡ count_below id.now (sections_of kept.now) }
     ensures within { result ≤ length kept.now }
 {
+    let key = key_of(id.as_slice());
     let mut low = 0;
     let mut high = kept.len();
     while low < high {
         let middle = low + (high - low) / 2;
-        match id.cmp(&kept[middle].id) {
+        match compare(id, key, &kept[middle].id) {
             Ordering::Greater => low = middle + 1,
             Ordering::Less | Ordering::Equal => high = middle,
         }
@@ -35,7 +37,7 @@ pub(crate) fn find(kept: &[Box<Stored>], id: &SectionId) -> Option<usize>
     ensures within { IfSome result (λ place. place < length kept.now) }
 {
     let place = place_for(kept, id);
-    if place < kept.len() && kept[place].id == *id {
+    if place < kept.len() && kept[place].id.id() == id {
         Some(place)
     } else {
         None
@@ -48,21 +50,21 @@ pub(crate) fn find_near(kept: &[Box<Stored>], id: &SectionId, near: usize) -> Op
     ensures place { result ≡ place_of id.now (sections_of kept.now) }
     ensures within { IfSome result (λ place. place < length kept.now) }
 {
-    if near < kept.len() && kept[near].id == *id {
+    if near < kept.len() && kept[near].id.id() == id {
         Some(near)
     } else {
         find(kept, id)
     }
 }
 
-/// Writes into the section at a place.
+/// Writes into the section at a place, and says how many bytes more it has.
 pub(crate) fn write_into(
     kept: &mut Vec<Box<Stored>>,
     place: usize,
     offset: usize,
     bytes: &[u8],
     now: Moment,
-)
+) -> usize
     requires there { place < length kept.old.items }
     requires room { HaveRoom (offset + length bytes.now) kept.old.items }
     ensures sections { sections_of kept.new.items ≡ changed_at (λ s. record s { bytes = written s.bytes offset bytes.now; last_update = now }) place (sections_of kept.old.items) }
@@ -71,12 +73,19 @@ pub(crate) fn write_into(
     ensures capacity { vec_capacity kept.new ≡ vec_capacity kept.old }
 {
     let stored = &mut *kept[place];
+    let before = stored.bytes.len();
     write_at(&mut stored.bytes, offset, bytes);
     stored.last_update = now;
+    stored.bytes.len() - before
 }
 
-/// Puts these bytes in the place of those of the section at a place.
-pub(crate) fn overwrite_at(kept: &mut Vec<Box<Stored>>, place: usize, bytes: &[u8], now: Moment)
+/// Puts these bytes in the place of those of the section at a place, and says how many it had.
+pub(crate) fn overwrite_at(
+    kept: &mut Vec<Box<Stored>>,
+    place: usize,
+    bytes: &[u8],
+    now: Moment,
+) -> usize
     requires there { place < length kept.old.items }
     requires room { HaveRoom (length bytes.now) kept.old.items }
     ensures sections { sections_of kept.new.items ≡ changed_at (λ s. record s { bytes = bytes.now; state = Valid; last_update = now }) place (sections_of kept.old.items) }
@@ -85,9 +94,11 @@ pub(crate) fn overwrite_at(kept: &mut Vec<Box<Stored>>, place: usize, bytes: &[u
     ensures capacity { vec_capacity kept.new ≡ vec_capacity kept.old }
 {
     let stored = &mut *kept[place];
+    let before = stored.bytes.len();
     put_all(&mut stored.bytes, bytes);
     stored.state = SectionState::Valid;
     stored.last_update = now;
+    before
 }
 
 /// Gives the section at a place another expiration.
@@ -114,8 +125,12 @@ pub(crate) fn corrupt_at(kept: &mut Vec<Box<Stored>>, place: usize)
     stored.state = SectionState::Corrupted;
 }
 
-/// Takes the section at a place away, with its buffer.
-pub(crate) fn take_out(kept: &mut Vec<Box<Stored>>, spare: &mut Vec<Box<Stored>>, place: usize)
+/// Takes the section at a place away, with its buffer, and says how many bytes it had.
+pub(crate) fn take_out(
+    kept: &mut Vec<Box<Stored>>,
+    spare: &mut Vec<Box<Stored>>,
+    place: usize,
+) -> usize
     requires there { place < length kept.old.items }
     requires room { length spare.old.items < vec_capacity spare.old }
     ensures sections { sections_of kept.new.items ≡ remove (sections_of kept.old.items) place }
@@ -126,7 +141,9 @@ pub(crate) fn take_out(kept: &mut Vec<Box<Stored>>, spare: &mut Vec<Box<Stored>>
     ensures spare_capacity { vec_capacity spare.new ≡ vec_capacity spare.old }
 {
     let gone = kept.remove(place);
+    let before = gone.bytes.len();
     spare.push_reserved(gone);
+    before
 }
 
 /// Puts a section in at a place, in a spare buffer.
@@ -163,7 +180,7 @@ fn fill(stored: &mut Stored, section: &SectionRef<'_>)
     ensures room { vec_capacity stored.old.bytes ≤ vec_capacity stored.new.bytes }
 {
     put_all(&mut stored.bytes, section.bytes);
-    stored.id = *section.id;
+    stored.id = Keyed::new(*section.id);
     stored.expiration = section.expiration;
     stored.state = section.state;
     stored.last_update = section.last_update;
@@ -204,7 +221,7 @@ pub(crate) fn buffers(
     let mut spare = Vec::with_capacity(alloc, count)?;
     for _made in 0..count {
         let stored = Stored {
-            id: SectionId::default(),
+            id: Keyed::new(SectionId::default()),
             expiration: 0,
             state: SectionState::Valid,
             last_update: 0,

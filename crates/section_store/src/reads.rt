@@ -6,7 +6,7 @@ ghost use Rattle.section_store.specs.Stored.{sections_of};
 
 use crate::order::find;
 use crate::stored::Stored;
-use ckpt_types::{Moment, ReadBuf, ReadElement};
+use ckpt_types::{Moment, ReadBuf, ReadElement, Totals};
 
 /// Adds the bytes that each element reads.
 pub(crate) fn read_all(kept: &[Box<Stored>], elements: &[ReadElement], out: &mut ReadBuf)
@@ -45,18 +45,18 @@ fn part(bytes: &[u8], offset: u64, len: u64) -> &[u8]
 }
 
 /// How many sections are present, and how many bytes they have together.
-pub(crate) fn totals(kept: &[Box<Stored>], now: Moment) -> (usize, usize)
+pub(crate) fn totals(kept: &[Box<Stored>], now: Moment) -> Totals
     requires { memory_used (sections_of kept.now) < 2 ^ 64 }
-    ensures count { result.0 ≡ length (present now (sections_of kept.now)) }
-    ensures bytes { result.1 ≡ memory_used (present now (sections_of kept.now)) }
+    ensures count { result.count ≡ length (present now (sections_of kept.now)) }
+    ensures bytes { result.bytes ≡ memory_used (present now (sections_of kept.now)) }
 {
     let mut count = 0;
-    let mut bytes = 0;
+    let mut bytes: u128 = 0;
     for stored in kept {
         if stored.is_present(now) {
             count += 1;
-            bytes += stored.bytes.as_slice().len();
+            bytes += stored.bytes.len() as u128;
         }
     }
-    (count, bytes)
+    Totals { count, bytes }
 }

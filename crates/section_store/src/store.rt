@@ -5,8 +5,8 @@ ghost use Rattle.ckpt_types.specs.Sections.{Fits, opening, default_section, pres
 ghost use Rattle.ckpt_types.specs.Updates.{outcome, element_written, elements_written, overwritten, created, deleted, expiration_set, generated_id};
 ghost use Rattle.section_store.specs.StoreState.{corrupted, with_pieces};
 
-use crate::expiry::{drop_absent, earliest};
-use crate::identifiers::{generated, new_id};
+use crate::expiry::{drop_absent, summary};
+use crate::identifiers::{first_without, free_number, new_id, numbered};
 use crate::order::{
     buffers, copy_in, corrupt_at, expire_at, find, overwrite_at, place_for, put_in, take_out,
     take_out_behind, write_into,
@@ -15,7 +15,7 @@ use crate::reads::{read_all, totals};
 use crate::stored::Stored;
 use ckpt_types::{
     CheckpointDescriptor, CreationAttributes, IoElement, Moment, NEVER, NewId, ReadBuf,
-    ReadElement, SectionId, SectionRef, SectionState, Sections, Update,
+    ReadElement, SectionId, SectionRef, SectionState, Sections, Totals, Update,
 };
 use moment_rules::expired;
 use std::alloc::{AllocError, Global};
@@ -27,6 +27,10 @@ pub struct Store {
     attributes: CreationAttributes,
     /// No section expires before this moment.
     earliest: Moment,
+    /// How many bytes the sections have together.
+    used: usize,
+    /// From 1 on, the numbers below this one are all taken by sections.
+    first: u64,
     /// The sections, in the order of their identifiers. Each stays where it is in memory.
     kept: Vec<Box<Stored>>,
     /// Buffers for as many sections as may still come.
@@ -91,7 +95,7 @@ impl Store {
     {
         take_out_behind(&mut self.kept, &mut self.spare, 0);
         copy_in(&mut self.kept, &mut self.spare, other);
-        self.earliest = earliest(self.kept.as_slice());
+        self.summarize();
     }
 
     /// Makes the section of that identifier a corrupted one, where one stands.
@@ -107,7 +111,8 @@ impl Store {
     pub fn generated(&self, now: Moment) -> SectionId
         ensures { result ≡ generated_id (present now self.now.sections) }
     {
-        generated(self.kept.as_slice(), now)
+        let first = self.first_number(now);
+        numbered(free_number(self.kept.as_slice(), first, now))
     }
 
     /// Adds the bytes that each element reads to the buffer. It takes no memory.
@@ -125,11 +130,11 @@ impl Store {
     pub fn descriptor(&self, now: Moment) -> CheckpointDescriptor
         ensures { result ≡ status self.now.attributes now self.now.sections }
     {
-        let (count, bytes) = totals(self.kept.as_slice(), now);
+        let totals = self.totals(now);
         CheckpointDescriptor {
             attributes: self.attributes,
-            number_of_sections: count as u32,
-            memory_used: bytes as u64,
+            number_of_sections: totals.count as u32,
+            memory_used: totals.bytes as u64,
         }
     }
 
@@ -160,9 +165,28 @@ impl Store {
         Ok(Store {
             attributes: *attrs,
             earliest: NEVER,
+            used: 0,
+            first: 1,
             kept,
             spare,
         })
+    }
+
+    /// What is kept beside the sections is what they tell.
+    fn summarize(&mut self) {
+        let summary = summary(self.kept.as_slice());
+        self.earliest = summary.earliest;
+        self.used = summary.used;
+        self.first = 1;
+    }
+
+    /// A number from 1 on below which all are taken by sections that are present.
+    fn first_number(&self, now: Moment) -> u64 {
+        if expired(self.earliest, now) {
+            1
+        } else {
+            self.first
+        }
     }
 
     fn add_default(&mut self, made: Moment)
@@ -185,7 +209,7 @@ impl Store {
     {
         if expired(self.earliest, now) {
             drop_absent(&mut self.kept, &mut self.spare, now);
-            self.earliest = earliest(self.kept.as_slice());
+            self.summarize();
         }
     }
 
@@ -207,7 +231,7 @@ impl Store {
         let Some(place) = find(self.kept.as_slice(), &element.id) else {
             unreachable!()
         };
-        write_into(
+        self.used += write_into(
             &mut self.kept,
             place,
             element.offset as usize,
@@ -224,7 +248,8 @@ impl Store {
         let Some(place) = find(self.kept.as_slice(), id) else {
             unreachable!()
         };
-        overwrite_at(&mut self.kept, place, bytes, now);
+        let before = overwrite_at(&mut self.kept, place, bytes, now);
+        self.used = self.used + bytes.len() - before;
     }
 
     fn create(&mut self, new: &NewId, expiration: Moment, bytes: &[u8], now: Moment)
@@ -233,17 +258,19 @@ impl Store {
         ensures attributes { self.new.attributes ≡ self.old.attributes }
         ensures sections { created self.old.attributes new.now expiration bytes.now now self.old.sections ≡ Ok self.new.sections }
     {
-        let id = new_id(new, self.kept.as_slice(), now);
+        let made = new_id(new, self.kept.as_slice(), self.first, now);
         let section = SectionRef {
-            id: &id,
+            id: &made.id,
             bytes,
             expiration,
             state: SectionState::Valid,
             last_update: now,
         };
-        let place = place_for(self.kept.as_slice(), &id);
-        self.earliest = self.earliest.min(section.expiration);
+        let place = place_for(self.kept.as_slice(), &made.id);
         put_in(&mut self.kept, &mut self.spare, place, &section);
+        self.earliest = self.earliest.min(expiration);
+        self.used += bytes.len();
+        self.first = made.first;
     }
 
     fn delete(&mut self, id: &SectionId)
@@ -254,7 +281,8 @@ impl Store {
         let Some(place) = find(self.kept.as_slice(), id) else {
             unreachable!()
         };
-        take_out(&mut self.kept, &mut self.spare, place);
+        self.first = first_without(self.kept.as_slice(), self.first, place);
+        self.used -= take_out(&mut self.kept, &mut self.spare, place);
     }
 
     fn set_expiration(&mut self, id: &SectionId, expiration: Moment, now: Moment)
@@ -280,7 +308,7 @@ impl Sections for Store {
     fn at(&self, place: usize) -> SectionRef<'_> {
         let stored = &*self.kept[place];
         SectionRef {
-            id: &stored.id,
+            id: stored.id.id(),
             bytes: stored.bytes.as_slice(),
             expiration: stored.expiration,
             state: stored.state,
@@ -290,5 +318,15 @@ impl Sections for Store {
 
     fn find(&self, id: &SectionId) -> Option<usize> {
         find(self.kept.as_slice(), id)
+    }
+
+    fn totals(&self, now: Moment) -> Totals {
+        if expired(self.earliest, now) {
+            return totals(self.kept.as_slice(), now);
+        }
+        Totals {
+            count: self.kept.len(),
+            bytes: self.used as u128,
+        }
     }
 }

@@ -2,13 +2,14 @@ ghost use Rattle.std.specs.Prelude.{◌≡◌, ◌+◌, ◌≤◌, ◌++◌, len
 ghost use Rattle.ckpt_types.specs.Sections.{is_present};
 ghost use Rattle.ckpt_types.specs.Updates.{padded, written};
 
-use ckpt_types::{Moment, SectionId, SectionState};
+use crate::keyed::Keyed;
+use ckpt_types::{Moment, SectionState};
 use moment_rules::expired;
 
 /// A section as it is kept, in a buffer that is never given back.
 #[derive(Debug, Drop)]
 pub(crate) struct Stored {
-    pub id: SectionId,
+    pub id: Keyed,
     pub expiration: Moment,
     pub state: SectionState,
     pub last_update: Moment,

@@ -3,7 +3,7 @@ ghost use Rattle.ckpt_types.specs.Sections.{Rises, is_taken, present, memory_use
 ghost use Rattle.ckpt_types.specs.Updates.{outcome, created, deleted, expiration_set, overwritten, is_bad_id, new_id};
 ghost use Rattle.update_rules.specs.Told.{told};
 
-use crate::present::{bytes_present, count_present, size_present};
+use crate::present::size_present;
 use crate::refused::{Refused, refuse};
 use crate::writes::check_write;
 use ckpt_types::{
@@ -96,9 +96,9 @@ fn is_taken<S: Sections>(sections: &S, new: &NewId, now: Moment) -> bool
 fn lacks_room<S: Sections>(attrs: &CreationAttributes, sections: &S, len: u64, now: Moment) -> bool
     ensures { result ≡ (nat_le attrs.now.max_sections (length (present now (S.sections sections.now))) || nat_lt attrs.now.checkpoint_size (memory_used (present now (S.sections sections.now)) + len)) }
 {
-    let bytes_after = bytes_present(sections, now) + u128::from(len);
-    attrs.max_sections as usize <= count_present(sections, now)
-        || bytes_after > u128::from(attrs.checkpoint_size)
+    let totals = sections.totals(now);
+    attrs.max_sections as usize <= totals.count
+        || totals.bytes + u128::from(len) > u128::from(attrs.checkpoint_size)
 }
 
 fn check_delete<S: Sections>(
@@ -158,7 +158,7 @@ fn check_overwrite<S: Sections>(
     if len > attrs.max_section_size {
         return refuse(AisError::InvalidParam);
     }
-    let bytes_before = bytes_present(sections, now);
+    let bytes_before = sections.totals(now).bytes;
     if bytes_before + u128::from(len) > u128::from(attrs.checkpoint_size) + u128::from(size) {
         return refuse(AisError::NoSpace);
     }

@@ -1,10 +1,10 @@
-ghost use Rattle.std.specs.Prelude.{◌≡◌, ◌-◌, ◌^◌, ◌<◌, length, IfOk};
+ghost use Rattle.std.specs.Prelude.{◌≡◌, ◌-◌, ◌^◌, ◌<◌, max, length, IfOk};
 ghost use Rattle.ckpt_types.specs.Sections.{Rises, present, memory_used};
 ghost use Rattle.ckpt_types.specs.Updates.{element_written, elements_written};
 ghost use Rattle.update_rules.specs.Told.{told};
 ghost use Rattle.update_rules.specs.Writes.{with_elements, end_of, end_in, last_end_in, measured};
 
-use crate::present::{bytes_present, size_present};
+use crate::present::size_present;
 use crate::refused::Refused;
 use ckpt_types::{AisError, CreationAttributes, IoElement, Moment, SectionId, Sections};
 
@@ -19,7 +19,7 @@ pub(crate) fn check_write<S: Sections>(
     requires in_order { Rises (S.sections sections.now) }
     ensures { result ≡ told (elements_written attrs.now now 0 elements.now (present now (S.sections sections.now))) }
 {
-    let mut used = bytes_present(sections, now);
+    let mut used = sections.totals(now).bytes;
     for (place, element) in elements.iter().enumerate() {
         used = bytes_after(attrs, sections, &elements[..place], element, used, now)?;
     }
@@ -43,13 +43,13 @@ fn bytes_after<S: Sections>(
     ensures small { IfOk result (λ bytes. bytes < 2 ^ 64) }
 {
     let index = earlier.len() as u32;
-    let Some(first_size) = size_present(sections, &element.id, now) else {
+    let Some(size_before) = size_present(sections, &element.id, now) else {
         return Err(Refused {
             error: AisError::NotExist,
             index,
         });
     };
-    let size = u128::from(first_size).max(last_end_in(&element.id, earlier));
+    let size = size_after(u128::from(size_before), &element.id, earlier);
     let end = end_of(element);
     if end > u128::from(attrs.max_section_size) {
         return Err(Refused {
@@ -67,25 +67,27 @@ fn bytes_after<S: Sections>(
     Ok(used)
 }
 
-/// Where the last of the elements' data ends in the section of that identifier; 0 where they are of others.
-fn last_end_in(id: &SectionId, elements: &[IoElement]) -> u128
-    ensures { result ≡ last_end_in id.now elements.now }
+/// How many bytes the section of that identifier has once the elements are written.
+fn size_after(size_before: u128, id: &SectionId, elements: &[IoElement]) -> u128
+    ensures { result ≡ max size_before (last_end_in id.now elements.now) }
 {
-    let mut last: u128 = 0;
+    let mut size = size_before;
     for element in elements {
-        last = last.max(end_in(id, element));
+        size = size_with(size, id, element);
     }
-    last
+    size
 }
 
-/// Where an element's data ends in the section of that identifier; 0 where it is of another.
-fn end_in(id: &SectionId, element: &IoElement) -> u128
-    ensures { result ≡ end_in id.now element.now }
+/// How many bytes the section of that identifier has once an element is written.
+fn size_with(size: u128, id: &SectionId, element: &IoElement) -> u128
+    ensures { result ≡ max size (end_in id.now element.now) }
 {
-    if element.id == *id {
-        end_of(element)
+    let end = end_of(element);
+    // Most elements end within their section, and then it does not matter whose they are.
+    if end > size && element.id == *id {
+        end
     } else {
-        0
+        size
     }
 }
 

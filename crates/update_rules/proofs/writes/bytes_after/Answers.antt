@@ -18,24 +18,24 @@ pub returns-then-end-from-clause-bytes : goal.returns-then-end-from-clause-bytes
 returns-then-end-from-clause-bytes g c =
     let fits : FitsSigned w64 c.args.now = c.ranges.now in
     let first = present c.args.now (g.S.Sections.sections c.args.sections.now) in
-    let is : Some c.in-Some.first_size ≡ size_at c.args.element.now.id first = simp to_z-of_z at c.in-Some.ensures in
+    let is : Some c.in-Some.size_before ≡ size_at c.args.element.now.id first = simp to_z-of_z at c.in-Some.ensures in
     let rises = Rises-with_elements c.args.now c.args.earlier.now first (Rises-present c.args.now _ c.requires.in_order) in
-    sym (measured-element_written-long c.args.attrs.now c.args.now (length c.args.earlier.now) c.args.element.now (with_elements c.args.now c.args.earlier.now first) _ rises (size_at-with_elements-Some c.args.now c.args.earlier.now first c.args.element.now.id c.in-Some.first_size (sym is)) (omega arith))
+    sym (measured-element_written-long c.args.attrs.now c.args.now (length c.args.earlier.now) c.args.element.now (with_elements c.args.now c.args.earlier.now first) _ rises (size_at-with_elements-Some c.args.now c.args.earlier.now first c.args.element.now.id c.in-Some.size_before (sym is)) (omega arith))
 
 pub returns-then-used-from-clause-bytes : goal.returns-then-used-from-clause-bytes
 returns-then-used-from-clause-bytes g c =
     let fits : FitsSigned w64 c.args.now = c.ranges.now in
     let first = present c.args.now (g.S.Sections.sections c.args.sections.now) in
-    let is : Some c.in-Some.first_size ≡ size_at c.args.element.now.id first = simp to_z-of_z at c.in-Some.ensures in
+    let is : Some c.in-Some.size_before ≡ size_at c.args.element.now.id first = simp to_z-of_z at c.in-Some.ensures in
     let rises = Rises-with_elements c.args.now c.args.earlier.now first (Rises-present c.args.now _ c.requires.in_order) in
-    sym (measured-element_written-full c.args.attrs.now c.args.now (length c.args.earlier.now) c.args.element.now (with_elements c.args.now c.args.earlier.now first) _ c.args.used rises (size_at-with_elements-Some c.args.now c.args.earlier.now first c.args.element.now.id c.in-Some.first_size (sym is)) c.requires.used (omega arith) (omega arith))
+    sym (measured-element_written-full c.args.attrs.now c.args.now (length c.args.earlier.now) c.args.element.now (with_elements c.args.now c.args.earlier.now first) _ c.args.used rises (size_at-with_elements-Some c.args.now c.args.earlier.now first c.args.element.now.id c.in-Some.size_before (sym is)) c.requires.used (omega arith) (omega arith))
 
 pub returns-clause-bytes : goal.returns-clause-bytes
 returns-clause-bytes g c =
     let fits : FitsSigned w64 c.args.now = c.ranges.now in
     let first = present c.args.now (g.S.Sections.sections c.args.sections.now) in
-    let is : Some c.in-Some.first_size ≡ size_at c.args.element.now.id first = simp to_z-of_z at c.in-Some.ensures in
-    let size : c.max-size.result ≡ max c.in-Some.first_size (last_end_in c.args.element.now.id c.args.earlier.now) = omega arith in
+    let is : Some c.in-Some.size_before ≡ size_at c.args.element.now.id first = simp to_z-of_z at c.in-Some.ensures in
+    let size : c.size_after-size.result ≡ max c.in-Some.size_before (last_end_in c.args.element.now.id c.args.earlier.now) = omega arith in
     let rises = Rises-with_elements c.args.now c.args.earlier.now first (Rises-present c.args.now _ c.requires.in_order) in
-    ap (λ n. Ok (c.args.used + n)) (c.saturating_sub.ensures ∙ ap (λ n. n - c.max-size.result) c.end_of-end.ensures ∙ ap (λ n. end_of c.args.element.now - n) size)
-    ∙ sym (measured-element_written-fine c.args.attrs.now c.args.now (length c.args.earlier.now) c.args.element.now (with_elements c.args.now c.args.earlier.now first) (max c.in-Some.first_size (last_end_in c.args.element.now.id c.args.earlier.now)) c.args.used rises (size_at-with_elements-Some c.args.now c.args.earlier.now first c.args.element.now.id c.in-Some.first_size (sym is)) c.requires.used (omega arith) (omega arith))
+    ap (λ n. Ok (c.args.used + n)) (c.saturating_sub.ensures ∙ ap (λ n. n - c.size_after-size.result) c.end_of-end.ensures ∙ ap (λ n. end_of c.args.element.now - n) size)
+    ∙ sym (measured-element_written-fine c.args.attrs.now c.args.now (length c.args.earlier.now) c.args.element.now (with_elements c.args.now c.args.earlier.now first) (max c.in-Some.size_before (last_end_in c.args.element.now.id c.args.earlier.now)) c.args.used rises (size_at-with_elements-Some c.args.now c.args.earlier.now first c.args.element.now.id c.in-Some.size_before (sym is)) c.requires.used (omega arith) (omega arith))

@@ -1,0 +1,75 @@
+ghost use Rattle.std.specs.Prelude.{◌≡◌, ◌∙◌};
+ghost use Rattle.ckpt_types.specs.Sections.{id_cmp};
+ghost use Rattle.section_store.specs.Keys.{key_of};
+
+use ckpt_types::SectionId;
+use std::cmp::Ordering;
+use std::marker::Model;
+
+/// The bytes of an identifier that its key tells.
+const KEY_BYTES: usize = 8;
+
+/// An identifier beside its key, which tells most of them apart at one comparison.
+#[derive(Debug, Drop)]
+pub(crate) struct Keyed {
+    id: SectionId,
+    key: u64,
+}
+
+impl Keyed {
+    /// The identifier, with its key.
+    pub fn new(id: SectionId) -> Keyed
+        ensures { result ≡ id }
+    {
+        let key = key_of(id.as_slice());
+        Keyed { id, key }
+    }
+
+    /// The identifier.
+    pub fn id(&self) -> &SectionId
+        ensures { result.now ≡ self.now }
+    {
+        &self.id
+    }
+
+    /// Its first bytes as a number, the highest first, with zeros behind a shorter one.
+    pub fn key(&self) -> u64
+        ensures { result ≡ key_of self.now }
+    {
+        self.key
+    }
+}
+
+/// How an identifier, which has this key, compares with another.
+pub(crate) fn compare(id: &SectionId, key: u64, other: &Keyed) -> Ordering
+    requires { key ≡ key_of id.now }
+    ensures { result ≡ id_cmp id.now other.now }
+{
+    if key < other.key {
+        Ordering::Less
+    } else if key > other.key {
+        Ordering::Greater
+    } else {
+        id.cmp(&other.id)
+    }
+}
+
+/// The first bytes as a number, the highest first, with zeros behind fewer.
+pub(crate) fn key_of(bytes: &[u8]) -> u64
+    ensures { result ≡ key_of bytes.now }
+{
+    let mut key: u64 = 0;
+    for place in 0..KEY_BYTES {
+        key = key * 256 + byte_at(bytes, place);
+    }
+    key
+}
+
+/// The byte at a place, and 0 behind them all.
+fn byte_at(bytes: &[u8], place: usize) -> u64 {
+    if place < bytes.len() {
+        u64::from(bytes[place])
+    } else {
+        0
+    }
+}
