@@ -4,3 +4,5 @@ pub mod Placed
 pub mod Reserved
 pub mod Reading
 pub mod Expiring
+pub mod KeyLemmas
+pub mod SummaryLemmas

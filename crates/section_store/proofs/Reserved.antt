@@ -1,17 +1,20 @@
 -- A store keeps its storage where the records that it keeps are changed.
-use Rattle.std.proofs.Common.{◌≡◌, ℕ, ◌+◌, ◌≤◌, false, length, subst, sym, ap, arith}
+use Rattle.std.proofs.Common.{◌≡◌, ℕ, ◌+◌, ◌^◌, ◌<◌, ◌≤◌, List, false, length, subst, sym, ap, arith}
 use Rattle.std.specs.Prelude.{vec_capacity}
 use Rattle.ckpt_types.specs.Attributes.{is_malformed}
-use Rattle.ckpt_types.specs.Sections.{Rises, Fits}
+use Rattle.ckpt_types.specs.Sections.{Section, Rises, Fits, memory_used}
+use Rattle.ckpt_types.specs.declared.attributes.CreationAttributes.{CreationAttributes}
+use Rattle.ckpt_types.proofs.AttributeLaws.{IsWellFormed-from_check}
 use Rattle.section_store.specs.Store.{IsReserved}
-use Rattle.section_store.specs.Stored.{sections_of, HaveRoom, ExpireFrom}
+use Rattle.section_store.specs.Stored.{sections_of, HaveRoom}
+use Rattle.section_store.specs.Summary.{IsSummary}
 use Rattle.section_store.specs.declared.store.Store.TheInside.{Inside}
 
 -- what is asked of the records in the place of those that were kept
 pub record Replaces (s new : Inside) : Type 0 where
   pub rises : Rises (sections_of new.kept.items)
   pub fits : Fits s.attributes (sections_of new.kept.items)
-  pub earliest : ExpireFrom new.earliest (sections_of new.kept.items)
+  pub summary : IsSummary new.summary (sections_of new.kept.items)
   pub all : length new.kept.items + length new.spare.items ≡ length s.kept.items + length s.spare.items
   pub kept_room : (size : ℕ) → HaveRoom size s.kept.items → HaveRoom size s.spare.items → HaveRoom size new.kept.items
   pub spare_room : (size : ℕ) → HaveRoom size s.kept.items → HaveRoom size s.spare.items → HaveRoom size new.spare.items
@@ -28,7 +31,7 @@ IsReserved-Replaces s new same was is =
       checked = subst (λ a. is_malformed a ≡ false) (sym same) was.checked;
       rises = is.rises;
       fits = subst (λ a. Fits a (sections_of new.kept.items)) (sym same) is.fits;
-      earliest = is.earliest;
+      summary = is.summary;
       all = subst (λ a. length new.kept.items + length new.spare.items ≡ a.max_sections) (sym same) (omega (arith, is.all, was.all));
       kept_places = subst (λ a. a.max_sections ≤ vec_capacity new.kept) (sym same) (omega (arith, is.kept_capacity));
       spare_places = subst (λ a. a.max_sections ≤ vec_capacity new.spare) (sym same) (omega (arith, is.spare_capacity));
@@ -37,16 +40,22 @@ IsReserved-Replaces s new same was is =
     }
 
 -- the storage is still taken where a section was changed in its place
-pub IsReserved-changed : (s new : Inside) → new.attributes ≡ s.attributes → new.spare ≡ s.spare → Rises (sections_of new.kept.items) → Fits s.attributes (sections_of new.kept.items) → ExpireFrom new.earliest (sections_of new.kept.items)
+pub IsReserved-changed : (s new : Inside) → new.attributes ≡ s.attributes → new.spare ≡ s.spare → Rises (sections_of new.kept.items) → Fits s.attributes (sections_of new.kept.items) → IsSummary new.summary (sections_of new.kept.items)
     → ((size : ℕ) → HaveRoom size s.kept.items → HaveRoom size new.kept.items) → length new.kept.items ≡ length s.kept.items → vec_capacity new.kept ≡ vec_capacity s.kept → IsReserved s → IsReserved new
-IsReserved-changed s new same spare rises fits earliest room len capacity was =
+IsReserved-changed s new same spare rises fits summary room len capacity was =
     IsReserved-Replaces s new same was (record {
       rises = rises;
       fits = fits;
-      earliest = earliest;
+      summary = summary;
       all = let rest = ap (λ v. length v.items) spare in omega arith;
       kept_room = λ size kept_room spare_room. room size kept_room;
       spare_room = λ size kept_room spare_room. subst (λ v. HaveRoom size v.items) (sym spare) spare_room;
       kept_capacity = omega arith;
       spare_capacity = let rest = ap vec_capacity spare in omega arith;
     })
+
+-- the sections of a store have few bytes together
+pub few_bytes : (a : CreationAttributes) (sections : List Section) → is_malformed a ≡ false → Fits a sections → memory_used sections < 2 ^ 32
+few_bytes a sections checked fits =
+    let declared = IsWellFormed-from_check a checked in
+    omega (arith, fits.within, declared.covered, declared.few_bytes)

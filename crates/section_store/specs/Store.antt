@@ -3,19 +3,20 @@ use Rattle.std.specs.Prelude.{◌≡◌, false, ◌+◌, ◌≤◌, length, vec_
 use Rattle.ckpt_types.specs.Attributes.{is_malformed}
 use Rattle.ckpt_types.specs.Sections.{Rises, Fits}
 use Rattle.section_store.specs.StoreState.{StoreState}
-use Rattle.section_store.specs.Stored.{sections_of, HaveRoom, ExpireFrom}
+use Rattle.section_store.specs.Stored.{sections_of, HaveRoom}
+use Rattle.section_store.specs.Summary.{IsSummary}
 use Rattle.section_store.specs.declared.store.Store.TheInside.{Inside}
 
 abbrev pub state_of : Inside → StoreState
 state_of s = record { attributes = s.attributes; sections = sections_of s.kept.items }
 
--- the attributes pass the check, the sections rise and keep to what was declared, none
--- expires before the moment that is kept for all, and there is a buffer for each that was declared
+-- the attributes pass the check, the sections rise and keep to what was declared, what is kept
+-- beside them is so, and there is a buffer for each that was declared
 pub record IsReserved (s : Inside) : Type 0 where
   pub checked : is_malformed s.attributes ≡ false
   pub rises : Rises (sections_of s.kept.items)
   pub fits : Fits s.attributes (sections_of s.kept.items)
-  pub earliest : ExpireFrom s.earliest (sections_of s.kept.items)
+  pub summary : IsSummary s.summary (sections_of s.kept.items)
   pub all : length s.kept.items + length s.spare.items ≡ s.attributes.max_sections
   pub kept_places : s.attributes.max_sections ≤ vec_capacity s.kept
   pub spare_places : s.attributes.max_sections ≤ vec_capacity s.spare

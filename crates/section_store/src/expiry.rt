@@ -1,10 +1,10 @@
 ghost use Rattle.std.specs.Prelude.{◌≡◌, ◌+◌, ◌≤◌, ℕ, length, take, vec_capacity};
 ghost use Rattle.ckpt_types.specs.Sections.{present};
-ghost use Rattle.section_store.specs.Stored.{sections_of, HaveRoom, ExpireFrom};
+ghost use Rattle.section_store.specs.Stored.{sections_of, HaveRoom};
 
 use crate::order::take_out_behind;
 use crate::stored::Stored;
-use ckpt_types::{Moment, NEVER};
+use ckpt_types::Moment;
 
 /// Takes the sections away that are absent, with their buffers.
 pub(crate) fn drop_absent(kept: &mut Vec<Box<Stored>>, spare: &mut Vec<Box<Stored>>, now: Moment)
@@ -37,28 +37,4 @@ fn present_to_front(kept: &mut [Box<Stored>], now: Moment) -> usize
         }
     }
     front
-}
-
-/// What is kept of the sections beside them.
-#[derive(Clone, Copy, Debug)]
-pub(crate) struct Summary {
-    /// No section expires before this moment.
-    pub earliest: Moment,
-    /// How many bytes they have together.
-    pub used: usize,
-}
-
-/// The earliest expiration of the sections, and how many bytes they have together.
-pub(crate) fn summary(kept: &[Box<Stored>]) -> Summary
-    requires { memory_used (sections_of kept.now) < 2 ^ 64 }
-    ensures earliest { ExpireFrom result.earliest (sections_of kept.now) }
-    ensures used { result.used ≡ memory_used (sections_of kept.now) }
-{
-    let mut earliest = NEVER;
-    let mut used = 0;
-    for stored in kept {
-        earliest = earliest.min(stored.expiration);
-        used += stored.bytes.len();
-    }
-    Summary { earliest, used }
 }

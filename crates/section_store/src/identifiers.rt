@@ -1,7 +1,8 @@
-ghost use Rattle.std.specs.Prelude.{◌≡◌, ◌<◌, length, is_some, IfSome};
-ghost use Rattle.ckpt_types.specs.Sections.{Rises, is_taken, present};
-ghost use Rattle.ckpt_types.specs.Updates.{generated_id, new_id, numbered_id};
+ghost use Rattle.std.specs.Prelude.{◌≡◌, ◌<◌, ℕ, length, insert, remove, is_some, IfSome};
+ghost use Rattle.ckpt_types.specs.Sections.{Section, Rises, is_taken, present};
+ghost use Rattle.ckpt_types.specs.Updates.{free_number, new_id, numbered_id};
 ghost use Rattle.section_store.specs.Stored.{sections_of};
+ghost use Rattle.section_store.specs.Summary.{AreTaken};
 
 use crate::order::find_near;
 use crate::stored::Stored;
@@ -15,7 +16,12 @@ pub(crate) struct Made {
 }
 
 /// The identifier of a new section, where all numbers below the first one are taken.
-pub(crate) fn new_id(new: &NewId, kept: &[Box<Stored>], first: u64, now: Moment) -> Made {
+pub(crate) fn new_id(new: &NewId, kept: &[Box<Stored>], first: u64, now: Moment) -> Made
+    requires rises { Rises (sections_of kept.now) }
+    requires taken { AreTaken first (present now (sections_of kept.now)) }
+    ensures id { result.id ≡ new_id new.now (present now (sections_of kept.now)) }
+    ensures first { (place : ℕ) → (s : Section) → s.id ≡ result.id → AreTaken result.first (insert (present now (sections_of kept.now)) place s) }
+{
     match new {
         NewId::Given(id) => Made { id: *id, first },
         NewId::Generated => {

@@ -1,6 +1,6 @@
-ghost use Rattle.std.specs.Prelude.{◌≡◌, ◌∙◌};
+ghost use Rattle.std.specs.Prelude.{◌≡◌, ◌<◌, get_or};
 ghost use Rattle.ckpt_types.specs.Sections.{id_cmp};
-ghost use Rattle.section_store.specs.Keys.{key_of};
+ghost use Rattle.section_store.specs.Keys.{key_of, AreBytes};
 
 use ckpt_types::SectionId;
 use std::cmp::Ordering;
@@ -14,6 +14,18 @@ const KEY_BYTES: usize = 8;
 pub(crate) struct Keyed {
     id: SectionId,
     key: u64,
+}
+
+impl Model for Keyed {
+    ghost use Rattle.std.specs.Prelude.{List, ℕ};
+
+    ghost Value = { List ℕ };
+
+    ghost use Rattle.section_store.specs.Keyed.{IsKeyed};
+
+    ghost view = { λ k. k.id };
+
+    ghost invariant = { IsKeyed };
 }
 
 impl Keyed {
@@ -42,7 +54,8 @@ impl Keyed {
 
 /// How an identifier, which has this key, compares with another.
 pub(crate) fn compare(id: &SectionId, key: u64, other: &Keyed) -> Ordering
-    requires { key ≡ key_of id.now }
+    requires key { key ≡ key_of id.now }
+    requires bytes { AreBytes id.now }
     ensures { result ≡ id_cmp id.now other.now }
 {
     if key < other.key {
@@ -56,7 +69,8 @@ pub(crate) fn compare(id: &SectionId, key: u64, other: &Keyed) -> Ordering
 
 /// The first bytes as a number, the highest first, with zeros behind fewer.
 pub(crate) fn key_of(bytes: &[u8]) -> u64
-    ensures { result ≡ key_of bytes.now }
+    ensures key { result ≡ key_of bytes.now }
+    ensures bytes { AreBytes bytes.now }
 {
     let mut key: u64 = 0;
     for place in 0..KEY_BYTES {
@@ -66,7 +80,10 @@ pub(crate) fn key_of(bytes: &[u8]) -> u64
 }
 
 /// The byte at a place, and 0 behind them all.
-fn byte_at(bytes: &[u8], place: usize) -> u64 {
+fn byte_at(bytes: &[u8], place: usize) -> u64
+    ensures byte { result ≡ get_or bytes.now place 0 }
+    ensures small { result < 256 }
+{
     if place < bytes.len() {
         u64::from(bytes[place])
     } else {

@@ -8,5 +8,6 @@ mod order;
 mod reads;
 mod store;
 mod stored;
+mod summary;
 
 pub use store::Store;

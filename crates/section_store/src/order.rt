@@ -1,5 +1,5 @@
 ghost use Rattle.std.specs.Prelude.{◌≡◌, ◌+◌, ◌≤◌, ◌<◌, ℕ, List, [], length, take, vec_capacity, insert, remove, All, IfOk, IfSome};
-ghost use Rattle.ckpt_types.specs.Sections.{Rises, place_of, size_of, section_of as lent_section};
+ghost use Rattle.ckpt_types.specs.Sections.{Rises, place_of, size_of, memory_used, section_of as lent_section};
 ghost use Rattle.ckpt_types.specs.Updates.{written};
 ghost use Rattle.ckpt_types.specs.declared.sections.SectionState.TheVariants.{Valid, Corrupted};
 ghost use Rattle.section_store.specs.Places.{count_below, changed_at};
@@ -69,6 +69,7 @@ pub(crate) fn write_into(
     requires room { HaveRoom (offset + length bytes.now) kept.old.items }
     ensures sections { sections_of kept.new.items ≡ changed_at (λ s. record s { bytes = written s.bytes offset bytes.now; last_update = now }) place (sections_of kept.old.items) }
     ensures room { (size : ℕ) → HaveRoom size kept.old.items → HaveRoom size kept.new.items }
+    ensures grown { memory_used (sections_of kept.new.items) ≡ memory_used (sections_of kept.old.items) + result }
     ensures len { length kept.new.items ≡ length kept.old.items }
     ensures capacity { vec_capacity kept.new ≡ vec_capacity kept.old }
 {
@@ -90,6 +91,7 @@ pub(crate) fn overwrite_at(
     requires room { HaveRoom (length bytes.now) kept.old.items }
     ensures sections { sections_of kept.new.items ≡ changed_at (λ s. record s { bytes = bytes.now; state = Valid; last_update = now }) place (sections_of kept.old.items) }
     ensures room { (size : ℕ) → HaveRoom size kept.old.items → HaveRoom size kept.new.items }
+    ensures before { memory_used (sections_of kept.new.items) + result ≡ memory_used (sections_of kept.old.items) + length bytes.now }
     ensures len { length kept.new.items ≡ length kept.old.items }
     ensures capacity { vec_capacity kept.new ≡ vec_capacity kept.old }
 {
@@ -134,6 +136,7 @@ pub(crate) fn take_out(
     requires there { place < length kept.old.items }
     requires room { length spare.old.items < vec_capacity spare.old }
     ensures sections { sections_of kept.new.items ≡ remove (sections_of kept.old.items) place }
+    ensures before { memory_used (sections_of kept.new.items) + result ≡ memory_used (sections_of kept.old.items) }
     ensures all { length kept.new.items + length spare.new.items ≡ length kept.old.items + length spare.old.items }
     ensures kept_room { (size : ℕ) → HaveRoom size kept.old.items → HaveRoom size kept.new.items }
     ensures spare_room { (size : ℕ) → HaveRoom size kept.old.items → HaveRoom size spare.old.items → HaveRoom size spare.new.items }

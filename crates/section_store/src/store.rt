@@ -4,8 +4,9 @@ ghost use Rattle.ckpt_types.specs.Reads.{read, status};
 ghost use Rattle.ckpt_types.specs.Sections.{Fits, opening, default_section, present};
 ghost use Rattle.ckpt_types.specs.Updates.{outcome, element_written, elements_written, overwritten, created, deleted, expiration_set, generated_id};
 ghost use Rattle.section_store.specs.StoreState.{corrupted, with_pieces};
+ghost use Rattle.section_store.specs.Summary.{AreTaken};
 
-use crate::expiry::{drop_absent, summary};
+use crate::expiry::drop_absent;
 use crate::identifiers::{first_without, free_number, new_id, numbered};
 use crate::order::{
     buffers, copy_in, corrupt_at, expire_at, find, overwrite_at, place_for, put_in, take_out,
@@ -13,6 +14,7 @@ use crate::order::{
 };
 use crate::reads::{read_all, totals};
 use crate::stored::Stored;
+use crate::summary::Summary;
 use ckpt_types::{
     CheckpointDescriptor, CreationAttributes, IoElement, Moment, NEVER, NewId, ReadBuf,
     ReadElement, SectionId, SectionRef, SectionState, Sections, Totals, Update,
@@ -25,12 +27,7 @@ use std::marker::Model;
 #[derive(Debug, Drop)]
 pub struct Store {
     attributes: CreationAttributes,
-    /// No section expires before this moment.
-    earliest: Moment,
-    /// How many bytes the sections have together.
-    used: usize,
-    /// From 1 on, the numbers below this one are all taken by sections.
-    first: u64,
+    summary: Summary,
     /// The sections, in the order of their identifiers. Each stays where it is in memory.
     kept: Vec<Box<Stored>>,
     /// Buffers for as many sections as may still come.
@@ -95,7 +92,7 @@ impl Store {
     {
         take_out_behind(&mut self.kept, &mut self.spare, 0);
         copy_in(&mut self.kept, &mut self.spare, other);
-        self.summarize();
+        self.summary = Summary::of(self.kept.as_slice());
     }
 
     /// Makes the section of that identifier a corrupted one, where one stands.
@@ -164,28 +161,24 @@ impl Store {
         let spare = buffers(alloc, count, attrs.max_section_size as usize)?;
         Ok(Store {
             attributes: *attrs,
-            earliest: NEVER,
-            used: 0,
-            first: 1,
+            summary: Summary {
+                earliest: NEVER,
+                used: 0,
+                first: 1,
+            },
             kept,
             spare,
         })
     }
 
-    /// What is kept beside the sections is what they tell.
-    fn summarize(&mut self) {
-        let summary = summary(self.kept.as_slice());
-        self.earliest = summary.earliest;
-        self.used = summary.used;
-        self.first = 1;
-    }
-
     /// A number from 1 on below which all are taken by sections that are present.
-    fn first_number(&self, now: Moment) -> u64 {
-        if expired(self.earliest, now) {
+    fn first_number(&self, now: Moment) -> u64
+        ensures { AreTaken result (present now self.now.sections) }
+    {
+        if expired(self.summary.earliest, now) {
             1
         } else {
-            self.first
+            self.summary.first
         }
     }
 
@@ -207,9 +200,9 @@ impl Store {
     fn drop_absent(&mut self, now: Moment)
         ensures { self.new ≡ record self.old { sections = present now self.old.sections } }
     {
-        if expired(self.earliest, now) {
+        if expired(self.summary.earliest, now) {
             drop_absent(&mut self.kept, &mut self.spare, now);
-            self.summarize();
+            self.summary = Summary::of(self.kept.as_slice());
         }
     }
 
@@ -231,13 +224,14 @@ impl Store {
         let Some(place) = find(self.kept.as_slice(), &element.id) else {
             unreachable!()
         };
-        self.used += write_into(
+        let grown = write_into(
             &mut self.kept,
             place,
             element.offset as usize,
             element.bytes.as_slice(),
             now,
         );
+        self.summary.used += grown;
     }
 
     fn overwrite(&mut self, id: &SectionId, bytes: &[u8], now: Moment)
@@ -249,7 +243,7 @@ impl Store {
             unreachable!()
         };
         let before = overwrite_at(&mut self.kept, place, bytes, now);
-        self.used = self.used + bytes.len() - before;
+        self.summary.used = self.summary.used + bytes.len() - before;
     }
 
     fn create(&mut self, new: &NewId, expiration: Moment, bytes: &[u8], now: Moment)
@@ -258,7 +252,7 @@ impl Store {
         ensures attributes { self.new.attributes ≡ self.old.attributes }
         ensures sections { created self.old.attributes new.now expiration bytes.now now self.old.sections ≡ Ok self.new.sections }
     {
-        let made = new_id(new, self.kept.as_slice(), self.first, now);
+        let made = new_id(new, self.kept.as_slice(), self.summary.first, now);
         let section = SectionRef {
             id: &made.id,
             bytes,
@@ -268,9 +262,11 @@ impl Store {
         };
         let place = place_for(self.kept.as_slice(), &made.id);
         put_in(&mut self.kept, &mut self.spare, place, &section);
-        self.earliest = self.earliest.min(expiration);
-        self.used += bytes.len();
-        self.first = made.first;
+        self.summary = Summary {
+            earliest: self.summary.earliest.min(expiration),
+            used: self.summary.used + bytes.len(),
+            first: made.first,
+        };
     }
 
     fn delete(&mut self, id: &SectionId)
@@ -281,8 +277,9 @@ impl Store {
         let Some(place) = find(self.kept.as_slice(), id) else {
             unreachable!()
         };
-        self.first = first_without(self.kept.as_slice(), self.first, place);
-        self.used -= take_out(&mut self.kept, &mut self.spare, place);
+        self.summary.first = first_without(self.kept.as_slice(), self.summary.first, place);
+        let before = take_out(&mut self.kept, &mut self.spare, place);
+        self.summary.used -= before;
     }
 
     fn set_expiration(&mut self, id: &SectionId, expiration: Moment, now: Moment)
@@ -293,7 +290,7 @@ impl Store {
         let Some(place) = find(self.kept.as_slice(), id) else {
             unreachable!()
         };
-        self.earliest = self.earliest.min(expiration);
+        self.summary.earliest = self.summary.earliest.min(expiration);
         expire_at(&mut self.kept, place, expiration);
     }
 }
@@ -321,12 +318,12 @@ impl Sections for Store {
     }
 
     fn totals(&self, now: Moment) -> Totals {
-        if expired(self.earliest, now) {
+        if expired(self.summary.earliest, now) {
             return totals(self.kept.as_slice(), now);
         }
         Totals {
             count: self.kept.len(),
-            bytes: self.used as u128,
+            bytes: self.summary.used as u128,
         }
     }
 }

@@ -13,7 +13,7 @@ use Rattle.section_store.proofs.order.find.Goals.{else-place-kept-via-then-place
 pub returns-then-eq-clause-place : goal.returns-then-eq-clause-place
 returns-then-eq-clause-place c =
     let stored = c.index-kept-place.result in
-    let named : is_named c.args.id.now (section_of stored.value) ≡ true = ap (λ s. pointwise nat_eq s.id c.args.id.now) (sym c.deref.ensures) ∙ sym c.eq.ensures ∙ c.if-eq.true in
+    let named : is_named c.args.id.now (section_of stored.value) ≡ true = ap (λ s. pointwise nat_eq s.id c.args.id.now) (sym c.deref.ensures) ∙ ap (λ x. pointwise nat_eq x c.args.id.now) (sym c.id.ensures) ∙ sym c.eq.ensures ∙ c.if-eq.true in
     sym (place_of-kept c.args.id.now c.args.kept.now c.place_for-place.result stored c.requires c.if-place-kept.true c.index-kept-place.is named)
 
 pub returns-else-place-kept-clause-place : goal.returns-else-place-kept-clause-place
@@ -26,6 +26,6 @@ returns-else-place-kept-clause-place c =
           let stored = w.index-kept-place.result in
           let here : stored ≡ get_or kept i stored = w.index-kept-place.is ∙ ap (λ n. get_or kept n stored) (at i place) in
           let named : is_named id (section_of stored.value) ≡ true = is_named-place_of id kept i stored place here in
-          true≢false (sym named ∙ ap (λ s. pointwise nat_eq s.id id) (sym w.deref.ensures) ∙ sym w.eq.ensures ∙ w.if-eq.false)
+          true≢false (sym named ∙ ap (λ s. pointwise nat_eq s.id id) (sym w.deref.ensures) ∙ ap (λ x. pointwise nat_eq x id) (sym w.id.ensures) ∙ sym w.eq.ensures ∙ w.if-eq.false)
       | else-place-kept-via-else-place-kept w ↦ let same = at i place in let lt = place_of-lt id (sections_of kept) i place in omega (arith, length-sections_of kept)
     ]))

@@ -9,5 +9,5 @@ use Rattle.section_store.proofs.order.find_near.Goals as goal
 pub returns-then-eq-clause-place : goal.returns-then-eq-clause-place
 returns-then-eq-clause-place c =
     let stored = c.index-kept-near.result in
-    let named : is_named c.args.id.now (section_of stored.value) ≡ true = ap (λ s. pointwise nat_eq s.id c.args.id.now) (sym c.deref.ensures) ∙ sym c.eq.ensures ∙ c.if-eq.true in
+    let named : is_named c.args.id.now (section_of stored.value) ≡ true = ap (λ s. pointwise nat_eq s.id c.args.id.now) (sym c.deref.ensures) ∙ ap (λ x. pointwise nat_eq x c.args.id.now) (sym c.id.ensures) ∙ sym c.eq.ensures ∙ c.if-eq.true in
     sym (place_of-kept c.args.id.now c.args.kept.now c.args.near stored c.requires c.if-near-kept.true c.index-kept-near.is named)

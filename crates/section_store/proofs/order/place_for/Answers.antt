@@ -17,7 +17,7 @@ pub loop-low-preserved-in-Greater : goal.loop-low-preserved-in-Greater
 loop-low-preserved-in-Greater c =
     let stored = c.index-kept-middle.result in
     let middle = c.loop-low.low + (c.loop-low.high - c.loop-low.low) / 2 in
-    let above : id_cmp c.args.id.now stored.value.id ≡ Greater = ap (λ s. id_cmp c.args.id.now s.id) (sym c.deref.ensures) ∙ sym c.cmp.ensures ∙ c.in-Greater.is in
+    let above : id_cmp c.args.id.now stored.value.id ≡ Greater = ap (λ s. id_cmp c.args.id.now s.id) (sym c.deref.ensures) ∙ sym c.compare.ensures ∙ c.in-Greater.is in
     let counted : middle < count_below c.args.id.now (sections_of c.args.kept.now) =
     count_below-above c.args.id.now (sections_of c.args.kept.now) middle (section_of stored.value) c.requires (slice_get-sections_of c.args.kept.now middle stored (omega arith) c.index-kept-middle.is) above in
     record { above = omega arith; below = c.loop-low.invariant.below; within = c.loop-low.invariant.within }
@@ -26,8 +26,8 @@ pub loop-low-preserved : goal.loop-low-preserved
 loop-low-preserved c =
     let stored = c.index-kept-middle.result in
     let middle = c.loop-low.low + (c.loop-low.high - c.loop-low.low) / 2 in
-    let compared : c.cmp.result ≡ id_cmp c.args.id.now stored.value.id = c.cmp.ensures ∙ ap (λ s. id_cmp c.args.id.now s.id) c.deref.ensures in
-    let low : id_cmp c.args.id.now stored.value.id ≢ Greater = λ above. let other : c.cmp.result ≡ Greater = compared ∙ above in elim c.in-Less.is [ inl less ↦ cc (less, other) | inr equal ↦ cc (equal, other) ] in
+    let compared : c.compare.result ≡ id_cmp c.args.id.now stored.value.id = c.compare.ensures ∙ ap (λ s. id_cmp c.args.id.now s.id) c.deref.ensures in
+    let low : id_cmp c.args.id.now stored.value.id ≢ Greater = λ above. let other : c.compare.result ≡ Greater = compared ∙ above in elim c.in-Less.is [ inl less ↦ cc (less, other) | inr equal ↦ cc (equal, other) ] in
     let counted : count_below c.args.id.now (sections_of c.args.kept.now) ≤ middle =
     count_below-le c.args.id.now (sections_of c.args.kept.now) middle (section_of stored.value) (slice_get-sections_of c.args.kept.now middle stored (omega arith) c.index-kept-middle.is) low in
     record { above = c.loop-low.invariant.above; below = counted; within = omega arith }

@@ -1,4 +1,4 @@
-use Rattle.std.proofs.Common.{◌+◌, ◌^◌, ◌<◌, length, take, to_z, of_z, w64, ap, ◌∙◌, sym, arith, rules}
+use Rattle.std.proofs.Common.{◌≡◌, ◌+◌, ◌^◌, ◌<◌, length, take, to_z, of_z, w64, ap, ◌∙◌, sym, arith, rules}
 use Rattle.std.proofs.lemmas.List.{length-take}
 use Rattle.ckpt_types.specs.Sections.{is_present, memory_used}
 use Rattle.ckpt_types.proofs.Presence.{length-present-le, memory_used-present-le}
@@ -22,8 +22,8 @@ overflow_add-bytes c =
     let kept = c.args.kept.now in
     let i = c.loop-stored.stored-index in
     let more = totals-present t kept i c.stored-item.result c.loop-stored-test.true c.stored-item.is (ap (λ x. is_present t (section_of x)) (sym c.deref.ensures) ∙ sym c.is_present.ensures ∙ c.if-is_present.true) in
-    let size = ap length (c.as_slice.ensures.value ∙ ap (λ x. x.bytes.items) c.deref-then-is_present.ensures) in
-    let summed : c.loop-stored.bytes + length c.as_slice.result.now < 2 ^ 64 =
+    let size : c.len.result ≡ length c.stored-item.result.value.bytes.items = omega (arith, c.len.ensures, ap (λ s. length s.bytes.items) c.deref-then-is_present.ensures) in
+    let summed : c.loop-stored.bytes + c.len.result < 2 ^ 64 =
     omega (arith, more.1, size, memory_used-present-le t (sections_of (take (i + 1) kept)), memory_used-take-le kept (i + 1)) in
     search (rules, summed)
 
@@ -36,7 +36,7 @@ loop-stored-preserved c =
     elim c.if-is_present.branch [
       | then-is_present w ↦
           let more = totals-present t kept i c.stored-item.result c.loop-stored-test.true c.stored-item.is (ap (λ x. is_present t (section_of x)) (sym c.deref.ensures) ∙ sym c.is_present.ensures ∙ w.if-is_present.true) in
-          let size = ap length (w.as_slice.ensures.value ∙ ap (λ x. x.bytes.items) w.deref-then-is_present.ensures) in
+          let size : w.len.result ≡ length c.stored-item.result.value.bytes.items = omega (arith, w.len.ensures, ap (λ s. length s.bytes.items) w.deref-then-is_present.ensures) in
           record { count = omega (arith, more.0, was.count, w.count-is); bytes = omega (arith, more.1, was.bytes, size, w.bytes-is) }
       | else-is_present w ↦
           let same = totals-absent t kept i c.stored-item.result c.loop-stored-test.true c.stored-item.is (ap (λ x. is_present t (section_of x)) (sym c.deref.ensures) ∙ sym c.is_present.ensures ∙ w.if-is_present.false) in

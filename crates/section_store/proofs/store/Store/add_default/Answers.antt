@@ -1,12 +1,14 @@
-use Rattle.std.proofs.Common.{◌≡◌, ◌≤ℤ◌, rules, ◌≤◌, ◌∙◌, [], ◌∷◌, sym, subst, refl, to_z, of_z, w64, arith}
+use Rattle.std.proofs.Common.{ap, ◌≡◌, ◌≤ℤ◌, rules, ◌≤◌, ◌∙◌, [], ◌∷◌, sym, subst, refl, to_z, of_z, w64, arith}
 use Rattle.std.proofs.lemmas.Int.{ints, to_z-of_z}
 use Rattle.std.proofs.lemmas.List.Elements.{All-nil}
 use Rattle.std.specs.Prelude.{insert}
 use Rattle.ckpt_types.specs.declared.sections.SectionState.TheVariants.{Valid}
-use Rattle.ckpt_types.specs.Sections.{Rises, Fits, default_section}
+use Rattle.ckpt_types.specs.Sections.{Rises, Fits, memory_used, default_section}
 use Rattle.ckpt_types.proofs.Fitting.{Fits-default_section}
 use Rattle.ckpt_types.specs.Limits.{end_of_time}
 use Rattle.section_store.specs.Stored.{sections_of, ExpireFrom}
+use Rattle.section_store.specs.Summary.{AreTaken}
+use Rattle.section_store.proofs.SummaryLemmas.{AreTaken-insert}
 use Rattle.section_store.proofs.Expiring.{ExpireFrom-cons}
 use Rattle.section_store.proofs.Reserved.{IsReserved-Replaces}
 use Rattle.section_store.proofs.store.Store.add_default.Goals as goal
@@ -23,11 +25,17 @@ invariant_of-self c =
     let attributes = c.self.inside.attributes in
     let one : attributes.max_sections ≡ 1 = rw (← c.self.view_is) at c.requires.one in
     let some : 1 ≤ attributes.max_sections = omega arith in
-    let last : c.self.inside.earliest ≤ℤ end_of_time = search (rules, arith, ints) in
+    let none : sections_of c.self.inside.kept.items ≡ [] = rw (← c.self.view_is) at c.requires.none in
+    let was = c.self.invariant.summary in
+    let last : c.self.inside.summary.earliest ≤ℤ end_of_time = search (rules, arith, ints) in
     IsReserved-Replaces c.self.inside _ refl c.self.invariant (record {
       rises = subst Rises (sym (left c)) (tt, tt);
       fits = subst (Fits attributes) (sym (left c)) (Fits-default_section attributes c.args.made some);
-      earliest = subst (ExpireFrom c.self.inside.earliest) (sym (left c)) (ExpireFrom-cons c.self.inside.earliest (default_section c.args.made) [] last (All-nil (λ s. c.self.inside.earliest ≤ℤ s.expiration)));
+      summary = record {
+        earliest = subst (ExpireFrom c.self.inside.summary.earliest) (sym (left c)) (ExpireFrom-cons c.self.inside.summary.earliest (default_section c.args.made) [] last (All-nil (λ s. c.self.inside.summary.earliest ≤ℤ s.expiration)));
+        used = was.used ∙ ap memory_used none ∙ sym (ap memory_used (left c));
+        numbers = subst (AreTaken c.self.inside.summary.first) (sym c.put_in.ensures.sections) (AreTaken-insert c.self.inside.summary.first 0 _ (sections_of c.self.inside.kept.items) was.numbers);
+      };
       all = c.put_in.ensures.all;
       kept_room = c.put_in.ensures.kept_room;
       spare_room = λ size kept spare. c.put_in.ensures.spare_room size spare;

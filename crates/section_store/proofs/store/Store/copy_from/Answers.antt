@@ -1,18 +1,25 @@
-use Rattle.std.proofs.Common.{◌≡◌, length, ap, sym, subst, refl, w64, FitsSigned, rules, arith}
-use Rattle.std.proofs.lemmas.Int.{to_z-of_z}
-use Rattle.ckpt_types.specs.Sections.{Rises, Fits}
-use Rattle.section_store.specs.Stored.{sections_of, ExpireFrom}
+use Rattle.std.proofs.Common.{ℕ, get_or, ◌≡◌, length, ap, sym, subst, refl, arith}
+use Rattle.ckpt_types.specs.Sections.{Rises, Fits, size_of}
+use Rattle.section_store.specs.Stored.{sections_of}
+use Rattle.section_store.specs.Summary.{IsSummary}
+use Rattle.section_store.proofs.StoredLemmas.{HaveRoom-less}
 use Rattle.section_store.proofs.Reserved.{IsReserved-Replaces}
 use Rattle.section_store.proofs.store.Store.copy_from.Goals as goal
+
+pub copy_in-requires-clause-room : goal.copy_in-requires-clause-room
+copy_in-requires-clause-room g c = λ k d there.
+    let fits : Fits c.self.inside.attributes (g.S.Sections.sections c.args.other.now) = rw (← c.self.view_is) at c.requires in
+    let most : ℕ = c.self.inside.attributes.max_section_size in
+    HaveRoom-less (size_of (get_or (g.S.Sections.sections c.args.other.now) k d)) most c.take_out_behind.new.spare.items (fits.small k d there)
+    (c.take_out_behind.ensures.spare_room most c.self.invariant.kept_room c.self.invariant.spare_room)
 
 pub invariant_of-self : goal.invariant_of-self
 invariant_of-self g c =
     let none : length c.take_out_behind.new.kept.items ≡ 0 = ap length c.take_out_behind.ensures.first in
-    let fits : FitsSigned w64 c.earliest-self-inside.result = search rules in
     IsReserved-Replaces c.self.inside _ refl c.self.invariant (record {
       rises = subst Rises (sym c.copy_in.ensures.sections) c.copy_in.ensures.rises;
       fits = subst (Fits c.self.inside.attributes) (sym c.copy_in.ensures.sections) (rw (← c.self.view_is) at c.requires);
-      earliest = subst (λ m. ExpireFrom m (sections_of c.copy_in.new.kept.items)) (sym (to_z-of_z w64 c.earliest-self-inside.result fits)) (subst (λ kept. ExpireFrom c.earliest-self-inside.result (sections_of kept)) c.as_slice.ensures.value c.earliest-self-inside.ensures);
+      summary = subst (λ kept. IsSummary c.of-self-inside.result (sections_of kept)) c.as_slice.ensures.value c.of-self-inside.ensures;
       all = omega (arith, none, c.copy_in.ensures.all, c.take_out_behind.ensures.all);
       kept_room = λ size kept spare. c.copy_in.ensures.kept_room size (c.take_out_behind.ensures.spare_room size kept spare);
       spare_room = λ size kept spare. c.copy_in.ensures.spare_room size (c.take_out_behind.ensures.spare_room size kept spare);

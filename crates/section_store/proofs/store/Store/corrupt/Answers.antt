@@ -1,7 +1,9 @@
-use Rattle.std.proofs.Common.{◌≡◌, ◌∙◌, sym, subst, refl}
-use Rattle.ckpt_types.specs.Sections.{Rises, Fits}
+use Rattle.std.proofs.Common.{ap, ◌≡◌, ◌∙◌, sym, subst, refl}
+use Rattle.ckpt_types.specs.Sections.{Rises, Fits, memory_used}
 use Rattle.section_store.specs.StoreState.{corrupted}
 use Rattle.section_store.specs.Stored.{sections_of, ExpireFrom}
+use Rattle.section_store.specs.Summary.{AreTaken, IsSummary}
+use Rattle.section_store.proofs.SummaryLemmas.{AreTaken-changed_at, memory_used-changed_at-same}
 use Rattle.section_store.proofs.Placed.{corrupted-changed_at, corrupted-no_place}
 use Rattle.section_store.proofs.StoredLemmas.{place_found}
 use Rattle.section_store.proofs.Expiring.{ExpireFrom-changed_at}
@@ -17,13 +19,21 @@ left c =
     let same : sections_of c.corrupt_at.new.kept.items ≡ corrupted c.args.id.now kept = c.corrupt_at.ensures.sections ∙ sym is in
     (same, subst Rises (sym same) rises, subst (Fits c.self.inside.attributes) (sym same) fits)
 
--- it expires when it did
-earliest : (c : goal.After-corrupt_at) → ExpireFrom c.self.inside.earliest (sections_of c.corrupt_at.new.kept.items)
-earliest c = subst (ExpireFrom c.self.inside.earliest) (sym c.corrupt_at.ensures.sections) (ExpireFrom-changed_at c.self.inside.earliest _ c.in-Some.place (sections_of c.self.inside.kept.items) (λ s from. from) c.self.invariant.earliest)
+-- it expires when it did, and has the identifier and the bytes that it had
+summary : (c : goal.After-corrupt_at) → IsSummary c.self.inside.summary (sections_of c.corrupt_at.new.kept.items)
+summary c =
+    let was = c.self.invariant.summary in
+    let kept = sections_of c.self.inside.kept.items in
+    let same = sym c.corrupt_at.ensures.sections in
+    record {
+      earliest = subst (ExpireFrom c.self.inside.summary.earliest) same (ExpireFrom-changed_at c.self.inside.summary.earliest _ c.in-Some.place kept (λ s from. from) was.earliest);
+      used = was.used ∙ sym (ap memory_used c.corrupt_at.ensures.sections ∙ memory_used-changed_at-same _ c.in-Some.place kept (λ s. refl));
+      numbers = subst (AreTaken c.self.inside.summary.first) same (AreTaken-changed_at _ c.self.inside.summary.first c.in-Some.place kept (λ s. refl) was.numbers);
+    }
 
 pub invariant_of-self : goal.invariant_of-self
 invariant_of-self c =
-    IsReserved-changed c.self.inside _ refl refl (left c).1 (left c).2 (earliest c) c.corrupt_at.ensures.room c.corrupt_at.ensures.len c.corrupt_at.ensures.capacity c.self.invariant
+    IsReserved-changed c.self.inside _ refl refl (left c).1 (left c).2 (summary c) c.corrupt_at.ensures.room c.corrupt_at.ensures.len c.corrupt_at.ensures.capacity c.self.invariant
 
 pub returns-in-Some : goal.returns-in-Some
 returns-in-Some c = rw (← c.self.view_is) (λ i. record { attributes = c.self.inside.attributes; sections = (left c).0 i })

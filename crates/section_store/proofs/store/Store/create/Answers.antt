@@ -1,15 +1,18 @@
-use Rattle.std.proofs.Common.{◌≡◌, ◌≤ℤ◌, rules, ◌∙◌, ap, sym, subst, refl, length, to_z, of_z, w64, arith}
+use Rattle.std.proofs.Common.{◌+◌, ◌^◌, ◌<◌, ◌≡◌, ◌≤ℤ◌, rules, ◌∙◌, ap, sym, subst, refl, length, to_z, of_z, w64, arith}
 use Rattle.std.specs.Prelude.{insert}
 use Rattle.std.proofs.lemmas.Int.{ints, to_z-of_z}
 use Rattle.ckpt_types.specs.declared.sections.SectionState.TheVariants.{Valid}
-use Rattle.ckpt_types.specs.Sections.{present}
+use Rattle.ckpt_types.specs.Sections.{Section, present}
 use Rattle.ckpt_types.specs.Updates.{created, new_id}
 use Rattle.section_store.specs.Places.{count_below}
 use Rattle.section_store.specs.Stored.{sections_of, ExpireFrom}
+use Rattle.section_store.specs.Summary.{AreTaken, IsSummary}
+use Rattle.ckpt_types.specs.Sections.{memory_used, size_of}
+use Rattle.std.proofs.lemmas.List.Sums.{sum_by-insert}
 use Rattle.section_store.proofs.Placed.{Leaves, created-insert, created-room}
 use Rattle.section_store.proofs.StoredLemmas.{length-sections_of, HaveRoom-less}
 use Rattle.section_store.proofs.Expiring.{ExpireFrom-insert, ExpireFrom-earlier}
-use Rattle.section_store.proofs.Reserved.{IsReserved-Replaces}
+use Rattle.section_store.proofs.Reserved.{IsReserved-Replaces, few_bytes}
 use Rattle.section_store.proofs.store.Store.create.Goals as goal
 
 pub put_in-requires-clause-buffer : goal.put_in-requires-clause-buffer
@@ -30,14 +33,14 @@ put_in-requires-clause-kept_room c =
     omega (arith, room, c.self.invariant.kept_places, length-sections_of kept)
 
 -- the new section is there
-left : (c : goal.After-put_in) → Leaves c.self.inside.attributes (created c.self.inside.attributes c.args.new.now c.args.expiration c.args.bytes.now c.args.now (sections_of c.self.inside.kept.items)) (sections_of c.put_in.new.kept.items)
+left : (c : goal.After-self-1) → Leaves c.self.inside.attributes (created c.self.inside.attributes c.args.new.now c.args.expiration c.args.bytes.now c.args.now (sections_of c.self.inside.kept.items)) (sections_of c.put_in.new.kept.items)
 left c =
     let kept = sections_of c.self.inside.kept.items in
     let moment : to_z w64 (of_z w64 c.args.now) ≡ c.args.now = to_z-of_z w64 c.args.now c.ranges.now in
     let end : to_z w64 (of_z w64 c.args.expiration) ≡ c.args.expiration = to_z-of_z w64 c.args.expiration c.ranges.expiration in
     let all_present : present c.args.now kept ≡ kept = rw (← c.self.view_is) at c.requires.all_present in
-    let id : c.new_id-id.result ≡ new_id c.args.new.now kept =
-    c.new_id-id.ensures ∙ (λ i. new_id c.args.new.now (present (moment i) (sections_of (c.as_slice.ensures.value i)))) ∙ ap (new_id c.args.new.now) all_present in
+    let id : c.new_id-made.result.id ≡ new_id c.args.new.now kept =
+    c.new_id-made.ensures.id ∙ (λ i. new_id c.args.new.now (present (moment i) (sections_of (c.as_slice.ensures.value i)))) ∙ ap (new_id c.args.new.now) all_present in
     let place : c.place_for-place.result ≡ count_below (new_id c.args.new.now kept) kept =
     c.place_for-place.ensures.place ∙ (λ i. count_below (id i) (sections_of (c.as_slice-2.ensures.value i))) in
     let changed : sections_of c.put_in.new.kept.items ≡ insert kept (count_below (new_id c.args.new.now kept) kept) (record { id = new_id c.args.new.now kept; bytes = c.args.bytes.now; expiration = c.args.expiration; state = Valid; last_update = c.args.now }) =
@@ -45,22 +48,38 @@ left c =
     subst (Leaves c.self.inside.attributes (created c.self.inside.attributes c.args.new.now c.args.expiration c.args.bytes.now c.args.now kept)) (sym changed)
     (created-insert c.self.inside.attributes c.args.new.now c.args.expiration c.args.bytes.now c.args.now kept c.self.invariant.rises c.self.invariant.fits (rw (← c.self.view_is) at c.requires.accepted))
 
--- none expires before the new one and before those that were there
-earliest : (c : goal.After-put_in) → ExpireFrom (to_z w64 (of_z w64 c.min-self-inside.result)) (sections_of c.put_in.new.kept.items)
-earliest c =
+-- none expires before the new one and before those that were there; it has its bytes, and its number is taken
+summary : (c : goal.After-self-1) → IsSummary (record { earliest = to_z w64 (of_z w64 c.min.result); used = c.self.inside.summary.used + length c.args.bytes.now; first = c.new_id-made.result.first }) (sections_of c.put_in.new.kept.items)
+summary c =
+    let was = c.self.invariant.summary in
+    let same = sym c.put_in.ensures.sections in
     let kept = sections_of c.self.inside.kept.items in
-    let bound = to_z w64 (of_z w64 c.min-self-inside.result) in
-    let before : bound ≤ℤ c.self.inside.earliest = search (rules, arith, ints) in
+    let bound = to_z w64 (of_z w64 c.min.result) in
+    let before : bound ≤ℤ c.self.inside.summary.earliest = search (rules, arith, ints) in
     let here : bound ≤ℤ to_z w64 (of_z w64 c.args.expiration) = search (rules, arith, ints) in
-    subst (ExpireFrom bound) (sym c.put_in.ensures.sections)
-    (ExpireFrom-insert bound kept c.place_for-place.result _ (ExpireFrom-earlier c.self.inside.earliest bound kept before c.self.invariant.earliest) here)
+    let section : Section = record { id = c.new_id-made.result.id; bytes = c.args.bytes.now; expiration = to_z w64 (of_z w64 c.args.expiration); state = Valid; last_update = to_z w64 (of_z w64 c.args.now) } in
+    let moment : to_z w64 (of_z w64 c.args.now) ≡ c.args.now = to_z-of_z w64 c.args.now c.ranges.now in
+    let all_present : present c.args.now kept ≡ kept = rw (← c.self.view_is) at c.requires.all_present in
+    let shown : present (to_z w64 (of_z w64 c.args.now)) (sections_of c.as_slice.result.now) ≡ kept = (λ i. present (moment i) (sections_of (c.as_slice.ensures.value i))) ∙ all_present in
+    record {
+      earliest = subst (ExpireFrom bound) same (ExpireFrom-insert bound kept c.place_for-place.result _ (ExpireFrom-earlier c.self.inside.summary.earliest bound kept before was.earliest) here);
+      used = omega (arith, was.used, ap memory_used c.put_in.ensures.sections, sum_by-insert size_of kept c.place_for-place.result section);
+      numbers = subst (AreTaken c.new_id-made.result.first) (ap (λ xs. insert xs c.place_for-place.result section) shown ∙ same) (c.new_id-made.ensures.first c.place_for-place.result section refl);
+    }
+
+pub overflow_add-self : goal.overflow_add-self
+overflow_add-self c =
+    let long : length c.args.bytes.now < 2 ^ 63 = search rules in
+    let few = few_bytes c.self.inside.attributes (sections_of c.self.inside.kept.items) c.self.invariant.checked c.self.invariant.fits in
+    let summed : c.self.inside.summary.used + length c.args.bytes.now < 2 ^ 64 = omega (arith, c.self.invariant.summary.used, few, long) in
+    search (rules, summed)
 
 pub invariant_of-self : goal.invariant_of-self
 invariant_of-self c =
     IsReserved-Replaces c.self.inside _ refl c.self.invariant (record {
       rises = (left c).rises;
       fits = (left c).fits;
-      earliest = earliest c;
+      summary = summary c;
       all = c.put_in.ensures.all;
       kept_room = c.put_in.ensures.kept_room;
       spare_room = λ size kept spare. c.put_in.ensures.spare_room size spare;

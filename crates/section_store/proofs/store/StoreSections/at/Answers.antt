@@ -16,4 +16,4 @@ returns c =
     let last : to_z w64 (of_z w64 stored.last_update) ≡ stored.last_update = to_z-of_z w64 stored.last_update fits_last in
     rw (← c.self.view_is) (slice_get-sections_of kept c.args.place c.index.result.now there c.index.ensures
     ∙ ap (λ s. Some (section_of s)) (sym c.deref-stored.ensures)
-    ∙ (λ i. Some (record { id = stored.id; bytes = sym c.as_slice.ensures.value i; expiration = sym end i; state = stored.state; last_update = sym last i })))
+    ∙ (λ i. Some (record { id = sym c.id.ensures i; bytes = sym c.as_slice.ensures.value i; expiration = sym end i; state = stored.state; last_update = sym last i })))

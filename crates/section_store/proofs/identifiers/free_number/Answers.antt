@@ -1,15 +1,17 @@
-use Rattle.std.proofs.Common.{◌≡◌, ℕ, ◌+◌, ◌^◌, ◌<◌, ◌≤◌, true, false, ℤ, List, length, is_some, w64, to_z, of_z, ap, ◌∙◌, sym, inl, inr, arith, rules}
+use Rattle.std.proofs.Common.{◌≡◌, ℕ, ◌+◌, ◌^◌, ◌<◌, ◌≤◌, true, false, ℤ, List, length, is_some, w64, to_z, of_z, ap, ◌∙◌, sym, subst, inl, inr, arith, rules}
 use Rattle.std.specs.Global.{Box}
 use Rattle.std.proofs.lemmas.Bool.{true≢false, cases_eq}
 use Rattle.std.proofs.lemmas.Int.{to_z-of_z}
 use Rattle.ckpt_types.specs.Sections.{Section, is_taken, present}
-use Rattle.ckpt_types.specs.Updates.{free_number, generated_id, numbered_id}
-use Rattle.ckpt_types.proofs.Numbering.{free_number-free, free_number-least, one-le-free_number, free_number-le}
+use Rattle.ckpt_types.specs.Updates.{free_number, numbered_id}
+use Rattle.ckpt_types.proofs.Numbering.{free_number-free, free_number-least, free_number-le}
 use Rattle.ckpt_types.proofs.Presence.{length-present-le}
 use Rattle.section_store.specs.Stored.{sections_of}
+use Rattle.section_store.specs.Summary.{AreTaken}
 use Rattle.section_store.specs.declared.stored.Stored.{Stored}
 use Rattle.section_store.proofs.StoredLemmas.{length-sections_of}
-use Rattle.section_store.proofs.identifiers.generated.Goals as goal
+use Rattle.section_store.proofs.SummaryLemmas.{AreTaken-le}
+use Rattle.section_store.proofs.identifiers.free_number.Goals as goal
 
 -- a number that is taken is not the free one
 taken_below : (sections : List Section) (n : ℕ) → length sections + 1 < 2 ^ 64 → n ≤ free_number sections → is_taken (numbered_id n) sections ≡ true → n < free_number sections
@@ -32,7 +34,9 @@ few_present t kept few = omega (arith, length-present-le t (sections_of kept), l
 pub loop-place-init : goal.loop-place-init
 loop-place-init c =
     let few : length c.args.kept.now + 1 < 2 ^ 64 = search rules in
-    record { first = omega arith; least = one-le-free_number _ (few_present (to_z w64 (of_z w64 c.args.now)) c.args.kept.now few) }
+    let t = to_z w64 (of_z w64 c.args.now) in
+    let taken = subst (λ m. AreTaken c.args.first (present m (sections_of c.args.kept.now))) (sym (to_z-of_z w64 c.args.now c.ranges.now)) c.requires.taken in
+    record { first = taken.counted; least = AreTaken-le c.args.first (present t (sections_of c.args.kept.now)) (few_present t c.args.kept.now few) taken }
 
 -- the number that was tried is below the free one
 tried_below : (c : goal.In-Some) → c.loop-place.number < free_number (present (to_z w64 (of_z w64 c.args.now)) (sections_of c.args.kept.now))
@@ -64,4 +68,4 @@ returns c =
     let sections = present (to_z w64 (of_z w64 c.args.now)) (sections_of c.args.kept.now) in
     let free : is_taken (numbered_id c.loop-place.number) sections ≡ false = ap (λ id. is_taken id sections) (sym c.numbered.ensures) ∙ sym c.place_taken.ensures.taken ∙ ap is_some c.in_default.is in
     let here : c.loop-place.number ≡ free_number sections = free_here sections c.loop-place.number c.loop-place.invariant.first c.loop-place.invariant.least free in
-    c.numbered-2.ensures ∙ ap numbered_id here ∙ ap (λ t. generated_id (present t (sections_of c.args.kept.now))) moment
+    here ∙ ap (λ t. free_number (present t (sections_of c.args.kept.now))) moment

@@ -2,7 +2,7 @@ use Rattle.std.proofs.Common.{◌-◌, ◌≤◌}
 use Rattle.ckpt_types.specs.Sections.{present}
 use Rattle.ckpt_types.specs.Updates.{free_number}
 use Rattle.section_store.specs.Stored.{sections_of}
-use Rattle.section_store.proofs.identifiers.generated.Given as goal
+use Rattle.section_store.proofs.identifiers.free_number.Given as goal
 
 abbrev pub invariant-loop-place : goal.invariant-loop-place
 invariant-loop-place l = record {
