@@ -29,15 +29,6 @@ abbrev pub declared_in : Option Entry → Option CreationAttributes
 declared_in None = None
 declared_in (Some e) = Some e.attributes
 
--- how many sections a checkpoint declares; 0 where it is gone
-abbrev pub sections_in : Option Entry → ℕ
-sections_in None = 0
-sections_in (Some e) = e.attributes.max_sections
-
-abbrev pub sections_declared : RecordState → Option ℕ → ℕ
-sections_declared R None = 0
-sections_declared R (Some k) = sections_in (entry_of k R.entries)
-
 -- the creation flags of a checkpoint; 0 where it is gone
 abbrev pub creation_flags_of : Option Entry → ℕ
 creation_flags_of None = 0

@@ -1,7 +1,8 @@
 -- Which section an iteration gives: by a place of the map, and by one identifier after another.
-use Rattle.std.proofs.Common.{◌≡◌, ℕ, suc, ◌+◌, ◌<◌, List, ◌∷◌, length, drop, get_or, Option, Some, None, Ok, option_map, slice_get, true, false, if◌then◌else◌, ℤ, sym, ap, ◌∙◌, refl, add-one}
+use Rattle.std.proofs.Common.{◌≡◌, ℕ, suc, ◌+◌, ◌≤◌, List, ◌∷◌, length, drop, Option, Some, None, Ok, option_map, slice_get, true, false, if◌then◌else◌, ℤ, sym, ap, ◌∙◌, refl, add-one}
 use Rattle.std.proofs.Math.Seq.{drop-cons}
-use Rattle.std.proofs.lemmas.Option.{none-some, same_Some}
+use Rattle.std.proofs.lemmas.List.{drop_all}
+use Rattle.std.proofs.lemmas.Option.{none-some, same_Some, slice_get_within, get_or_from_slice_get}
 use Rattle.ckpt_types.specs.declared.sections.SectionDescriptor.{SectionDescriptor}
 use Rattle.ckpt_types.specs.Reads.{NextGiven, given, given_first, description}
 use Rattle.ckpt_types.specs.Sections.{Section, section_at, place_of, Rises, is_present, present, where_present}
@@ -26,8 +27,10 @@ pub section_at-present_gone : (t : ℤ) (id : List ℕ) (sections : List Section
 section_at-present_gone t id sections i s rises place there gone = section_at-present_place t id sections i s rises place there ∙ rw gone refl
 
 -- the identifiers from a place on
-drop_more : (ids : List (List ℕ)) (i : ℕ) (id : List ℕ) → i < length ids → id ≡ get_or ids i id → drop i ids ≡ id ∷ drop (i + 1) ids
-drop_more ids i id lt is = drop-cons ids i id lt ∙ ap (λ x. x ∷ drop (suc i) ids) (sym is) ∙ ap (λ n. id ∷ drop n ids) (sym (add-one i))
+drop_more : (ids : List (List ℕ)) (i : ℕ) (id : List ℕ) → slice_get ids i ≡ Some id → drop i ids ≡ id ∷ drop (i + 1) ids
+drop_more ids i id there =
+    drop-cons ids i id (slice_get_within ids i id there)
+    ∙ ap (λ x. x ∷ drop (suc i) ids) (get_or_from_slice_get ids i id id there) ∙ ap (λ n. id ∷ drop n ids) (sym (add-one i))
 
 -- what is told is told of what was found
 described : (found : Option Section) (told : SectionDescriptor) → Some told ≡ option_map description found → (s : Section) × (found ≡ Some s) × (told ≡ description s)
@@ -39,21 +42,27 @@ not_described : (found : Option Section) → None ≡ option_map description fou
 not_described None is = refl
 not_described (Some s) is = absurd (none-some (description s) is)
 
--- the section is given whose identifier is the first of a present one
-pub given_here : (ids : List (List ℕ)) (i : ℕ) (id : List ℕ) (t : ℤ) (sections : List Section) (told : SectionDescriptor) → i < length ids → id ≡ get_or ids i id → given ids t sections ≡ given (drop i ids) t sections → Some told ≡ option_map description (section_at id (present t sections)) → (next : NextGiven) × (given ids t sections ≡ Some next) × (told ≡ description next.section) × (drop (i + 1) ids ≡ next.rest)
-given_here ids i id t sections told lt is before here =
-    let (s, found, same) = described (section_at id (present t sections)) told here in (
-      record { section = s; rest = drop (i + 1) ids },
-      before ∙ ap (λ kept. given kept t sections) (drop_more ids i id lt is) ∙ ap (λ o. given_first (drop (i + 1) ids) o (given (drop (i + 1) ids) t sections)) found,
-      same,
-      refl,
-    )
+-- of identifiers that are kept, those from a place on are left
+module _ (kept ids : List (List ℕ)) (i : ℕ) (id : List ℕ) (t : ℤ) (sections : List Section) (there : slice_get ids i ≡ Some id) (before : given kept t sections ≡ given (drop i ids) t sections) where
+  -- the section is given whose identifier is the first of a present one
+  pub given_here : (told : SectionDescriptor) → Some told ≡ option_map description (section_at id (present t sections)) → (next : NextGiven) × (given kept t sections ≡ Some next) × (told ≡ description next.section) × (drop (i + 1) ids ≡ next.rest)
+  given_here told here =
+      let (s, found, same) = described (section_at id (present t sections)) told here in (
+        record { section = s; rest = drop (i + 1) ids },
+        before ∙ ap (λ left. given left t sections) (drop_more ids i id there) ∙ ap (λ o. given_first (drop (i + 1) ids) o (given (drop (i + 1) ids) t sections)) found,
+        same,
+        refl,
+      )
 
--- an identifier whose section is not present is passed over
-pub given_later : (ids : List (List ℕ)) (i : ℕ) (id : List ℕ) (t : ℤ) (sections : List Section) → i < length ids → id ≡ get_or ids i id → given ids t sections ≡ given (drop i ids) t sections → None ≡ option_map description (section_at id (present t sections)) → given ids t sections ≡ given (drop (i + 1) ids) t sections
-given_later ids i id t sections lt is before here =
-    before ∙ ap (λ kept. given kept t sections) (drop_more ids i id lt is)
-    ∙ ap (λ o. given_first (drop (i + 1) ids) o (given (drop (i + 1) ids) t sections)) (not_described (section_at id (present t sections)) here)
+  -- an identifier whose section is not present is passed over
+  pub given_later : None ≡ option_map description (section_at id (present t sections)) → given kept t sections ≡ given (drop (i + 1) ids) t sections
+  given_later here =
+      before ∙ ap (λ left. given left t sections) (drop_more ids i id there)
+      ∙ ap (λ o. given_first (drop (i + 1) ids) o (given (drop (i + 1) ids) t sections)) (not_described (section_at id (present t sections)) here)
+
+-- nothing is given where all were passed over
+pub none_given : (kept ids : List (List ℕ)) (i : ℕ) (t : ℤ) (sections : List Section) → length ids ≤ i → given kept t sections ≡ given (drop i ids) t sections → given kept t sections ≡ None
+none_given kept ids i t sections all before = before ∙ ap (λ left. given left t sections) (drop_all i ids all)
 
 -- ---- the answer
 

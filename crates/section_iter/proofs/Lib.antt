@@ -1,3 +1,3 @@
 pub mod ChosenLemmas
 pub mod GivenLemmas
-pub mod KeptLemmas
+pub mod IdsLemmas

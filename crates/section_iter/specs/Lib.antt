@@ -1,3 +1,5 @@
+pub mod Ids
 pub mod Iteration
 pub mod KeptIds
 pub mod Next
+pub mod Room

@@ -1,30 +1,41 @@
-ghost use Rattle.std.specs.Prelude.{◌≡◌, ◌≤◌, ◌&&◌, length, vec_capacity};
+ghost use Rattle.std.specs.Prelude.{◌≡◌, ◌*◌, ◌^◌, ◌<◌, ◌≤◌, ◌&&◌, All, length, vec_capacity};
 ghost use Rattle.ckpt_types.specs.Reads.{chooses, chosen, is_corrupted};
 ghost use Rattle.ckpt_types.specs.Sections.{section_of, is_present};
+ghost use Rattle.section_iter.specs.Ids.{ids_in, AreIds};
 
+use crate::ids::push_id;
 use crate::present::is_present;
+use crate::room::Room;
 use ckpt_types::{
     Choice, Moment, NEVER, SECTIONS_ANY, SECTIONS_CORRUPTED, SECTIONS_FOREVER,
-    SECTIONS_GEQ_EXPIRATION_TIME, SECTIONS_LEQ_EXPIRATION_TIME, SectionId, SectionRef,
-    SectionState, Sections,
+    SECTIONS_GEQ_EXPIRATION_TIME, SECTIONS_LEQ_EXPIRATION_TIME, SectionRef, SectionState, Sections,
 };
 
 /// Keeps the identifiers of the sections that are chosen, within the room that was taken.
 pub(crate) fn keep_chosen<S: Sections>(
-    ids: &mut Vec<SectionId>,
+    bytes: &mut Vec<u8>,
+    ends: &mut Vec<u32>,
+    room: Room,
     sections: &S,
     choice: &Choice,
     now: Moment,
 )
-    requires { length (S.sections sections.now) ≤ vec_capacity ids.old }
-    ensures items { ids.new.items ≡ chosen choice.now now (S.sections sections.now) }
-    ensures capacity { vec_capacity ids.new ≡ vec_capacity ids.old }
+    requires few { length (S.sections sections.now) ≤ room.ids }
+    requires short { All (λ s. length s.id ≤ room.id_size) (S.sections sections.now) }
+    requires ends_taken { room.ids ≤ vec_capacity ends.old }
+    requires bytes_taken { room.ids * room.id_size ≤ vec_capacity bytes.old }
+    requires small { room.ids * room.id_size < 2 ^ 32 }
+    ensures kept { AreIds ends.new.items bytes.new.items }
+    ensures ids { ids_in ends.new.items bytes.new.items ≡ chosen choice.now now (S.sections sections.now) }
+    ensures ends_taken { room.ids ≤ vec_capacity ends.new }
+    ensures bytes_taken { room.ids * room.id_size ≤ vec_capacity bytes.new }
 {
-    ids.clear();
+    bytes.clear();
+    ends.clear();
     for place in 0..sections.len() {
         let section = sections.at(place);
         if is_chosen(choice, &section, now) {
-            ids.push_reserved(*section.id);
+            push_id(bytes, ends, *section.id);
         }
     }
 }

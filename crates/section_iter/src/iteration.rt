@@ -1,9 +1,12 @@
-ghost use Rattle.std.specs.Prelude.{◌≡◌, ◌≤◌, [], length, IfOk};
+ghost use Rattle.std.specs.Prelude.{◌≡◌, ◌≤◌, [], All, length, IfOk};
 ghost use Rattle.ckpt_types.specs.Reads.{chosen, given};
+ghost use Rattle.section_iter.specs.Room.{room_declared};
 
 use crate::choices::keep_chosen;
+use crate::ids::reserve_bytes;
 use crate::present::find_first;
-use ckpt_types::{Choice, CreationAttributes, Moment, SectionDescriptor, SectionId, Sections};
+use crate::room::Room;
+use ckpt_types::{Choice, CreationAttributes, Moment, SectionDescriptor, Sections};
 use std::alloc::{AllocError, Global};
 use std::marker::Model;
 
@@ -14,10 +17,13 @@ pub struct NoSections;
 /// The identifiers of the sections that an iteration may still give, in room that was taken before.
 #[derive(Debug, Drop)]
 pub struct Iteration {
-    ids: Vec<SectionId>,
+    /// The bytes of the identifiers, one behind another.
+    bytes: Vec<u8>,
+    /// Where each identifier ends in `bytes`.
+    ends: Vec<u32>,
     /// The place of the first identifier that was not dropped.
     first: usize,
-    max_ids: usize,
+    room: Room,
 }
 
 impl Model for Iteration {
@@ -35,32 +41,42 @@ impl Model for Iteration {
 impl Iteration {
     ghost use Rattle.section_iter.specs.Next.{answer_of, kept_after};
 
-    /// An iteration that gives nothing, with room for as many identifiers as sections were declared.
+    /// An iteration that gives nothing, with room for the identifiers of as many sections, and as long ones,
+    /// as were declared.
     pub fn reserve(alloc: Global, attrs: &CreationAttributes) -> Result<Iteration, AllocError>
-        ensures { IfOk result (λ it. it ≡ record { ids = []; room = attrs.now.max_sections }) }
+        ensures { IfOk result (λ it. it ≡ record { ids = []; room = room_declared attrs.now }) }
     {
-        let max_ids = attrs.max_sections as usize;
+        let room = Room::declared(attrs);
         Ok(Iteration {
-            ids: Vec::with_capacity(alloc, max_ids)?,
+            bytes: reserve_bytes(alloc, room)?,
+            ends: Vec::with_capacity(alloc, room.ids as usize)?,
             first: 0,
-            max_ids,
+            room,
         })
     }
 
-    /// For how many identifiers there is room.
-    pub fn room(&self) -> u32
+    /// For how many identifiers there is room, and of how many bytes each.
+    pub fn room(&self) -> Room
         ensures { result ≡ self.now.room }
     {
-        self.max_ids as u32
+        self.room
     }
 
     /// Begins anew, with the identifiers of the sections that are chosen now. It takes no memory.
     pub fn start<S: Sections>(&mut self, sections: &S, choice: Choice, now: Moment)
-        requires { length (S.sections sections.now) ≤ self.old.room }
+        requires few { length (S.sections sections.now) ≤ self.old.room.ids }
+        requires short { All (λ s. length s.id ≤ self.old.room.id_size) (S.sections sections.now) }
         ensures { self.new ≡ record self.old { ids = chosen choice now (S.sections sections.now) } }
     {
         self.first = 0;
-        keep_chosen(&mut self.ids, sections, &choice, now);
+        keep_chosen(
+            &mut self.bytes,
+            &mut self.ends,
+            self.room,
+            sections,
+            &choice,
+            now,
+        );
     }
 
     /// Gives the first of the kept identifiers whose section is present, and keeps those behind it.
@@ -73,11 +89,11 @@ impl Iteration {
         ensures answer { result ≡ answer_of (given self.old.ids now (S.sections sections.now)) }
         ensures kept { self.new ≡ kept_after self.old (given self.old.ids now (S.sections sections.now)) }
     {
-        let (_, kept) = self.ids.as_slice().split_at(self.first);
-        let Some(found) = find_first(sections, kept, now) else {
+        let (bytes, ends) = (self.bytes.as_slice(), self.ends.as_slice());
+        let Some(found) = find_first(sections, bytes, ends, self.first, now) else {
             return Err(NoSections);
         };
-        self.first += found.place + 1;
+        self.first = found.place + 1;
         Ok(found.section)
     }
 
@@ -85,12 +101,15 @@ impl Iteration {
     pub fn copy(&self, alloc: Global) -> Result<Iteration, AllocError>
         ensures { IfOk result (λ copy. copy ≡ self.now) }
     {
-        let mut ids = Vec::with_capacity(alloc, self.max_ids)?;
-        ids.extend_from_slice(self.ids.as_slice())?;
+        let mut bytes = reserve_bytes(alloc, self.room)?;
+        bytes.extend_from_slice(self.bytes.as_slice())?;
+        let mut ends = Vec::with_capacity(alloc, self.room.ids as usize)?;
+        ends.extend_from_slice(self.ends.as_slice())?;
         Ok(Iteration {
-            ids,
+            bytes,
+            ends,
             first: self.first,
-            max_ids: self.max_ids,
+            room: self.room,
         })
     }
 }

@@ -2,7 +2,10 @@
 #![tactic(auto)]
 
 mod choices;
+mod ids;
 mod iteration;
 mod present;
+mod room;
 
 pub use iteration::{Iteration, NoSections};
+pub use room::Room;

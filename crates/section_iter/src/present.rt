@@ -1,8 +1,10 @@
-ghost use Rattle.std.specs.Prelude.{◌≡◌, ◌+◌, ◌<◌, length, drop, IfSome};
+ghost use Rattle.std.specs.Prelude.{◌≡◌, ◌+◌, ◌<◌, ◌≤◌, length, drop, IfSome};
 ghost use Rattle.std.specs.Option.{option_map};
 ghost use Rattle.ckpt_types.specs.Reads.{given, description};
 ghost use Rattle.ckpt_types.specs.Sections.{section_of, section_at, is_present, present};
+ghost use Rattle.section_iter.specs.Ids.{ids_in, AreIds};
 
+use crate::ids::id_at;
 use ckpt_types::{Moment, SectionDescriptor, SectionId, SectionRef, Sections};
 use moment_rules::expired;
 
@@ -13,14 +15,23 @@ pub(crate) struct Found {
     pub(crate) section: SectionDescriptor,
 }
 
-/// The first of the identifiers whose section is present.
-pub(crate) fn find_first<S: Sections>(sections: &S, ids: &[SectionId], now: Moment) -> Option<Found>
-    ensures section { option_map (λ f. f.section) result ≡ option_map (λ next. description next.section) (given ids.now now (S.sections sections.now)) }
-    ensures rest { option_map (λ f. drop (f.place + 1) ids.now) result ≡ option_map (λ next. next.rest) (given ids.now now (S.sections sections.now)) }
-    ensures within { IfSome result (λ f. f.place < length ids.now) }
+/// The first of the identifiers, from a place on, whose section is present.
+pub(crate) fn find_first<S: Sections>(
+    sections: &S,
+    bytes: &[u8],
+    ends: &[u32],
+    from: usize,
+    now: Moment,
+) -> Option<Found>
+    requires kept { AreIds ends.now bytes.now }
+    requires begun { from ≤ length ends.now }
+    ensures section { option_map (λ f. f.section) result ≡ option_map (λ next. description next.section) (given (drop from (ids_in ends.now bytes.now)) now (S.sections sections.now)) }
+    ensures rest { option_map (λ f. drop (f.place + 1) (ids_in ends.now bytes.now)) result ≡ option_map (λ next. next.rest) (given (drop from (ids_in ends.now bytes.now)) now (S.sections sections.now)) }
+    ensures within { IfSome result (λ f. f.place < length ends.now) }
 {
-    for (place, id) in ids.iter().enumerate() {
-        if let Some(section) = describe_present(sections, id, now) {
+    for place in from..ends.len() {
+        let id = id_at(bytes, ends, place);
+        if let Some(section) = describe_present(sections, &id, now) {
             return Some(Found { place, section });
         }
     }

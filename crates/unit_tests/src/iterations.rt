@@ -1,4 +1,4 @@
-use crate::listed::{Given, Listed, sections_of};
+use crate::listed::{Given, Listed, are_short, sections_of};
 use ckpt_types::{
     Choice, CreationAttributes, Moment, NEVER, SECTIONS_ANY, SECTIONS_CORRUPTED, SECTIONS_FOREVER,
     SECTIONS_GEQ_EXPIRATION_TIME, SECTIONS_LEQ_EXPIRATION_TIME, SectionState, Sections,
@@ -29,8 +29,9 @@ fn start(
     let Some(sections) = Listed::new(items.as_slice()) else {
         return Err(Fail::new("the identifiers do not rise"));
     };
-    if sections.len() > it.room() as usize {
-        return Err(Fail::new("more sections than room"));
+    let room = it.room();
+    if sections.len() > room.ids as usize || !are_short(items.as_slice(), room.id_size) {
+        return Err(Fail::new("more sections than room, or longer identifiers"));
     }
     it.start(&sections, choice, now);
     Ok(())
@@ -161,4 +162,28 @@ fn a_choice_takes_by_expiration_and_state(rt: HostRuntime) -> Result<(), Fail> {
         chooses(alloc, &given, Choice { chosen, time }, &wanted)?;
     }
     Ok(())
+}
+
+#[test]
+fn identifiers_are_as_long_as_declared(rt: HostRuntime) -> Result<(), Fail> {
+    let alloc = rt.alloc();
+    let ok = SectionState::Valid;
+    let given = [
+        ("", "", NEVER, ok),
+        ("12345678", "x", NEVER, ok),
+        ("1234567a", "", NEVER, ok),
+        ("2", "", NEVER, ok),
+    ];
+    let wanted = [
+        Some(("", 0)),
+        Some(("12345678", 1)),
+        Some(("1234567a", 0)),
+        Some(("2", 0)),
+        None,
+    ];
+    let any = Choice {
+        chosen: SECTIONS_ANY,
+        time: 0,
+    };
+    chooses(alloc, &given, any, &wanted)
 }

@@ -1,4 +1,4 @@
-ghost use Rattle.std.specs.Prelude.{◌≡◌, ◌<◌, length, IfSome, slice_get, Some};
+ghost use Rattle.std.specs.Prelude.{◌≡◌, ◌<◌, ◌≤◌, All, length, IfSome, slice_get, Some};
 ghost use Rattle.std.specs.Bool.{OnTrue};
 ghost use Rattle.ckpt_types.specs.Sections.{IsBelowAll, Rises, place_of, section_of};
 
@@ -116,6 +116,18 @@ fn place_in(items: &[Kept], id: &SectionId) -> Option<usize>
     match place_in(rest, id) {
         Some(place) => Some(place + 1),
         None => None,
+    }
+}
+
+/// Whether no identifier is longer than that.
+pub fn are_short(items: &[Kept], size: u64) -> bool
+    ensures { OnTrue result (All (λ s. length s.id ≤ size) items.now) }
+{
+    match items {
+        [] => true,
+        [first, rest @ ..] => {
+            first.id.as_slice().len() as u64 <= size && are_short(rest, size)
+        }
     }
 }
 

@@ -23,8 +23,8 @@ use Rattle.world_core.specs.TableState.{TableState, advanced, begun_with}
 use Rattle.cluster_record.specs.StepDone.{StepDone}
 use Rattle.world_core.specs.Driving.{Kept, driver_start}
 use Rattle.world_core.specs.Beginning.{IsBuilt, begin_end, handle_place, iteration_place, ended_place}
-use Rattle.world_core.specs.Steps.{IsDue, MayBegin, after, handle_of_number, kept_at, handle_by, handle_over, iteration_in, with_ended, without_iteration, begun_call, IsBeginEnd, ckpt_of_handle}
-use Rattle.cluster_record.specs.LookUps.{sections_declared}
+use Rattle.world_core.specs.Steps.{IsDue, MayBegin, after, room_at, handle_of_number, kept_at, handle_by, handle_over, iteration_in, with_ended, without_iteration, begun_call, IsBeginEnd, ckpt_of_handle}
+use Rattle.section_iter.specs.declared.room.Room.{Room}
 use Rattle.world_core.specs.Shows.{Does, Fits, FitsHand, History, machine_of, next_in, next_of, handles_in, place_in, numbered, last_in, hand_at, hand_of, shown_hand, iterations_in, room_for}
 use Rattle.cluster_record.proofs.Places.{get_set, there_is}
 
@@ -108,7 +108,7 @@ fits_case true k l old p o h g = h
 fits_case false k l old p o h g = g
 
 module _ (w : World) (c : ℕ) (op : Op) (t : TableState) (q : Option InHand) (end : Option Outcome) (room : Option KeptIds) (within : c < 100) (built : IsBuilt op) (may : MayBegin w.cluster c op) (table : slice_get w.tables c ≡ Some t) (there : slice_get w.hands c ≡ Some q) (free : hand_at w.hands c ≡ None) (none : handle_numbered 0 t.client.handles ≡ None)
-    (answers : IsBeginEnd op (begin_end (is_live_client c w.cluster) (named_in (handle_place op) (iteration_place op) t) op) end) (took : end ≡ None → room ≡ room_for op (kept_at w.cluster c (named_in (handle_place op) (iteration_place op) t)).sections) where
+    (answers : IsBeginEnd op (begin_end (is_live_client c w.cluster) (named_in (handle_place op) (iteration_place op) t) op) end) (took : end ≡ None → room ≡ room_for op (kept_at w.cluster c (named_in (handle_place op) (iteration_place op) t)).room) where
   abbrev handle : Option HandleView
   handle = named_in (handle_place op) (iteration_place op) t
 
@@ -169,7 +169,7 @@ module _ (w : World) (c : ℕ) (op : Op) (t : TableState) (q : Option InHand) (e
         in_hand = λ a. hands h a i;
       })
 
-  one_fits : (end : Option Outcome) → (end ≡ None → room ≡ room_for op kept.sections) → FitsHand kept [] (left end hand)
+  one_fits : (end : Option Outcome) → (end ≡ None → room ≡ room_for op kept.room) → FitsHand kept [] (left end hand)
   one_fits None took = (refl, took refl)
   one_fits (Some o) took = tt
 
@@ -196,13 +196,13 @@ module _ (w : World) (c : ℕ) (op : Op) (t : TableState) (q : Option InHand) (e
   }
 
 -- a call of client c begins, with the parts as the code names them
-pub begin_done : (w : World) (c : ℕ) (op own said : Op) (number : ℕ) (handle : Option HandleView) (live : Bool) (due end : Option Outcome) (sections : ℕ) (room : Option KeptIds) (ended : Option ℕ) (tables : List TableState) (driver : Driver) (hands : List (Option InHand)) →
+pub begin_done : (w : World) (c : ℕ) (op own said : Op) (number : ℕ) (handle : Option HandleView) (live : Bool) (due end : Option Outcome) (declared : Room) (room : Option KeptIds) (ended : Option ℕ) (tables : List TableState) (driver : Driver) (hands : List (Option InHand)) →
     c < 100 → c < length w.tables → c < length w.hands → hand_at w.hands c ≡ None → IsBuilt op → MayBegin w.cluster c op → ((t : TableState) → slice_get w.tables c ≡ Some t → handle_numbered 0 t.client.handles ≡ None) →
     own ≡ op → said ≡ op → ((t : TableState) → slice_get w.tables c ≡ Some t → number ≡ t.next) → ((t : TableState) → slice_get w.tables c ≡ Some t → handle ≡ named_in (handle_place op) (iteration_place op) t) →
-    live ≡ is_live_client c w.cluster → due ≡ begin_end live handle op → IsBeginEnd op due end → sections ≡ sections_declared w.cluster (ckpt_of_handle handle) → (end ≡ None → room ≡ room_for op sections) → ended ≡ ended_place end op →
+    live ≡ is_live_client c w.cluster → due ≡ begin_end live handle op → IsBeginEnd op due end → declared ≡ room_at w.cluster (ckpt_of_handle handle) → (end ≡ None → room ≡ room_for op declared) → ended ≡ ended_place end op →
     ((t : TableState) → slice_get w.tables c ≡ Some t → tables ≡ slice_set w.tables c (begun_with ended t)) → driver ≡ driver_start (record { actor = Client c; number = number }) op (kept_at w.cluster c handle) →
     hands ≡ slice_set w.hands c (left end (record { call = record { actor = Client c; number = number }; op = own; driver = driver; iteration = room })) → Does w (record w { tables = tables; hands = hands }) (Began (record { actor = Client c; number = number }) said end)
-begin_done w c op own said number handle live due end sections room ended tables driver hands within table there free built may none own_is said_is number_is handle_is live_is due_is answers sections_are took place_is tables_are driver_is hands_are =
+begin_done w c op own said number handle live due end declared room ended tables driver hands within table there free built may none own_is said_is number_is handle_is live_is due_is answers declared_is took place_is tables_are driver_is hands_are =
     let t = there_is w.tables c table in
     let q = there_is w.hands c there in
     let x : TableState = t.0 in
@@ -210,7 +210,7 @@ begin_done w c op own said number handle live due end sections room ended tables
     let f : named_in (handle_place op) (iteration_place op) x ≡ handle = sym (handle_is x t.1) in
     let e : begin_end (is_live_client c w.cluster) (named_in (handle_place op) (iteration_place op) x) op ≡ due = (λ i. begin_end (sym live_is i) (f i) op) ∙ sym due_is in
     let own_answers = subst (λ (o : Option Outcome). IsBeginEnd op o end) (sym e) answers in
-    let own_took = λ (goes : end ≡ None). took goes ∙ ap (room_for op) (sections_are ∙ ap (λ o. sections_declared w.cluster (ckpt_of_handle o)) (sym f)) in
+    let own_took = λ (goes : end ≡ None). took goes ∙ ap (room_for op) (declared_is ∙ ap (λ o. room_at w.cluster (ckpt_of_handle o)) (sym f)) in
     let d : driver_start (record { actor = Client c; number = x.next }) op (kept_at w.cluster c (named_in (handle_place op) (iteration_place op) x)) ≡ driver = (λ i. driver_start (record { actor = Client c; number = n i }) op (kept_at w.cluster c (f i))) ∙ sym driver_is in
     let g : slice_set w.hands c (left end (record { call = record { actor = Client c; number = x.next }; op = op; driver = driver_start (record { actor = Client c; number = x.next }) op (kept_at w.cluster c (named_in (handle_place op) (iteration_place op) x)); iteration = room })) ≡ hands
     = (λ i. slice_set w.hands c (left end (record { call = record { actor = Client c; number = n i }; op = sym own_is i; driver = d i; iteration = room }))) ∙ sym hands_are in

@@ -33,7 +33,7 @@ module _ (w : World) (h : History) (c : ℕ) (hand : InHand) (held : hand_at w.h
   driver_is fits = (subst (FitsHand (h.kept c) (h.steps c)) held (fits.hands c)).0
 
   -- with the room that it took for an iteration
-  pub iteration_is : Fits w h → hand.iteration ≡ room_for hand.op (h.kept c).sections
+  pub iteration_is : Fits w h → hand.iteration ≡ room_for hand.op (h.kept c).room
   iteration_is fits = (subst (FitsHand (h.kept c) (h.steps c)) held (fits.hands c)).1
 
   -- it is the client's

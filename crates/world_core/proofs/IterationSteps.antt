@@ -31,6 +31,8 @@ use Rattle.run_labels.specs.declared.labels.Label.TheVariants.{Stepped}
 use Rattle.run_labels.specs.OpWord.{word_of_op}
 use Rattle.section_iter.specs.KeptIds.{KeptIds}
 use Rattle.section_iter.specs.Next.{kept_after}
+use Rattle.section_iter.specs.Room.{room_declared, IsRoomFor}
+use Rattle.section_iter.specs.declared.room.Room.{Room}
 use Rattle.client_handles.specs.ClientState.{handle_numbered, handle_at, iteration_at}
 use Rattle.client_handles.specs.declared.handle_view.HandleView.{HandleView}
 use Rattle.client_handles.proofs.HandleLaws.{handle_numbered-named}
@@ -50,8 +52,8 @@ use Rattle.world_core.specs.Driving.{driver_next, driver_taken, driver_end}
 use Rattle.world_core.specs.HandSteps.{hand_taken, hand_end}
 use Rattle.world_core.specs.Happenings.{rooms_in, IsNext, IsStep}
 use Rattle.world_core.specs.Machine.{IterationTable, Machine, CallState}
-use Rattle.world_core.specs.Steps.{due, iteration_in, IsDue, IsDone, after, changed, stepped, step_of, driver_of, seen_at, ended_pieces, ids_of, ids_asked, kept_in, handle_by, handle_over, named_handle, with_started, with_iteration, start_done, with_kept_at, with_next, handle_of_number}
-use Rattle.cluster_record.specs.LookUps.{sections_in, sections_declared}
+use Rattle.world_core.specs.Steps.{due, room_in, room_at, iteration_in, IsDue, IsDone, after, changed, stepped, step_of, driver_of, seen_at, ended_pieces, ids_of, ids_asked, kept_in, handle_by, handle_over, named_handle, with_started, with_iteration, start_done, with_kept_at, with_next, handle_of_number}
+use Rattle.cluster_record.specs.LookUps.{declared_in}
 use Rattle.world_core.specs.Shows.{Does, IsShown, IsActive, Fits, Facts, History, machine_of, handles_in, place_in, last_in, iterations_of, iterations_in, handle_in_place, room_for, hand_at}
 use Rattle.world_core.proofs.Begin.{handle_same}
 use Rattle.world_core.proofs.Beginnings.{table_has_no_zero, at_table}
@@ -99,11 +101,15 @@ pub record Starts (choice : Choice) (op : Op) : Type 0 where
   pub handles : handle_place op ≡ Some over
   pub place_within : place < 100
   pub chooses : choice ≡ chosen_choice op
-  pub room : (n : ℕ) → room_for op n ≡ Some (record { ids = []; room = n })
+  pub room : (n : Room) → room_for op n ≡ Some (record { ids = []; room = n })
 
 pub starts_so : (choice : Choice) (op : Op) → IsIterOf choice op → Starts choice op
 starts_so choice (ops.Iter iteration place chosen time) is = record { place = iteration; over = place; starts = refl; handles = refl; place_within = is.1; chooses = is.0; room = λ n. refl }
 starts_so choice op is = absurd is
+
+-- the room that the attributes declare is for all of it
+room_for_declared : (a : CreationAttributes) → IsRoomFor a (room_declared a)
+room_for_declared a = record { sections = omega arith; bytes = omega arith }
 
 -- and what one names that goes on with one
 pub record GoesOn (op : Op) : Type 0 where
@@ -164,16 +170,16 @@ module _ (w : World) (h : History) (c r : ℕ) (asked : CallId) (k : ℕ) (choic
   start_node = (finding.ready w h c r request hand other facts fits held next).0
 
   -- what the facts say of it
-  abbrev known : ((h.kept c).sections ≡ sections_declared w.cluster (Some k)) × IsIterOf choice hand.op × IsSome (named_handle m (Client c) hand.op) × IsActive (driver_of s)
+  abbrev known : ((h.kept c).room ≡ room_at w.cluster (Some k)) × IsIterOf choice hand.op × IsSome (named_handle m (Client c) hand.op) × IsActive (driver_of s)
   known = facts.starts (Client c) s r asked k choice (in_hand_is w h c hand held) due_here
 
-  -- with the attributes of its entry, which declare as many sections as there is room for
-  pub start_room : IsSomeAnd (replica_in w.nodes k r) (λ x. x.store.attributes.max_sections ≤ (h.kept c).sections)
+  -- with the attributes of its entry, for which there is room
+  pub start_room : IsSomeAnd (replica_in w.nodes k r) (λ x. IsRoomFor x.store.attributes (h.kept c).room)
   start_room =
       let f = finding.found w h c r request hand other facts fits held next in
-      let sections : (h.kept c).sections ≡ f.entry.attributes.max_sections = known.0 ∙ ap sections_in f.at in
-      let declared : f.replica.store.attributes.max_sections ≡ f.entry.attributes.max_sections = ap (λ (a : CreationAttributes). a.max_sections) f.attributes in
-      subst (λ (o : Option Replica). IsSomeAnd o (λ x. x.store.attributes.max_sections ≤ (h.kept c).sections)) (sym f.is) (omega (arith, sections, declared))
+      let room : room_declared f.replica.store.attributes ≡ (h.kept c).room = ap room_declared f.attributes ∙ sym (known.0 ∙ ap (λ o. room_in (declared_in o)) f.at) in
+      let fits : IsRoomFor f.replica.store.attributes (h.kept c).room = subst (IsRoomFor f.replica.store.attributes) room (room_for_declared f.replica.store.attributes) in
+      subst (λ (o : Option Replica). IsSomeAnd o (λ x. IsRoomFor x.store.attributes (h.kept c).room)) (sym f.is) fits
 
   pub start_parts : Starts choice hand.op
   start_parts = starts_so choice hand.op known.1
@@ -183,8 +189,8 @@ module _ (w : World) (h : History) (c r : ℕ) (asked : CallId) (k : ℕ) (choic
     kept = record it { ids = chosen_at choice w.cluster.moment (replica_in w.nodes k r) }
 
     -- the room is what it took
-    room_same : (h.kept c).sections ≡ it.room
-    room_same = sym (ap (λ (x : KeptIds). x.room) (same_Some it _ (sym has ∙ iteration_is w h c hand held fits ∙ start_parts.room (h.kept c).sections)))
+    room_same : (h.kept c).room ≡ it.room
+    room_same = sym (ap (λ (x : KeptIds). x.room) (same_Some it _ (sym has ∙ iteration_is w h c hand held fits ∙ start_parts.room (h.kept c).room)))
 
     abbrev end : Option Outcome
     end = Some (outcomes.Done answers.Nothing)
@@ -228,7 +234,7 @@ module _ (w : World) (h : History) (c r : ℕ) (asked : CallId) (k : ℕ) (choic
         ∙ handle
 
     -- what is kept
-    kept_is : record { ids = chosen_at (chosen_choice hand.op) w.cluster.moment (seen_at m k r); room = (h.kept c).sections } ≡ kept
+    kept_is : record { ids = chosen_at (chosen_choice hand.op) w.cluster.moment (seen_at m k r); room = (h.kept c).room } ≡ kept
     kept_is = λ i. record { ids = chosen_at (sym start_parts.chooses i) w.cluster.moment (seen_is i); room = room_same i }
 
     move : start_done m s k r ≡ machine_of w1 h
@@ -268,13 +274,13 @@ module _ (w : World) (c r : ℕ) (asked : CallId) (k : ℕ) (choice : Choice) (h
   pub started_node : r < 8
   started_node = start_node w its_history c r asked k choice hand its_facts shown.shows.fits held its_next
 
-  -- it has room in hand, for all sections that are declared
-  pub room_is : (its : Option KeptIds) → hand.iteration ≡ its → its ≡ Some (record { ids = []; room = (its_history.kept c).sections })
-  room_is its is = sym is ∙ iteration_is w its_history c hand held shown.shows.fits ∙ started.room (its_history.kept c).sections
+  -- it has room in hand, for all identifiers that are declared
+  pub room_is : (its : Option KeptIds) → hand.iteration ≡ its → its ≡ Some (record { ids = []; room = (its_history.kept c).room })
+  room_is its is = sym is ∙ iteration_is w its_history c hand held shown.shows.fits ∙ started.room (its_history.kept c).room
 
-  pub started_room : (it : KeptIds) → hand.iteration ≡ Some it → IsSomeAnd (replica_in w.nodes k r) (λ x. x.store.attributes.max_sections ≤ it.room)
+  pub started_room : (it : KeptIds) → hand.iteration ≡ Some it → IsSomeAnd (replica_in w.nodes k r) (λ x. IsRoomFor x.store.attributes it.room)
   started_room it is =
-      subst (λ (n : ℕ). IsSomeAnd (replica_in w.nodes k r) (λ x. x.store.attributes.max_sections ≤ n)) (ap (λ (x : KeptIds). x.room) (sym (same_Some it _ (room_is (Some it) is))))
+      subst (λ (n : Room). IsSomeAnd (replica_in w.nodes k r) (λ x. IsRoomFor x.store.attributes n)) (ap (λ (x : KeptIds). x.room) (sym (same_Some it _ (room_is (Some it) is))))
       (start_room w its_history c r asked k choice hand its_facts shown.shows.fits held its_next)
 
   -- its place stands for a handle

@@ -123,7 +123,7 @@ IsAt-up : (m : Machine) (n : ℕ) (s : CallState) (d : Driver) → m.cluster.up 
 IsAt-up m n s (drivers.Enter r) none at = absurd (let e : false ≡ true = sym (is_up-none r m.cluster none) ∙ at.up in cc)
 IsAt-up m n s (drivers.Open o) none at = none_and_first m.cluster.up none at.up
 IsAt-up m n s (drivers.Update u) none at = record { call = at.call; update = at.update; phase = at.phase; kept = at.kept; made = at.made; owned = at.owned }
-IsAt-up m n s (drivers.Active a) none at = record { call = at.call; kind = at.kind; made = at.made; kept = at.kept; sections = at.sections; handle = at.handle }
+IsAt-up m n s (drivers.Active a) none at = record { call = at.call; kind = at.kind; made = at.made; kept = at.kept; room = at.room; handle = at.handle }
 IsAt-up m n s drivers.Leave none at = record { op = at.op; live = at.live }
 IsAt-up m n s (drivers.Close k) none at = record { op = at.op; kept = at.kept; handle = at.handle }
 IsAt-up m n s (drivers.Unlink name) none at = at

@@ -166,7 +166,7 @@ module _ (hand : Option Working) (m : Machine) (call : CallId) (inv : InvariantW
   -- a call to the active on a handle
   starts_active : (op : Op) (kind : ActiveKind) (h : Option HandleView) → ((o : Option HandleView) → start_with op o ≡ active_start call kind (ckpt_of_handle o)) → IsKindOf kind op → named_handle m call.actor op ≡ h → ((x : HandleView) → h ≡ Some x → WasMade m.cluster x.id) → (x : HandleView) × (h ≡ Some x) → Starts op h
   starts_active op kind h begins is named made (x, there) = subst (Starts op) (sym there) (record {
-    at = subst (IsAt m (state_with op (Some x))) (sym (begins (Some x))) (record { call = refl; kind = is; made = made x there; kept = refl; sections = refl; handle = subst (λ (o : Option HandleView). IsSome o) (sym (named ∙ there)) refl });
+    at = subst (IsAt m (state_with op (Some x))) (sym (begins (Some x))) (record { call = refl; kind = is; made = made x there; kept = refl; room = refl; handle = subst (λ (o : Option HandleView). IsSome o) (sym (named ∙ there)) refl });
     makes = λ k. ap (maker_by call k) (begins (Some x));
     owns = λ k. ap (slot_by (state_with op (Some x)) k) (begins (Some x));
   })
@@ -233,7 +233,7 @@ pub IsAt-apart : (m : Machine) (next : ActorName → ℕ) (f : ActorName → Opt
 IsAt-apart m next f s (drivers.Enter r) at = record { op = at.op; client = at.client; up = at.up; not_live = at.not_live }
 IsAt-apart m next f s (drivers.Open o) at = record { caller = at.caller; client = at.client; within = at.within; node = at.node; built = at.built; asks = at.asks; named = at.named; asked = at.asked; deadline = at.deadline; up = at.up; making = IsMakingOrNone-apart m next f o.making at.making; room = at.room; in_time = at.in_time }
 IsAt-apart m next f s (drivers.Update u) at = record { call = at.call; update = at.update; phase = at.phase; kept = at.kept; made = at.made; owned = at.owned }
-IsAt-apart m next f s (drivers.Active a) at = record { call = at.call; kind = at.kind; made = at.made; kept = at.kept; sections = at.sections; handle = at.handle }
+IsAt-apart m next f s (drivers.Active a) at = record { call = at.call; kind = at.kind; made = at.made; kept = at.kept; room = at.room; handle = at.handle }
 IsAt-apart m next f s drivers.Leave at = record { op = at.op; live = at.live }
 IsAt-apart m next f s (drivers.Close k) at = record { op = at.op; kept = at.kept; handle = at.handle }
 IsAt-apart m next f s (drivers.Unlink name) at = at

@@ -39,8 +39,7 @@ use Rattle.cluster_record.specs.StepDone.{first_lacking}
 use Rattle.cluster_record.specs.DueActive.{request_by, starts_iteration, active_on}
 use Rattle.world_core.specs.Beginning.{IsIterOf, IsNextOf, IsBuilt, IsCloseOf, IsRetainOf, IsUnlinkOf, IsFinalize, closed_place}
 use Rattle.world_core.specs.Machine.{Machine, CallState}
-use Rattle.world_core.specs.Steps.{due, driver_of, room_of, rooms_of, named_handle, seen_at, seen, seen_slot, staged_moment, handle_in}
-use Rattle.cluster_record.specs.LookUps.{sections_declared}
+use Rattle.world_core.specs.Steps.{due, driver_of, room_of, room_at, rooms_of, named_handle, seen_at, seen, seen_slot, staged_moment, handle_in}
 use Rattle.cluster_record.specs.RecordReady.{CanOpen}
 use Rattle.world_core.specs.Shows.{IsActive, IsServable, IsReservable, AllReserved, IsEventReady, Facts}
 use Rattle.world_core.specs.Invariant.{Working, AreGoodAttributes, IsKindOf, IsMakingEntry, IsAt, InvariantWith, Invariant, IsClientOf, OpensAs, IsUpdateOf}
@@ -62,9 +61,9 @@ abbrev pub HasMoment : Machine → Request → Type 0
 HasMoment m (requests.Stage call k t) = staged_moment m k ≡ t
 HasMoment m request = Unit {0}
 
--- an iteration that is started has room for all sections that are declared, and a handle; one that goes on has a handle
+-- an iteration that is started has room for all identifiers that are declared, and a handle; one that goes on has a handle
 abbrev pub IsFor : Machine → CallState → Driver → Request → Type 0
-IsFor m s d (requests.Iterate call k choice) = (s.kept.sections ≡ sections_declared m.cluster (Some k)) × IsIterOf choice s.op × IsSome (named_handle m s.call.actor s.op) × IsActive d
+IsFor m s d (requests.Iterate call k choice) = (s.kept.room ≡ room_at m.cluster (Some k)) × IsIterOf choice s.op × IsSome (named_handle m s.call.actor s.op) × IsActive d
 IsFor m s d (requests.Next call k) = IsNextOf s.op × IsSome (named_handle m s.call.actor s.op)
 IsFor m s d request = Unit {0}
 
@@ -255,7 +254,7 @@ kind_ready m s call k kind inv there room =
     by_kind x is true = tt
     by_kind kinds.Read is false = (omega arith, seen_there (requests.Read k) refl tt, tt, tt)
     by_kind kinds.Status is false = (omega arith, seen_there (requests.Status k) refl tt, tt, tt)
-    by_kind (kinds.Iterate choice) is false = (omega arith, seen_there (requests.Iterate call k choice) refl tt, tt, (inv.working.1.sections, is, inv.working.1.handle, tt))
+    by_kind (kinds.Iterate choice) is false = (omega arith, seen_there (requests.Iterate call k choice) refl tt, tt, (inv.working.1.room, is, inv.working.1.handle, tt))
     by_kind kinds.Next is false = (omega arith, seen_there (requests.Next call k) refl tt, tt, (is, inv.working.1.handle))
     by_kind kinds.Apply is false = absurd is
     by_kind (kinds.Weak n) is false = absurd is

@@ -10,6 +10,7 @@ use Rattle.world_core.specs.TableState.{TableState}
 use Rattle.world_core.specs.NewTable.{no_callbacks}
 use Rattle.world_core.specs.Serving.{replica_in}
 use Rattle.world_core.specs.Machine.{empty_cluster, no_iterations}
+use Rattle.world_core.specs.Steps.{room_in}
 use Rattle.world_core.specs.Shows.{History, Shows, Fits, FitsReplica, FitsHand, machine_of, complete_replica, handles_in, hand_of, last_in, next_of, numbered, place_in, reserved_in, shown_hand, shown_replica, where_complete, iterations_of, iterations_in}
 use Rattle.world_core.specs.Invariant.{Invariant}
 use Rattle.world_core.specs.Runs.{IsNew, IsRunTo}
@@ -22,7 +23,7 @@ abbrev nothing : History
 nothing = record {
   effects = λ k r. [];
   origins = λ k r. record { actor = Client 0; number = 0 };
-  kept = λ c. record { ckpt = None; sections = 0; node = 0; moment = pos 0 };
+  kept = λ c. record { ckpt = None; room = room_in None; node = 0; moment = pos 0 };
   steps = λ c. [];
 }
 
@@ -51,7 +52,7 @@ module _ (w : World) (new : IsNew w) where
   nexts (Node r) = refl
 
   hands : (a : ActorName) → None ≡ hand_of nothing w.hands a
-  hands (Client c) = sym (ap (shown_hand (record { ckpt = None; sections = 0; node = 0; moment = pos 0 }) []) (new.hands c))
+  hands (Client c) = sym (ap (shown_hand (record { ckpt = None; room = room_in None; node = 0; moment = pos 0 }) []) (new.hands c))
   hands (Node r) = refl
 
   shows_nothing : empty_cluster ≡ machine_of w nothing
@@ -76,7 +77,7 @@ module _ (w : World) (new : IsNew w) where
   fits_nothing : Fits w nothing
   fits_nothing = record {
     replicas = λ k r. subst (FitsReplica k (entry_of k w.cluster.entries) []) (sym (no_replica k r)) tt;
-    hands = λ c. subst (FitsHand (record { ckpt = None; sections = 0; node = 0; moment = pos 0 }) []) (sym (new.hands c)) tt;
+    hands = λ c. subst (FitsHand (record { ckpt = None; room = room_in None; node = 0; moment = pos 0 }) []) (sym (new.hands c)) tt;
   }
 
   -- a new world shows the empty cluster

@@ -23,6 +23,7 @@ use Rattle.world_core.specs.declared.drivers.Driver.{Driver}
 use Rattle.world_core.specs.declared.drivers.Driver.TheVariants as drivers
 use Rattle.cluster_record.specs.declared.calls.ActiveKind.{ActiveKind}
 use Rattle.cluster_record.specs.declared.calls.ActiveKind.TheVariants as kinds
+use Rattle.section_iter.specs.declared.room.Room.{Room}
 use Rattle.cluster_record.specs.Calls.{client_of}
 use Rattle.world_core.specs.Beginning.{choice_of}
 use Rattle.cluster_record.specs.LookUps.{identity_in, at_ckpt}
@@ -129,10 +130,10 @@ event_change call driver step R = R
 abbrev pub event_after : CallId → Driver → RecordStep → RecordState → RecordState
 event_after call driver step R = swept (event_change call driver step R)
 
--- what a call keeps of the tables and of the record at its beginning: the checkpoint of its handle, how many sections that one declares, the client's node, and the moment
+-- what a call keeps of the tables and of the record at its beginning: the checkpoint of its handle, the room for the identifiers that this one declares, the client's node, and the moment
 pub record Kept : Type 0 where
   pub ckpt : Option ℕ
-  pub sections : ℕ
+  pub room : Room
   pub node : ℕ
   pub moment : ℤ
 

@@ -30,8 +30,7 @@ use Rattle.cluster_record.specs.DueOpen.{IsBefore}
 use Rattle.world_core.specs.Driving.{deadline_from}
 use Rattle.world_core.specs.Beginning.{IsIterOf, IsNextOf, IsCloseOf, IsRetainOf, IsUnlinkOf, IsFinalize, IsBuilt, name_is_bad}
 use Rattle.world_core.specs.Machine.{Machine, Staged, ReplicaState, CallState}
-use Rattle.world_core.specs.Steps.{driver_of, room_of, named_handle}
-use Rattle.cluster_record.specs.LookUps.{sections_declared}
+use Rattle.world_core.specs.Steps.{driver_of, room_of, room_at, named_handle}
 use Rattle.cluster_record.specs.Identities.{IdentitiesRise, AllUpTo}
 
 -- ---- the call in hand
@@ -211,7 +210,7 @@ pub record IsActiveAt (m : Machine) (s : CallState) (a : ActiveState) : Type 0 w
   pub made : WasMade m.cluster a.ckpt
   pub kept : s.kept.ckpt ≡ Some a.ckpt
   -- what its checkpoint declares is as it was at its beginning, and its handle is there
-  pub sections : s.kept.sections ≡ sections_declared m.cluster (Some a.ckpt)
+  pub room : s.kept.room ≡ room_at m.cluster (Some a.ckpt)
   pub handle : IsSome (named_handle m s.call.actor s.op)
 
 -- a client that is live leaves

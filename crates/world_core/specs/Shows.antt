@@ -7,6 +7,7 @@ use Rattle.ckpt_types.specs.declared.operation.Op.{Op}
 use Rattle.ckpt_types.specs.declared.operation.Op.TheVariants as ops
 use Rattle.ckpt_types.specs.declared.sections.Choice.{Choice}
 use Rattle.section_iter.specs.KeptIds.{KeptIds}
+use Rattle.section_iter.specs.declared.room.Room.{Room}
 use Rattle.ckpt_types.specs.Attributes.{is_malformed}
 use Rattle.ckpt_types.specs.Limits.{nodes_max, clients_max, checkpoints_max}
 use Rattle.node_msgs.specs.declared.requests.Request.{Request}
@@ -41,8 +42,7 @@ use Rattle.cluster_record.specs.StepDone.{StepDone}
 use Rattle.world_core.specs.Driving.{Kept, driver_state}
 use Rattle.world_core.specs.Beginning.{IsIterOf, IsNextOf, IsBuilt, closed_place}
 use Rattle.world_core.specs.Machine.{IterationTable, no_iterations, Machine, Effect, Staged, ReplicaState, CallState}
-use Rattle.world_core.specs.Steps.{IsDue, after, due, driver_of, room_of, seen_at, staged_moment, named_handle, handle_in, handle_over}
-use Rattle.cluster_record.specs.LookUps.{sections_declared}
+use Rattle.world_core.specs.Steps.{IsDue, after, due, driver_of, room_of, room_at, seen_at, staged_moment, named_handle, handle_in, handle_over}
 
 -- ---- what the machine keeps and the code does not
 
@@ -170,14 +170,14 @@ FitsReplica k e effects None = Unit {0}
 FitsReplica k e effects (Some x) = (x.ckpt ≡ k) × HasAttributes e x × (length effects ≡ x.count)
 
 -- the room that a call has in hand for an iteration
-abbrev pub room_for : Op → ℕ → Option KeptIds
-room_for (ops.Iter iteration place chosen time) sections = Some (record { ids = []; room = sections })
-room_for op sections = None
+abbrev pub room_for : Op → Room → Option KeptIds
+room_for (ops.Iter iteration place chosen time) room = Some (record { ids = []; room = room })
+room_for op room = None
 
 -- a call is where its steps have led it
 abbrev pub FitsHand : Kept → List StepDone → Option InHand → Type 0
 FitsHand kept steps None = Unit {0}
-FitsHand kept steps (Some h) = (h.driver ≡ driver_state h.call h.op kept steps) × (h.iteration ≡ room_for h.op kept.sections)
+FitsHand kept steps (Some h) = (h.driver ≡ driver_state h.call h.op kept steps) × (h.iteration ≡ room_for h.op kept.room)
 
 pub record Fits (w : World) (h : History) : Type 0 where
   pub replicas : (k r : ℕ) → FitsReplica k (entry_of k w.cluster.entries) (h.effects k r) (complete_replica w.cluster w.nodes k r)
@@ -244,8 +244,8 @@ pub record Facts (m : Machine) : Type 0 where
   pub events : (a : ActorName) (s : CallState) (step : RecordStep) → m.in_hand a ≡ Some s → due m s ≡ Event step → IsEventReady m s (driver_of s) step
   -- an open has a place for its handle, and with a checkpoint in the making room for the handle
   pub opens : (a : ActorName) (s : CallState) (o : OpenState) → m.in_hand a ≡ Some s → driver_of s ≡ drivers.Open o → IsBuilt s.op × (IsSome o.making → room_of m (client_of s.call) ≡ true)
-  -- an iteration that is started has room for all sections that are declared, and one that goes on is there
-  pub starts : (a : ActorName) (s : CallState) (r : ℕ) (call : CallId) (k : ℕ) (choice : Choice) → m.in_hand a ≡ Some s → due m s ≡ Serve r (requests.Iterate call k choice) → (s.kept.sections ≡ sections_declared m.cluster (Some k)) × IsIterOf choice s.op × IsSome (named_handle m a s.op) × IsActive (driver_of s)
+  -- an iteration that is started has room for all identifiers that are declared, and one that goes on is there
+  pub starts : (a : ActorName) (s : CallState) (r : ℕ) (call : CallId) (k : ℕ) (choice : Choice) → m.in_hand a ≡ Some s → due m s ≡ Serve r (requests.Iterate call k choice) → (s.kept.room ≡ room_at m.cluster (Some k)) × IsIterOf choice s.op × IsSome (named_handle m a s.op) × IsActive (driver_of s)
   pub goes_on : (a : ActorName) (s : CallState) (r : ℕ) (call : CallId) (k : ℕ) → m.in_hand a ≡ Some s → due m s ≡ Serve r (requests.Next call k) → IsNextOf s.op × IsSome (named_handle m a s.op)
   -- a handle is there that is closed
   pub closes : (a : ActorName) (s : CallState) (place : ℕ) → m.in_hand a ≡ Some s → closed_place s.op ≡ Some place → IsSome (handle_in m (number_of a) (Some place))

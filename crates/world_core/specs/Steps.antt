@@ -1,5 +1,7 @@
 -- Which label is due, with its answer, and the state after a label.
 use Rattle.section_iter.specs.KeptIds.{KeptIds}
+use Rattle.section_iter.specs.Room.{room_declared}
+use Rattle.section_iter.specs.declared.room.Room.{Room}
 use Rattle.section_iter.specs.Next.{kept_after}
 use Rattle.std.specs.Option.{option_and_then}
 use Rattle.std.specs.Prelude.{slice_set, ◌≡◌, ◌≢◌, ◌⊎◌, ℕ, ◌+◌, List, [], ◌∷◌, ◌++◌, length, Option, Some, None, IsTrue, Bool, true, false, ◌==◌, nat_lt, if◌then◌else◌, ℤ, slice_index}
@@ -50,7 +52,7 @@ use Rattle.world_core.specs.declared.replica.Replica.{Replica}
 use Rattle.world_core.specs.declared.replica.Slot.{Slot}
 use Rattle.cluster_record.specs.Calls.{number_of, client_of, IsClient, put_actor, left}
 use Rattle.cluster_record.specs.Places.{find_key, put, put2}
-use Rattle.cluster_record.specs.LookUps.{node_of_client, sections_declared, creation_flags_of}
+use Rattle.cluster_record.specs.LookUps.{node_of_client, declared_in, creation_flags_of}
 use Rattle.cluster_record.specs.RecordState.{RecordState, entry_of, complete_of, client_key, is_live_client, is_up, no_nodes, brought_up, IsMomentFrom, moved}
 use Rattle.node_msgs.specs.Requests.{ckpt_of}
 use Rattle.world_core.specs.Serving.{update_of, record_seen, reply_at, pieces_at, or_same, next_reply_at, next_id, given_at, chosen_at}
@@ -200,9 +202,18 @@ abbrev pub ckpt_of_handle : Option HandleView → Option ℕ
 ckpt_of_handle None = None
 ckpt_of_handle (Some h) = Some h.id
 
+-- the room for all identifiers that a checkpoint declares; none for a checkpoint that is gone
+abbrev pub room_in : Option CreationAttributes → Room
+room_in None = record { ids = 0; id_size = 0 }
+room_in (Some a) = room_declared a
+
+abbrev pub room_at : RecordState → Option ℕ → Room
+room_at R None = room_in None
+room_at R (Some k) = room_in (declared_in (entry_of k R.entries))
+
 -- what a call keeps at its beginning
 abbrev pub kept_at : RecordState → ℕ → Option HandleView → Kept
-kept_at R c h = record { ckpt = ckpt_of_handle h; sections = sections_declared R (ckpt_of_handle h); node = node_of_client (find_key client_key c R.clients); moment = R.moment }
+kept_at R c h = record { ckpt = ckpt_of_handle h; room = room_at R (ckpt_of_handle h); node = node_of_client (find_key client_key c R.clients); moment = R.moment }
 
 -- an Initialize begins for a client that is not live, on a node that is up
 abbrev pub MayBegin : RecordState → ℕ → Op → Type 0
@@ -350,7 +361,7 @@ with_iteration m c h place kept = m
 -- the replica of a node gives what is chosen now
 abbrev pub start_done : Machine → CallState → ℕ → ℕ → Machine
 start_done m s k r = with_iteration m (client_of s.call) (named_handle m s.call.actor s.op) (started_place s.op)
-    (record { ids = chosen_at (chosen_choice s.op) m.cluster.moment (seen_at m k r); room = s.kept.sections })
+    (record { ids = chosen_at (chosen_choice s.op) m.cluster.moment (seen_at m k r); room = s.kept.room })
 
 -- this is kept of a place's iteration
 abbrev pub with_kept_at : ℕ → KeptIds → IterationTable → IterationTable

@@ -4,10 +4,10 @@ ghost use Rattle.ckpt_types.specs.declared.identities.Who.TheVariants.{Actor};
 ghost use Rattle.ckpt_types.specs.Limits.{client_numbers};
 ghost use Rattle.run_labels.specs.declared.words.LineWord.TheVariants as linewords;
 ghost use Rattle.run_labels.specs.declared.labels.Label.TheVariants as labels;
-ghost use Rattle.cluster_record.specs.LookUps.{sections_declared};
+ghost use Rattle.section_iter.specs.Room.{room_declared};
 ghost use Rattle.cluster_record.specs.RecordState.{empty_record};
 ghost use Rattle.world_core.specs.Beginning.{IsBuilt, handle_place, iteration_place};
-ghost use Rattle.world_core.specs.Steps.{MayBegin, IsBeginEnd};
+ghost use Rattle.world_core.specs.Steps.{MayBegin, IsBeginEnd, room_at};
 ghost use Rattle.world_core.specs.Shows.{IsShown, IsRoomy, hand_at, room_for};
 ghost use Rattle.world_core.specs.Happenings.{BringsUp, Begins, handle_named};
 
@@ -119,9 +119,9 @@ impl World {
     }
 }
 
-// What a checkpoint declares; one that is gone declares no section.
+// What a checkpoint declares; one that is gone declares nothing.
 fn declared_by(cluster: &Record, ckpt: Option<CkptId>) -> CreationAttributes
-    ensures { result.max_sections ≡ sections_declared cluster.now ckpt }
+    ensures { room_declared result ≡ room_at cluster.now ckpt }
 {
     let Some(ckpt) = ckpt else {
         return DECLARES_NOTHING;
@@ -140,7 +140,7 @@ fn take_room(
     due: Option<Outcome>,
 ) -> (Option<Outcome>, Option<Iteration>)
     ensures end { IsBeginEnd op.now due result.0 }
-    ensures room { result.0 ≡ None → result.1 ≡ room_for op.now declared.now.max_sections }
+    ensures room { result.0 ≡ None → result.1 ≡ room_for op.now (room_declared declared.now) }
 {
     if !takes_room(op) || due.is_some() {
         return (due, None);

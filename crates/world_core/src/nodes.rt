@@ -1,5 +1,6 @@
 ghost use Rattle.std.specs.Prelude.{◌≡◌, ◌<◌, ◌≤◌, [], ◌++◌, ◌∷◌, false, Option, Some, None, IfOk, IfSome, IsSomeAnd, MatchOption, OnOk, OnErr, filter, length, replicate, slice_get};
 ghost use Rattle.section_iter.specs.Next.{kept_after};
+ghost use Rattle.section_iter.specs.Room.{IsRoomFor};
 ghost use Rattle.ckpt_types.specs.Attributes.{is_malformed};
 ghost use Rattle.ckpt_types.specs.Limits.{section_id_max, nodes_max};
 ghost use Rattle.cluster_record.specs.Places.{find_key, change_key, place_key};
@@ -106,7 +107,7 @@ impl Nodes {
         now: Moment,
     )
         requires node { r < nodes_max }
-        requires room { IsSomeAnd (replica_in self.now ckpt r) (λ x. x.store.attributes.max_sections ≤ iteration.old.room) }
+        requires room { IsSomeAnd (replica_in self.now ckpt r) (λ x. IsRoomFor x.store.attributes iteration.old.room) }
         ensures { iteration.new ≡ record iteration.old { ids = chosen_at choice now (replica_in self.now ckpt r) } }
     {
         let Some(replica) = self.list[r as usize].find(ckpt) else {

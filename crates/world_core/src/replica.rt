@@ -7,6 +7,7 @@ ghost use Rattle.ckpt_types.specs.Updates.{outcome};
 ghost use Rattle.ckpt_types.specs.Reads.{read, status, chosen, given};
 ghost use Rattle.ckpt_types.specs.Limits.{section_id_max};
 ghost use Rattle.section_iter.specs.Next.{kept_after};
+ghost use Rattle.section_iter.specs.Room.{IsRoomFor};
 ghost use Rattle.node_msgs.specs.Requests.{ckpt_of};
 ghost use Rattle.node_msgs.specs.declared.replies.Reply.TheVariants as replies;
 ghost use Rattle.update_rules.specs.Told.{told};
@@ -127,12 +128,12 @@ impl Replica {
 
     /// Gives what is chosen now to an iteration with room for it. It takes no memory.
     pub fn start(&self, iteration: &mut Iteration, choice: Choice, now: Moment)
-        requires { self.now.store.attributes.max_sections ≤ iteration.old.room }
+        requires { IsRoomFor self.now.store.attributes iteration.old.room }
         ensures { iteration.new ≡ record iteration.old { ids = chosen choice now self.now.store.sections } }
     {
-        // No more sections stand than were declared.
+        // No more sections stand than were declared, with no longer identifiers.
         let declared = self.store.attributes().max_sections;
-        prove!(declared <= iteration.room());
+        prove!(declared <= iteration.room().ids);
         iteration.start(&self.store, choice, now);
     }
 

@@ -63,7 +63,7 @@ fn add(client: &mut Client, place: u8, handle: u32, iteration: Iteration) -> Res
 }
 
 fn begin_at(client: &mut Client, place: u8, from: u8, iteration: Iteration) -> Option<u32> {
-    let room = iteration.room();
+    let room = iteration.room().ids;
     let Ok(handle) = client.handle(from) else {
         return None;
     };
@@ -105,7 +105,7 @@ fn give_back(client: &mut Client, place: u8, iteration: Iteration) -> bool {
 
 fn pass_at(client: &mut Client, place: u8) -> Option<u32> {
     let iteration = lend(client, place)?;
-    let room = iteration.room();
+    let room = iteration.room().ids;
     if give_back(client, place, iteration) {
         Some(room)
     } else {
@@ -296,7 +296,7 @@ fn lend_new(alloc: Global, client: &mut Client) -> Result<Iteration, Fail> {
 
 /// The iteration of i3 may be given back.
 fn takes_back(rt: &impl Abort, client: &mut Client, lent: Iteration) {
-    assert_eq!(rt; lent.room(), 5);
+    assert_eq!(rt; lent.room().ids, 5);
     assert!(rt; client.is_lent(3), "i3 is lent");
     assert_eq!(rt; whose(client, 3), Some(1));
     assert!(rt; give_back(client, 3, lent));

@@ -1,5 +1,5 @@
 use Rattle.std.proofs.Common.{◌≡◌, refl, ap, ◌∙◌}
-use Rattle.cluster_record.specs.LookUps.{sections_declared}
+use Rattle.world_core.specs.Steps.{room_at}
 use Rattle.std.specs.Prelude.{slice_get, slice_set}
 use Rattle.world_core.specs.declared.hands.InHand.{InHand}
 use Rattle.world_core.specs.Beginning.{handle_place, iteration_place}
@@ -23,7 +23,7 @@ returns-clause-ok c =
           c.in_ok-own.ensures c.in_ok-begun.ensures
           (λ t table. c.number.ensures.value ∙ ap next_in table)
           (λ t table. c.named_handle-handle.ensures ∙ handle_named_is w c.args.c (handle_place c.args.op.now) (iteration_place c.args.op.now) t table)
-          c.is_live_client.ensures c.begin_end-due.ensures c.take_room-end.ensures.end (c.declared_by-declared.ensures ∙ ap (sections_declared w.cluster) c.ckpt_of_handle.ensures) c.take_room-end.ensures.room c.ended_place.ensures
+          c.is_live_client.ensures c.begin_end-due.ensures c.take_room-end.ensures.end (c.declared_by-declared.ensures ∙ ap (room_at w.cluster) c.ckpt_of_handle.ensures) c.take_room-end.ensures.room c.ended_place.ensures
           (λ t table. at_table (λ t. c.begin.new.self ≡ slice_set w.tables c.args.c (begun_with c.ended_place.result t)) (slice_get w.tables c.args.c) t table c.begin.ensures)
           c.in_ok-driver.ensures c.begin-2.ensures.new;
     }
