@@ -82,9 +82,9 @@ fn play_line(
     ensures front { GrowsTowards log.old.labels log.new.labels (AnswersLine (last log.old.labels) line.now) }
 {
     match line {
-        Line::Nodes(count) => world.event(alloc, &Event::Nodes(*count), log),
+        Line::Nodes(count) => world.event(alloc, Event::Nodes(*count), log),
         Line::Call(client, op) => play_call(alloc, *client, op, log, world),
-        Line::At(t) => world.event(alloc, &Event::At(*t), log),
+        Line::At(t) => world.event(alloc, Event::At(*t), log),
         _ => unreachable!(),
     }
 }
@@ -150,7 +150,7 @@ fn begin(
     ensures err { OnErr result (log.new.labels ≡ log.old.labels) }
 {
     let event = Event::Begin(ActorName::Client(client), op.clone()?);
-    world.event(alloc, &event, log)
+    world.event(alloc, event, log)
 }
 
 // The next step of the client's call in hand.
@@ -165,5 +165,5 @@ fn step(alloc: Global, client: u8, log: &mut RunLog, world: &mut World) -> Resul
     ensures err { OnErr result (log.new.labels ≡ log.old.labels) }
 {
     let event = Event::Step(Who::Actor(ActorName::Client(client)), false);
-    world.event(alloc, &event, log)
+    world.event(alloc, event, log)
 }

@@ -1,5 +1,5 @@
 -- What an event does to the world, with the label that answers it.
-use Rattle.std.specs.Prelude.{◌≡◌, ◌⊎◌, ℕ, ◌<◌, List, length, Option, Some, None, Bool, nat_lt, ℤ, slice_get, slice_set}
+use Rattle.std.specs.Prelude.{◌≡◌, ◌⊎◌, ℕ, ◌<◌, List, [], ◌∷◌, ◌++◌, length, Option, Some, None, Bool, nat_lt, ℤ, slice_get, slice_set}
 use Rattle.ckpt_types.specs.declared.answers.Outcome.{Outcome}
 use Rattle.ckpt_types.specs.declared.identities.ActorName.TheVariants.{Client}
 use Rattle.ckpt_types.specs.declared.identities.CallId.{CallId}
@@ -7,6 +7,7 @@ use Rattle.ckpt_types.specs.declared.identities.Who.TheVariants as whos
 use Rattle.ckpt_types.specs.declared.operation.Op.{Op}
 use Rattle.ckpt_types.specs.Limits.{iterations_max, handles_max, client_numbers}
 use Rattle.node_msgs.specs.declared.next.Next.{Next}
+use Rattle.run_labels.specs.Kept.{Kept}
 use Rattle.run_labels.specs.declared.labels.Label.{Label}
 use Rattle.run_labels.specs.declared.labels.Label.TheVariants as labels
 use Rattle.node_msgs.specs.declared.steps.StepReply.{StepReply}
@@ -24,6 +25,12 @@ use Rattle.world_core.specs.Driving.{driver_next}
 use Rattle.world_core.specs.Beginning.{IsBuilt}
 use Rattle.world_core.specs.Shows.{Does, handles_in, iterations_in, handle_in_place, handle_over_place, hand_at}
 use Rattle.world_core.specs.Runs.{AnswersBegin, IsIdleWord}
+
+-- the log has one label more, of which this holds
+pub record Adds (old new : Kept) (holds : Label → Type 0) : Type 0 where
+  pub label : Label
+  pub labels : new.labels ≡ old.labels ++ label ∷ []
+  pub is : holds label
 
 -- what the client's tables have a free place for
 abbrev pub rooms_in : World → ℕ → Rooms

@@ -1,4 +1,4 @@
-ghost use Rattle.std.specs.Prelude.{◌≡◌, ◌<◌, None, IfOk, OnErr};
+ghost use Rattle.std.specs.Prelude.{◌≡◌, ◌<◌, ◌≤◌, None, IfOk, OnOk, OnErr};
 ghost use Rattle.ckpt_types.specs.declared.identities.ActorName.TheVariants.{Client};
 ghost use Rattle.ckpt_types.specs.declared.identities.Who.TheVariants.{Actor};
 ghost use Rattle.ckpt_types.specs.Limits.{client_numbers};
@@ -9,7 +9,7 @@ ghost use Rattle.cluster_record.specs.RecordState.{empty_record};
 ghost use Rattle.world_core.specs.Beginning.{IsBuilt, handle_place, iteration_place};
 ghost use Rattle.world_core.specs.Steps.{MayBegin, IsBeginEnd, room_at};
 ghost use Rattle.world_core.specs.Shows.{IsShown, IsRoomy, hand_at, room_for};
-ghost use Rattle.world_core.specs.Happenings.{BringsUp, Begins, handle_named};
+ghost use Rattle.world_core.specs.Happenings.{Adds, BringsUp, Begins, handle_named};
 
 use crate::beginning::{
     begin_end, ckpt_of_handle, ended_place, handle_place, iteration_place, takes_room,
@@ -20,7 +20,7 @@ use crate::world::World;
 use ckpt_types::{ActorName, CallId, CkptId, CreationAttributes, Op, Outcome, Who};
 use client_handles::HandleView;
 use cluster_record::Record;
-use run_labels::{Label, LineWord, OpWord, Said};
+use run_labels::{Label, LineWord, OpWord, RunLog, Said};
 use section_iter::Iteration;
 use std::alloc::{AllocError, Global};
 
@@ -36,72 +36,87 @@ const DECLARES_NOTHING: CreationAttributes = CreationAttributes {
 
 impl World {
     /// The first nodes come up.
-    pub(crate) fn bring_up(&mut self, n: u8) -> Label
+    pub(crate) fn bring_up(&mut self, n: u8, log: &mut RunLog)
         requires first { n ≡ 1 }
         requires empty { self.old.cluster ≡ empty_record }
-        ensures { BringsUp n self.old self.new result }
+        requires spare { 1 ≤ log.old.spare }
+        ensures { Adds log.old log.new (BringsUp n self.old self.new) }
     {
         self.cluster.bring_up(n);
-        Label::Nodes(n)
+        log.push(Label::Nodes(n));
     }
 
-    /// A call of a client begins, or a word answers its line. Want of memory leaves the world as it was.
-    pub(crate) fn begin(&mut self, alloc: Global, c: u8, op: &Op) -> Result<Label, AllocError>
+    /// A call of a client begins, or a word answers its line. Want of memory leaves the world and the log as
+    /// they were.
+    pub(crate) fn begin(
+        &mut self,
+        alloc: Global,
+        c: u8,
+        op: Op,
+        log: &mut RunLog,
+    ) -> Result<(), AllocError>
         requires client { c < client_numbers }
-        requires built { IsBuilt op.now }
+        requires built { IsBuilt op }
         requires shown { IsShown self.old }
         requires roomy { IsRoomy self.old }
-        ensures ok { IfOk result (Begins c op.now self.old self.new) }
-        ensures err { OnErr result (self.new ≡ self.old) }
+        requires spare { 1 ≤ log.old.spare }
+        ensures ok { OnOk result (Adds log.old log.new (Begins c op self.old self.new)) }
+        ensures err { OnErr result ((self.new ≡ self.old) × (log.new.labels ≡ log.old.labels)) }
     {
         if self.in_hand(c) {
-            return Ok(said(c, OpWord::of(op), Said::Busy));
+            log.push(said(c, OpWord::of(&op), Said::Busy));
+            return Ok(());
         }
-        if let Op::Client(r, _, _) = op {
+        if let Op::Client(r, _, _) = &op {
             if self.cluster.is_live_client(c) {
-                return Ok(said(c, OpWord::of(op), Said::Live));
+                log.push(said(c, OpWord::of(&op), Said::Live));
+                return Ok(());
             }
             if !self.cluster.is_up(*r) {
-                return Ok(said(c, OpWord::of(op), Said::Down));
+                log.push(said(c, OpWord::of(&op), Said::Down));
+                return Ok(());
             }
         }
-        self.begin_call(alloc, c, op)
+        self.begin_call(alloc, c, op, log)
     }
 
-    fn begin_call(&mut self, alloc: Global, c: u8, op: &Op) -> Result<Label, AllocError>
+    fn begin_call(
+        &mut self,
+        alloc: Global,
+        c: u8,
+        op: Op,
+        log: &mut RunLog,
+    ) -> Result<(), AllocError>
         requires client { c < client_numbers }
-        requires built { IsBuilt op.now }
+        requires built { IsBuilt op }
         requires none { hand_at self.old.hands c ≡ None }
-        requires may { MayBegin self.old.cluster c op.now }
+        requires may { MayBegin self.old.cluster c op }
         requires shown { IsShown self.old }
         requires roomy { IsRoomy self.old }
-        ensures ok { IfOk result (Begins c op.now self.old self.new) }
-        ensures err { OnErr result (self.new ≡ self.old) }
+        requires spare { 1 ≤ log.old.spare }
+        ensures ok { OnOk result (Adds log.old log.new (Begins c op self.old self.new)) }
+        ensures err { OnErr result ((self.new ≡ self.old) × (log.new.labels ≡ log.old.labels)) }
     {
         let call = CallId {
             actor: ActorName::Client(c),
             number: self.tables.number(c),
         };
-        let handle = self.named_handle(c, op);
-        let due = begin_end(self.cluster.is_live_client(c), &handle, op);
-        let driver = Driver::start(call, op, &handle, &self.cluster)?;
-        let own = copy(op)?;
-        let begun = copy(op)?;
+        let handle = self.named_handle(c, &op);
+        let due = begin_end(self.cluster.is_live_client(c), &handle, &op);
+        let driver = Driver::start(call, &op, &handle, &self.cluster)?;
+        let own = copy(&op)?;
         let declared = declared_by(&self.cluster, ckpt_of_handle(&handle));
-        let (end, iteration) = take_room(alloc, op, &declared, due);
+        let (end, iteration) = take_room(alloc, &op, &declared, due);
         let hand = InHand {
             call,
             op: own,
             driver,
             iteration,
         };
-        self.tables.begin(c, ended_place(op, &end));
+        self.tables.begin(c, ended_place(&op, &end));
         self.hands.begin(c, hand, &end);
-        Ok(Label::Began {
-            call,
-            op: begun,
-            end,
-        })
+        log.push(Label::Began { call, op, end });
+        Ok(())
     }
 
     // The handle that the operation is about: that of the place of a handle, or else of an iteration.

@@ -1,9 +1,9 @@
-ghost use Rattle.std.specs.Prelude.{◌≡◌, ◌<◌, IfOk, OnErr};
+ghost use Rattle.std.specs.Prelude.{◌≡◌, ◌<◌, ◌≤◌, OnOk, OnErr};
 ghost use Rattle.ckpt_types.specs.Limits.{client_numbers};
 ghost use Rattle.node_msgs.specs.declared.next.Next.TheVariants as nexts;
 ghost use Rattle.node_msgs.specs.declared.requests.Request.TheVariants as requests;
 ghost use Rattle.world_core.specs.Shows.{IsShown, IsRoomy};
-ghost use Rattle.world_core.specs.Happenings.{IsNext, IsStep};
+ghost use Rattle.world_core.specs.Happenings.{Adds, IsNext, IsStep};
 
 use crate::beginning::{handle_place, iteration_place, started_place};
 use crate::hands::InHand;
@@ -11,7 +11,7 @@ use crate::nodes::told_pieces;
 use crate::world::World;
 use ckpt_types::{Answer, CallId, Choice, CkptId, NodeId, Outcome, ReadBuf, SECTION_ID_MAX};
 use node_msgs::{Request, StepReply, Verb};
-use run_labels::{Label, OpWord};
+use run_labels::{Label, OpWord, RunLog};
 use std::alloc::{AllocError, Global};
 
 impl World {
@@ -23,12 +23,14 @@ impl World {
         asked: CallId,
         ckpt: CkptId,
         choice: Choice,
-    ) -> Label
+        log: &mut RunLog,
+    )
         requires next { IsNext self.old c (nexts.Serve r (requests.Iterate asked ckpt choice)) }
         requires client { c < client_numbers }
         requires shown { IsShown self.old }
         requires roomy { IsRoomy self.old }
-        ensures { IsStep c self.old self.new result }
+        requires spare { 1 ≤ log.old.spare }
+        ensures { Adds log.old log.new (IsStep c self.old self.new) }
     {
         let Some(hand) = self.hands.remove(c) else {
             unreachable!()
@@ -55,7 +57,7 @@ impl World {
         let now = self.cluster.now();
         self.nodes.start(r, ckpt, &mut iteration, choice, now);
         self.tables.start(c, place, handle.handle, iteration);
-        Label::Stepped {
+        log.push(Label::Stepped {
             call,
             op: word,
             verb: Verb::Iter,
@@ -64,7 +66,7 @@ impl World {
             reply: StepReply::Ok,
             end: Some(Outcome::Done(Answer::Nothing)),
             pieces: None,
-        }
+        });
     }
 
     /// The call of a client goes on with an iteration. Want of memory for the identifier that its label tells
@@ -76,12 +78,14 @@ impl World {
         r: NodeId,
         asked: CallId,
         ckpt: CkptId,
-    ) -> Result<Label, AllocError>
+        log: &mut RunLog,
+    ) -> Result<(), AllocError>
         requires next { IsNext self.old c (nexts.Serve r (requests.Next asked ckpt)) }
         requires client { c < client_numbers }
         requires shown { IsShown self.old }
-        ensures ok { IfOk result (IsStep c self.old self.new) }
-        ensures err { OnErr result (self.new ≡ self.old) }
+        requires spare { 1 ≤ log.old.spare }
+        ensures ok { OnOk result (Adds log.old log.new (IsStep c self.old self.new)) }
+        ensures err { OnErr result ((self.new ≡ self.old) × (log.new.labels ≡ log.old.labels)) }
     {
         let request = Request::Next(asked, ckpt);
         let Some(hand) = self.hands.find(c) else {
@@ -99,7 +103,7 @@ impl World {
             .go_on(c, place, &self.nodes, r, ckpt, now, &mut read);
         let end = self.hands.take(c, &self.cluster, r, &request, &reply);
         let pieces = told_pieces(&end, &reply, read);
-        Ok(Label::Stepped {
+        log.push(Label::Stepped {
             call,
             op,
             verb: Verb::Next,
@@ -108,6 +112,7 @@ impl World {
             reply: reply.word(),
             end,
             pieces,
-        })
+        });
+        Ok(())
     }
 }

@@ -1,4 +1,4 @@
-ghost use Rattle.std.specs.Prelude.{◌≡◌, ◌≢◌, ◌⊎◌, ℕ, ◌<◌, Some, IfSome, IsSomeAnd, IfOk, OnErr, length, slice_get};
+ghost use Rattle.std.specs.Prelude.{◌≡◌, ◌≢◌, ◌⊎◌, ℕ, ◌<◌, ◌≤◌, Some, IfSome, IsSomeAnd, OnOk, OnErr, length, slice_get};
 ghost use Rattle.ckpt_types.specs.declared.identities.ActorName.TheVariants.{Client};
 ghost use Rattle.ckpt_types.specs.declared.identities.Who.TheVariants as whos;
 ghost use Rattle.node_msgs.specs.declared.next.Next.TheVariants as nexts;
@@ -13,7 +13,7 @@ ghost use Rattle.world_core.specs.Beginning.{opened_place, closed_place};
 ghost use Rattle.world_core.specs.Reserving.{IsReserved};
 ghost use Rattle.world_core.specs.Runs.{step_word};
 ghost use Rattle.world_core.specs.Shows.{IsShown, IsRoomy, IsReservable};
-ghost use Rattle.world_core.specs.Happenings.{rooms_in, IsNext, IsStep, IsIdle};
+ghost use Rattle.world_core.specs.Happenings.{Adds, rooms_in, IsNext, IsStep, IsIdle};
 ghost use Rattle.ckpt_types.specs.declared.identities.CallId.{CallId};
 ghost use Rattle.ckpt_types.specs.declared.sections.Choice.{Choice};
 ghost use Rattle.ckpt_types.specs.Limits.{client_numbers, nodes_max, places_max};
@@ -28,7 +28,7 @@ use crate::world::World;
 use ckpt_types::{ActorName, Answer, CkptId, NodeId, Op, Outcome, Who};
 use cluster_record::Record;
 use node_msgs::{Next, RecordStep, Reply, Request, StepReply, Verb};
-use run_labels::{Label, LineWord, Said};
+use run_labels::{Label, LineWord, RunLog, Said};
 use std::alloc::{AllocError, Global};
 
 impl World {
@@ -36,26 +36,45 @@ impl World {
     /// the world as it was; where the step's own memory is refused, the call is told so instead.
     // Put in line: a call would copy its label once more.
     #[inline(always)]
-    pub(crate) fn step(&mut self, alloc: Global, c: u8, finish: bool) -> Result<Label, AllocError>
+    pub(crate) fn step(
+        &mut self,
+        alloc: Global,
+        c: u8,
+        finish: bool,
+        log: &mut RunLog,
+    ) -> Result<(), AllocError>
         requires client { c < client_numbers }
         requires shown { IsShown self.old }
         requires roomy { IsRoomy self.old }
-        ensures ok { IfOk result (λ label. IsStep c self.old self.new label ⊎ IsIdle c finish self.old self.new label) }
-        ensures err { OnErr result (self.new ≡ self.old) }
+        requires spare { 1 ≤ log.old.spare }
+        ensures ok { OnOk result (Adds log.old log.new (λ label. IsStep c self.old self.new label ⊎ IsIdle c finish self.old self.new label)) }
+        ensures err { OnErr result ((self.new ≡ self.old) × (log.new.labels ≡ log.old.labels)) }
     {
         let next = match self.hands.find(c) {
-            None => return Ok(idle(c, finish)),
+            None => {
+                log.push(idle(c, finish));
+                return Ok(());
+            }
             Some(hand) => hand.driver.next(&self.cluster, self.rooms(c)),
         };
         match next {
-            Next::Serve(r, Request::Reserve(ckpt)) => self.reserve_step(alloc, c, r, ckpt),
+            Next::Serve(r, Request::Reserve(ckpt)) => self.reserve_step(alloc, c, r, ckpt, log),
             Next::Serve(r, Request::Iterate(call, ckpt, choice)) => {
-                Ok(self.iterate_step(c, r, call, ckpt, choice))
+                self.iterate_step(c, r, call, ckpt, choice, log);
+                Ok(())
             }
-            Next::Serve(r, Request::Next(call, ckpt)) => self.next_step(alloc, c, r, call, ckpt),
-            Next::Serve(r, request) => self.serve_step(alloc, c, r, &request),
-            Next::Event(step) => Ok(self.record_step(c, step)),
-            Next::End(end) => Ok(self.look_step(c, end)),
+            Next::Serve(r, Request::Next(call, ckpt)) => {
+                self.next_step(alloc, c, r, call, ckpt, log)
+            }
+            Next::Serve(r, request) => self.serve_step(alloc, c, r, &request, log),
+            Next::Event(step) => {
+                self.record_step(c, step, log);
+                Ok(())
+            }
+            Next::End(end) => {
+                self.look_step(c, end, log);
+                Ok(())
+            }
         }
     }
 
@@ -77,12 +96,14 @@ impl World {
         c: u8,
         r: NodeId,
         ckpt: CkptId,
-    ) -> Result<Label, AllocError>
+        log: &mut RunLog,
+    ) -> Result<(), AllocError>
         requires next { IsNext self.old c (nexts.Serve r (requests.Reserve ckpt)) }
         requires client { c < client_numbers }
         requires shown { IsShown self.old }
-        ensures ok { IfOk result (IsStep c self.old self.new) }
-        ensures err { OnErr result (self.new ≡ self.old) }
+        requires spare { 1 ≤ log.old.spare }
+        ensures ok { OnOk result (Adds log.old log.new (IsStep c self.old self.new)) }
+        ensures err { OnErr result ((self.new ≡ self.old) × (log.new.labels ≡ log.old.labels)) }
     {
         let request = Request::Reserve(ckpt);
         let reply = self.reserve(alloc, r, ckpt);
@@ -92,7 +113,7 @@ impl World {
         let call = hand.call;
         let op = hand.word();
         let end = self.hands.take(c, &self.cluster, r, &request, &reply);
-        Ok(Label::Stepped {
+        log.push(Label::Stepped {
             call,
             op,
             verb: Verb::Reserve,
@@ -101,7 +122,8 @@ impl World {
             reply: reply.word(),
             end,
             pieces: None,
-        })
+        });
+        Ok(())
     }
 
     // A node answers a request of the call.
@@ -111,7 +133,8 @@ impl World {
         c: u8,
         r: NodeId,
         request: &Request,
-    ) -> Result<Label, AllocError>
+        log: &mut RunLog,
+    ) -> Result<(), AllocError>
         requires next { IsNext self.old c (nexts.Serve r request.now) }
         requires reserves_none { (k : ℕ) → request.now ≢ requests.Reserve k }
         requires starts_none { (call : CallId) (k : ℕ) (choice : Choice) → request.now ≢ requests.Iterate call k choice }
@@ -119,8 +142,9 @@ impl World {
         requires client { c < client_numbers }
         requires shown { IsShown self.old }
         requires roomy { IsRoomy self.old }
-        ensures ok { IfOk result (IsStep c self.old self.new) }
-        ensures err { OnErr result (self.new ≡ self.old) }
+        requires spare { 1 ≤ log.old.spare }
+        ensures ok { OnOk result (Adds log.old log.new (IsStep c self.old self.new)) }
+        ensures err { OnErr result ((self.new ≡ self.old) × (log.new.labels ≡ log.old.labels)) }
     {
         let Some(hand) = self.hands.find(c) else {
             unreachable!()
@@ -133,7 +157,7 @@ impl World {
             .serve(r, request, &hand.op, &self.cluster, &mut lent);
         let end = self.hands.take(c, &self.cluster, r, request, &reply);
         let pieces = told_pieces(&end, &reply, lent.read);
-        Ok(Label::Stepped {
+        log.push(Label::Stepped {
             call,
             op,
             verb: request.verb(),
@@ -142,16 +166,18 @@ impl World {
             reply: reply.word(),
             end,
             pieces,
-        })
+        });
+        Ok(())
     }
 
     // The call takes a step of the record; where its memory is refused, the call ends.
-    fn record_step(&mut self, c: u8, step: RecordStep) -> Label
+    fn record_step(&mut self, c: u8, step: RecordStep, log: &mut RunLog)
         requires next { IsNext self.old c (nexts.Event step) }
         requires client { c < client_numbers }
         requires shown { IsShown self.old }
         requires roomy { IsRoomy self.old }
-        ensures { IsStep c self.old self.new result }
+        requires spare { 1 ≤ log.old.spare }
+        ensures { Adds log.old log.new (IsStep c self.old self.new) }
     {
         let Some(hand) = self.hands.find(c) else {
             unreachable!()
@@ -163,7 +189,7 @@ impl World {
         let verb = step.verb();
         if apply(&mut self.cluster, call, &hand.driver, step).is_err() {
             self.hands.clear(c);
-            return Label::Stepped {
+            log.push(Label::Stepped {
                 call,
                 op,
                 verb,
@@ -172,14 +198,15 @@ impl World {
                 reply: StepReply::Memory,
                 end: Some(Outcome::NoMemory),
                 pieces: None,
-            };
+            });
+            return;
         }
         settle(&mut self.tables, &self.cluster, c, &hand.op, &step, ckpt);
         let end = event_end(&step, ckpt);
         self.hands
             .told(c, &self.cluster, &step, ckpt, node, StepReply::Ok, &end);
         self.nodes.free_gone(&self.cluster);
-        Label::Stepped {
+        log.push(Label::Stepped {
             call,
             op,
             verb,
@@ -188,15 +215,16 @@ impl World {
             reply: StepReply::Ok,
             end,
             pieces: None,
-        }
+        });
     }
 
     // The record alone decides how the call ends.
-    fn look_step(&mut self, c: u8, end: Outcome) -> Label
+    fn look_step(&mut self, c: u8, end: Outcome, log: &mut RunLog)
         requires next { IsNext self.old c (nexts.End end) }
         requires client { c < client_numbers }
         requires shown { IsShown self.old }
-        ensures { IsStep c self.old self.new result }
+        requires spare { 1 ≤ log.old.spare }
+        ensures { Adds log.old log.new (IsStep c self.old self.new) }
     {
         let Some(hand) = self.hands.find(c) else {
             unreachable!()
@@ -206,7 +234,7 @@ impl World {
         let reply = look_word(&end);
         settle_look(&mut self.tables, c, &hand.op, &end);
         self.hands.clear(c);
-        Label::Stepped {
+        log.push(Label::Stepped {
             call,
             op,
             verb: Verb::Look,
@@ -215,7 +243,7 @@ impl World {
             reply,
             end: Some(end),
             pieces: None,
-        }
+        });
     }
 
     // A node takes the storage of a replica of the checkpoint, which is in the making.

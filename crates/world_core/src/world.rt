@@ -1,7 +1,7 @@
-ghost use Rattle.std.specs.Prelude.{◌≡◌, IfOk, OnOk, OnErr, is_some};
+ghost use Rattle.std.specs.Prelude.{◌≡◌, ◌≤◌, IfOk, OnOk, OnErr, is_some};
 ghost use Rattle.world_core.specs.Shows.{IsShown, IsRoomy};
 ghost use Rattle.world_core.specs.Parts.{record_in, call_in_hand};
-ghost use Rattle.world_core.specs.Happenings.{ComesNow, IsAnswered};
+ghost use Rattle.world_core.specs.Happenings.{Adds, ComesNow, IsAnswered};
 ghost use Rattle.world_core.specs.Runs.{IsNew, IsRunTo, MayHappen, Happens};
 ghost use Rattle.world_core.specs.Refusals.{RefusalLeaves};
 ghost use Rattle.world_core.specs.StepsLeft.{ComesNearer};
@@ -11,7 +11,7 @@ use crate::nodes::Nodes;
 use crate::tables::Tables;
 use ckpt_types::{ActorName, Moment, Op, Who};
 use cluster_record::Record;
-use run_labels::{Label, RunLog};
+use run_labels::RunLog;
 use std::alloc::{AllocError, Global};
 
 /// What may happen to the cluster.
@@ -69,42 +69,49 @@ impl World {
 
     /// One event, and one label more, which answers it. Want of memory leaves the world and the log as
     /// they were; a call whose own memory is refused ends with it instead.
-    pub fn event(
-        &mut self,
-        alloc: Global,
-        event: &Event,
-        log: &mut RunLog,
-    ) -> Result<(), AllocError>
-        requires { MayHappen self.old log.old.labels event.now }
+    // Put in line: a call would move the event once more.
+    #[inline(always)]
+    pub fn event(&mut self, alloc: Global, event: Event, log: &mut RunLog) -> Result<(), AllocError>
+        requires { MayHappen self.old log.old.labels event }
         ensures run { IsRunTo self.new log.new.labels }
-        ensures happens { OnOk result (Happens event.now self.old self.new log.old.labels log.new.labels) }
+        ensures happens { OnOk result (Happens event self.old self.new log.old.labels log.new.labels) }
 
         // A call that is refused leaves sections, names and handles as they were.
         ensures refused { OnOk result (RefusalLeaves log.old.labels log.new.labels) }
         ensures err { OnErr result ((self.new ≡ self.old) × (log.new.labels ≡ log.old.labels)) }
 
         // For whoever steps a call to its end.
-        ensures nearer { OnOk result (ComesNearer event.now self.old self.new) }
+        ensures nearer { OnOk result (ComesNearer event self.old self.new) }
     {
         log.reserve(1)?;
-        let label = self.happen(alloc, event)?;
-        log.push(label);
+        self.happen(alloc, event, log)?;
         Ok(())
     }
 
-    // The label that answers the event.
-    fn happen(&mut self, alloc: Global, event: &Event) -> Result<Label, AllocError>
-        requires comes { ComesNow self.old event.now }
+    // One label more, which answers the event, in the room that the log has.
+    // Put in line, as the event is known where it is made.
+    #[inline(always)]
+    fn happen(&mut self, alloc: Global, event: Event, log: &mut RunLog) -> Result<(), AllocError>
+        requires comes { ComesNow self.old event }
         requires shown { IsShown self.old }
         requires roomy { IsRoomy self.old }
-        ensures ok { IfOk result (IsAnswered event.now self.old self.new) }
-        ensures err { OnErr result (self.new ≡ self.old) }
+        requires spare { 1 ≤ log.old.spare }
+        ensures ok { OnOk result (Adds log.old log.new (IsAnswered event self.old self.new)) }
+        ensures err { OnErr result ((self.new ≡ self.old) × (log.new.labels ≡ log.old.labels)) }
     {
         match event {
-            Event::Nodes(n) => Ok(self.bring_up(*n)),
-            Event::Begin(ActorName::Client(c), op) => self.begin(alloc, *c, op),
-            Event::Step(Who::Actor(ActorName::Client(c)), finish) => self.step(alloc, *c, *finish),
-            Event::At(t) => Ok(self.at(*t)),
+            Event::Nodes(n) => {
+                self.bring_up(n, log);
+                Ok(())
+            }
+            Event::Begin(ActorName::Client(c), op) => self.begin(alloc, c, op, log),
+            Event::Step(Who::Actor(ActorName::Client(c)), finish) => {
+                self.step(alloc, c, finish, log)
+            }
+            Event::At(t) => {
+                self.at(t, log);
+                Ok(())
+            }
             _ => unreachable!(),
         }
     }

@@ -16,14 +16,18 @@ returns-clause-ok c =
     let w = c.args.self.now in
     let hand : InHand = record { call = record { actor = Client c.args.c; number = c.number.result }; op = c.in_ok-own.own; driver = c.in_ok-driver.driver; iteration = c.take_room-end.result.1 } in
     record {
-      begins = record { actor = refl; op_is = c.in_ok-begun.ensures; hand = hand; same_call = refl; same_op = c.in_ok-own.ensures; within = c.begin-2.ensures.within; hands = c.begin-2.ensures.new };
-      does = begin_done w c.args.c c.args.op.now c.in_ok-own.own c.in_ok-begun.begun c.number.result c.named_handle-handle.result c.is_live_client.result c.begin_end-due.result c.take_room-end.result.0 c.declared_by-declared.result.max_sections c.take_room-end.result.1 c.ended_place.result c.begin.new.self c.in_ok-driver.driver c.begin-2.new.self
-          c.requires.client c.number.ensures.within c.begin-2.ensures.within c.requires.none c.requires.built c.requires.may
-          (λ t table. table_has_no_zero w c.args.c t c.requires.shown table)
-          c.in_ok-own.ensures c.in_ok-begun.ensures
-          (λ t table. c.number.ensures.value ∙ ap next_in table)
-          (λ t table. c.named_handle-handle.ensures ∙ handle_named_is w c.args.c (handle_place c.args.op.now) (iteration_place c.args.op.now) t table)
-          c.is_live_client.ensures c.begin_end-due.ensures c.take_room-end.ensures.end (c.declared_by-declared.ensures ∙ ap (room_at w.cluster) c.ckpt_of_handle.ensures) c.take_room-end.ensures.room c.ended_place.ensures
-          (λ t table. at_table (λ t. c.begin.new.self ≡ slice_set w.tables c.args.c (begun_with c.ended_place.result t)) (slice_get w.tables c.args.c) t table c.begin.ensures)
-          c.in_ok-driver.ensures c.begin-2.ensures.new;
+      label = _;
+      labels = c.push.ensures.labels;
+      is = record {
+        begins = record { actor = refl; op_is = refl; hand = hand; same_call = refl; same_op = c.in_ok-own.ensures; within = c.begin-2.ensures.within; hands = c.begin-2.ensures.new };
+        does = begin_done w c.args.c c.args.op c.in_ok-own.own c.args.op c.number.result c.named_handle-handle.result c.is_live_client.result c.begin_end-due.result c.take_room-end.result.0 c.declared_by-declared.result.max_sections c.take_room-end.result.1 c.ended_place.result c.begin.new.self c.in_ok-driver.driver c.begin-2.new.self
+            c.requires.client c.number.ensures.within c.begin-2.ensures.within c.requires.none c.requires.built c.requires.may
+            (λ t table. table_has_no_zero w c.args.c t c.requires.shown table)
+            c.in_ok-own.ensures refl
+            (λ t table. c.number.ensures.value ∙ ap next_in table)
+            (λ t table. c.named_handle-handle.ensures ∙ handle_named_is w c.args.c (handle_place c.args.op) (iteration_place c.args.op) t table)
+            c.is_live_client.ensures c.begin_end-due.ensures c.take_room-end.ensures.end (c.declared_by-declared.ensures ∙ ap (room_at w.cluster) c.ckpt_of_handle.ensures) c.take_room-end.ensures.room c.ended_place.ensures
+            (λ t table. at_table (λ t. c.begin.new.self ≡ slice_set w.tables c.args.c (begun_with c.ended_place.result t)) (slice_get w.tables c.args.c) t table c.begin.ensures)
+            c.in_ok-driver.ensures c.begin-2.ensures.new;
+      };
     }

@@ -13,17 +13,25 @@ happen-requires-clause-roomy c = roomy c.args.self.now c.args.log.now.labels c.r
 
 -- src/world.rt:69:5
 pub returns-clause-run : goal.returns-clause-run
-returns-clause-run c = run_with c.args.event.now c.args.self.now c.happen.new.self c.args.log.now.labels c.push.new.self.labels c.in_ok-label.label c.requires c.in_ok-label.ensures.ok
-    (c.push.ensures.labels ∙ ap (λ labels. labels ++ c.in_ok-label.label ∷ []) c.reserve.ensures.labels)
+returns-clause-run c =
+    let added = c.in_ok-happen.ensures.ok in
+    run_with c.args.event c.args.self.now c.happen.new.self c.args.log.now.labels c.happen.new.log.labels added.label c.requires added.is
+    (added.labels ∙ ap (λ labels. labels ++ added.label ∷ []) c.reserve.ensures.labels)
 
 pub returns-clause-happens : goal.returns-clause-happens
-returns-clause-happens c = happens_with c.args.event.now c.args.self.now c.happen.new.self c.args.log.now.labels c.push.new.self.labels c.in_ok-label.label c.requires c.in_ok-label.ensures.ok
-    (c.push.ensures.labels ∙ ap (λ labels. labels ++ c.in_ok-label.label ∷ []) c.reserve.ensures.labels)
+returns-clause-happens c =
+    let added = c.in_ok-happen.ensures.ok in
+    happens_with c.args.event c.args.self.now c.happen.new.self c.args.log.now.labels c.happen.new.log.labels added.label c.requires added.is
+    (added.labels ∙ ap (λ labels. labels ++ added.label ∷ []) c.reserve.ensures.labels)
 
 pub returns-clause-refused : goal.returns-clause-refused
-returns-clause-refused c = run_leaves c.args.log.now.labels c.push.new.self.labels
-    (run_with c.args.event.now c.args.self.now c.happen.new.self c.args.log.now.labels c.push.new.self.labels c.in_ok-label.label c.requires c.in_ok-label.ensures.ok
-    (c.push.ensures.labels ∙ ap (λ labels. labels ++ c.in_ok-label.label ∷ []) c.reserve.ensures.labels)).run
+returns-clause-refused c =
+    let added = c.in_ok-happen.ensures.ok in
+    run_leaves c.args.log.now.labels c.happen.new.log.labels
+    (run_with c.args.event c.args.self.now c.happen.new.self c.args.log.now.labels c.happen.new.log.labels added.label c.requires added.is
+    (added.labels ∙ ap (λ labels. labels ++ added.label ∷ []) c.reserve.ensures.labels)).run
 
 pub returns-clause-nearer : goal.returns-clause-nearer
-returns-clause-nearer c = nearer_with c.args.event.now c.args.log.now.labels c.args.self.now c.happen.new.self c.in_ok-label.label c.requires.run c.in_ok-label.ensures.ok
+returns-clause-nearer c =
+    let added = c.in_ok-happen.ensures.ok in
+    nearer_with c.args.event c.args.log.now.labels c.args.self.now c.happen.new.self added.label c.requires.run added.is

@@ -37,6 +37,10 @@ returns-clause-ok c =
     let held = c.in-Some.ensures in
     let now = to_z w64 (of_z w64 c.now-now.result) in
     let now_is = to_z-of_z w64 c.now-now.result (record { sfits = c.now-now.type_inv }) ∙ c.now-now.ensures in
-    next_is c.args.self.now c.args.c c.args.r c.args.asked c.args.ckpt hand held c.requires.next c.requires.shown
-    c.in-Some-iteration_place.place now c.go_on-reply.new.self c.take-end.new.self c.word-op.result c.word.result c.go_on-reply.result c.take-end.result _ c.told_pieces-pieces.result
-    (sym c.in-Some-iteration_place.is ∙ c.iteration_place.ensures) now_is c.go_on-reply.ensures.reply c.go_on-reply.ensures.pieces c.go_on-reply.ensures.new (c.take-end.ensures.end hand held) (c.take-end.ensures.new hand held) c.word-op.ensures c.word.ensures c.told_pieces-pieces.ensures
+    record {
+      label = _;
+      labels = c.push.ensures.labels;
+      is = next_is c.args.self.now c.args.c c.args.r c.args.asked c.args.ckpt hand held c.requires.next c.requires.shown
+          c.in-Some-iteration_place.place now c.go_on-reply.new.self c.take-end.new.self c.word-op.result c.word.result c.go_on-reply.result c.take-end.result _ c.told_pieces-pieces.result
+          (sym c.in-Some-iteration_place.is ∙ c.iteration_place.ensures) now_is c.go_on-reply.ensures.reply c.go_on-reply.ensures.pieces c.go_on-reply.ensures.new (c.take-end.ensures.end hand held) (c.take-end.ensures.new hand held) c.word-op.ensures c.word.ensures c.told_pieces-pieces.ensures;
+    }

@@ -18,5 +18,9 @@ pub returns-clause-ok : goal.returns-clause-ok
 returns-clause-ok c =
     let hand = c.in-Some.hand.now in
     let held = c.in-Some.ensures in
-    reserve_is c.args.self.now c.args.c c.args.r c.args.ckpt c.requires.next c.reserve-reply.new.self c.reserve-reply.result hand c.take-end.new.self c.word-op.result c.word.result c.take-end.result
-    c.reserve-reply.ensures.there c.reserve-reply.ensures.reserved held (c.take-end.ensures.end hand held) (c.take-end.ensures.new hand held) c.word-op.ensures c.word.ensures
+    record {
+      label = _;
+      labels = c.push.ensures.labels;
+      is = reserve_is c.args.self.now c.args.c c.args.r c.args.ckpt c.requires.next c.reserve-reply.new.self c.reserve-reply.result hand c.take-end.new.self c.word-op.result c.word.result c.take-end.result
+          c.reserve-reply.ensures.there c.reserve-reply.ensures.reserved held (c.take-end.ensures.end hand held) (c.take-end.ensures.new hand held) c.word-op.ensures c.word.ensures;
+    }

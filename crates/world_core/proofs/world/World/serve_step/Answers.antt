@@ -23,5 +23,9 @@ returns-clause-ok c =
     let w = c.args.self.now in
     let hand = c.in-Some.hand.now in
     let held = c.in-Some.ensures in
-    serve_is w c.args.c c.args.r c.args.request.now hand held c.requires.next (record { reserves_none = c.requires.reserves_none; starts_none = c.requires.starts_none; goes_on_with_none = c.requires.goes_on_with_none }) (record_seen w.cluster (ckpt_of c.args.request.now)) c.serve-reply.new.self c.take-end.new.self c.word-op.result c.verb.result c.ckpt.result c.word.result c.serve-reply.result c.take-end.result c.told_pieces-pieces.result
-    refl c.serve-reply.ensures.reply (c.told_pieces-pieces.ensures ∙ ap (ended_pieces c.take-end.result) c.serve-reply.ensures.pieces) c.serve-reply.ensures.new (c.take-end.ensures.end hand held) (c.take-end.ensures.new hand held) c.word-op.ensures c.verb.ensures c.ckpt.ensures c.word.ensures
+    record {
+      label = _;
+      labels = c.push.ensures.labels;
+      is = serve_is w c.args.c c.args.r c.args.request.now hand held c.requires.next (record { reserves_none = c.requires.reserves_none; starts_none = c.requires.starts_none; goes_on_with_none = c.requires.goes_on_with_none }) (record_seen w.cluster (ckpt_of c.args.request.now)) c.serve-reply.new.self c.take-end.new.self c.word-op.result c.verb.result c.ckpt.result c.word.result c.serve-reply.result c.take-end.result c.told_pieces-pieces.result
+          refl c.serve-reply.ensures.reply (c.told_pieces-pieces.ensures ∙ ap (ended_pieces c.take-end.result) c.serve-reply.ensures.pieces) c.serve-reply.ensures.new (c.take-end.ensures.end hand held) (c.take-end.ensures.new hand held) c.word-op.ensures c.verb.ensures c.ckpt.ensures c.word.ensures;
+    }
