@@ -66,6 +66,19 @@ is_done ds f front count i ws total le so_far =
     let now : with_front front (gather ds f 0 ws) ≡ total = rw k at so_far in
     sym now ∙ ap (λ xs. Ok xs) (append-nil front)
 
+nothing_before : {X : Type 0} (read : Result (List X) Reason) → with_front [] read ≡ read
+nothing_before (Ok xs) = refl
+nothing_before (Err e) = refl
+
+-- one group alone is the one that the first words make
+pub is_one : {X : Type 0} (ds : List Class) (f : Values ds → X) (ws : List (List ℕ)) (x : X) (after : List (List ℕ)) → one_made ds f ws ≡ Ok (x, after) → gather ds f 1 ws ≡ Ok (x ∷ [])
+is_one ds f ws x after h =
+    let more = goes_on ds f [] 1 0 ws x after (gather ds f 1 ws) (omega arith) h (nothing_before (gather ds f 1 ws)) in
+    is_done ds f (x ∷ []) 1 1 after (gather ds f 1 ws) (omega arith) more
+
+pub one_fails : {X : Type 0} (ds : List Class) (f : Values ds → X) (e : LineError) (ws : List (List ℕ)) → Fails e (one_made ds f ws) → Fails e (gather ds f 1 ws)
+one_fails ds f e ws h = ends ds f e [] 1 0 ws (gather ds f 1 ws) (omega arith) h (nothing_before (gather ds f 1 ws))
+
 pub from_there : {X : Type 0} (ws : List X) (k : ℕ) → take (length ws - k) (drop k ws) ≡ drop k ws
 from_there ws k = take_all (length ws - k) (drop k ws) (simp length-drop (omega arith))
 

@@ -8,8 +8,8 @@ ghost use Rattle.script_lang.specs.Table.{texts, said_by, made, one_made, gather
 
 use crate::lines::Line;
 use ckpt_types::{
-    CreationAttributes, IoElement, LINE_ELEMENTS_MAX, Op, ReadElement, Shared, SharedName,
-    Update, Vector,
+    CreationAttributes, IoElement, IoVector, LINE_ELEMENTS_MAX, Op, ReadElement, ReadVector,
+    Shared, SharedName, Update,
 };
 use script_words::{LineError, Reason};
 use std::alloc::Global;
@@ -359,8 +359,21 @@ pub fn write_line(alloc: Global, words: &[&[u8]]) -> Result<Line, LineError>
     Ok(Line::Call(client, Op::Write(place, update)))
 }
 
-// The elements that the words say, three words each.
-fn io_elements(alloc: Global, words: &[&[u8]]) -> Result<Vector<IoElement>, LineError>
+// The elements that the words say, three words each. One alone lies in place.
+fn io_elements(alloc: Global, words: &[&[u8]]) -> Result<IoVector, LineError>
+    requires { (length words.now % 3 ≡ 0) × (length words.now ≤ 3 * line_elements_max) }
+    ensures { Reads result (gather io_group io_element (length words.now / 3) (texts words.now)) }
+{
+    if words.len() != 3 {
+        return several_io_elements(alloc, words);
+    }
+    let element = io_element_at(alloc, words)?;
+    Ok(IoVector::one(element))
+}
+
+// It stays apart, so that the common line pays for no local of this one.
+#[inline(never)]
+fn several_io_elements(alloc: Global, words: &[&[u8]]) -> Result<IoVector, LineError>
     requires { (length words.now % 3 ≡ 0) × (length words.now ≤ 3 * line_elements_max) }
     ensures { Reads result (gather io_group io_element (length words.now / 3) (texts words.now)) }
 {
@@ -370,10 +383,11 @@ fn io_elements(alloc: Global, words: &[&[u8]]) -> Result<Vector<IoElement>, Line
         let element = io_element_at(alloc, &words[3 * i..])?;
         elements.push(element)?;
     }
-    Ok(Vector::from_vec(elements))
+    Ok(IoVector::from_vec(elements))
 }
 
 // The element that the first words say.
+#[inline(always)]
 fn io_element_at(alloc: Global, words: &[&[u8]]) -> Result<IoElement, LineError>
     requires { 3 ≤ length words.now }
     ensures { Gives (λ e. (e, texts (drop 3 words.now))) result (one_made io_group io_element (texts words.now)) }
@@ -405,8 +419,21 @@ pub fn read_line(alloc: Global, words: &[&[u8]]) -> Result<Line, LineError>
     Ok(Line::Call(client, Op::Read(place, elements)))
 }
 
-// The elements that the words say, three words each.
-fn read_elements(alloc: Global, words: &[&[u8]]) -> Result<Vector<ReadElement>, LineError>
+// The elements that the words say, three words each. One alone lies in place.
+fn read_elements(alloc: Global, words: &[&[u8]]) -> Result<ReadVector, LineError>
+    requires { (length words.now % 3 ≡ 0) × (length words.now ≤ 3 * line_elements_max) }
+    ensures { Reads result (gather read_group read_element (length words.now / 3) (texts words.now)) }
+{
+    if words.len() != 3 {
+        return several_read_elements(alloc, words);
+    }
+    let element = read_element_at(alloc, words)?;
+    Ok(ReadVector::one(element))
+}
+
+// It stays apart, so that the common line pays for no local of this one.
+#[inline(never)]
+fn several_read_elements(alloc: Global, words: &[&[u8]]) -> Result<ReadVector, LineError>
     requires { (length words.now % 3 ≡ 0) × (length words.now ≤ 3 * line_elements_max) }
     ensures { Reads result (gather read_group read_element (length words.now / 3) (texts words.now)) }
 {
@@ -416,10 +443,11 @@ fn read_elements(alloc: Global, words: &[&[u8]]) -> Result<Vector<ReadElement>, 
         let element = read_element_at(alloc, &words[3 * i..])?;
         elements.push(element)?;
     }
-    Ok(Vector::from_vec(elements))
+    Ok(ReadVector::from_vec(elements))
 }
 
 // The element that the first words say.
+#[inline(always)]
 fn read_element_at(alloc: Global, words: &[&[u8]]) -> Result<ReadElement, LineError>
     requires { 3 ≤ length words.now }
     ensures { Gives (λ e. (e, texts (drop 3 words.now))) result (one_made read_group read_element (texts words.now)) }

@@ -1,7 +1,7 @@
 use Rattle.std.proofs.Common.{◌≡◌, ◌-◌, ◌*◌, ◌/◌, ◌≤◌, length, drop}
 use Rattle.script_lang.specs.Table.{gather, read_group, read_element, texts}
 use Rattle.script_lang.proofs.Groups.{with_front}
-use Rattle.script_lang.proofs.call_forms.read_elements.Given as goal
+use Rattle.script_lang.proofs.call_forms.several_read_elements.Given as goal
 
 abbrev pub invariant-loop-i : goal.invariant-loop-i
 invariant-loop-i l = record {

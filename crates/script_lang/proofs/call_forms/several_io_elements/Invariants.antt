@@ -1,7 +1,7 @@
 use Rattle.std.proofs.Common.{◌≡◌, ◌-◌, ◌*◌, ◌/◌, ◌≤◌, length, drop}
 use Rattle.script_lang.specs.Table.{gather, io_group, io_element, texts}
 use Rattle.script_lang.proofs.Groups.{with_front}
-use Rattle.script_lang.proofs.call_forms.io_elements.Given as goal
+use Rattle.script_lang.proofs.call_forms.several_io_elements.Given as goal
 
 abbrev pub invariant-loop-i : goal.invariant-loop-i
 invariant-loop-i l = record {
