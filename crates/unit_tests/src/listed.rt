@@ -1,9 +1,9 @@
-ghost use Rattle.std.specs.Prelude.{◌≡◌, ◌<◌, ◌≤◌, All, length, IfSome, slice_get, Some};
+ghost use Rattle.std.specs.Prelude.{◌≡◌, ◌-◌, ◌*◌, ◌^◌, ◌<◌, ◌≤◌, All, length, IfSome, slice_get, Some};
 ghost use Rattle.std.specs.Bool.{OnTrue};
-ghost use Rattle.ckpt_types.specs.Sections.{IsBelowAll, Rises, place_of, section_of};
+ghost use Rattle.ckpt_types.specs.Sections.{IsBelowAll, Rises, place_of, section_of, present, memory_used};
 
 use crate::values::{bytes_of, id_of};
-use ckpt_types::{Bytes, Moment, SectionId, SectionRef, SectionState, Sections};
+use ckpt_types::{Bytes, Moment, SectionId, SectionRef, SectionState, Sections, Totals};
 use std::alloc::{AllocError, Global};
 use std::cmp::Ordering;
 use std::marker::Model;
@@ -87,6 +87,10 @@ impl Sections for Listed<'_> {
     fn find(&self, id: &SectionId) -> Option<usize> {
         place_in(self.items, id)
     }
+
+    fn totals(&self, now: Moment) -> Totals {
+        totals_of(self.items, now)
+    }
 }
 
 fn lent_at(items: &[Kept], place: usize) -> SectionRef<'_>
@@ -128,6 +132,25 @@ pub fn are_short(items: &[Kept], size: u64) -> bool
         [first, rest @ ..] => {
             first.id.as_slice().len() as u64 <= size && are_short(rest, size)
         }
+    }
+}
+
+fn totals_of(items: &[Kept], now: Moment) -> Totals
+    ensures count { result.count ≡ length (present now items.now) }
+    ensures few { result.count ≤ length items.now }
+    ensures bytes { result.bytes ≡ memory_used (present now items.now) }
+    ensures small { result.bytes ≤ length items.now * (2 ^ 64 - 1) }
+{
+    let [first, rest @ ..] = items else {
+        return Totals { count: 0, bytes: 0 };
+    };
+    let behind = totals_of(rest, now);
+    if first.expiration <= now {
+        return behind;
+    }
+    Totals {
+        count: behind.count + 1,
+        bytes: behind.bytes + first.bytes.as_slice().len() as u128,
     }
 }
 

@@ -145,3 +145,23 @@ fn what_has_expired_makes_room_in_a_full_store(rt: HostRuntime) -> Result<(), Fa
     makes_room(&rt, alloc, &mut store)?;
     Ok(())
 }
+
+/// Whether the service would make the identifier of this number.
+fn makes(store: &Store, number: u8, now: Moment) -> bool {
+    store.generated(now).as_slice() == [0, 0, 0, 0, 0, 0, 0, number].as_slice()
+}
+
+#[test]
+fn the_least_free_number_is_made_again(rt: HostRuntime) -> Result<(), Fail> {
+    let alloc = rt.alloc();
+    let mut store = Store::reserve(alloc, &TWO, 5)?;
+    assert!(rt; creates(&mut store, alloc, 10, b"abcd", 6)?);
+    assert!(rt; makes(&store, 2, 9));
+    assert!(rt; makes(&store, 1, 10));
+    assert!(rt; creates(&mut store, alloc, NEVER, b"efgh", 6)?);
+    assert!(rt; makes(&store, 3, 9));
+    let first = Update::Delete(*store.at(0).id);
+    assert!(rt; make(&mut store, &first, 9));
+    assert!(rt; makes(&store, 1, 9));
+    Ok(())
+}
