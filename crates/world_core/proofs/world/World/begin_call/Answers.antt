@@ -1,3 +1,4 @@
+use Rattle.section_iter.specs.Room.{room_declared}
 use Rattle.std.proofs.Common.{◌≡◌, refl, ap, ◌∙◌}
 use Rattle.world_core.specs.Steps.{room_at}
 use Rattle.std.specs.Prelude.{slice_get, slice_set}
@@ -20,7 +21,7 @@ returns-clause-ok c =
       labels = c.push.ensures.labels;
       is = record {
         begins = record { actor = refl; op_is = refl; hand = hand; same_call = refl; same_op = c.in_ok-own.ensures; within = c.begin-2.ensures.within; hands = c.begin-2.ensures.new };
-        does = begin_done w c.args.c c.args.op c.in_ok-own.own c.args.op c.number.result c.named_handle-handle.result c.is_live_client.result c.begin_end-due.result c.take_room-end.result.0 c.declared_by-declared.result.max_sections c.take_room-end.result.1 c.ended_place.result c.begin.new.self c.in_ok-driver.driver c.begin-2.new.self
+        does = begin_done w c.args.c c.args.op c.in_ok-own.own c.args.op c.number.result c.named_handle-handle.result c.is_live_client.result c.begin_end-due.result c.take_room-end.result.0 (room_declared c.declared_by-declared.result) c.take_room-end.result.1 c.ended_place.result c.begin.new.self c.in_ok-driver.driver c.begin-2.new.self
             c.requires.client c.number.ensures.within c.begin-2.ensures.within c.requires.none c.requires.built c.requires.may
             (λ t table. table_has_no_zero w c.args.c t c.requires.shown table)
             c.in_ok-own.ensures refl
