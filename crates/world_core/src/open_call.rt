@@ -1,4 +1,4 @@
-ghost use Rattle.std.specs.Prelude.{◌≡◌, ◌<◌, Some, None};
+ghost use Rattle.std.specs.Prelude.{◌≡◌, ◌<◌, Some, None, IfOk};
 ghost use Rattle.ckpt_types.specs.Limits.{nodes_max};
 ghost use Rattle.cluster_record.specs.RecordState.{named};
 ghost use Rattle.node_msgs.specs.Requests.{ckpt_of};
