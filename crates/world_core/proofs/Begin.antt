@@ -20,6 +20,7 @@ use Rattle.cluster_record.specs.Calls.{put_actor, left}
 use Rattle.cluster_record.specs.Places.{put, or_none}
 use Rattle.cluster_record.specs.RecordState.{is_live_client}
 use Rattle.world_core.specs.TableState.{TableState, advanced, begun_with}
+use Rattle.world_core.proofs.LiveRooms.{rooms_set, roomy-begun}
 use Rattle.cluster_record.specs.StepDone.{StepDone}
 use Rattle.world_core.specs.Driving.{Kept, driver_start}
 use Rattle.world_core.specs.Beginning.{IsBuilt, begin_end, handle_place, iteration_place, ended_place}
@@ -192,7 +193,7 @@ module _ (w : World) (c : ℕ) (op : Op) (t : TableState) (q : Option InHand) (e
   begin_does : Does w w' label
   begin_does = record {
     due_is = λ m s f. subst (λ m. IsDue m label) (sym s.same) (begin_due s.history);
-    shows = λ m s f. record { history = later s.history; same = ap (λ m. after m label) s.same ∙ after_is s.history; fits = fits_later s.history s.fits; holds = s.holds };
+    shows = λ m s f. record { history = later s.history; same = ap (λ m. after m label) s.same ∙ after_is s.history; fits = fits_later s.history s.fits; holds = s.holds; rooms = rooms_set w w.cluster c t (begun_with (ended_place end op) t) table (roomy-begun (ended_place end op) t) s.rooms };
   }
 
 -- a call of client c begins, with the parts as the code names them

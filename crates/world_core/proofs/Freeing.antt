@@ -12,6 +12,7 @@ use Rattle.world_core.specs.declared.replica.Replica.{Replica}
 use Rattle.world_core.specs.declared.world.World.{World}
 use Rattle.world_core.specs.Freeing.{is_there, freed}
 use Rattle.world_core.specs.Machine.{Machine}
+use Rattle.world_core.specs.LiveRooms.{LiveHaveRoom}
 use Rattle.world_core.specs.Holding.{replicas_on, IsReservation, IsHeld, HoldsOnlyWhatStands}
 use Rattle.world_core.specs.Serving.{replica_key, replica_in, opened_replica}
 use Rattle.world_core.specs.Shows.{History, shown_replica, shown_reservation, where_complete, where_not_complete, complete_replica, reserved_in, machine_of, FitsReplica, Fits, Shows, Facts, Does}
@@ -153,13 +154,14 @@ pub record DoesBefore (old new : World) (label : Label) : Type 0 where
   pub fits : (m : Machine) (s : Shows old m) (f : Facts m) → Fits new (history m s f)
 
 -- then they hold only what stands
-pub does_freed : (old new : World) (label : Label) → DoesBefore old new label → ((m : Machine) → Shows old m → Facts m → HoldsOnlyWhatStands new.cluster (freed new.cluster.entries new.nodes)) → Does old (freed_world new) label
-does_freed old new label does holds = record {
+pub does_freed : (old new : World) (label : Label) → DoesBefore old new label → ((m : Machine) → Shows old m → Facts m → HoldsOnlyWhatStands new.cluster (freed new.cluster.entries new.nodes)) → ((m : Machine) → Shows old m → Facts m → LiveHaveRoom new.cluster new.tables) → Does old (freed_world new) label
+does_freed old new label does holds rooms = record {
   due_is = does.due_is;
   shows = λ m s f. record {
     history = does.history m s f;
     same = does.same m s f ∙ sym (machine_of-freed new (does.history m s f));
     fits = Fits-freed new (does.history m s f) (does.fits m s f);
     holds = holds m s f;
+    rooms = rooms m s f;
   };
 }

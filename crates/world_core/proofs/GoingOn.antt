@@ -13,7 +13,7 @@ use Rattle.client_handles.specs.Numbered.{numbered, RiseWithin}
 use Rattle.client_handles.specs.declared.begun.BegunIteration.{BegunIteration}
 use Rattle.client_handles.proofs.IterationLaws.{kept_iteration-Ok}
 use Rattle.client_handles.proofs.NumberedLaws.{numbered-All}
-use Rattle.world_core.specs.TableState.{TableState, kept_at, gone_on_with, gone_on}
+use Rattle.world_core.specs.TableState.{kept_of, gone_on_as, gone_on_of}
 
 -- ---- the iteration is there
 
@@ -84,24 +84,22 @@ returned-same place kept s is told =
     let (it, stands, keeps) = kept_iteration-Ok place s kept told in
     λ i. record s { iterations = keeping-same (Some kept) (slice_index s.iteration_places place) 0 s.last_iteration s.iterations it is.iterations.numbers stands keeps i }
 
--- ---- the table
+-- ---- what the client keeps then
 
 -- what is handed out is what is kept at the place
-pub kept_at-told : (place : ℕ) (t : TableState) (kept : KeptIds) → Ok kept ≡ kept_iteration place t.client → kept_at place t ≡ Some kept
-kept_at-told place t kept told =
-    let (it, stands, keeps) = kept_iteration-Ok place t.client kept told in
+pub kept_of-told : (place : ℕ) (s : ClientState) (kept : KeptIds) → Ok kept ≡ kept_iteration place s → kept_of place s ≡ Some kept
+kept_of-told place s kept told =
+    let (it, stands, keeps) = kept_iteration-Ok place s kept told in
     ap (option_and_then (λ (x : BegunIteration). x.kept)) stands ∙ keeps
 
 -- with nothing given it keeps what it kept
-gone_step : (place : ℕ) (kept : KeptIds) (t : TableState) → IsValid t.client → Ok kept ≡ kept_iteration place t.client → (next : Option NextGiven) →
-    record t { client = returned place (kept_after kept next) t.client } ≡ gone_on_with place (Some kept) next t
-gone_step place kept t is told None = λ i. record t { client = returned-same place kept t.client is told i }
-gone_step place kept t is told (Some next) = refl
+gone_step : (place : ℕ) (kept : KeptIds) (s : ClientState) → IsValid s → Ok kept ≡ kept_iteration place s → (next : Option NextGiven) → returned place (kept_after kept next) s ≡ gone_on_as place (Some kept) next s
+gone_step place kept s is told None = returned-same place kept s is told
+gone_step place kept s is told (Some next) = refl
 
 -- lent, and returned with what stands behind the section that was given, its iteration has gone on
-pub gone_on-told : (place : ℕ) (kept : KeptIds) (next : Option NextGiven) (t : TableState) → IsValid t.client → Ok kept ≡ kept_iteration place t.client →
-    record t { client = returned place (kept_after kept next) (lent place t.client) } ≡ gone_on place next t
-gone_on-told place kept next t is told =
-    (λ i. record t { client = returned-lent place (kept_after kept next) t.client i })
-    ∙ gone_step place kept t is told next
-    ∙ ap (λ o. gone_on_with place o next t) (sym (kept_at-told place t kept told))
+pub gone_on-told : (place : ℕ) (kept : KeptIds) (next : Option NextGiven) (s : ClientState) → IsValid s → Ok kept ≡ kept_iteration place s → returned place (kept_after kept next) (lent place s) ≡ gone_on_of place next s
+gone_on-told place kept next s is told =
+    returned-lent place (kept_after kept next) s
+    ∙ gone_step place kept s is told next
+    ∙ ap (λ o. gone_on_as place o next s) (sym (kept_of-told place s kept told))

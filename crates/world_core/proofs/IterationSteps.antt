@@ -60,6 +60,7 @@ use Rattle.world_core.proofs.Beginnings.{table_has_no_zero, at_table}
 use Rattle.world_core.proofs.Finding as finding
 use Rattle.world_core.proofs.Held.{state_in, in_hand_is, in_hand_at, actor_is, driver_is, iteration_is, due_is, next_for}
 use Rattle.world_core.proofs.LawMoves.{IsSomeAnd-at}
+use Rattle.world_core.proofs.LiveRooms.{rooms_set}
 use Rattle.world_core.proofs.TableFields.{field_same, field_put, nexts_same}
 use Rattle.world_core.proofs.Told.{with_step, told_is, told_fits}
 
@@ -318,6 +319,7 @@ module _ (w : World) (c r : ℕ) (asked : CallId) (k : ℕ) (choice : Choice) (h
       same = ap (λ m. after m (started_label hand k r)) s.same ∙ after_is w s.history c r asked k choice hand facts s.fits held its_next place over it t hd places overs has table handle none;
       fits = fits_later w s.history c r asked k choice hand facts s.fits held its_next place over it t hd places overs has table handle none;
       holds = s.holds;
+      rooms = rooms_set w w.cluster c t (with_started_iteration place hd.handle (ids_given it) t) table refl s.rooms;
     };
   }
 
@@ -521,6 +523,7 @@ module _ (w : World) (c r : ℕ) (asked : CallId) (k : ℕ) (hand : InHand) (hel
       same = ap (λ m. after m (next_label w that_history c r asked k hand that_facts shown.shows.fits held that_next place t places table)) s.same ∙ after_next w s.history c r asked k hand facts s.fits held that_next place t places table;
       fits = fits_next w s.history c r asked k hand facts s.fits held that_next place t places table;
       holds = s.holds;
+      rooms = rooms_set w w.cluster c t (gone_on place (given_at (ids_of (kept_at place t)) w.cluster.moment (replica_in w.nodes k r)) t) table refl s.rooms;
     };
   }
 

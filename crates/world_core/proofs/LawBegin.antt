@@ -181,6 +181,7 @@ module _ (hand : Option Working) (m : Machine) (call : CallId) (inv : InvariantW
           caller = client;
           client = refl;
           within = IsClient-number call.actor client;
+          live = live;
           node = on_live hand m (number_of call.actor) inv live;
           built = built;
           asks = (refl, refl);
@@ -231,7 +232,7 @@ IsMakingOrNone-apart m next f (Some making) at = record { there = at.there; rese
 -- a call is where it is with other numbers and hands
 pub IsAt-apart : (m : Machine) (next : ActorName → ℕ) (f : ActorName → Option CallState) (s : CallState) (d : Driver) → IsAt m s d → IsAt (record m { next = next; in_hand = f }) s d
 IsAt-apart m next f s (drivers.Enter r) at = record { op = at.op; client = at.client; up = at.up; not_live = at.not_live }
-IsAt-apart m next f s (drivers.Open o) at = record { caller = at.caller; client = at.client; within = at.within; node = at.node; built = at.built; asks = at.asks; named = at.named; asked = at.asked; deadline = at.deadline; up = at.up; making = IsMakingOrNone-apart m next f o.making at.making; room = at.room; in_time = at.in_time }
+IsAt-apart m next f s (drivers.Open o) at = record { caller = at.caller; client = at.client; within = at.within; live = at.live; node = at.node; built = at.built; asks = at.asks; named = at.named; asked = at.asked; deadline = at.deadline; up = at.up; making = IsMakingOrNone-apart m next f o.making at.making; room = at.room; in_time = at.in_time }
 IsAt-apart m next f s (drivers.Update u) at = record { call = at.call; update = at.update; phase = at.phase; kept = at.kept; made = at.made; owned = at.owned }
 IsAt-apart m next f s (drivers.Active a) at = record { call = at.call; kind = at.kind; made = at.made; kept = at.kept; room = at.room; handle = at.handle }
 IsAt-apart m next f s drivers.Leave at = record { op = at.op; live = at.live }

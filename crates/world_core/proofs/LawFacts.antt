@@ -30,7 +30,7 @@ use Rattle.ckpt_types.specs.Attributes.{IsWellFormed}
 use Rattle.ckpt_types.specs.Limits.{name_max}
 use Rattle.ckpt_types.proofs.AttributeLaws.{IsWellFormed-from_check}
 use Rattle.cluster_record.specs.Calls.{client_of, number_of}
-use Rattle.cluster_record.specs.RecordState.{RecordState, entry_of, named, first_nodes, no_nodes}
+use Rattle.cluster_record.specs.RecordState.{RecordState, entry_of, named, is_live_client, first_nodes, no_nodes}
 use Rattle.node_msgs.specs.Requests.{ckpt_of}
 use Rattle.world_core.specs.Serving.{IsReadyFor, IsStaged}
 use Rattle.world_core.specs.Driving.{driver_next}
@@ -360,11 +360,11 @@ retain_no_close : (duration : ℤ) (op : Op) (place : ℕ) → IsRetainOf durati
 retain_no_close duration (ops.Retain handle given) place of is = cc is
 retain_no_close duration op place of is = absurd of
 
--- an open has a place for its handle, and with a checkpoint in the making room for the handle
-open_fits : (m : Machine) (a : ActorName) (s : CallState) (o : OpenState) → Invariant m → m.in_hand a ≡ Some s → driver_of s ≡ drivers.Open o → IsBuilt s.op × (IsSome o.making → room_of m (client_of s.call) ≡ true)
+-- an open has a place for its handle, and with a checkpoint in the making room for the handle; its client is live
+open_fits : (m : Machine) (a : ActorName) (s : CallState) (o : OpenState) → Invariant m → m.in_hand a ≡ Some s → driver_of s ≡ drivers.Open o → IsBuilt s.op × (IsSome o.making → room_of m (client_of s.call) ≡ true) × (is_live_client (client_of s.call) m.cluster ≡ true)
 open_fits m a s o inv here is =
     let at = subst (IsAt m s) is (is_at m a s inv here) in
-    (at.built, λ some. ap (room_of m) (sym at.client) ∙ at.room some)
+    (at.built, λ some. ap (room_of m) (sym at.client) ∙ at.room some, ap (λ c. is_live_client c m.cluster) (sym at.client) ∙ at.live)
 
 -- a close has the place of a handle
 close_fits : (m : Machine) (s : CallState) (d : Driver) (place : ℕ) → IsAt m s d → closed_place s.op ≡ Some place → IsSome (handle_in m (number_of s.call.actor) (Some place))

@@ -152,6 +152,7 @@ module _ (m : Machine) (s : CallState) (call : CallId) (ask : OpenAsk) (deadline
               caller = inv.working.1.caller;
               client = inv.working.1.client;
               within = inv.working.1.within;
+              live = inv.working.1.live;
               node = inv.working.1.node;
               built = inv.working.1.built;
               asks = inv.working.1.asks;

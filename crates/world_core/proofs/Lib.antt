@@ -29,6 +29,7 @@ pub mod LawMoves
 pub mod LawOpening
 pub mod LawRuns
 pub mod LawUpdate
+pub mod LiveRooms
 pub mod Look
 pub mod Maps
 pub mod Moving
@@ -50,5 +51,6 @@ pub mod Serve
 pub mod Stepping
 pub mod TableFields
 pub mod Taken
+pub mod TakenRoom
 pub mod Told
 pub mod Words

@@ -29,6 +29,7 @@ use Rattle.world_core.specs.Shows.{Does, Fits, Facts, History, machine_of, handl
 use Rattle.world_core.proofs.Beginnings.{none_has_zero}
 use Rattle.world_core.proofs.ClosedTables.{closed_is}
 use Rattle.world_core.proofs.Held.{state_in, in_hand_is, in_hand_at, actor_is, due_is}
+use Rattle.world_core.proofs.LiveRooms.{rooms_looked}
 use Rattle.world_core.proofs.Maps.{put_hand, fits_hand}
 
 abbrev look_label : InHand → Outcome → Label
@@ -90,6 +91,7 @@ module _ (w : World) (c : ℕ) (o : Outcome) (hand : InHand) (held : hand_at w.h
       same = ap (λ m. after m (look_label hand o)) s.same ∙ after_is w s.history c o hand facts s.fits held next;
       fits = fits_later w s.history c o hand facts s.fits held next;
       holds = s.holds;
+      rooms = rooms_looked w w.cluster c o hand.op s.rooms;
     };
   }
 

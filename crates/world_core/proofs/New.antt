@@ -1,11 +1,11 @@
 -- A new world shows the empty cluster.
-use Rattle.std.proofs.Common.{◌≡◌, ℕ, [], refl, sym, ap, subst, ◌∙◌}
+use Rattle.std.proofs.Common.{◌≡◌, ℕ, true, false, [], refl, sym, ap, subst, ◌∙◌}
 use Rattle.std.specs.Prelude.{Option, Some, None, slice_get, slice_index, pos}
 use Rattle.ckpt_types.specs.declared.identities.ActorName.{ActorName}
 use Rattle.ckpt_types.specs.declared.identities.ActorName.TheVariants.{Client, Node}
 use Rattle.client_handles.specs.ClientState.{ClientState, new_client}
 use Rattle.world_core.specs.declared.world.World.{World}
-use Rattle.cluster_record.specs.RecordState.{entry_of}
+use Rattle.cluster_record.specs.RecordState.{entry_of, is_live_client}
 use Rattle.world_core.specs.TableState.{TableState}
 use Rattle.world_core.specs.NewTable.{no_callbacks}
 use Rattle.world_core.specs.Serving.{replica_in}
@@ -80,9 +80,12 @@ module _ (w : World) (new : IsNew w) where
     hands = λ c. subst (FitsHand (record { ckpt = None; room = room_in None; node = 0; moment = pos 0 }) []) (sym (new.hands c)) tt;
   }
 
+  none_live : (c : ℕ) → is_live_client c w.cluster ≡ true → ⊥
+  none_live c live = let e : false ≡ true = sym (ap (is_live_client c) new.cluster) ∙ live in cc
+
   -- a new world shows the empty cluster
   pub new_shows : Shows w empty_cluster
-  new_shows = record { history = nothing; same = shows_nothing; fits = fits_nothing; holds = nothing_held w.cluster w.nodes new.nodes }
+  new_shows = record { history = nothing; same = shows_nothing; fits = fits_nothing; holds = nothing_held w.cluster w.nodes new.nodes; rooms = λ c live. absurd (none_live c live) }
 
 -- no label yet is a run to it, where the invariant holds of the empty cluster
 pub new_run : (w : World) → Invariant empty_cluster → IsNew w → IsRunTo w []

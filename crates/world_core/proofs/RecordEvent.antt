@@ -40,6 +40,7 @@ use Rattle.world_core.specs.Steps.{IsDue, IsDone, after, changed, driver_of, eve
 use Rattle.cluster_record.specs.LookUps.{creation_flags_of}
 use Rattle.world_core.specs.HandSteps.{hand_taken}
 use Rattle.world_core.specs.Freeing.{freed}
+use Rattle.world_core.specs.LiveRooms.{is_roomy}
 use Rattle.world_core.specs.Holding.{HoldsOnlyWhatStands}
 use Rattle.world_core.specs.Serving.{replica_in}
 use Rattle.world_core.specs.Happenings.{rooms_in}
@@ -51,6 +52,7 @@ use Rattle.world_core.proofs.ClosedTables.{closed_is, left_is}
 use Rattle.world_core.proofs.Freeing.{freed_world, DoesBefore, does_freed, holds_freed}
 use Rattle.world_core.proofs.Handles.{handle_is}
 use Rattle.world_core.proofs.Held.{state_in, in_hand_is, in_hand_at, driver_is, actor_is, due_is}
+use Rattle.world_core.proofs.LiveRooms.{EntersWithRoom, rooms_settled, rooms_after}
 use Rattle.world_core.proofs.Recording.{GoesAt, with_effects, record_is, record_fits}
 use Rattle.world_core.proofs.Told.{with_step, told_world, told_is, told_fits}
 
@@ -322,10 +324,28 @@ module _ (w : World) (c : ℕ) (step : RecordStep) (hand : InHand) (held : hand_
     fits = λ m s f. event_fits w s.history c step hand (subst Facts s.same f) s.fits s.holds held next can places;
   }
 
-  event_does : CanSettle c hand.op step (ckpt_in w hand step) w.tables → HasPlaces step (slice_get w.tables c) → Does w (freed_world (event_world w c hand step)) (event_label w hand step)
-  event_does can places =
+  -- a client that becomes live has its room
+  pub enters : IsShown w → (step ≡ events.Enter → is_roomy (slice_get w.tables c) ≡ true) → EntersWithRoom hand.call hand.driver w.tables
+  enters shown roomy = of_driver step hand.driver (event_ready shown) roomy where
+    client : client_of hand.call ≡ c
+    client = ap number_of (actor_is w shown.shows.history c hand held (subst Facts shown.shows.same shown.facts))
+
+    of_driver : (step : RecordStep) (x : Driver) → EventNeeds hand.call w.cluster x step → (step ≡ events.Enter → is_roomy (slice_get w.tables c) ≡ true) → EntersWithRoom hand.call x w.tables
+    of_driver events.Enter (drivers.Enter r) needs roomy = subst (λ d. is_roomy (slice_get w.tables d) ≡ true) (sym client) (roomy refl)
+    of_driver step (drivers.Enter r) needs roomy = absurd needs
+    of_driver step (drivers.Open o) needs roomy = tt
+    of_driver step (drivers.Update u) needs roomy = tt
+    of_driver step (drivers.Active a) needs roomy = tt
+    of_driver step drivers.Leave needs roomy = tt
+    of_driver step (drivers.Close k) needs roomy = tt
+    of_driver step (drivers.Unlink name) needs roomy = tt
+    of_driver step (drivers.Retain k duration) needs roomy = tt
+
+  event_does : CanSettle c hand.op step (ckpt_in w hand step) w.tables → HasPlaces step (slice_get w.tables c) → EntersWithRoom hand.call hand.driver w.tables → Does w (freed_world (event_world w c hand step)) (event_label w hand step)
+  event_does can places enters =
       does_freed w (event_world w c hand step) (event_label w hand step) (event_before can places)
       (λ m s f. holds_after w s.history c step hand (subst Facts s.same f) s.fits s.holds held next)
+      (λ m s f. rooms_settled w (record_after w hand step) c (record_after w hand step) hand.op step (ckpt_in w hand step) (rooms_after hand.call hand.driver step w.cluster w.tables enters s.rooms))
 
   refused_does : IsTrue (takes_memory step) → Does w (told_world w c hand (refused_step w hand step) (Some NoMemory)) (refused_label w hand step)
   refused_does takes = record {
@@ -335,22 +355,23 @@ module _ (w : World) (c : ℕ) (step : RecordStep) (hand : InHand) (held : hand_
       same = ap (λ m. after m (refused_label w hand step)) s.same ∙ refused_is w s.history c step hand facts s.fits s.holds held next;
       fits = told_fits w s.history c hand (refused_step w hand step) (Some NoMemory) (actor_is w s.history c hand held facts) s.fits held;
       holds = s.holds;
+      rooms = s.rooms;
     };
   }
 
   -- a step is done, and the nodes are freed of what is gone, with the parts as the code names them
   pub event_is_done : (R : RecordState) (nodes : List (List Replica)) (tables : List TableState) (hands : List (Option InHand)) (word : OpWord) (verb : Verb) (k r : Option ℕ) (end : Option Outcome) →
-      CanSettle c hand.op step (event_ckpt w.cluster hand.driver step) w.tables → HasPlaces step (slice_get w.tables c) → R ≡ event_after hand.call hand.driver step w.cluster → k ≡ event_ckpt w.cluster hand.driver step → r ≡ event_node hand.driver step →
+      CanSettle c hand.op step (event_ckpt w.cluster hand.driver step) w.tables → HasPlaces step (slice_get w.tables c) → EntersWithRoom hand.call hand.driver w.tables → R ≡ event_after hand.call hand.driver step w.cluster → k ≡ event_ckpt w.cluster hand.driver step → r ≡ event_node hand.driver step →
       end ≡ event_end step k → tables ≡ settled R c hand.op step k w.tables → hands ≡ slice_set w.hands c (left end (hand_taken (event_step R step k r) hand)) → nodes ≡ freed R.entries w.nodes → word ≡ word_of_op hand.op → verb ≡ event_verb step →
       Does w (record w { cluster = R; nodes = nodes; tables = tables; hands = hands }) (Stepped hand.call word verb k r words.Ok end None)
-  event_is_done R nodes tables hands word verb k r end can places R_is k_is r_is end_is tables_are hands_are nodes_are word_is verb_is =
+  event_is_done R nodes tables hands word verb k r end can places enters R_is k_is r_is end_is tables_are hands_are nodes_are word_is verb_is =
       let e : event_end step (ckpt_in w hand step) ≡ end = ap (event_end step) (sym k_is) ∙ sym end_is in
       let t : settled (record_after w hand step) c hand.op step (ckpt_in w hand step) w.tables ≡ tables = (λ i. settled (sym R_is i) c hand.op step (sym k_is i) w.tables) ∙ sym tables_are in
       let g : slice_set w.hands c (left (event_end step (ckpt_in w hand step)) (hand_taken (its_step w hand step) hand)) ≡ hands
       = (λ i. slice_set w.hands c (left (e i) (hand_taken (event_step (sym R_is i) step (sym k_is i) (sym r_is i)) hand))) ∙ sym hands_are in
       let n : freed (record_after w hand step).entries w.nodes ≡ nodes = ap (λ (R : RecordState). freed R.entries w.nodes) (sym R_is) ∙ sym nodes_are in
       subst (λ (y : RecordState × List (List Replica) × List TableState × List (Option InHand) × OpWord × Verb × Option ℕ × Option ℕ × Option Outcome). Does w (record w { cluster = y.0; nodes = y.1; tables = y.2; hands = y.3 }) (Stepped hand.call y.4 y.5 y.6 y.7 words.Ok y.8 None))
-      (λ i. (sym R_is i, n i, t i, g i, sym word_is i, sym verb_is i, sym k_is i, sym r_is i, e i)) (event_does can places)
+      (λ i. (sym R_is i, n i, t i, g i, sym word_is i, sym verb_is i, sym k_is i, sym r_is i, e i)) (event_does can places enters)
 
   -- a step is refused the memory that it takes, and the call ends
   pub event_refused : (hands : List (Option InHand)) (word : OpWord) (verb : Verb) (k r : Option ℕ) → IsTrue (takes_memory step) → k ≡ event_ckpt w.cluster hand.driver step → r ≡ event_node hand.driver step → hands ≡ slice_set w.hands c None → word ≡ word_of_op hand.op → verb ≡ event_verb step →

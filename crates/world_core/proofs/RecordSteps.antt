@@ -20,7 +20,8 @@ use Rattle.cluster_record.specs.DueOpen.{OpenState}
 use Rattle.world_core.specs.declared.replica.Replica.{Replica}
 use Rattle.world_core.specs.declared.world.World.{World}
 use Rattle.cluster_record.specs.Calls.{number_of, left}
-use Rattle.cluster_record.specs.RecordState.{RecordState, entry_of}
+use Rattle.cluster_record.specs.RecordState.{RecordState, entry_of, is_live_client}
+use Rattle.world_core.specs.LiveRooms.{is_roomy}
 use Rattle.world_core.specs.RecordReady.{IsRecordReady}
 use Rattle.node_msgs.specs.Steps.{event_verb}
 use Rattle.world_core.specs.Driving.{driver_next, event_ckpt, event_node, event_end, event_after, takes_memory}
@@ -36,7 +37,7 @@ use Rattle.world_core.specs.Shows.{Does, IsShown, IsRoomy, Facts, machine_of, ha
 use Rattle.world_core.proofs.Held.{state_in, in_hand_is, driver_is, actor_is}
 use Rattle.world_core.proofs.Openers.{place_there, place_within, ckpt_there, open_room}
 use Rattle.world_core.proofs.Readiness.{record_ready}
-use Rattle.world_core.proofs.RecordEvent.{EventNeeds, GivesHandle, event_ready, event_is_done, event_refused}
+use Rattle.world_core.proofs.RecordEvent.{EventNeeds, GivesHandle, event_ready, enters, event_is_done, event_refused}
 
 -- ---- what is there
 
@@ -62,7 +63,7 @@ when_err P (Err e) is h = h
 
 module _ (w : World) (c : ℕ) (step : RecordStep) (hand : InHand) (held : hand_at w.hands c ≡ Some hand) (next : driver_next w.cluster (rooms_in w c) hand.driver ≡ Event step) (shown : IsShown w) where
   abbrev OpensSo : OpenState → Type 0
-  OpensSo o = IsBuilt hand.op × (IsSome o.making → (rooms_in w c).handles ≡ true)
+  OpensSo o = IsBuilt hand.op × (IsSome o.making → (rooms_in w c).handles ≡ true) × (is_roomy (slice_get w.tables c) ≡ true)
 
   -- what the facts say of an open in hand
   opens_fact : (o : OpenState) → hand.driver ≡ drivers.Open o → OpensSo o
@@ -70,26 +71,28 @@ module _ (w : World) (c : ℕ) (step : RecordStep) (hand : InHand) (held : hand_
       let h = shown.shows.history in
       let facts : Facts (machine_of w h) = subst Facts shown.shows.same shown.facts in
       let f = facts.opens (Client c) (state_in h c hand) o (in_hand_is w h c hand held) (sym (driver_is w h c hand held shown.shows.fits) ∙ is) in
-      (f.0, λ some. ap (λ a. room_of (machine_of w h) (number_of a)) (sym (actor_is w h c hand held facts)) ∙ f.1 some)
+      let client : number_of hand.call.actor ≡ c = ap number_of (actor_is w h c hand held facts) in
+      (f.0, λ some. ap (room_of (machine_of w h)) (sym client) ∙ f.1 some, shown.shows.rooms c (ap (λ d. is_live_client d w.cluster) (sym client) ∙ f.2))
 
   making_there : (m : Option Making) → IsSomeAnd m (λ making. IsSomeAnd (entry_of making.ckpt w.cluster.entries) (λ e. Unit {0})) → IsSome m
   making_there None h = absurd h
   making_there (Some m) h = refl
 
   -- the client has room for a handle, and the operation a place for it and a checkpoint
-  gives_well : (step : RecordStep) → IsRoomy w → GivesHandle step → EventNeeds hand.call w.cluster hand.driver step → IsBuilt hand.op → (rooms_in w c).handles ≡ true → CanGive c hand.op (event_ckpt w.cluster hand.driver step) w.tables
-  gives_well step roomy gives needs built room = record {
+  gives_well : (step : RecordStep) → IsRoomy w → GivesHandle step → EventNeeds hand.call w.cluster hand.driver step → IsBuilt hand.op → is_roomy (slice_get w.tables c) ≡ true → (rooms_in w c).handles ≡ true → CanGive c hand.op (event_ckpt w.cluster hand.driver step) w.tables
+  gives_well step roomy gives needs built taken room = record {
     ckpt = is_there (event_ckpt w.cluster hand.driver step) (ckpt_there hand.call w.cluster step hand.driver gives needs);
     place = some_within (λ p. p < 100) (opened_place hand.op) (λ p is. place_within hand.op p built is) (place_there w c hand held shown step gives needs);
+    roomy = taken;
     room = room;
     number = roomy.handles c;
   }
 
   opens_well : (o : OpenState) → hand.driver ≡ drivers.Open o → IsRoomy w → driver_next w.cluster (rooms_in w c) (drivers.Open o) ≡ Event events.Open → EventNeeds hand.call w.cluster (drivers.Open o) events.Open → CanGive c hand.op (event_ckpt w.cluster hand.driver events.Open) w.tables
-  opens_well o is roomy next needs = gives_well events.Open roomy tt (subst (λ (x : Driver). EventNeeds hand.call w.cluster x events.Open) (sym is) needs) (opens_fact o is).0 (open_room w.cluster (rooms_in w c) (drivers.Open o) next)
+  opens_well o is roomy next needs = gives_well events.Open roomy tt (subst (λ (x : Driver). EventNeeds hand.call w.cluster x events.Open) (sym is) needs) (opens_fact o is).0 (opens_fact o is).2 (open_room w.cluster (rooms_in w c) (drivers.Open o) next)
 
   finishes_well : (o : OpenState) → hand.driver ≡ drivers.Open o → IsRoomy w → EventNeeds hand.call w.cluster (drivers.Open o) events.Finish → CanGive c hand.op (event_ckpt w.cluster hand.driver events.Finish) w.tables
-  finishes_well o is roomy needs = let f = opens_fact o is in gives_well events.Finish roomy tt (subst (λ (x : Driver). EventNeeds hand.call w.cluster x events.Finish) (sym is) needs) f.0 (f.1 (making_there o.making needs.0))
+  finishes_well o is roomy needs = let f = opens_fact o is in gives_well events.Finish roomy tt (subst (λ (x : Driver). EventNeeds hand.call w.cluster x events.Finish) (sym is) needs) f.0 f.2 (f.1 (making_there o.making needs.0))
 
   settles_by : (step : RecordStep) (x : Driver) → hand.driver ≡ x → IsRoomy w → driver_next w.cluster (rooms_in w c) x ≡ Event step → EventNeeds hand.call w.cluster x step → CanSettle c hand.op step (event_ckpt w.cluster hand.driver step) w.tables
   settles_by events.Open (drivers.Open o) is roomy next needs = opens_well o is roomy next needs
@@ -115,11 +118,11 @@ module _ (w : World) (c : ℕ) (step : RecordStep) (hand : InHand) (held : hand_
   its_hand R k r = hand_taken (done_of R (event_verb step) k r words.Ok) hand
 
   -- the step is done
-  pub event_step : (R : RecordState) (nodes : List (List Replica)) (tables : List TableState) (hands : List (Option InHand)) (word : OpWord) (verb : Verb) (k r : Option ℕ) (end : Option Outcome) → IsRoomy w → HasPlaces step (slice_get w.tables c) →
+  pub event_step : (R : RecordState) (nodes : List (List Replica)) (tables : List TableState) (hands : List (Option InHand)) (word : OpWord) (verb : Verb) (k r : Option ℕ) (end : Option Outcome) → IsRoomy w → HasPlaces step (slice_get w.tables c) → (step ≡ events.Enter → is_roomy (slice_get w.tables c) ≡ true) →
       R ≡ event_after hand.call hand.driver step w.cluster → k ≡ event_ckpt w.cluster hand.driver step → r ≡ event_node hand.driver step → end ≡ event_end step k → tables ≡ settled R c hand.op step k w.tables →
       ((h : InHand) → hand_at w.hands c ≡ Some h → hands ≡ slice_set w.hands c (left end (hand_taken (done_of R (event_verb step) k r words.Ok) h))) → nodes ≡ freed R.entries w.nodes → word ≡ word_of_op hand.op → verb ≡ event_verb step →
       IsStep c w (record w { cluster = R; nodes = nodes; tables = tables; hands = hands }) (Stepped hand.call word verb k r words.Ok end None)
-  event_step R nodes tables hands word verb k r end roomy places R_is k_is r_is end_is tables_are told nodes_are word_is verb_is = record {
+  event_step R nodes tables hands word verb k r end roomy places has_room R_is k_is r_is end_is tables_are told nodes_are word_is verb_is = record {
     hand = hand;
     held = held;
     op = word;
@@ -134,14 +137,14 @@ module _ (w : World) (c : ℕ) (step : RecordStep) (hand : InHand) (held : hand_
     same_call = refl;
     same_op = refl;
     hands = told hand held;
-    does = event_is_done w c step hand held next R nodes tables hands word verb k r end (can_settle roomy) places R_is k_is r_is end_is tables_are (told hand held) nodes_are word_is verb_is;
+    does = event_is_done w c step hand held next R nodes tables hands word verb k r end (can_settle roomy) places (enters w c step hand held next shown has_room) R_is k_is r_is end_is tables_are (told hand held) nodes_are word_is verb_is;
   }
 
   -- the step is refused its memory
-  pub refused_step : (R : RecordState) (hands : List (Option InHand)) (word : OpWord) (verb : Verb) (k r : Option ℕ) → IsTrue (takes_memory step) → R ≡ w.cluster → hands ≡ slice_set w.hands c None →
+  pub refused_step : (hands : List (Option InHand)) (word : OpWord) (verb : Verb) (k r : Option ℕ) → IsTrue (takes_memory step) → hands ≡ slice_set w.hands c None →
       k ≡ event_ckpt w.cluster hand.driver step → r ≡ event_node hand.driver step → word ≡ word_of_op hand.op → verb ≡ event_verb step →
-      IsStep c w (record w { cluster = R; hands = hands }) (Stepped hand.call word verb k r words.Memory (Some NoMemory) None)
-  refused_step R hands word verb k r takes R_is hands_are k_is r_is word_is verb_is = record {
+      IsStep c w (record w { hands = hands }) (Stepped hand.call word verb k r words.Memory (Some NoMemory) None)
+  refused_step hands word verb k r takes hands_are k_is r_is word_is verb_is = record {
     hand = hand;
     held = held;
     op = word;
@@ -156,5 +159,5 @@ module _ (w : World) (c : ℕ) (step : RecordStep) (hand : InHand) (held : hand_
     same_call = refl;
     same_op = refl;
     hands = hands_are;
-    does = subst (λ (R : RecordState). Does w (record w { cluster = R; hands = hands }) (Stepped hand.call word verb k r words.Memory (Some NoMemory) None)) (sym R_is) (event_refused w c step hand held next hands word verb k r takes k_is r_is hands_are word_is verb_is);
+    does = event_refused w c step hand held next hands word verb k r takes k_is r_is hands_are word_is verb_is;
   }

@@ -251,6 +251,7 @@ module _ (w : World) (c r k : ℕ) (hand : InHand) (held : hand_at w.hands c ≡
       same = ap (λ m. after m (reserve_label w r k hand NoMemory)) s.same ∙ refused_is w s.history c r k hand facts s.fits s.holds held next;
       fits = told_fits w s.history c hand (served_step w (Reserve k) r NoMemory) (end_of w r k hand NoMemory) (actor_is w s.history c hand held facts) s.fits held;
       holds = s.holds;
+      rooms = s.rooms;
     };
   }
 
@@ -262,6 +263,7 @@ module _ (w : World) (c r k : ℕ) (hand : InHand) (held : hand_at w.hands c ≡
       same = ap (λ m. after m (reserve_label w r k hand (Done answers.Nothing))) s.same ∙ after_is w s.history c r k hand facts s.fits s.holds held next e there within;
       fits = fits_later w s.history c r k hand facts s.fits s.holds held next e there within;
       holds = holds_later w s.history c r k hand facts s.fits s.holds held next e there within;
+      rooms = s.rooms;
     };
   }
 

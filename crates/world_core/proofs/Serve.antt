@@ -236,6 +236,7 @@ module _ (w : World) (c r : ℕ) (request : Request) (hand : InHand) (plain : Is
       same = ap (λ m. after m (serve_label w r request hand)) s.same ∙ after_is w s.history c r request hand plain facts s.fits held next;
       fits = fits_later w s.history c r request hand plain facts s.fits held next;
       holds = holds_later w s.history c r request hand plain facts s.fits held next s.holds;
+      rooms = s.rooms;
     };
   }
 

@@ -73,6 +73,7 @@ nodes_done w n R one empty R_is = subst (λ (R : RecordState). Does w (record w 
     same = ap (λ m. after m (Nodes n)) s.same ∙ (λ i. record (machine_of (record w { cluster = brought_up n w.cluster }) s.history) { reserved = λ k r. same k r i });
     fits = record { replicas = s.fits.replicas; hands = s.fits.hands };
     holds = held_by_none w.cluster (brought_up n w.cluster) w.nodes (ap (λ (R : RecordState). R.entries) empty) s.holds;
+    rooms = s.rooms;
   };
 }) where
   same : (k r : ℕ) → reserved_in w.cluster w.nodes k r ≡ reserved_in (brought_up n w.cluster) w.nodes k r

@@ -183,6 +183,7 @@ pub record IsOpenAt (m : Machine) (s : CallState) (o : OpenState) : Type 0 where
   pub caller : IsClient s.call.actor
   pub client : o.ask.client ≡ client_of s.call
   pub within : o.ask.client < client_numbers
+  pub live : is_live_client o.ask.client m.cluster ≡ true
   pub node : is_up o.ask.node m.cluster ≡ true
   pub built : IsBuilt s.op
   pub asks : OpensAs s.op o.ask

@@ -1,5 +1,7 @@
 pub mod RecordReady
 pub mod TableState
+pub mod AtRest
+pub mod LiveRooms
 pub mod TableView
 pub mod NewTable
 pub mod Serving

@@ -8,6 +8,6 @@ use Rattle.world_core.specs.TableState.{TableState}
 abbrev pub no_callbacks : CallbackSet
 no_callbacks = record { opens = false; syncs = false }
 
--- the next call is the first, no handle is open, and no place stands for one
+-- the next call is the first, no room is taken, no handle is open, and no place stands for one
 abbrev pub new_table : TableState
-new_table = record { next = 1; client = new_client no_callbacks }
+new_table = record { next = 1; roomy = false; client = new_client no_callbacks }

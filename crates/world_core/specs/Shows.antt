@@ -32,11 +32,12 @@ use Rattle.world_core.specs.declared.world.World.{World}
 use Rattle.cluster_record.specs.Calls.{IsClient, client_of, number_of}
 use Rattle.cluster_record.specs.Identities.{IdentitiesRise, AllUpTo}
 use Rattle.cluster_record.specs.Places.{or_none}
-use Rattle.cluster_record.specs.RecordState.{RecordState, entry_of, complete_of, named, is_up}
+use Rattle.cluster_record.specs.RecordState.{RecordState, entry_of, complete_of, named, is_up, is_live_client}
 use Rattle.world_core.specs.TableState.{TableState}
 use Rattle.node_msgs.specs.Requests.{ckpt_of}
 use Rattle.world_core.specs.Serving.{replica_in, IsReadyFor}
 use Rattle.world_core.specs.Holding.{HoldsOnlyWhatStands}
+use Rattle.world_core.specs.LiveRooms.{LiveHaveRoom}
 use Rattle.cluster_record.specs.RecordReady.{CanBecomeLive, CanOpen}
 use Rattle.cluster_record.specs.StepDone.{StepDone}
 use Rattle.world_core.specs.Driving.{Kept, driver_state}
@@ -183,12 +184,13 @@ pub record Fits (w : World) (h : History) : Type 0 where
   pub replicas : (k r : ℕ) → FitsReplica k (entry_of k w.cluster.entries) (h.effects k r) (complete_replica w.cluster w.nodes k r)
   pub hands : (c : ℕ) → FitsHand (h.kept c) (h.steps c) (hand_at w.hands c)
 
--- the machine's state is the world's, with some history that fits, and the nodes have no other replicas
+-- the machine's state is the world's, with some history that fits; the nodes have no other replicas, and the clients that are live have their room
 pub record Shows (w : World) (m : Machine) : Type 0 where
   pub history : History
   pub same : m ≡ machine_of w history
   pub fits : Fits w history
   pub holds : HoldsOnlyWhatStands w.cluster w.nodes
+  pub rooms : LiveHaveRoom w.cluster w.tables
 
 -- ---- what the code may rely on in every state of a run
 
@@ -242,8 +244,8 @@ pub record Facts (m : Machine) : Type 0 where
   -- a due stage has the moment of the slots that stand
   pub moments : (a : ActorName) (s : CallState) (r : ℕ) (call : CallId) (k : ℕ) (t : ℤ) → m.in_hand a ≡ Some s → due m s ≡ Serve r (requests.Stage call k t) → IsSomeAnd (m.replicas k r) IsFree → staged_moment m k ≡ t
   pub events : (a : ActorName) (s : CallState) (step : RecordStep) → m.in_hand a ≡ Some s → due m s ≡ Event step → IsEventReady m s (driver_of s) step
-  -- an open has a place for its handle, and with a checkpoint in the making room for the handle
-  pub opens : (a : ActorName) (s : CallState) (o : OpenState) → m.in_hand a ≡ Some s → driver_of s ≡ drivers.Open o → IsBuilt s.op × (IsSome o.making → room_of m (client_of s.call) ≡ true)
+  -- an open has a place for its handle, and with a checkpoint in the making room for the handle; its client is live
+  pub opens : (a : ActorName) (s : CallState) (o : OpenState) → m.in_hand a ≡ Some s → driver_of s ≡ drivers.Open o → IsBuilt s.op × (IsSome o.making → room_of m (client_of s.call) ≡ true) × (is_live_client (client_of s.call) m.cluster ≡ true)
   -- an iteration that is started has room for all identifiers that are declared, and one that goes on is there
   pub starts : (a : ActorName) (s : CallState) (r : ℕ) (call : CallId) (k : ℕ) (choice : Choice) → m.in_hand a ≡ Some s → due m s ≡ Serve r (requests.Iterate call k choice) → (s.kept.room ≡ room_at m.cluster (Some k)) × IsIterOf choice s.op × IsSome (named_handle m a s.op) × IsActive (driver_of s)
   pub goes_on : (a : ActorName) (s : CallState) (r : ℕ) (call : CallId) (k : ℕ) → m.in_hand a ≡ Some s → due m s ≡ Serve r (requests.Next call k) → IsNextOf s.op × IsSome (named_handle m a s.op)

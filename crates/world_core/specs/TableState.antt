@@ -1,5 +1,5 @@
 -- What a client keeps: the number of its next call, its handles, and the places that stand for them.
-use Rattle.std.specs.Prelude.{ℕ, ◌+◌, Option, Some, None}
+use Rattle.std.specs.Prelude.{ℕ, ◌+◌, Bool, true, Option, Some, None}
 use Rattle.std.specs.Option.{option_and_then}
 use Rattle.ckpt_types.specs.declared.open_flags.OpenFlags.{OpenFlags}
 use Rattle.ckpt_types.specs.Reads.{NextGiven}
@@ -10,8 +10,14 @@ use Rattle.client_handles.specs.declared.begun.BegunIteration.{BegunIteration}
 
 pub record TableState : Type 0 where
   pub next : ℕ
+  -- whether the room for handles and iterations was taken
+  pub roomy : Bool
   -- its handles, and the places that stand for them
   pub client : ClientState
+
+-- the room is taken
+abbrev pub with_room : TableState → TableState
+with_room t = record t { roomy = true }
 
 -- a handle more is taken, and the place stands for it
 abbrev pub with_handle : ℕ → OpenFlags → ℕ → ℕ → TableState → TableState
@@ -22,13 +28,22 @@ abbrev pub with_started_iteration : ℕ → ℕ → KeptIds → TableState → T
 with_started_iteration place handle kept t = record t { client = added place handle kept t.client }
 
 -- what is kept of the iteration of a place
+abbrev pub kept_of : ℕ → ClientState → Option KeptIds
+kept_of place s = option_and_then (λ (it : BegunIteration). it.kept) (iteration_at place s)
+
 abbrev pub kept_at : ℕ → TableState → Option KeptIds
-kept_at place t = option_and_then (λ (it : BegunIteration). it.kept) (iteration_at place t.client)
+kept_at place t = kept_of place t.client
 
 -- it keeps what stands behind the one that was given; all where none was
+abbrev pub gone_on_as : ℕ → Option KeptIds → Option NextGiven → ClientState → ClientState
+gone_on_as place (Some kept) (Some next) s = returned place (kept_after kept (Some next)) s
+gone_on_as place kept next s = s
+
+abbrev pub gone_on_of : ℕ → Option NextGiven → ClientState → ClientState
+gone_on_of place next s = gone_on_as place (kept_of place s) next s
+
 abbrev pub gone_on_with : ℕ → Option KeptIds → Option NextGiven → TableState → TableState
-gone_on_with place (Some kept) (Some next) t = record t { client = returned place (kept_after kept (Some next)) t.client }
-gone_on_with place kept next t = t
+gone_on_with place kept next t = record t { client = gone_on_as place kept next t.client }
 
 abbrev pub gone_on : ℕ → Option NextGiven → TableState → TableState
 gone_on place next t = gone_on_with place (kept_at place t) next t

@@ -1,12 +1,19 @@
 -- How a table is kept.
-use Rattle.client_handles.specs.ClientState.{IsValid, NoneLent}
+use Rattle.std.specs.Prelude.{Option, Some, None, is_some}
+use Rattle.std.specs.Global.{Box}
+use Rattle.client_handles.specs.ClientState.{ClientState, new_client}
+use Rattle.world_core.specs.AtRest.{IsAtRest}
+use Rattle.world_core.specs.NewTable.{no_callbacks}
 use Rattle.world_core.specs.TableState.{TableState}
 use Rattle.world_core.specs.declared.tables.Table.TheInside.{Inside}
 
-abbrev pub table_of : Inside → TableState
-table_of t = record { next = t.next; client = t.client }
+-- before its room was taken a client keeps nothing
+abbrev pub client_in : Option (Box ClientState) → ClientState
+client_in None = new_client no_callbacks
+client_in (Some client) = client.value
 
--- what always holds of a client holds of it, and between two calls none of its iterations is lent
-pub record HasClient (t : Inside) : Type 0 where
-  pub valid : IsValid t.client
-  pub none_lent : NoneLent t.client
+abbrev pub table_of : Inside → TableState
+table_of t = record { next = t.next; roomy = is_some t.client; client = client_in t.client }
+
+abbrev pub HasClient : Inside → Type 0
+HasClient t = IsAtRest (client_in t.client)

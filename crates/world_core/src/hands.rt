@@ -211,7 +211,7 @@ fn new_list(alloc: Global) -> Result<Vec<Option<InHand>>, AllocError>
 {
     let mut list = Vec::with_capacity(alloc, CLIENT_NUMBERS)?;
     for _n in 0..CLIENT_NUMBERS {
-        list.push(None)?;
+        list.push_reserved(None);
     }
     Ok(list)
 }

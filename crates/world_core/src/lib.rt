@@ -7,6 +7,7 @@ mod begins;
 mod drivers;
 mod hands;
 mod iterating;
+mod kept_client;
 mod messages;
 mod moments;
 mod nodes;

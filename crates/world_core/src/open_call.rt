@@ -40,6 +40,20 @@ impl Model for SharedAsk {
 }
 
 impl SharedAsk {
+    /// The checkpoint's name.
+    pub fn name(&self) -> &Bytes
+        ensures { result.now ≡ self.now.name }
+    {
+        self.name.value()
+    }
+
+    /// The attributes to make it with, where it may be made.
+    pub fn attributes(&self) -> &Option<CreationAttributes>
+        ensures { result.now ≡ self.now.attrs }
+    {
+        self.attributes.value()
+    }
+
     /// The same, with a name of its own.
     pub fn to_ask(&self) -> Result<OpenAsk, AllocError>
         ensures { IfOk result (λ ask. ask ≡ self.now) }
@@ -98,7 +112,7 @@ impl OpenCall {
     pub fn name(&self) -> &Bytes
         ensures { result.now ≡ self.now.ask.name }
     {
-        self.ask.name.value()
+        self.ask.name()
     }
 
     /// The checkpoint that it is making, if it is.
@@ -124,10 +138,10 @@ impl OpenCall {
     fn named_next(&self, cluster: &Record, room: bool) -> Next
         ensures { result ≡ on_named cluster.now room self.now.deadline self.now.ask.attrs (named self.now.ask.name cluster.now.entries) }
     {
-        match cluster.named(self.ask.name.value()) {
-            None => free_next(cluster, room, self.deadline, self.ask.attributes.value()),
+        match cluster.named(self.ask.name()) {
+            None => free_next(cluster, room, self.deadline, self.ask.attributes()),
             Some(entry) => {
-                let next = entry_next(room, self.ask.attributes.value(), entry);
+                let next = entry_next(room, self.ask.attributes(), entry);
                 in_time(self.deadline, cluster.now(), next)
             }
         }

@@ -1,7 +1,8 @@
-ghost use Rattle.std.specs.Prelude.{◌≡◌, ◌≢◌, ◌⊎◌, ℕ, ◌<◌, ◌≤◌, Some, IfSome, IsSomeAnd, OnOk, OnErr, length, slice_get};
+ghost use Rattle.std.specs.Prelude.{◌≡◌, ◌≢◌, ◌⊎◌, ℕ, ◌<◌, ◌≤◌, Some, true, IfSome, IsSomeAnd, IsTrue, OnOk, OnErr, length, slice_get};
 ghost use Rattle.ckpt_types.specs.declared.identities.ActorName.TheVariants.{Client};
 ghost use Rattle.ckpt_types.specs.declared.identities.Who.TheVariants as whos;
 ghost use Rattle.node_msgs.specs.declared.next.Next.TheVariants as nexts;
+ghost use Rattle.node_msgs.specs.declared.next.RecordStep.TheVariants as events;
 ghost use Rattle.node_msgs.specs.declared.requests.Request.{Request};
 ghost use Rattle.node_msgs.specs.declared.requests.Request.TheVariants as requests;
 ghost use Rattle.run_labels.specs.declared.labels.Label.TheVariants as labels;
@@ -10,6 +11,8 @@ ghost use Rattle.world_core.specs.Settling.{given, closed_at, settled, looked, C
 ghost use Rattle.cluster_record.specs.LookUps.{creation_flags_of};
 ghost use Rattle.cluster_record.specs.RecordState.{entry_of};
 ghost use Rattle.world_core.specs.Beginning.{opened_place, closed_place};
+ghost use Rattle.world_core.specs.Driving.{takes_memory};
+ghost use Rattle.world_core.specs.LiveRooms.{is_roomy};
 ghost use Rattle.world_core.specs.Reserving.{IsReserved};
 ghost use Rattle.world_core.specs.Runs.{step_word};
 ghost use Rattle.world_core.specs.Shows.{IsShown, IsRoomy, IsReservable};
@@ -67,6 +70,10 @@ impl World {
                 self.next_step(alloc, c, r, call, ckpt, log)
             }
             Next::Serve(r, request) => self.serve_step(alloc, c, r, &request, log),
+            Next::Event(RecordStep::Enter) => {
+                self.enter_step(alloc, c, log);
+                Ok(())
+            }
             Next::Event(step) => {
                 self.record_step(c, step, log);
                 Ok(())
@@ -170,9 +177,56 @@ impl World {
         Ok(())
     }
 
-    // The call takes a step of the record; where its memory is refused, the call ends.
+    // A client becomes live, with room for its handles and iterations; where that is refused, the call ends.
+    fn enter_step(&mut self, alloc: Global, c: u8, log: &mut RunLog)
+        requires next { IsNext self.old c (nexts.Event events.Enter) }
+        requires client { c < client_numbers }
+        requires shown { IsShown self.old }
+        requires roomy { IsRoomy self.old }
+        requires spare { 1 ≤ log.old.spare }
+        ensures { Adds log.old log.new (IsStep c self.old self.new) }
+    {
+        match self.tables.take_room(alloc, c) {
+            Ok(()) => self.record_step(c, RecordStep::Enter, log),
+            Err(AllocError) => self.refuse_step(c, RecordStep::Enter, log),
+        }
+    }
+
+    // A step of the record is refused its memory, and the call ends.
+    fn refuse_step(&mut self, c: u8, step: RecordStep, log: &mut RunLog)
+        requires next { IsNext self.old c (nexts.Event step) }
+        requires takes { IsTrue (takes_memory step) }
+        requires client { c < client_numbers }
+        requires shown { IsShown self.old }
+        requires roomy { IsRoomy self.old }
+        requires spare { 1 ≤ log.old.spare }
+        ensures { Adds log.old log.new (IsStep c self.old self.new) }
+    {
+        let Some(hand) = self.hands.find(c) else {
+            unreachable!()
+        };
+        let call = hand.call;
+        let op = hand.word();
+        let ckpt = event_ckpt(&self.cluster, &hand.driver, &step);
+        let node = event_node(&hand.driver, &step);
+        self.hands.clear(c);
+        log.push(Label::Stepped {
+            call,
+            op,
+            verb: step.verb(),
+            ckpt,
+            node,
+            reply: StepReply::Memory,
+            end: Some(Outcome::NoMemory),
+            pieces: None,
+        });
+    }
+
+    // The call takes a step of the record; where its memory is refused, the call ends. A client that becomes live
+    // has its room.
     fn record_step(&mut self, c: u8, step: RecordStep, log: &mut RunLog)
         requires next { IsNext self.old c (nexts.Event step) }
+        requires has_room { step ≡ events.Enter → is_roomy (slice_get self.old.tables c) ≡ true }
         requires client { c < client_numbers }
         requires shown { IsShown self.old }
         requires roomy { IsRoomy self.old }
@@ -188,17 +242,7 @@ impl World {
         let node = event_node(&hand.driver, &step);
         let verb = step.verb();
         if apply(&mut self.cluster, call, &hand.driver, step).is_err() {
-            self.hands.clear(c);
-            log.push(Label::Stepped {
-                call,
-                op,
-                verb,
-                ckpt,
-                node,
-                reply: StepReply::Memory,
-                end: Some(Outcome::NoMemory),
-                pieces: None,
-            });
+            self.refuse_step(c, step, log);
             return;
         }
         settle(&mut self.tables, &self.cluster, c, &hand.op, &step, ckpt);

@@ -1,15 +1,17 @@
-ghost use Rattle.std.specs.Prelude.{◌≡◌, ◌-◌, ◌^◌, ◌<◌, ◌≤◌, [], true, IfOk, IfSome, IsSome, IsSomeAnd, length, nat_lt, slice_get, slice_set, replicate};
+ghost use Rattle.std.specs.Prelude.{◌≡◌, ◌-◌, ◌^◌, ◌<◌, ◌≤◌, [], true, IfOk, IfSome, IsSome, IsSomeAnd, OnErr, OnOk, length, nat_lt, slice_get, slice_set, replicate};
 ghost use Rattle.ckpt_types.specs.Limits.{section_id_max, iterations_max, handles_max, places_max, nodes_max, client_numbers};
 ghost use Rattle.client_handles.specs.ClientState.{handle_at, handle_numbered, has_handle_room, has_iteration_room, iteration_at};
 ghost use Rattle.world_core.specs.Serving.{replica_in, given_at, next_id, next_reply_at};
 ghost use Rattle.world_core.specs.Lending.{pieces_told};
 ghost use Rattle.world_core.specs.Steps.{handle_over, ids_of};
-ghost use Rattle.world_core.specs.TableState.{with_handle, with_started_iteration, gone_on, kept_at, begun_with, with_closed, with_none};
+ghost use Rattle.world_core.specs.TableState.{with_room, with_handle, with_started_iteration, without_begun, gone_on, kept_at, begun_with, with_closed, with_none};
 ghost use Rattle.world_core.specs.NewTable.{new_table};
+ghost use Rattle.world_core.specs.LiveRooms.{is_roomy};
 ghost use Rattle.world_core.specs.Shows.{next_in, handles_in, iterations_in, last_in, handle_in_place, handle_over_place};
 
+use crate::kept_client::{add, close, end, go_on, leave, new_client, start};
 use crate::nodes::Nodes;
-use ckpt_types::{CLIENT_NUMBERS, CallbackSet, CkptId, Moment, NodeId, OpenFlags, ReadBuf};
+use ckpt_types::{CLIENT_NUMBERS, CkptId, Moment, NodeId, OpenFlags, ReadBuf};
 use client_handles::{Client, HandleView};
 use node_msgs::Reply;
 use section_iter::Iteration;
@@ -21,8 +23,8 @@ use std::marker::Model;
 pub struct Table {
     /// The number of its next call.
     next: u32,
-    /// Its handles, and the places that stand for them.
-    client: Client,
+    /// Its handles, and the places that stand for them; nothing before their room was taken.
+    client: Option<Box<Client>>,
 }
 
 impl Model for Table {
@@ -56,18 +58,25 @@ impl Model for Tables {
 }
 
 impl Table {
-    // Its room is taken here.
-    fn new(alloc: Global) -> Result<Table, AllocError>
-        ensures { IfOk result (λ table. table ≡ new_table) }
+    fn new() -> Table
+        ensures { result ≡ new_table }
     {
-        let none = CallbackSet {
-            opens: false,
-            syncs: false,
-        };
-        Ok(Table {
+        Table {
             next: 1,
-            client: Client::new(alloc, none)?,
-        })
+            client: None,
+        }
+    }
+
+    // The room of its client is taken, unless it was.
+    fn take_room(&mut self, alloc: Global) -> Result<(), AllocError>
+        ensures taken { OnOk result (self.new ≡ with_room self.old) }
+        ensures unchanged { OnErr result (self.new ≡ self.old) }
+    {
+        if self.client.is_some() {
+            return Ok(());
+        }
+        self.client = Some(new_client(alloc)?);
+        Ok(())
     }
 
     fn number(&self) -> u32
@@ -79,27 +88,39 @@ impl Table {
     fn has_room(&self) -> bool
         ensures { result ≡ has_handle_room self.now.client }
     {
-        self.client.handle_room()
+        match &self.client {
+            None => true,
+            Some(client) => client.handle_room(),
+        }
     }
 
     // The handle for which a place stands.
     fn handle(&self, place: u8) -> Option<HandleView>
         ensures { result ≡ handle_at place self.now.client }
     {
-        self.client.handle(place).ok()
+        match &self.client {
+            None => None,
+            Some(client) => client.handle(place).ok(),
+        }
     }
 
     fn has_iteration_room(&self) -> bool
         ensures { result ≡ has_iteration_room self.now.client }
     {
-        self.client.iteration_room()
+        match &self.client {
+            None => true,
+            Some(client) => client.iteration_room(),
+        }
     }
 
     // The handle over which the iteration goes for which a place stands.
     fn iteration_handle(&self, place: u8) -> Option<HandleView>
         ensures { result ≡ handle_over self.now.client.handles (iteration_at place self.now.client) }
     {
-        self.client.iteration_handle(place).ok()
+        match &self.client {
+            None => None,
+            Some(client) => client.iteration_handle(place).ok(),
+        }
     }
 
     // An iteration more over the handle of that number.
@@ -110,9 +131,10 @@ impl Table {
         requires number { self.old.client.last_iteration < 2 ^ 32 - 1 }
         ensures { self.new ≡ with_started_iteration place handle iteration self.old }
     {
-        let Ok(()) = self.client.add_iteration(place, handle, iteration) else {
+        let Some(client) = &mut self.client else {
             unreachable!()
         };
+        start(client, place, handle, iteration);
     }
 
     // The place's iteration goes on at the replica that a node has of a checkpoint.
@@ -135,12 +157,10 @@ impl Table {
         ensures pieces { pieces_told result out.new.pieces ≡ next_id (given_at (ids_of (kept_at place self.old)) now (replica_in nodes.now ckpt r)) }
         ensures new { self.new ≡ gone_on place (given_at (ids_of (kept_at place self.old)) now (replica_in nodes.now ckpt r)) self.old }
     {
-        let Ok(mut iteration) = self.client.lend_iteration(place) else {
+        let Some(client) = &mut self.client else {
             unreachable!()
         };
-        let reply = nodes.next(r, ckpt, &mut iteration, now, out);
-        self.client.return_iteration(place, iteration);
-        reply
+        go_on(client, place, nodes, r, ckpt, now, out)
     }
 
     // One call more, which has ended the iteration of this place at once.
@@ -150,49 +170,72 @@ impl Table {
         ensures { self.new ≡ begun_with ended self.old }
     {
         if let Some(place) = ended {
-            let Ok(()) = self.client.end_iteration(place) else {
-                unreachable!()
-            };
+            self.end(place);
         }
         self.next += 1;
     }
 
+    // The iteration of a place ends.
+    fn end(&mut self, place: u8)
+        requires { IsSome (iteration_at place self.old.client) }
+        ensures { self.new ≡ without_begun place self.old }
+    {
+        let Some(client) = &mut self.client else {
+            unreachable!()
+        };
+        end(client, place);
+    }
+
     fn add(&mut self, id: CkptId, flags: OpenFlags, creation_flags: u32, place: u8)
+        requires roomy { self.old.roomy ≡ true }
         requires room { has_handle_room self.old.client ≡ true }
         requires number { self.old.client.last_number < 2 ^ 32 - 1 }
         requires place { place < places_max }
         ensures new { self.new ≡ with_handle id flags creation_flags place self.old }
         ensures places { length self.old.client.places ≡ places_max }
     {
-        let Ok(number) = self.client.take_handle(id, flags, creation_flags) else {
+        let Some(client) = &mut self.client else {
             unreachable!()
         };
-        self.client.bind(place, number);
+        add(client, id, flags, creation_flags, place);
     }
 
     // The handle for which a place stands is closed, and the iterations over it end.
     fn close(&mut self, place: u8)
         ensures { self.new ≡ with_closed place self.old }
     {
-        let _closed = self.client.drop_handle(place);
+        if let Some(client) = &mut self.client {
+            close(client, place);
+        }
     }
 
     // All handles are closed, and all iterations end.
     fn leave(&mut self)
         ensures { self.new ≡ with_none self.old }
     {
-        self.client.close_all();
+        if let Some(client) = &mut self.client {
+            leave(client);
+        }
     }
 }
 
 impl Tables {
-    /// The tables of clients that have begun no call. All their room is taken here.
+    /// The tables of clients that have begun no call. The room of a client is taken later.
     pub fn new(alloc: Global) -> Result<Tables, AllocError>
         ensures { IfOk result (λ tables. tables ≡ replicate client_numbers new_table) }
     {
         Ok(Tables {
             list: new_tables(alloc)?,
         })
+    }
+
+    /// The room for the handles and iterations of a client is taken, unless it was.
+    pub fn take_room(&mut self, alloc: Global, c: u8) -> Result<(), AllocError>
+        requires { c < client_numbers }
+        ensures taken { OnOk result (IsSomeAnd (slice_get self.old c) (λ table. self.new ≡ slice_set self.old c (with_room table))) }
+        ensures unchanged { OnErr result (self.new ≡ self.old) }
+    {
+        take_room_at(self.list.as_mut_slice(), alloc, c as usize)
     }
 
     /// The number of a client's next call.
@@ -303,6 +346,7 @@ impl Tables {
     /// it. It takes no memory.
     pub fn add(&mut self, c: u8, id: CkptId, flags: OpenFlags, creation_flags: u32, place: u8)
         requires client { c < client_numbers }
+        requires roomy { is_roomy (slice_get self.old c) ≡ true }
         requires room { nat_lt (length (handles_in (slice_get self.old c))) handles_max ≡ true }
         requires number { last_in (slice_get self.old c) < 2 ^ 32 - 1 }
         requires place { place < places_max }
@@ -343,9 +387,18 @@ fn new_tables(alloc: Global) -> Result<Vec<Table>, AllocError>
 {
     let mut tables = Vec::with_capacity(alloc, CLIENT_NUMBERS)?;
     for _n in 0..CLIENT_NUMBERS {
-        tables.push(Table::new(alloc)?)?;
+        tables.push_reserved(Table::new());
     }
     Ok(tables)
+}
+
+fn take_room_at(tables: &mut [Table], alloc: Global, c: usize) -> Result<(), AllocError>
+    requires { c < length tables.old }
+    ensures taken { OnOk result (IsSomeAnd (slice_get tables.old c) (λ table. tables.new ≡ slice_set tables.old c (with_room table))) }
+    ensures unchanged { OnErr result (tables.new ≡ tables.old) }
+{
+    let table = &mut tables[c];
+    table.take_room(alloc)
 }
 
 fn begin_at(tables: &mut [Table], c: usize, ended: Option<u8>)
@@ -404,6 +457,7 @@ fn add_at(
     place: u8,
 )
     requires client { c < length tables.old }
+    requires roomy { is_roomy (slice_get tables.old c) ≡ true }
     requires room { nat_lt (length (handles_in (slice_get tables.old c))) handles_max ≡ true }
     requires number { last_in (slice_get tables.old c) < 2 ^ 32 - 1 }
     requires place { place < places_max }

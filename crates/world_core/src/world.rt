@@ -41,7 +41,8 @@ pub struct World {
 }
 
 impl World {
-    /// A cluster of which no node is up. All the room of its record, nodes, tables and hands is taken here.
+    /// A cluster of which no node is up. All the room of its record, nodes and hands is taken here, and that of a
+    /// client when it becomes live.
     pub fn new(alloc: Global) -> Result<World, AllocError>
         ensures { IfOk result IsNew }
     {

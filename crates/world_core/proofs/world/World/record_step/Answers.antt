@@ -15,22 +15,6 @@ apply-requires c =
     let held : hand_at w.hands c.args.c ≡ Some hand = c.in-Some.ensures in
     is_ready w c.args.c c.args.step hand held (next_for w c.args.c (Event c.args.step) hand held c.requires.next) c.requires.shown c.requires.roomy
 
-pub returns-then-is_err : goal.returns-then-is_err
-returns-then-is_err c =
-    let w = c.args.self.now in
-    let hand = c.in-Some.hand.now in
-    let held : hand_at w.hands c.args.c ≡ Some hand = c.in-Some.ensures in
-    let next = next_for w c.args.c (Event c.args.step) hand held c.requires.next in
-    let err = sym c.is_err.ensures.value ∙ c.if-is_err.true in
-    let takes : IsTrue (takes_memory c.args.step) = when_err (IsTrue (takes_memory c.args.step)) c.apply.result err c.apply.ensures.memory in
-    let same : c.apply.new.cluster ≡ w.cluster = when_err (c.apply.new.cluster ≡ w.cluster) c.apply.result err c.apply.ensures.err in
-    record {
-      label = _;
-      labels = c.push.ensures.labels;
-      is = refused_step w c.args.c c.args.step hand held next c.requires.shown c.apply.new.cluster c.clear.new.self c.word-op.result c.verb-verb.result c.event_ckpt-ckpt.result c.event_node-node.result takes same c.clear.ensures c.event_ckpt-ckpt.ensures
-          c.event_node-node.ensures c.word-op.ensures c.verb-verb.ensures;
-    }
-
 pub settle-requires-clause-can : goal.settle-requires-clause-can
 settle-requires-clause-can c =
     let w = c.args.self.now in
@@ -49,7 +33,7 @@ returns c =
     let record_is : c.apply.new.cluster ≡ event_after hand.call hand.driver c.args.step w.cluster = when_ok (c.apply.new.cluster ≡ event_after hand.call hand.driver c.args.step w.cluster) c.apply.result ok c.apply.ensures.ok in
     record {
       label = _;
-      labels = c.push-2.ensures.labels;
+      labels = c.push.ensures.labels;
       is = event_step w c.args.c c.args.step hand held next c.requires.shown c.apply.new.cluster c.free_gone.new.self c.settle.new.tables c.told.new.self c.word-op.result c.verb-verb.result c.event_ckpt-ckpt.result c.event_node-node.result c.event_end-end.result
-          c.requires.roomy c.settle.ensures.places record_is c.event_ckpt-ckpt.ensures c.event_node-node.ensures c.event_end-end.ensures c.settle.ensures.new c.told.ensures c.free_gone.ensures c.word-op.ensures c.verb-verb.ensures;
+    c.requires.roomy c.settle.ensures.places c.requires.has_room record_is c.event_ckpt-ckpt.ensures c.event_node-node.ensures c.event_end-end.ensures c.settle.ensures.new c.told.ensures c.free_gone.ensures c.word-op.ensures c.verb-verb.ensures;
     }

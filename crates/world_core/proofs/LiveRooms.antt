@@ -1,0 +1,130 @@
+-- The clients that are live have their room, whatever a call makes of the record and of a table.
+use Rattle.std.proofs.Common.{◌≡◌, ℕ, Bool, true, false, List, [], ◌∷◌, ◌++◌, Option, Some, None, refl, sym, ap, subst, ◌∙◌, cond, ◌==◌}
+use Rattle.std.specs.Prelude.{filter, is_some, not, slice_get, slice_set, slice_index}
+use Rattle.std.proofs.lemmas.Bool.{eqb-true}
+use Rattle.ckpt_types.specs.declared.answers.Outcome.{Outcome}
+use Rattle.ckpt_types.specs.declared.answers.Outcome.TheVariants.{Done}
+use Rattle.ckpt_types.specs.declared.attributes.CreationAttributes.{CreationAttributes}
+use Rattle.ckpt_types.specs.declared.identities.CallId.{CallId}
+use Rattle.ckpt_types.specs.declared.operation.Op.{Op}
+use Rattle.node_msgs.specs.declared.next.RecordStep.{RecordStep}
+use Rattle.node_msgs.specs.declared.next.RecordStep.TheVariants as events
+use Rattle.cluster_record.specs.declared.clients.LiveClient.{LiveClient}
+use Rattle.cluster_record.specs.Calls.{client_of}
+use Rattle.cluster_record.specs.DueOpen.{making_ckpt}
+use Rattle.cluster_record.specs.LookUps.{identity_in, at_ckpt}
+use Rattle.cluster_record.specs.Places.{find_key}
+use Rattle.cluster_record.specs.RecordState.{RecordState, client_key, named, is_live_client, entered, created_as, opened, finished, undone, unlinked}
+use Rattle.world_core.specs.declared.drivers.Driver.{Driver}
+use Rattle.world_core.specs.declared.drivers.Driver.TheVariants as drivers
+use Rattle.world_core.specs.declared.world.World.{World}
+use Rattle.world_core.specs.Beginning.{opened_place, opened_for, closed_place}
+use Rattle.world_core.specs.Driving.{event_change, event_after}
+use Rattle.world_core.specs.LiveRooms.{is_roomy, LiveHaveRoom}
+use Rattle.world_core.specs.Settling.{changed_at, at_client, given, closed_at, settled, looked}
+use Rattle.world_core.specs.TableState.{TableState, with_room, with_closed, with_none, with_handle, begun_with}
+use Rattle.cluster_record.specs.LookUps.{creation_flags_of}
+use Rattle.cluster_record.specs.RecordState.{entry_of}
+use Rattle.world_core.proofs.TableFields.{field_same, table_at}
+
+-- ---- another table in a client's place
+
+module _ (w : World) (R : RecordState) (c : ℕ) where
+  -- with as much room taken
+  pub rooms_set : (t t' : TableState) → slice_get w.tables c ≡ Some t → t.roomy ≡ t'.roomy → LiveHaveRoom R w.tables → LiveHaveRoom R (slice_set w.tables c t')
+  rooms_set t t' table same rooms d live = sym (field_same w c t t' table is_roomy same d) ∙ rooms d live
+
+  changed : (f : TableState → TableState) → ((t : TableState) → t.roomy ≡ (f t).roomy) → (o : Option TableState) → slice_get w.tables c ≡ o → LiveHaveRoom R w.tables → LiveHaveRoom R (changed_at c f w.tables o)
+  changed f same None is rooms = rooms
+  changed f same (Some t) is rooms = rooms_set t (f t) is (same t) rooms
+
+  rooms_at : (f : TableState → TableState) → ((t : TableState) → t.roomy ≡ (f t).roomy) → LiveHaveRoom R w.tables → LiveHaveRoom R (at_client c f w.tables)
+  rooms_at f same rooms = changed f same (slice_get w.tables c) refl rooms
+
+  rooms_closed : (place : Option ℕ) → LiveHaveRoom R w.tables → LiveHaveRoom R (closed_at c place w.tables)
+  rooms_closed None rooms = rooms
+  rooms_closed (Some place) rooms = rooms_at (with_closed place) (λ t. refl) rooms
+
+  rooms_given : (N : RecordState) (op : Op) (k place : Option ℕ) → LiveHaveRoom R w.tables → LiveHaveRoom R (given N c op k place w.tables)
+  rooms_given N op (Some k) (Some place) rooms = rooms_at (with_handle k (opened_for op) (creation_flags_of (entry_of k N.entries)) place) (λ t. refl) rooms
+  rooms_given N op (Some k) None rooms = rooms
+  rooms_given N op None place rooms = rooms
+
+  -- by what a step of the record makes of it
+  pub rooms_settled : (N : RecordState) (op : Op) (step : RecordStep) (k : Option ℕ) → LiveHaveRoom R w.tables → LiveHaveRoom R (settled N c op step k w.tables)
+  rooms_settled N op events.Open k rooms = rooms_given N op k (opened_place op) rooms
+  rooms_settled N op events.Finish k rooms = rooms_given N op k (opened_place op) rooms
+  rooms_settled N op events.Close k rooms = rooms_closed (closed_place op) rooms
+  rooms_settled N op events.Leave k rooms = rooms_at with_none (λ t. refl) rooms
+  rooms_settled N op step k rooms = rooms
+
+  -- and a look at it
+  pub rooms_looked : (o : Outcome) (op : Op) → LiveHaveRoom R w.tables → LiveHaveRoom R (looked o c op w.tables)
+  rooms_looked (Done answer) op rooms = rooms_closed (closed_place op) rooms
+  rooms_looked o op rooms = rooms
+
+-- a call that begins takes no room
+pub roomy-begun : (ended : Option ℕ) (t : TableState) → t.roomy ≡ (begun_with ended t).roomy
+roomy-begun None t = refl
+roomy-begun (Some place) t = refl
+
+-- ---- another record
+
+-- each that is live was live before
+abbrev LiveBefore : RecordState → RecordState → Type 0
+LiveBefore old new = (d : ℕ) → is_live_client d new ≡ true → is_live_client d old ≡ true
+
+live_same : (R : RecordState) → LiveBefore R R
+live_same R d live = live
+
+created_live : (call : CallId) (name : List ℕ) (a : Option CreationAttributes) (R : RecordState) → LiveBefore R (created_as call name a R)
+created_live call name None R d live = live
+created_live call name (Some a) R d live = live
+
+at_live : (o : Option ℕ) (R : RecordState) (change : ℕ → RecordState) → ((k : ℕ) → LiveBefore R (change k)) → LiveBefore R (at_ckpt o R change)
+at_live None R change before = live_same R
+at_live (Some k) R change before = before k
+
+-- of fewer clients
+fewer_step : (p : LiveClient → Bool) (d : ℕ) (x : LiveClient) (xs : List LiveClient) (stays is : Bool) → (is_some (find_key client_key d (filter p xs)) ≡ true → is_some (find_key client_key d xs) ≡ true) → (client_key x == d) ≡ is
+    → is_some (find_key client_key d (cond stays (x ∷ filter p xs) (filter p xs))) ≡ true → is_some (cond is (Some x) (find_key client_key d xs)) ≡ true
+fewer_step p d x xs stays true behind same found = refl
+fewer_step p d x xs true false behind same found = behind (ap (λ b. is_some (cond b (Some x) (find_key client_key d (filter p xs)))) (sym same) ∙ found)
+fewer_step p d x xs false false behind same found = behind found
+
+fewer : (p : LiveClient → Bool) (d : ℕ) (xs : List LiveClient) → is_some (find_key client_key d (filter p xs)) ≡ true → is_some (find_key client_key d xs) ≡ true
+fewer p d [] found = found
+fewer p d (x ∷ xs) found = fewer_step p d x xs (p x) (client_key x == d) (fewer p d xs) refl found
+
+-- one more is live
+more : (P : ℕ → Type 0) (new : LiveClient) (d : ℕ) (xs : List LiveClient) → P (client_key new) → (is_some (find_key client_key d xs) ≡ true → P d) → is_some (find_key client_key d (xs ++ new ∷ [])) ≡ true → P d
+more P new d [] here there found = by_key (client_key new == d) refl found where
+  by_key : (a : Bool) → (client_key new == d) ≡ a → is_some (cond a (Some new) None) ≡ true → P d
+  by_key true same found = subst P (eqb-true (client_key new) d same) here
+  by_key false same found = absurd (cc found)
+more P new d (x ∷ xs) here there found = by_key (client_key x == d) there (λ later. more P new d xs here later) found where
+  by_key : (a : Bool) → (is_some (cond a (Some x) (find_key client_key d xs)) ≡ true → P d) → ((is_some (find_key client_key d xs) ≡ true → P d) → is_some (find_key client_key d (xs ++ new ∷ [])) ≡ true → P d) → is_some (cond a (Some x) (find_key client_key d (xs ++ new ∷ []))) ≡ true → P d
+  by_key true there behind found = there refl
+  by_key false there behind found = behind there found
+
+-- a client that becomes live has its room
+abbrev pub EntersWithRoom : CallId → Driver → List TableState → Type 0
+EntersWithRoom call (drivers.Enter r) tables = is_roomy (slice_get tables (client_of call)) ≡ true
+EntersWithRoom call driver tables = Unit {0}
+
+rooms_changed : (call : CallId) (x : Driver) (step : RecordStep) (R : RecordState) (tables : List TableState) → EntersWithRoom call x tables → LiveHaveRoom R tables → LiveHaveRoom (event_change call x step R) tables
+rooms_changed call (drivers.Enter r) step R tables enters rooms = λ d live. more (λ d. is_roomy (slice_get tables d) ≡ true) (record { client = client_of call; node = r; incarnation = slice_index R.up r; initialize = call.number }) d R.clients enters (rooms d) live
+rooms_changed call (drivers.Open o) events.Create R tables enters rooms = λ d live. rooms d (created_live call o.ask.name o.ask.attrs R d live)
+rooms_changed call (drivers.Open o) events.Open R tables enters rooms = λ d live. rooms d (at_live (identity_in (named o.ask.name R.entries)) R (λ k. opened k o.ask.client R) (λ k d live. live) d live)
+rooms_changed call (drivers.Open o) events.Finish R tables enters rooms = λ d live. rooms d (at_live (making_ckpt o.making) R (λ k. finished k o.ask.client R) (λ k d live. live) d live)
+rooms_changed call (drivers.Open o) events.Undo R tables enters rooms = λ d live. rooms d (at_live (making_ckpt o.making) R (λ k. undone k R) (λ k d live. live) d live)
+rooms_changed call (drivers.Open o) step R tables enters rooms = rooms
+rooms_changed call drivers.Leave step R tables enters rooms = λ d live. rooms d (fewer (λ l. not (client_key l == client_of call)) d R.clients live)
+rooms_changed call (drivers.Close k) step R tables enters rooms = λ d live. rooms d live
+rooms_changed call (drivers.Unlink name) step R tables enters rooms = λ d live. rooms d (at_live (identity_in (named name R.entries)) R (λ k. unlinked k R) (λ k d live. live) d live)
+rooms_changed call (drivers.Retain k duration) step R tables enters rooms = λ d live. rooms d live
+rooms_changed call x step R tables enters rooms = rooms
+
+-- so it is after a step of the record
+pub rooms_after : (call : CallId) (x : Driver) (step : RecordStep) (R : RecordState) (tables : List TableState) → EntersWithRoom call x tables → LiveHaveRoom R tables → LiveHaveRoom (event_after call x step R) tables
+rooms_after call x step R tables enters rooms = λ d live. rooms_changed call x step R tables enters rooms d live

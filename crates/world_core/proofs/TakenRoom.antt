@@ -1,0 +1,99 @@
+-- A client whose room is taken is shown as before.
+use Rattle.std.proofs.Common.{◌≡◌, ℕ, ◌-◌, ◌^◌, ◌<◌, Bool, true, false, List, length, Option, Some, IsSomeAnd, refl, sym, ap, subst, ◌∙◌, cond, ◌==◌}
+use Rattle.std.proofs.lemmas.Bool.{eq-eqb}
+use Rattle.std.specs.Prelude.{nat_lt, slice_get, slice_set}
+use Rattle.node_msgs.specs.declared.next.Next.{Next}
+use Rattle.run_labels.specs.declared.labels.Label.{Label}
+use Rattle.world_core.specs.declared.drivers.Rooms.{Rooms}
+use Rattle.world_core.specs.declared.world.World.{World}
+use Rattle.world_core.specs.Driving.{driver_next}
+use Rattle.world_core.specs.Happenings.{IsNext, IsStep, rooms_in}
+use Rattle.world_core.specs.LiveRooms.{is_roomy, LiveHaveRoom}
+use Rattle.world_core.specs.Machine.{Machine}
+use Rattle.world_core.specs.Shows.{Shows, IsShown, IsRoomy, History, machine_of, next_in, handles_in, place_in, last_in, iterations_in}
+use Rattle.world_core.specs.TableState.{TableState, with_room}
+use Rattle.world_core.proofs.LawMoves.{IsSomeAnd-at}
+use Rattle.world_core.proofs.TableFields.{field_same, nexts_same, table_at}
+
+-- what is known of the world is known of it with the room, and a step of it then is a step of the world
+pub record Keeps (w : World) (c : ℕ) (taken : World) : Type 0 where
+  pub shown : IsShown w → IsShown taken
+  pub next : (n : Next) → IsNext w c n → IsNext taken c n
+  pub roomy : IsRoomy w → IsRoomy taken
+  pub has_room : is_roomy (slice_get taken.tables c) ≡ true
+  pub step : (new : World) (label : Label) → IsStep c taken new label → IsStep c w new label
+
+module _ (w : World) (c : ℕ) (t : TableState) (table : slice_get w.tables c ≡ Some t) where
+  abbrev with_it : World
+  with_it = record w { tables = slice_set w.tables c (with_room t) }
+
+  same : {X : Type 0} (f : Option TableState → X) → f (Some t) ≡ f (Some (with_room t)) → (d : ℕ) → f (slice_get w.tables d) ≡ f (slice_get with_it.tables d)
+  same = field_same w c t (with_room t) table
+
+  machine_is : (h : History) → machine_of w h ≡ machine_of with_it h
+  machine_is h = λ i. record (machine_of with_it h) {
+    next = λ a. nexts_same w c t (with_room t) table refl a i;
+    handles = λ d. same handles_in refl d i;
+    places = λ d p. same (λ o. place_in o p) refl d i;
+    last_handles = λ d. same last_in refl d i;
+    iterations = λ d. same iterations_in refl d i;
+  }
+
+  roomy_there : (d : ℕ) → is_roomy (slice_get w.tables d) ≡ true → is_roomy (slice_get with_it.tables d) ≡ true
+  roomy_there d roomy = subst (λ (o : Option TableState). is_roomy o ≡ true) (table_at w c t (with_room t) table d) (by_test (d == c)) where
+    by_test : (b : Bool) → is_roomy (cond b (Some (with_room t)) (slice_get w.tables d)) ≡ true
+    by_test true = refl
+    by_test false = roomy
+
+  shows_it : (m : Machine) → Shows w m → Shows with_it m
+  shows_it m s = record {
+    history = s.history;
+    same = s.same ∙ machine_is s.history;
+    fits = record { replicas = s.fits.replicas; hands = s.fits.hands };
+    holds = s.holds;
+    rooms = λ d live. roomy_there d (s.rooms d live);
+  }
+
+  rooms_same : rooms_in w c ≡ rooms_in with_it c
+  rooms_same = λ i. record { handles = nat_lt (length (same handles_in refl c i)) 32; iterations = nat_lt (length (same iterations_in refl c i).begun) 8 }
+
+  has_it : is_roomy (slice_get with_it.tables c) ≡ true
+  has_it = subst (λ (o : Option TableState). is_roomy o ≡ true) (table_at w c t (with_room t) table c) (ap (λ b. is_roomy (cond b (Some (with_room t)) (slice_get w.tables c))) (eq-eqb c c refl))
+
+  keeps : Keeps w c with_it
+  keeps = record {
+    shown = λ shown. record { state = shown.state; shows = shows_it shown.state shown.shows; facts = shown.facts };
+    next = λ n next. record { hand = next.hand; held = next.held; next_is = ap (λ (rooms : Rooms). driver_next w.cluster rooms next.hand.driver) (sym rooms_same) ∙ next.next_is };
+    roomy = λ roomy. record {
+      next = λ d. subst (λ n. n < 2 ^ 32 - 1) (same next_in refl d) (roomy.next d);
+      handles = λ d. subst (λ n. n < 2 ^ 32 - 1) (same last_in refl d) (roomy.handles d);
+      iterations = λ d. subst (λ n. n < 2 ^ 32 - 1) (same (λ o. (iterations_in o).last) refl d) (roomy.iterations d);
+      updates = roomy.updates;
+      identity = roomy.identity;
+      references = roomy.references;
+    };
+    has_room = has_it;
+    step = λ new label step. record {
+      hand = step.hand;
+      held = step.held;
+      op = step.op;
+      verb = step.verb;
+      ckpt = step.ckpt;
+      node = step.node;
+      reply = step.reply;
+      end = step.end;
+      pieces = step.pieces;
+      label_is = step.label_is;
+      next = step.next;
+      same_call = step.same_call;
+      same_op = step.same_op;
+      hands = step.hands;
+      does = record { due_is = λ m s f. step.does.due_is m (shows_it m s) f; shows = λ m s f. step.does.shows m (shows_it m s) f };
+    };
+  }
+
+-- with the tables as the code names them
+pub keeps_taken : (w : World) (c : ℕ) (tables : List TableState) → IsSomeAnd (slice_get w.tables c) (λ t. tables ≡ slice_set w.tables c (with_room t)) → Keeps w c (record w { tables = tables })
+keeps_taken w c tables taken =
+    let (t, table, tables_are) = IsSomeAnd-at (slice_get w.tables c) _ taken in
+    subst (λ (ts : List TableState). Keeps w c (record w { tables = ts })) (sym tables_are) (keeps w c t table)

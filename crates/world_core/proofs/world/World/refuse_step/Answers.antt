@@ -1,0 +1,19 @@
+use Rattle.std.proofs.Common.{◌≡◌, Some}
+use Rattle.node_msgs.specs.declared.next.Next.TheVariants.{Event}
+use Rattle.world_core.specs.Shows.{hand_at}
+use Rattle.world_core.proofs.Held.{next_for}
+use Rattle.world_core.proofs.RecordSteps.{refused_step}
+use Rattle.world_core.proofs.world.World.refuse_step.Goals as goal
+
+pub returns : goal.returns
+returns c =
+    let w = c.args.self.now in
+    let hand = c.in-Some.hand.now in
+    let held : hand_at w.hands c.args.c ≡ Some hand = c.in-Some.ensures in
+    let next = next_for w c.args.c (Event c.args.step) hand held c.requires.next in
+    record {
+      label = _;
+      labels = c.push.ensures.labels;
+      is = refused_step w c.args.c c.args.step hand held next c.requires.shown c.clear.new.self c.word-op.result c.verb.result c.event_ckpt-ckpt.result c.event_node-node.result c.requires.takes c.clear.ensures c.event_ckpt-ckpt.ensures
+    c.event_node-node.ensures c.word-op.ensures c.verb.ensures;
+    }
