@@ -1,7 +1,10 @@
 -- Keys tell the order of identifiers, and the key of a number's identifier is that number.
-use Rattle.std.proofs.Common.{◌≡◌, ℕ, zero, suc, ◌+◌, ◌*◌, ◌^◌, ◌<◌, ◌≤◌, List, [], ◌∷◌, get_or, drop, Less, Equal, Greater, ap, refl, arith}
+use Rattle.std.proofs.Common.{◌≡◌, ℕ, zero, suc, ◌+◌, ◌*◌, ◌^◌, ◌<◌, ◌≤◌, List, [], ◌∷◌, length, nat_eq, get_or, drop, Less, Equal, Greater, true, false, sym, ap, ◌∙◌, refl, inl, inr, arith}
 use Rattle.std.specs.Ordering.{nat_cmp, ordering_then}
-use Rattle.std.proofs.lemmas.Nat.{from_be_bytes-to_be_bytes_8}
+use Rattle.std.proofs.lemmas.Nat.{from_be_bytes-to_be_bytes_8, be_bytes_8}
+use Rattle.std.specs.Cmp.Lexicographic.{pointwise, bytes_decides}
+use Rattle.std.proofs.lemmas.Bool.{cases_lt, cases_eq, ne_eqb}
+use Rattle.std.specs.Int.{from_be_bytes, w64}
 use Rattle.ckpt_types.specs.Sections.{id_cmp}
 use Rattle.ckpt_types.specs.Updates.{numbered_id}
 use Rattle.ckpt_types.proofs.Presence.{id_cmp_turned}
@@ -81,6 +84,40 @@ key_of-less x y are lt = key_from-less 8 0 x y are lt
 pub key_of-greater : (x y : List ℕ) → AreBytes x → key_of y < key_of x → id_cmp x y ≡ Greater
 key_of-greater x y are lt = id_cmp_turned y x Less (key_of-less y x are lt)
 
+-- of eight bytes the key is the number that they are
+key_of-eight : (bytes : List ℕ) → length bytes ≡ 8 → key_of bytes ≡ from_be_bytes w64 bytes
+key_of-eight (a ∷ b ∷ c ∷ d ∷ e ∷ f ∷ g ∷ h ∷ []) eight = omega arith
+key_of-eight [] eight = absurd (omega arith)
+key_of-eight (a ∷ []) eight = absurd (omega arith)
+key_of-eight (a ∷ b ∷ []) eight = absurd (omega arith)
+key_of-eight (a ∷ b ∷ c ∷ []) eight = absurd (omega arith)
+key_of-eight (a ∷ b ∷ c ∷ d ∷ []) eight = absurd (omega arith)
+key_of-eight (a ∷ b ∷ c ∷ d ∷ e ∷ []) eight = absurd (omega arith)
+key_of-eight (a ∷ b ∷ c ∷ d ∷ e ∷ f ∷ []) eight = absurd (omega arith)
+key_of-eight (a ∷ b ∷ c ∷ d ∷ e ∷ f ∷ g ∷ []) eight = absurd (omega arith)
+key_of-eight (a ∷ b ∷ c ∷ d ∷ e ∷ f ∷ g ∷ h ∷ i ∷ bytes) eight = absurd (omega arith)
+
+-- behind the last byte there are zeros
+get_or-behind : (bytes : List ℕ) (i : ℕ) → length bytes ≤ i → get_or bytes i 0 ≡ 0
+get_or-behind [] i le = refl
+get_or-behind (b ∷ bytes) zero le = absurd (omega arith)
+get_or-behind (b ∷ bytes) (suc i) le = get_or-behind bytes i (omega arith)
+
+-- eight bytes are the identifier of the number that is their key
+pub numbered_id-key_of : (bytes : List ℕ) (n : ℕ) → AreBytes bytes → length bytes ≡ 8 → n ≡ key_of bytes → numbered_id n ≡ bytes
+numbered_id-key_of bytes n are eight is =
+    be_bytes_8 bytes n eight (λ i. elim (cases_lt i 8) [ inl lt ↦ are i lt | inr ge ↦ omega (arith, get_or-behind bytes i (omega arith)) ]) (is ∙ key_of-eight bytes eight)
+
 -- the key of a number's identifier
 pub key_of-numbered_id : (n : ℕ) → n < 2 ^ 64 → key_of (numbered_id n) ≡ n
 key_of-numbered_id n fits = omega (arith, from_be_bytes-to_be_bytes_8 n fits)
+
+-- of the bytes with a key, those of its number are eight
+pub is_numbered_id : (bytes : List ℕ) (n : ℕ) → AreBytes bytes → n ≡ key_of bytes → nat_eq (length bytes) 8 ≡ pointwise nat_eq bytes (numbered_id n)
+is_numbered_id bytes n are is = elim (cases_eq (length bytes) 8) [
+  | inl eight ↦ ap (λ m. nat_eq m 8) eight ∙ sym ((bytes_decides bytes (numbered_id n)).1 (sym (numbered_id-key_of bytes n are eight is)))
+  | inr other ↦ ne_eqb (length bytes) 8 other ∙ sym (elim (pointwise nat_eq bytes (numbered_id n)) as (λ b. pointwise nat_eq bytes (numbered_id n) ≡ b → b ≡ false) [
+    | true ↦ λ same. absurd (other (ap length ((bytes_decides bytes (numbered_id n)).0 same)))
+    | false ↦ λ apart. refl
+  ] refl)
+]

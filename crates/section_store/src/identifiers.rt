@@ -1,10 +1,10 @@
 ghost use Rattle.std.specs.Prelude.{◌≡◌, ◌<◌, ℕ, length, insert, remove, is_some, IfSome};
-ghost use Rattle.ckpt_types.specs.Sections.{Section, Rises, is_taken, present};
+ghost use Rattle.ckpt_types.specs.Sections.{Section, Rises, is_taken, place_of, present};
 ghost use Rattle.ckpt_types.specs.Updates.{free_number, new_id, numbered_id};
 ghost use Rattle.section_store.specs.Stored.{sections_of};
 ghost use Rattle.section_store.specs.Summary.{AreTaken};
 
-use crate::order::find_near;
+use crate::order::find;
 use crate::stored::Stored;
 use ckpt_types::{Moment, NewId, SectionId};
 
@@ -42,7 +42,7 @@ pub(crate) fn free_number(kept: &[Box<Stored>], first: u64, now: Moment) -> u64
 {
     let mut number = first;
     let mut near = 0;
-    while let Some(place) = place_taken(kept, &numbered(number), near, now) {
+    while let Some(place) = place_taken(kept, number, near, now) {
         number += 1;
         near = place + 1;
     }
@@ -68,13 +68,26 @@ pub(crate) fn numbered(number: u64) -> SectionId
     id
 }
 
-/// The place of the section that is present and has the identifier, which is looked for at `near` first.
-fn place_taken(kept: &[Box<Stored>], id: &SectionId, near: usize, now: Moment) -> Option<usize>
+/// The place of the section of that number, which is looked for at `near` first.
+fn find_number(kept: &[Box<Stored>], number: u64, near: usize) -> Option<usize>
     requires { Rises (sections_of kept.now) }
-    ensures taken { is_some result ≡ is_taken id.now (present now (sections_of kept.now)) }
+    ensures place { result ≡ place_of (numbered_id number) (sections_of kept.now) }
     ensures within { IfSome result (λ place. place < length kept.now) }
 {
-    match find_near(kept, id, near) {
+    if near < kept.len() && kept[near].id.is_number(number) {
+        Some(near)
+    } else {
+        find(kept, &numbered(number))
+    }
+}
+
+/// The place of the section of that number, where it is present. It is looked for at `near` first.
+fn place_taken(kept: &[Box<Stored>], number: u64, near: usize, now: Moment) -> Option<usize>
+    requires { Rises (sections_of kept.now) }
+    ensures taken { is_some result ≡ is_taken (numbered_id number) (present now (sections_of kept.now)) }
+    ensures within { IfSome result (λ place. place < length kept.now) }
+{
+    match find_number(kept, number, near) {
         Some(place) if kept[place].is_present(now) => Some(place),
         _ => None,
     }

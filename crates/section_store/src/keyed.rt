@@ -1,5 +1,7 @@
-ghost use Rattle.std.specs.Prelude.{◌≡◌, ◌<◌, get_or};
+ghost use Rattle.std.specs.Prelude.{◌≡◌, ◌<◌, get_or, nat_eq};
+ghost use Rattle.std.specs.Cmp.Lexicographic.{pointwise};
 ghost use Rattle.ckpt_types.specs.Sections.{id_cmp};
+ghost use Rattle.ckpt_types.specs.Updates.{numbered_id};
 ghost use Rattle.section_store.specs.Keys.{key_of, AreBytes};
 
 use ckpt_types::SectionId;
@@ -49,6 +51,13 @@ impl Keyed {
         ensures { result ≡ key_of self.now }
     {
         self.key
+    }
+
+    /// Whether it is the identifier that the service makes of this number.
+    pub fn is_number(&self, number: u64) -> bool
+        ensures { result ≡ pointwise nat_eq self.now (numbered_id number) }
+    {
+        self.key == number && self.id.as_slice().len() == KEY_BYTES
     }
 }
 

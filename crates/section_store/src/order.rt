@@ -44,19 +44,6 @@ pub(crate) fn find(kept: &[Box<Stored>], id: &SectionId) -> Option<usize>
     }
 }
 
-/// The place of the section of that identifier, which is looked for at `near` first.
-pub(crate) fn find_near(kept: &[Box<Stored>], id: &SectionId, near: usize) -> Option<usize>
-    requires { Rises (sections_of kept.now) }
-    ensures place { result ≡ place_of id.now (sections_of kept.now) }
-    ensures within { IfSome result (λ place. place < length kept.now) }
-{
-    if near < kept.len() && kept[near].id.id() == id {
-        Some(near)
-    } else {
-        find(kept, id)
-    }
-}
-
 /// Writes into the section at a place, and says how many bytes more it has.
 pub(crate) fn write_into(
     kept: &mut Vec<Box<Stored>>,

@@ -44,7 +44,7 @@ tried_below c =
     let few : length c.args.kept.now + 1 < 2 ^ 64 = search rules in
     let t = to_z w64 (of_z w64 c.args.now) in
     let sections = present t (sections_of c.args.kept.now) in
-    let taken : is_taken (numbered_id c.loop-place.number) sections ≡ true = ap (λ id. is_taken id sections) (sym c.numbered.ensures) ∙ sym c.place_taken.ensures.taken ∙ ap is_some c.in-Some.is in
+    let taken : is_taken (numbered_id c.loop-place.number) sections ≡ true = sym c.place_taken.ensures.taken ∙ ap is_some c.in-Some.is in
     taken_below sections c.loop-place.number (few_present t c.args.kept.now few) c.loop-place.invariant.least taken
 
 pub overflow_add-number : goal.overflow_add-number
@@ -66,6 +66,6 @@ pub returns : goal.returns
 returns c =
     let moment : to_z w64 (of_z w64 c.args.now) ≡ c.args.now = to_z-of_z w64 c.args.now c.ranges.now in
     let sections = present (to_z w64 (of_z w64 c.args.now)) (sections_of c.args.kept.now) in
-    let free : is_taken (numbered_id c.loop-place.number) sections ≡ false = ap (λ id. is_taken id sections) (sym c.numbered.ensures) ∙ sym c.place_taken.ensures.taken ∙ ap is_some c.in_default.is in
+    let free : is_taken (numbered_id c.loop-place.number) sections ≡ false = sym c.place_taken.ensures.taken ∙ ap is_some c.in_default.is in
     let here : c.loop-place.number ≡ free_number sections = free_here sections c.loop-place.number c.loop-place.invariant.first c.loop-place.invariant.least free in
     here ∙ ap (λ t. free_number (present t (sections_of c.args.kept.now))) moment
