@@ -10,6 +10,7 @@ use ckpt_types::{CkptId, Incarnation, NodeId, Who};
 use std::alloc::AllocError;
 
 /// The line of a failure.
+#[inline(never)]
 pub(crate) fn append_fail(out: &mut Vec<u8>, node: NodeId, failed: bool) -> Result<(), AllocError>
     ensures { OnOk result (out.new.items ≡ out.old.items ++ fail_line node failed) }
 {
@@ -27,6 +28,7 @@ fn failed_word(failed: bool) -> &'static str
 }
 
 /// The line of a join.
+#[inline(never)]
 pub(crate) fn append_join(
     out: &mut Vec<u8>,
     node: NodeId,
@@ -54,6 +56,7 @@ fn append_joined(out: &mut Vec<u8>, incarnation: Option<Incarnation>) -> Result<
 }
 
 /// The line of a pull.
+#[inline(never)]
 pub(crate) fn append_pull(
     out: &mut Vec<u8>,
     ckpt: CkptId,
@@ -85,6 +88,7 @@ fn append_pulled(out: &mut Vec<u8>, reply: PullReply) -> Result<(), AllocError>
 }
 
 /// The line of a put.
+#[inline(never)]
 pub(crate) fn append_put(
     out: &mut Vec<u8>,
     ckpt: CkptId,
@@ -125,6 +129,7 @@ fn append_put_reply(out: &mut Vec<u8>, reply: PutReply) -> Result<(), AllocError
 }
 
 /// The line of a word that answers a line.
+#[inline(never)]
 pub(crate) fn append_word(
     out: &mut Vec<u8>,
     who: Who,

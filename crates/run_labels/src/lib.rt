@@ -1,6 +1,7 @@
 //! The labels of a run, the log that keeps them, and the lines that they print.
 #![tactic(auto)]
 
+mod digits;
 mod events;
 mod labels;
 mod lines;

@@ -55,6 +55,7 @@ pub fn append_line(out: &mut Vec<u8>, label: &Label, steps: bool) -> Result<(), 
 }
 
 /// What a beginning prints.
+#[inline(always)]
 fn append_began(
     out: &mut Vec<u8>,
     call: CallId,
@@ -70,6 +71,7 @@ fn append_began(
 }
 
 /// The line of a call that begins, where steps are asked for.
+#[inline(always)]
 fn append_asked_begin(
     out: &mut Vec<u8>,
     call: CallId,
@@ -86,6 +88,7 @@ fn append_asked_begin(
 }
 
 /// The line of a step, where steps are asked for.
+#[inline(always)]
 fn append_asked_step(
     out: &mut Vec<u8>,
     call: CallId,
@@ -105,6 +108,7 @@ fn append_asked_step(
 }
 
 /// What a moment that was set prints.
+#[inline(always)]
 fn append_moved(out: &mut Vec<u8>, moment: Moment, steps: bool) -> Result<(), AllocError>
     ensures { OnOk result (out.new.items ≡ out.old.items ++ where_asked steps (moment_line moment)) }
 {

@@ -15,6 +15,7 @@ use ckpt_types::{
 use std::alloc::AllocError;
 
 /// The result line of a call that ended by a step.
+#[inline(always)]
 pub(crate) fn append_stepped_end(
     out: &mut Vec<u8>,
     call: CallId,
@@ -38,6 +39,7 @@ fn is_async(op: OpWord) -> bool
 }
 
 /// The result line, where the call has ended.
+#[inline(always)]
 pub(crate) fn append_end(
     out: &mut Vec<u8>,
     call: CallId,
@@ -54,6 +56,7 @@ pub(crate) fn append_end(
 }
 
 /// The result line of a call that ended.
+#[inline(never)]
 fn append_result(
     out: &mut Vec<u8>,
     call: CallId,
@@ -72,6 +75,7 @@ fn append_result(
 }
 
 /// The result line of a call that was done.
+#[inline(always)]
 fn append_done(
     out: &mut Vec<u8>,
     call: CallId,
@@ -106,6 +110,7 @@ fn append_refusal(
 }
 
 /// The call and its first word.
+#[inline(always)]
 fn append_head(out: &mut Vec<u8>, call: CallId, op: OpWord) -> Result<(), AllocError>
     ensures { OnOk result (out.new.items ≡ out.old.items ++ head_text call op) }
 {

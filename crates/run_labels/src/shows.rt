@@ -11,6 +11,7 @@ use ckpt_types::{CkptId, NodeId};
 use std::alloc::AllocError;
 
 /// The lines of all replicas of a checkpoint, or that it is gone.
+#[inline(never)]
 pub(crate) fn append_shown(
     out: &mut Vec<u8>,
     ckpt: CkptId,

@@ -10,6 +10,7 @@ use node_msgs::{StepReply, Verb};
 use std::alloc::AllocError;
 
 /// The line of a call that begins.
+#[inline(never)]
 pub(crate) fn append_begin(out: &mut Vec<u8>, call: CallId, op: OpWord) -> Result<(), AllocError>
     ensures { OnOk result (out.new.items ≡ out.old.items ++ begin_line call op) }
 {
@@ -21,6 +22,7 @@ pub(crate) fn append_begin(out: &mut Vec<u8>, call: CallId, op: OpWord) -> Resul
 }
 
 /// The line of a step.
+#[inline(never)]
 pub(crate) fn append_step(
     out: &mut Vec<u8>,
     call: CallId,
@@ -61,6 +63,7 @@ fn append_step_place(
 }
 
 /// The line of a moment that was set.
+#[inline(never)]
 pub(crate) fn append_moment(out: &mut Vec<u8>, moment: Moment) -> Result<(), AllocError>
     ensures { OnOk result (out.new.items ≡ out.old.items ++ moment_line moment) }
 {

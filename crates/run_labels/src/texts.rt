@@ -1,12 +1,18 @@
-ghost use Rattle.std.specs.Prelude.{◌≡◌, ◌+◌, ◌*◌, ◌++◌, OnOk, codes, decimal, length, take};
-ghost use Rattle.hex.specs.Hex.{encode_lower};
+ghost use Rattle.std.specs.Prelude.{◌≡◌, ◌<◌, ◌++◌, OnOk, codes, decimal};
 ghost use Rattle.run_labels.specs.Texts.{node_text, ckpt_text, actor_text, call_text, who_text, time_text, bytes_text, state_text};
 
+use crate::digits::{encode_behind, push_thousands};
 use ckpt_types::{ActorName, CallId, CkptId, Moment, NEVER, NodeId, SectionState, Who};
 use itoa::Buffer;
 use std::alloc::AllocError;
 
+/// The least number of more than `SHORT_DIGITS` digits.
+const SHORT_END: u64 = 10_000;
+
+const SHORT_DIGITS: usize = 4;
+
 /// Adds a text behind the others.
+#[inline(always)]
 pub(crate) fn append_text(out: &mut Vec<u8>, text: &str) -> Result<(), AllocError>
     ensures { OnOk result (out.new.items ≡ out.old.items ++ text.now) }
 {
@@ -14,7 +20,31 @@ pub(crate) fn append_text(out: &mut Vec<u8>, text: &str) -> Result<(), AllocErro
 }
 
 /// Adds a number.
+#[inline(always)]
 pub(crate) fn append_number(out: &mut Vec<u8>, number: u64) -> Result<(), AllocError>
+    ensures { OnOk result (out.new.items ≡ out.old.items ++ decimal number) }
+{
+    if number < SHORT_END {
+        append_short(out, number)
+    } else {
+        append_long(out, number)
+    }
+}
+
+/// Adds a number of at most four digits.
+#[inline(always)]
+fn append_short(out: &mut Vec<u8>, number: u64) -> Result<(), AllocError>
+    requires { number < 10000 }
+    ensures { OnOk result (out.new.items ≡ out.old.items ++ decimal number) }
+{
+    out.reserve(SHORT_DIGITS)?;
+    push_thousands(out, number);
+    Ok(())
+}
+
+/// Adds a number of any size.
+#[inline(never)]
+fn append_long(out: &mut Vec<u8>, number: u64) -> Result<(), AllocError>
     ensures { OnOk result (out.new.items ≡ out.old.items ++ decimal number) }
 {
     append_text(out, Buffer::new().format(number))
@@ -71,6 +101,7 @@ pub(crate) fn append_ckpt(out: &mut Vec<u8>, ckpt: CkptId) -> Result<(), AllocEr
 }
 
 /// Adds who begins calls.
+#[inline(always)]
 pub(crate) fn append_actor(out: &mut Vec<u8>, actor: ActorName) -> Result<(), AllocError>
     ensures { OnOk result (out.new.items ≡ out.old.items ++ actor_text actor) }
 {
@@ -84,6 +115,7 @@ pub(crate) fn append_actor(out: &mut Vec<u8>, actor: ActorName) -> Result<(), Al
 }
 
 /// Adds a call.
+#[inline(always)]
 pub(crate) fn append_call(out: &mut Vec<u8>, call: CallId) -> Result<(), AllocError>
     ensures { OnOk result (out.new.items ≡ out.old.items ++ call_text call) }
 {
@@ -128,14 +160,4 @@ pub(crate) fn append_bytes(out: &mut Vec<u8>, bytes: &[u8]) -> Result<(), AllocE
     out.resize(len, 0)?;
     encode_behind(out.as_mut_slice(), front, bytes);
     Ok(())
-}
-
-/// Puts the digits of the bytes behind the front.
-fn encode_behind(all: &mut [u8], front: usize, bytes: &[u8])
-    requires { length all.old ≡ front + 2 * length bytes.now }
-    ensures { all.new ≡ take front all.old ++ encode_lower bytes.now }
-{
-    let Ok(()) = hex::encode_to_slice(bytes, &mut all[front..]) else {
-        unreachable!()
-    };
 }

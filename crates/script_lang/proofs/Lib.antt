@@ -5,6 +5,7 @@ mod Fitting
 mod Groups
 mod Marking
 mod Rows
+mod Saying
 mod Steps
 mod Texts
 mod Told

@@ -1,5 +1,6 @@
 pub mod BuiltScripts
 pub mod Faults
+pub mod FewWords
 pub mod Grammar
 pub mod Scripts
 pub mod Spelling

@@ -1,15 +1,22 @@
-ghost use Rattle.std.specs.Prelude.{◌≡◌, ◌<◌, ◌≤◌, ◌∷◌, [], IfOk, IfSome, IfNone, length, ◌==◌, Ok, None};
+ghost use Rattle.std.specs.Prelude.{◌≡◌, ◌<◌, ◌≤◌, ◌-◌, ◌∷◌, [], IfOk, IfSome, IfNone, length, take, drop, ◌==◌, Ok, None};
+ghost use Rattle.script_lang.specs.FewWords.{HasWords};
 ghost use Rattle.std.specs.Bool.{OnTrue, OnFalse};
 ghost use Rattle.std.specs.List.{list_any, position_or_len};
 ghost use Rattle.script_words.specs.Reasons.{Reads};
 ghost use Rattle.script_lang.specs.Table.{texts};
 ghost use Rattle.script_lang.specs.Grammar.{text_lines, words_of, reading, some_line, is_empty, is_later_word as spec_is_later_word, begins_later as spec_begins_later, line_of as spec_line_of};
 
-use crate::forms::{BEGIN_IS_LATER, LineWord, begin_line, is_later, plain_line, word_named};
+use crate::forms::{BEGIN_IS_LATER, LineWord, begin_line, is_later, plain_line, says, word_named};
 use crate::lines::Line;
 use memchr::memchr;
-use script_words::{LineError, Reason, place_of};
+use script_words::{LineError, Reason};
 use std::alloc::{AllocError, Global};
+
+// The words of most lines are no more.
+const FEW: usize = 12;
+
+// From this length on, a line is likely to have a long word.
+const LONG: usize = 64;
 
 /// Whether a line says nothing, as it is empty or a comment.
 #[tactic(auto, unfolding(crate::specs::Grammar::reading))]
@@ -23,13 +30,21 @@ pub fn says_nothing(line: &[u8]) -> bool
     }
 }
 
-/// The line that the words of a text say.
+/// The line that the words of a text say. Where they are few, it takes no memory for them.
 pub fn read_line(alloc: Global, text: &[u8]) -> Result<Line, LineError>
     ensures { Reads result (spec_line_of (words_of text.now)) }
 {
-    if let Some((first, second, third, fourth, fifth, last)) = six_words(text) {
-        return line_from(alloc, first, &[second, third, fourth, fifth, last]);
+    let mut words: [&[u8]; FEW] = [&[]; FEW];
+    match few_words(text, &mut words) {
+        Some(count) => line_of(alloc, &words[..count]),
+        None => line_of_many(alloc, text),
     }
+}
+
+// The line that any number of words say.
+fn line_of_many(alloc: Global, text: &[u8]) -> Result<Line, LineError>
+    ensures { Reads result (spec_line_of (words_of text.now)) }
+{
     let words = words_in(alloc, text)?;
     line_of(alloc, &words)
 }
@@ -49,7 +64,7 @@ fn line_of(alloc: Global, words: &[&[u8]]) -> Result<Line, LineError>
 fn line_from(alloc: Global, first: &[u8], rest: &[&[u8]]) -> Result<Line, LineError>
     ensures { Reads result (spec_line_of (first.now ∷ texts rest.now)) }
 {
-    if first == b"begin".as_slice() {
+    if says(first, b"begin") {
         if begins_later(rest) {
             return Err(LineError::Fault(Reason::NotBuilt));
         }
@@ -112,26 +127,62 @@ fn words_in(alloc: Global, line: &[u8]) -> Result<Vec<&[u8]>, AllocError>
     line.split(|b| *b == b' ').collect(alloc)
 }
 
-// The words of a line that has six, as a write and a read of one element do. It takes no memory.
-fn six_words(line: &[u8]) -> Option<(&[u8], &[u8], &[u8], &[u8], &[u8], &[u8])>
-    ensures { IfSome result (λ ws. words_of line.now ≡ ws.0.now ∷ ws.1.now ∷ ws.2.now ∷ ws.3.now ∷ ws.4.now ∷ ws.5.now ∷ []) }
+// Puts the words of a line in front, and tells how many they are; none where there is no place for each.
+fn few_words<'a>(line: &'a [u8], words: &mut [&'a [u8]]) -> Option<usize>
+    requires { 0 < length words.old }
+    ensures { IfSome result (λ count. HasWords line.now words.new count) }
 {
-    let (first, rest) = first_word(line)?;
-    let (second, rest) = first_word(rest)?;
-    let (third, rest) = first_word(rest)?;
-    let (fourth, rest) = first_word(rest)?;
-    let (fifth, last) = first_word(rest)?;
-    if has_space(last) {
-        None
+    if line.len() < LONG {
+        words_by_byte(line, words)
     } else {
-        Some((first, second, third, fourth, fifth, last))
+        words_by_search(line, words)
     }
 }
 
-fn has_space(word: &[u8]) -> bool
-    ensures { OnFalse result (words_of word.now ≡ word.now ∷ []) }
+// The same in one pass, which is quick where words are short.
+fn words_by_byte<'a>(line: &'a [u8], words: &mut [&'a [u8]]) -> Option<usize>
+    requires { 0 < length words.old }
+    ensures { IfSome result (λ count. HasWords line.now words.new count) }
 {
-    found_or_len(b' ', word) < word.len()
+    let mut count = 0;
+    let mut begin = 0;
+    for end in 0..line.len() {
+        if line[end] == b' ' {
+            if count + 1 >= words.len() {
+                return None;
+            }
+            words[count] = between(line, begin, end);
+            count += 1;
+            begin = end + 1;
+        }
+    }
+    words[count] = between(line, begin, line.len());
+    Some(count + 1)
+}
+
+// What stands from one place up to another.
+#[inline(always)]
+fn between(line: &[u8], begin: usize, end: usize) -> &[u8]
+    requires { (begin ≤ end) × (end ≤ length line.now) }
+    ensures { result.now ≡ take (end - begin) (drop begin line.now) }
+{
+    &line[begin..end]
+}
+
+// The same by a search for each space, which is quick where words are long.
+fn words_by_search<'a>(line: &'a [u8], words: &mut [&'a [u8]]) -> Option<usize>
+    ensures { IfSome result (λ count. HasWords line.now words.new count) }
+{
+    let mut rest = line;
+    for count in 0..words.len() {
+        let Some((word, behind)) = first_word(rest) else {
+            words[count] = rest;
+            return Some(count + 1);
+        };
+        words[count] = word;
+        rest = behind;
+    }
+    None
 }
 
 // The word in front of the first space, and what lies behind it; none where there is no space.
@@ -139,7 +190,7 @@ fn first_word(line: &[u8]) -> Option<(&[u8], &[u8])>
     ensures some { IfSome result (λ p. words_of line.now ≡ p.0.now ∷ words_of p.1.now) }
     ensures none { IfNone result (words_of line.now ≡ line.now ∷ []) }
 {
-    let end = place_of(b' ', line);
+    let end = found_or_len(b' ', line);
     if end < line.len() {
         Some((&line[..end], &line[end + 1..]))
     } else {
@@ -162,6 +213,7 @@ pub fn first_line(text: &[u8]) -> (&[u8], &[u8])
 }
 
 // The first place of a byte, or the length; quick where it is far.
+#[inline(never)]
 fn found_or_len(byte: u8, text: &[u8]) -> usize
     ensures value { result ≡ position_or_len (λ b. b == byte) text.now }
     ensures within { result ≤ length text.now }

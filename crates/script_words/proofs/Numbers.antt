@@ -1,11 +1,11 @@
 -- Numbers as they are read, digit by digit.
-use Rattle.std.proofs.Common.{◌≡◌, refl, ℕ, ◌+◌, ◌-◌, ◌*◌, ◌^◌, ◌<◌, ◌≤◌, Bool, true, false, ◌&&◌, List, length, take, get_or, Some, None, option_and_then, nat_le, arith, rules, if◌then◌else◌}
+use Rattle.std.proofs.Common.{◌≡◌, refl, ℕ, ◌+◌, ◌-◌, ◌*◌, ◌^◌, ◌<◌, ◌≤◌, Bool, true, false, ◌&&◌, List, length, take, length-take-le, get_or, Some, None, option_and_then, nat_le, arith, rules, if◌then◌else◌}
 use Rattle.std.specs.Char.{is_ascii_digit, digit_value}
 use Rattle.std.specs.Str.{all_ascii_digits}
 use Rattle.std.specs.Str.Parse.{AllDigits, digits_value}
 use Rattle.std.specs.Int.{IsInRange}
 use Rattle.std.proofs.lemmas.Int.Digits.{digits_value_more, digits_more}
-use Rattle.std.proofs.lemmas.Str.Parse.{IsNumeralModel, numerals_by_value, tells_all_ascii_digits, digit_at, digits_value-take-le}
+use Rattle.std.proofs.lemmas.Str.Parse.{IsNumeralModel, numerals_by_value, tells_all_ascii_digits, digit_at, digits_value-take-le, digits_value_short}
 use Rattle.script_words.specs.Words.{starts_well, numeral, number}
 
 pub own : IsNumeralModel (λ ds. all_ascii_digits ds ≡ true) (digits_value 10)
@@ -50,3 +50,10 @@ past_all low high w fits h large = rw h (go (all_ascii_digits w) refl)
 pub number_is : (low high n : ℕ) (w : List ℕ) → starts_well w ≡ true → AllDigits 10 w → n ≡ digits_value 10 w → number low high w ≡ (if nat_le low n && nat_le n high then Some n else None)
 unfolding number numeral
 number_is low high n w h all is = rw (h, own.from w all, is) refl
+
+-- fewer than 19 digits say a number to which one digit more can be added
+pub small_yet : (ds : List ℕ) (i value : ℕ) → i < length ds → length ds ≤ 19 → AllDigits 10 (take i ds) → value ≡ digits_value 10 (take i ds) → value < 10 ^ 18
+small_yet ds i value within few all is =
+    let short : length (take i ds) ≤ 18 = omega (arith, length-take-le i ds, within, few) in
+    let small = digits_value_short own (take i ds) 18 (own.from (take i ds) all) short in
+    omega (arith, small, is)

@@ -7,7 +7,7 @@ mod reason;
 mod writing;
 
 pub use reading::{
-    bytes, callbacks, ckpt, client, id, iteration, moment, new_id, node, number, place, place_of,
+    bytes, callbacks, ckpt, client, id, iteration, moment, new_id, node, number, place, put_id,
     time, version, who,
 };
 pub use reason::{LineError, Reason};

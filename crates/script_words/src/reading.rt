@@ -1,7 +1,9 @@
-ghost use Rattle.std.specs.Prelude.{◌≡◌, ◌<◌, ◌≤◌, ◌^◌, IfOk, IfSome, IfNone, length, ◌==◌};
+ghost use Rattle.std.specs.Prelude.{◌≡◌, ◌<◌, ◌≤◌, ◌^◌, [], ◌∷◌, Ok, Some, None, OnOk, IfErr, IfOk, IfSome, IfNone, length, ◌==◌, nat_le, if◌then◌else◌, bytes_eq, codes, not, ◌&&◌};
 ghost use Rattle.std.specs.List.{list_all, position_or_len, before_first, after_first};
 ghost use Rattle.std.specs.Str.Parse.{AllDigits, digits_value};
-ghost use Rattle.script_words.specs.Reasons.{Reads};
+ghost use Rattle.ckpt_types.specs.Limits.{section_id_max};
+ghost use Rattle.script_words.specs.declared.reason.Reason.TheVariants as reasons;
+ghost use Rattle.script_words.specs.Reasons.{Reads, Fails, or_reason};
 ghost use Rattle.script_words.specs.Words.{starts_well, is_graphic, is_dot, number as spec_number, lettered, call_of, read, a_client, a_node, a_place, an_iteration, a_ckpt, a_number, a_time, a_moment, some_bytes, an_id, a_new_id, a_version, the_callbacks, a_who};
 
 use crate::digits::decode_digits;
@@ -14,6 +16,9 @@ use std::alloc::Global;
 
 // The numbers of checkpoints that words say, K1 to K9999.
 const CKPT_NUMBERS: u64 = 10_000;
+
+// So many digits say a number below 2^64, whatever they are.
+const ALWAYS_FIT: usize = 19;
 
 /// A client, `c` and its number.
 #[tactic(auto, unfolding(crate::specs::Words::read))]
@@ -123,7 +128,7 @@ pub fn bytes(alloc: Global, word: &[u8]) -> Result<Bytes, LineError>
             None => Err(LineError::Fault(Reason::Bytes)),
         },
         [b'\'', text @ ..] => {
-            if text.is_empty() || !all_graphic(text) {
+            if !may_be_quoted(text) {
                 return Err(LineError::Fault(Reason::Bytes));
             }
             Ok(Bytes::from_slice(alloc, text)?)
@@ -132,29 +137,102 @@ pub fn bytes(alloc: Global, word: &[u8]) -> Result<Bytes, LineError>
     }
 }
 
+// Whether the bytes may stand behind a quote.
+fn may_be_quoted(text: &[u8]) -> bool
+    ensures { result ≡ (not (length text.now == 0) && list_all is_graphic text.now) }
+{
+    !text.is_empty() && all_graphic(text)
+}
+
+// Goes on behind a byte that fails, so that many bytes are tested at once.
 fn all_graphic(text: &[u8]) -> bool
     ensures { result ≡ list_all is_graphic text.now }
 {
-    text.iter().all(|b| 33 <= *b && *b <= 126)
+    let mut graphic = true;
+    for byte in text {
+        graphic = graphic & (33 <= *byte) & (*byte <= 126);
+    }
+    graphic
 }
 
 /// The identifier of a section: a bytes word of no more than `SECTION_ID_MAX` bytes.
 pub fn id(alloc: Global, word: &[u8]) -> Result<SectionId, LineError>
     ensures { Reads result (read an_id word.now) }
 {
-    if word == b"x".as_slice() {
-        return Ok(SectionId::default());
+    let mut id = SectionId::default();
+    put_id(alloc, word, &mut id)?;
+    Ok(id)
+}
+
+/// Puts the identifier that a word says in the place of one without bytes, where it is to stay: no copy of
+/// its 256 bytes is made on the way. After an error the place has any identifier.
+#[inline(always)]
+#[tactic(auto, unfolding(crate::specs::Words::read, crate::specs::Words::id_of, crate::specs::Words::bytes_of))]
+pub fn put_id(alloc: Global, word: &[u8], id: &mut SectionId) -> Result<(), LineError>
+    requires { id.old ≡ [] }
+    ensures ok { OnOk result (read an_id word.now ≡ Ok id.new) }
+    ensures err { IfErr result (λ e. Fails e (read an_id word.now)) }
+{
+    if is_x(word) {
+        return Ok(());
     }
-    id_of_bytes(alloc, word)
+    put_bytes(alloc, word, id)
+}
+
+// Whether the word says no bytes by a single letter.
+#[inline(always)]
+fn is_x(word: &[u8]) -> bool
+    ensures { result ≡ bytes_eq word.now (codes "x") }
+{
+    match word {
+        b"x" => true,
+        _ => false,
+    }
+}
+
+#[inline(never)]
+#[tactic(auto, unfolding(crate::specs::Words::read, crate::specs::Words::id_of, crate::specs::Words::bytes_of))]
+fn put_bytes(alloc: Global, word: &[u8], id: &mut SectionId) -> Result<(), LineError>
+    ensures ok { OnOk result (read an_id word.now ≡ Ok id.new) }
+    ensures err { IfErr result (λ e. Fails e (read an_id word.now)) }
+{
+    match word {
+        [b'\'', text @ ..] => put_quoted(text, id),
+        _ => put_decoded(alloc, word, id),
+    }
+}
+
+// The bytes that stand behind a quote.
+#[tactic(auto, unfolding(crate::specs::Words::read, crate::specs::Words::id_of, crate::specs::Words::bytes_of))]
+fn put_quoted(text: &[u8], id: &mut SectionId) -> Result<(), LineError>
+    ensures ok { OnOk result (read an_id (39 ∷ text.now) ≡ Ok id.new) }
+    ensures err { IfErr result (λ e. Fails e (read an_id (39 ∷ text.now))) }
+{
+    if !may_be_quoted(text) {
+        return Err(LineError::Fault(Reason::Bytes));
+    }
+    put_slice(text, id)
 }
 
 #[tactic(auto, unfolding(crate::specs::Words::read, crate::specs::Words::id_of))]
-fn id_of_bytes(alloc: Global, word: &[u8]) -> Result<SectionId, LineError>
-    ensures { Reads result (read an_id word.now) }
+fn put_decoded(alloc: Global, word: &[u8], id: &mut SectionId) -> Result<(), LineError>
+    ensures ok { OnOk result (read an_id word.now ≡ Ok id.new) }
+    ensures err { IfErr result (λ e. Fails e (read an_id word.now)) }
 {
     let found = bytes(alloc, word)?;
-    match SectionId::from_slice(found.as_slice()) {
-        Some(id) => Ok(id),
+    put_slice(found.as_slice(), id)
+}
+
+// Puts an identifier of these bytes.
+fn put_slice(text: &[u8], id: &mut SectionId) -> Result<(), LineError>
+    ensures ok { OnOk result (or_reason reasons.Bytes (if nat_le (length text.now) section_id_max then Some text.now else None) ≡ Ok id.new) }
+    ensures err { IfErr result (λ e. Fails e (or_reason reasons.Bytes (if nat_le (length text.now) section_id_max then Some text.now else None))) }
+{
+    match SectionId::from_slice(text) {
+        Some(found) => {
+            *id = found;
+            Ok(())
+        }
         None => Err(LineError::Fault(Reason::Bytes)),
     }
 }
@@ -301,6 +379,35 @@ fn value_of(digits: &[u8]) -> Option<u64>
     ensures some { IfSome result (λ n. AllDigits 10 digits.now × (n ≡ digits_value 10 digits.now)) }
     ensures none { IfNone result (AllDigits 10 digits.now → 2 ^ 64 ≤ digits_value 10 digits.now) }
 {
+    if digits.len() <= ALWAYS_FIT {
+        short_value(digits)
+    } else {
+        long_value(digits)
+    }
+}
+
+// The same of digits that are so few that no number is too large.
+fn short_value(digits: &[u8]) -> Option<u64>
+    requires { length digits.now ≤ 19 }
+    ensures some { IfSome result (λ n. AllDigits 10 digits.now × (n ≡ digits_value 10 digits.now)) }
+    ensures none { IfNone result (AllDigits 10 digits.now → 2 ^ 64 ≤ digits_value 10 digits.now) }
+{
+    let mut value: u64 = 0;
+    for digit in digits {
+        if !digit.is_ascii_digit() {
+            return None;
+        }
+        value = value * 10 + (*digit - b'0') as u64;
+    }
+    Some(value)
+}
+
+// The same of any digits.
+#[inline(never)]
+fn long_value(digits: &[u8]) -> Option<u64>
+    ensures some { IfSome result (λ n. AllDigits 10 digits.now × (n ≡ digits_value 10 digits.now)) }
+    ensures none { IfNone result (AllDigits 10 digits.now → 2 ^ 64 ≤ digits_value 10 digits.now) }
+{
     let mut value: u64 = 0;
     for digit in digits {
         if !digit.is_ascii_digit() {
@@ -323,8 +430,8 @@ fn at_dot(word: &[u8]) -> (&[u8], &[u8])
     }
 }
 
-/// The first place of a byte, or the length where there is none.
-pub fn place_of(byte: u8, text: &[u8]) -> usize
+// The first place of a byte, or the length where there is none.
+fn place_of(byte: u8, text: &[u8]) -> usize
     ensures value { result ≡ position_or_len (λ b. b == byte) text.now }
     ensures within { result ≤ length text.now }
 {

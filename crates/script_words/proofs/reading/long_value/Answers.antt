@@ -1,7 +1,7 @@
 use Rattle.std.proofs.Common.{arith, rules, get_or, ◌≡◌, ◌≤◌, ◌+◌, ◌*◌, ◌-◌, ◌^◌, true}
 use Rattle.std.specs.Char.{is_ascii_digit}
 use Rattle.script_words.proofs.Numbers.{no_digit, too_large, one_more}
-use Rattle.script_words.proofs.reading.value_of.Goals as goal
+use Rattle.script_words.proofs.reading.long_value.Goals as goal
 
 pub returns-then-not-is_ascii_digit-clause-none : goal.returns-then-not-is_ascii_digit-clause-none
 returns-then-not-is_ascii_digit-clause-none c = no_digit c.args.digits.now c.loop-digit.digit-index c.loop-digit-test.true (search rules)
