@@ -155,13 +155,13 @@ fn makes(store: &Store, number: u8, now: Moment) -> bool {
 fn the_least_free_number_is_made_again(rt: HostRuntime) -> Result<(), Fail> {
     let alloc = rt.alloc();
     let mut store = Store::reserve(alloc, &TWO, 5)?;
+    let first = store.generated(6);
     assert!(rt; creates(&mut store, alloc, 10, b"abcd", 6)?);
     assert!(rt; makes(&store, 2, 9));
     assert!(rt; makes(&store, 1, 10));
     assert!(rt; creates(&mut store, alloc, NEVER, b"efgh", 6)?);
     assert!(rt; makes(&store, 3, 9));
-    let first = Update::Delete(*store.at(0).id);
-    assert!(rt; make(&mut store, &first, 9));
+    assert!(rt; make(&mut store, &Update::Delete(first), 9));
     assert!(rt; makes(&store, 1, 9));
     Ok(())
 }
