@@ -351,6 +351,11 @@ fn a_read_prints_a_word_for_each_element(rt: HostRuntime) -> Result<(), Fail> {
         "c0.6 read OK x58586161 x62626262\n",
     )?;
     reads(alloc, &[b""], "c0.6 read OK x\n")?;
+    reads(
+        alloc,
+        &[b"\x01\x23\x45\x67\x89\xab\xcd\xef\xfe\xdc\xba\x98\x76\x54\x32\x10\x00"],
+        "c0.6 read OK x0123456789abcdeffedcba987654321000\n",
+    )?;
     reads(alloc, &[&[0, 10, 255]], "c0.6 read OK x000aff\n")
 }
 
@@ -509,6 +514,23 @@ fn a_moment_that_was_set_is_a_step(rt: HostRuntime) -> Result<(), Fail> {
 /// The label prints this line of its own, and has no step.
 fn says(alloc: Global, label: Label, own: &str) -> Result<(), Fail> {
     prints(alloc, label, "", own)
+}
+
+/// This is printed of a pull of a checkpoint, with so many updates.
+fn pulls(alloc: Global, ckpt: CkptId, count: u64, line: &str) -> Result<(), Fail> {
+    says(alloc, Label::Pulled(ckpt, PullReply::Ok(count)), line)
+}
+
+#[test]
+fn numbers_have_as_many_digits_as_they_need(rt: HostRuntime) -> Result<(), Fail> {
+    let alloc = rt.alloc();
+    pulls(alloc, 9, 0, "K9 pull OK 0\n")?;
+    pulls(alloc, 10, 99, "K10 pull OK 99\n")?;
+    pulls(alloc, 100, 999, "K100 pull OK 999\n")?;
+    pulls(alloc, 1000, 9999, "K1000 pull OK 9999\n")?;
+    pulls(alloc, 9080, 7006, "K9080 pull OK 7006\n")?;
+    pulls(alloc, 10_000, 10_000, "K10000 pull OK 10000\n")?;
+    pulls(alloc, 1, u64::MAX, "K1 pull OK 18446744073709551615\n")
 }
 
 #[test]

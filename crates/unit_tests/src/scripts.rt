@@ -25,6 +25,9 @@ ok 4 => read c99 h99 'id 18446744073709551615 16777216
 ok 5 => write c0 h0 x 5 x4aBcDE|write c0 h0 x 0 x|
 ok 4 => write c0 h0 x 0 'a 'id 18446744073709551615 x 'id 5 xFF
 ok 4 => read c0 h0 x 0 16777215 'id 5 1 x 0 0
+ok 5 => read c0 h0 x 0 1 x 0 1 x 0 1|read c0 h0 x 0 1 x 0 1 x 0 1 x 0 1
+ok 5 => write c0 h0 x 0 'aaaaaaaaaaaaaaaaaaaaaaaaaaaaaaaaaaaaaaaaaaaaaaaaaaaaaaaaaaaaaaaa|over c0 h0 x 'aaaaaaaaaaaaaaaaaaaaaaaaaaaaaaaaaaaaaaaaaaaaaaaaaaaaaaaaaaaaaaaa
+ok 5 => read c0 h0 'aaaaaaaaaaaaaaaaaaaaaaaaaaaaaaaaaaaaaaaaaaaaaaaaaaaaaaaaaaaaaaaa 0 1 x 0 1 x 0 1|read c0 h0 'aaaaaaaaaaaaaaaaaaaaaaaaaaaaaaaaaaaaaaaaaaaaaaaaaaaaaaaaaaaaaaaa 0 1 x 0 1 x 0 1 x 0 1
 ok 5 => open c0 h1 'ck 7 end 1 16 0 4294967295 16 8|open c0 h2 'ck 7 0 1 16 0 2 16 8
 ok 6 => create c0 h0 gen 5 'data|create c99 h99 'id end x|create c0 h0 x -1 x00
 ok 5 => delete c0 h0 'id|delete c99 h99 x
@@ -126,7 +129,13 @@ const FAULTS_BEHIND: &str = "\
 4 word => next c0 i100
 4 count => enditer c0 i0 i0
 4 bytes => over c0 h0 'a b
-4 word => over c100 h0 'a 'b";
+4 word => over c100 h0 'a 'b
+4 word => oven c0 h0 'a 'b
+4 word => overs c0 h0 'a 'b
+4 count => over c0 h0 'a 'aaaaaaaaaaaaaaaaaaaaaaaaaaaaaaaaaaaaaaaaaaaaaaaaaaaaaaaaaaaaaaaa x
+4 word => over c0 h0 'a 'aaaaaaaaaaaaaaaaaaaaaaaaaaaaaaaaaaaaaaaaaaaaaaaaaaaaaaaaaaaaaaaa_
+4 word => over c0 h0 'a__'aaaaaaaaaaaaaaaaaaaaaaaaaaaaaaaaaaaaaaaaaaaaaaaaaaaaaaaaaaaaaaaa
+4 bytes => over c0 h0 'aaaaaaaaaaaaaaaaaaaaaaaaaaaaaaaaaaaaaaaaaaaaaaaaaaaaaaaaaaaaaaaa 'aaaaaaaaaaaaaaaaaaaaaaaaaaaaaaaaaaaaaaaaaaaaaaaaaaaaaaaaaaaaaaaa\u{7f}";
 
 /// A script, and its one spelling.
 const SPELLED: &str = "\

@@ -187,6 +187,9 @@ const FROM_0_TO_9: &str = "\
 +1 => none";
 
 const OF_64_BITS: &str = "\
+9999999999999999999 => 9999999999999999999
+999999999999999999a => none
+10000000000000000000 => 10000000000000000000
 18446744073709551615 => 18446744073709551615
 18446744073709551616 => none
 184467440737095516150 => none";
@@ -266,6 +269,11 @@ fn id_told(alloc: Global, word: &[u8]) -> Result<String, AllocError> {
 const NEW_IDS: &str = "\
 gen => generated
 'gen => given
+x => given
+x0fA0 => given
+x0 => bytes
+' => bytes
+'\u{7f} => bytes
 genx => bytes";
 
 #[test]
