@@ -1,5 +1,5 @@
 -- Numbers as they are read, digit by digit.
-use Rattle.std.proofs.Common.{◌≡◌, refl, ℕ, ◌+◌, ◌-◌, ◌*◌, ◌^◌, ◌<◌, ◌≤◌, Bool, true, false, ◌&&◌, List, length, take, length-take-le, get_or, Some, None, option_and_then, nat_le, arith, rules, if◌then◌else◌}
+use Rattle.std.proofs.Common.{◌≡◌, refl, ℕ, ◌+◌, ◌-◌, ◌*◌, ◌^◌, ◌<◌, ◌≤◌, Bool, true, false, ◌&&◌, List, [], ◌∷◌, length, take, length-take-le, get_or, Some, None, option_and_then, nat_le, arith, rules, if◌then◌else◌}
 use Rattle.std.specs.Char.{is_ascii_digit, digit_value}
 use Rattle.std.specs.Str.{all_ascii_digits}
 use Rattle.std.specs.Str.Parse.{AllDigits, digits_value}
@@ -57,3 +57,16 @@ small_yet ds i value within few all is =
     let short : length (take i ds) ≤ 18 = omega (arith, length-take-le i ds, within, few) in
     let small = digits_value_short own (take i ds) 18 (own.from (take i ds) all) short in
     omega (arith, small, is)
+
+well_alone : (d : ℕ) → starts_well (d ∷ []) ≡ true
+well_alone d = grind arith
+
+-- a single byte that is no digit is no number
+pub no_digit_alone : (low high d : ℕ) → high < 2 ^ 64 → is_ascii_digit d ≡ false → None ≡ number low high (d ∷ [])
+no_digit_alone low high d fits other = past_all low high (d ∷ []) fits (well_alone d) (no_digit (d ∷ []) 0 (omega arith) other)
+
+-- a single digit is the number that it says
+pub digit_alone : (low high d : ℕ) → is_ascii_digit d ≡ true → number low high (d ∷ []) ≡ (if nat_le low (d - 48) && nat_le (d - 48) high then Some (d - 48) else None)
+digit_alone low high d digit =
+    let more = one_more (d ∷ []) 0 0 (d - 48) (omega arith) digit tt refl (omega arith) in
+    number_is low high (d - 48) (d ∷ []) (well_alone d) more.digits more.value

@@ -351,8 +351,33 @@ fn lettered_of(letter: u8, low: u64, end: u64, word: &[u8]) -> Option<u64>
 }
 
 // The number that a word says, where it is from `low` to `high`.
-#[tactic(auto, using(crate::proofs::Numbers::badly_begun, crate::proofs::Numbers::past_all))]
 fn number_of(low: u64, high: u64, word: &[u8]) -> Option<u64>
+    ensures exact { result ≡ spec_number low high word.now }
+    ensures within { IfSome result (λ n. (low ≤ n) × (n ≤ high)) }
+{
+    match word {
+        [digit] => one_digit(low, high, *digit),
+        _ => any_number(low, high, word),
+    }
+}
+
+// The same of a single byte.
+#[inline(always)]
+#[tactic(auto, using(crate::proofs::Numbers::no_digit_alone, crate::proofs::Numbers::digit_alone))]
+fn one_digit(low: u64, high: u64, digit: u8) -> Option<u64>
+    ensures exact { result ≡ spec_number low high (digit ∷ []) }
+    ensures within { IfSome result (λ n. (low ≤ n) × (n ≤ high)) }
+{
+    if !digit.is_ascii_digit() {
+        return None;
+    }
+    let n = (digit - b'0') as u64;
+    if low <= n && n <= high { Some(n) } else { None }
+}
+
+// The same of any word.
+#[tactic(auto, using(crate::proofs::Numbers::badly_begun, crate::proofs::Numbers::past_all))]
+fn any_number(low: u64, high: u64, word: &[u8]) -> Option<u64>
     ensures exact { result ≡ spec_number low high word.now }
     ensures within { IfSome result (λ n. (low ≤ n) × (n ≤ high)) }
 {

@@ -1,6 +1,6 @@
 use Rattle.std.proofs.Common.{arith, rules, ◌≡◌, refl, nat_le, ◌&&◌, true, false}
 use Rattle.script_words.proofs.Numbers.{number_is}
-use Rattle.script_words.proofs.reading.number_of.Goals as goal
+use Rattle.script_words.proofs.reading.any_number.Goals as goal
 
 pub returns-then-n-high-clause-exact : goal.returns-then-n-high-clause-exact
 returns-then-n-high-clause-exact c =
