@@ -1,4 +1,4 @@
-use Rattle.std.proofs.Common.{arith, length, length-set, ◌<◌, ◌≤◌, ◌+◌}
+use Rattle.std.proofs.Common.{arith, length-set}
 use Rattle.script_lang.proofs.Texts.{word_placed, all_words, no_space_more}
 use Rattle.script_lang.proofs.reading.words_by_byte.Goals.{then-line-end-eq32+else-count-words, else-line-end-eq32}
 use Rattle.script_lang.proofs.reading.words_by_byte.Goals as goal

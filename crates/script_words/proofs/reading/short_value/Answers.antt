@@ -1,4 +1,4 @@
-use Rattle.std.proofs.Common.{arith, rules, refl, ◌≡◌, ◌<◌, ◌^◌, ◌*◌, ◌+◌, ◌-◌, true, slice_index_or}
+use Rattle.std.proofs.Common.{arith, rules, refl, ◌≡◌, ◌<◌, ◌^◌, true, slice_index_or}
 use Rattle.std.specs.Char.{is_ascii_digit}
 use Rattle.script_words.proofs.Numbers.{no_digit, one_more, small_yet, value_digit}
 use Rattle.script_words.proofs.reading.short_value.Goals as goal
