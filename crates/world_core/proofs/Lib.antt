@@ -10,6 +10,7 @@ pub mod Freeing
 pub mod Going
 pub mod GoingOn
 pub mod Handles
+pub mod HandsKept
 pub mod Held
 pub mod HoldingLaws
 pub mod IterationSteps

@@ -14,7 +14,7 @@ use Rattle.cluster_record.specs.Calls.{client_of}
 use Rattle.cluster_record.specs.DueOpen.{making_ckpt}
 use Rattle.cluster_record.specs.LookUps.{identity_in, at_ckpt}
 use Rattle.cluster_record.specs.Places.{find_key}
-use Rattle.cluster_record.specs.RecordState.{RecordState, client_key, named, is_live_client, entered, created_as, opened, finished, undone, unlinked}
+use Rattle.cluster_record.specs.RecordState.{RecordState, client_key, named, is_live_client, created_as, opened, finished, undone, unlinked}
 use Rattle.world_core.specs.declared.drivers.Driver.{Driver}
 use Rattle.world_core.specs.declared.drivers.Driver.TheVariants as drivers
 use Rattle.world_core.specs.declared.world.World.{World}
@@ -22,10 +22,10 @@ use Rattle.world_core.specs.Beginning.{opened_place, opened_for, closed_place}
 use Rattle.world_core.specs.Driving.{event_change, event_after}
 use Rattle.world_core.specs.LiveRooms.{is_roomy, LiveHaveRoom}
 use Rattle.world_core.specs.Settling.{changed_at, at_client, given, closed_at, settled, looked}
-use Rattle.world_core.specs.TableState.{TableState, with_room, with_closed, with_none, with_handle, begun_with}
+use Rattle.world_core.specs.TableState.{TableState, with_closed, with_none, with_handle, begun_with}
 use Rattle.cluster_record.specs.LookUps.{creation_flags_of}
 use Rattle.cluster_record.specs.RecordState.{entry_of}
-use Rattle.world_core.proofs.TableFields.{field_same, table_at}
+use Rattle.world_core.proofs.TableFields.{field_same}
 
 -- ---- another table in a client's place
 

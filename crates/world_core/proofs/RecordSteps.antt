@@ -33,7 +33,7 @@ use Rattle.world_core.specs.Happenings.{IsStep, rooms_in}
 use Rattle.world_core.specs.HandSteps.{hand_taken}
 use Rattle.world_core.specs.TableState.{TableState}
 use Rattle.world_core.specs.Steps.{room_of}
-use Rattle.world_core.specs.Shows.{Does, IsShown, IsRoomy, Facts, machine_of, hand_at}
+use Rattle.world_core.specs.Shows.{IsShown, IsRoomy, Facts, machine_of, hand_at}
 use Rattle.world_core.proofs.Held.{state_in, in_hand_is, driver_is, actor_is}
 use Rattle.world_core.proofs.Openers.{place_there, place_within, ckpt_there, open_room}
 use Rattle.world_core.proofs.Readiness.{record_ready}

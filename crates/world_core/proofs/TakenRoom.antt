@@ -8,7 +8,7 @@ use Rattle.world_core.specs.declared.drivers.Rooms.{Rooms}
 use Rattle.world_core.specs.declared.world.World.{World}
 use Rattle.world_core.specs.Driving.{driver_next}
 use Rattle.world_core.specs.Happenings.{IsNext, IsStep, rooms_in}
-use Rattle.world_core.specs.LiveRooms.{is_roomy, LiveHaveRoom}
+use Rattle.world_core.specs.LiveRooms.{is_roomy}
 use Rattle.world_core.specs.Machine.{Machine}
 use Rattle.world_core.specs.Shows.{Shows, IsShown, IsRoomy, History, machine_of, next_in, handles_in, place_in, last_in, iterations_in}
 use Rattle.world_core.specs.TableState.{TableState, with_room}

@@ -14,6 +14,7 @@ pub mod Lending
 pub mod Machine
 pub mod Beginning
 pub mod Steps
+pub mod HandsView
 pub mod HandSteps
 pub mod Shows
 pub mod Parts

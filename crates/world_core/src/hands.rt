@@ -1,4 +1,4 @@
-ghost use Rattle.std.specs.Prelude.{◌≡◌, ◌≢◌, ◌<◌, [], length, replicate, Some, None, is_some, IfOk, IfSome, MatchOption, slice_set};
+ghost use Rattle.std.specs.Prelude.{◌≡◌, ◌≢◌, ◌<◌, ◌≤◌, [], length, replicate, Some, None, is_some, IfOk, IfSome, MatchOption, slice_set, vec_capacity};
 ghost use Rattle.run_labels.specs.OpWord.{word_of_op};
 ghost use Rattle.cluster_record.specs.Calls.{left};
 ghost use Rattle.node_msgs.specs.Requests.{ckpt_of};
@@ -9,6 +9,7 @@ ghost use Rattle.ckpt_types.specs.Limits.{client_numbers, nodes_max};
 ghost use Rattle.node_msgs.specs.Steps.{verb_of, word_of, event_verb};
 ghost use Rattle.cluster_record.specs.StepDone.{done_of};
 ghost use Rattle.world_core.specs.HandSteps.{hand_taken, hand_end};
+ghost use Rattle.world_core.specs.HandsView.{hands_in};
 ghost use Rattle.world_core.specs.Shows.{hand_at};
 ghost use Rattle.world_core.specs.declared.hands.InHand.{InHand};
 
@@ -41,19 +42,21 @@ pub struct InHand {
 /// The call in hand of each client, c0 to c99.
 #[derive(Drop)]
 pub struct Hands {
+    /// By client, up to the last one that had a call. There is room for all.
     list: Vec<Option<InHand>>,
 }
 
 impl Model for Hands {
-    ghost use Rattle.std.specs.Prelude.{List, Option, length, ◌≡◌};
-    ghost use Rattle.ckpt_types.specs.Limits.{client_numbers};
+    ghost use Rattle.std.specs.Prelude.{List, Option};
     ghost use Rattle.world_core.specs.declared.hands.InHand.{InHand};
 
     ghost Value = { List (Option InHand) };
 
-    ghost view = { λ hands. hands.list.items };
+    ghost use Rattle.world_core.specs.HandsView.{hands_of, HaveRoom};
 
-    ghost invariant = { λ hands. length hands.list.items ≡ client_numbers };
+    ghost view = { hands_of };
+
+    ghost invariant = { HaveRoom };
 }
 
 impl InHand {
@@ -111,7 +114,7 @@ impl Hands {
         ensures { IfOk result (λ hands. hands ≡ replicate client_numbers None) }
     {
         Ok(Hands {
-            list: new_list(alloc)?,
+            list: Vec::with_capacity(alloc, CLIENT_NUMBERS)?,
         })
     }
 
@@ -143,14 +146,7 @@ impl Hands {
         ensures new { (h : InHand) → hand_at self.old c ≡ Some h → self.new ≡ slice_set self.old c (left result (hand_taken (done_of cluster.now (verb_of request.now) (Some (ckpt_of request.now)) (Some r) (word_of reply.now)) h)) }
         ensures end { (h : InHand) → hand_at self.old c ≡ Some h → result ≡ hand_end (done_of cluster.now (verb_of request.now) (Some (ckpt_of request.now)) (Some r) (word_of reply.now)) reply.now (hand_taken (done_of cluster.now (verb_of request.now) (Some (ckpt_of request.now)) (Some r) (word_of reply.now)) h) }
     {
-        take_at(
-            self.list.as_mut_slice(),
-            c as usize,
-            cluster,
-            r,
-            request,
-            reply,
-        )
+        take_at(&mut self.list, c as usize, cluster, r, request, reply)
     }
 
     /// A client's call takes that a step of the record was tried, and is in hand no more where that ends it.
@@ -168,7 +164,7 @@ impl Hands {
         ensures { (h : InHand) → hand_at self.old c ≡ Some h → self.new ≡ slice_set self.old c (left end.now (hand_taken (done_of cluster.now (event_verb step.now) ckpt node word) h)) }
     {
         told_at(
-            self.list.as_mut_slice(),
+            &mut self.list,
             c as usize,
             cluster,
             step,
@@ -185,7 +181,7 @@ impl Hands {
         ensures hand { result ≡ hand_at self.old c }
         ensures new { self.new ≡ slice_set self.old c None }
     {
-        remove_at(self.list.as_mut_slice(), c as usize)
+        remove_at(&mut self.list, c as usize)
     }
 
     /// A client's call is in hand no more.
@@ -193,7 +189,7 @@ impl Hands {
         requires { hand_at self.old c ≢ None }
         ensures { self.new ≡ slice_set self.old c None }
     {
-        clear_at(self.list.as_mut_slice(), c as usize);
+        clear_at(&mut self.list, c as usize);
     }
 
     /// A client's call is in hand from now on, unless it has ended.
@@ -202,18 +198,24 @@ impl Hands {
         ensures new { self.new ≡ slice_set self.old c (left end.now hand) }
         ensures within { c < length self.old }
     {
-        begin_at(self.list.as_mut_slice(), c as usize, hand, end);
+        reach(&mut self.list, c as usize);
+        begin_at(&mut self.list, c as usize, hand, end);
     }
 }
 
-fn new_list(alloc: Global) -> Result<Vec<Option<InHand>>, AllocError>
-    ensures { IfOk result (λ list. list.items ≡ replicate client_numbers None) }
+// The list goes on to a client; those that it comes to have no call in hand.
+fn reach(list: &mut Vec<Option<InHand>>, c: usize)
+    requires client { c < client_numbers }
+    requires few { length list.old.items ≤ client_numbers }
+    requires taken { client_numbers ≤ vec_capacity list.old }
+    ensures hands { hands_in list.new.items ≡ hands_in list.old.items }
+    ensures there { c < length list.new.items }
+    ensures few { length list.new.items ≤ client_numbers }
+    ensures taken { client_numbers ≤ vec_capacity list.new }
 {
-    let mut list = Vec::with_capacity(alloc, CLIENT_NUMBERS)?;
-    for _n in 0..CLIENT_NUMBERS {
+    while list.len() <= c {
         list.push_reserved(None);
     }
-    Ok(list)
 }
 
 fn find(list: &[Option<InHand>], c: usize) -> Option<&InHand>
@@ -235,17 +237,19 @@ fn has(list: &[Option<InHand>], c: usize) -> bool
 }
 
 fn take_at(
-    list: &mut [Option<InHand>],
+    list: &mut Vec<Option<InHand>>,
     c: usize,
     cluster: &Record,
     r: NodeId,
     request: &Request,
     reply: &Reply,
 ) -> Option<Outcome>
-    requires held { hand_at list.old c ≢ None }
+    requires held { hand_at list.old.items c ≢ None }
     requires node { r < nodes_max }
-    ensures new { (h : InHand) → hand_at list.old c ≡ Some h → list.new ≡ slice_set list.old c (left result (hand_taken (done_of cluster.now (verb_of request.now) (Some (ckpt_of request.now)) (Some r) (word_of reply.now)) h)) }
-    ensures end { (h : InHand) → hand_at list.old c ≡ Some h → result ≡ hand_end (done_of cluster.now (verb_of request.now) (Some (ckpt_of request.now)) (Some r) (word_of reply.now)) reply.now (hand_taken (done_of cluster.now (verb_of request.now) (Some (ckpt_of request.now)) (Some r) (word_of reply.now)) h) }
+    ensures new { (h : InHand) → hand_at list.old.items c ≡ Some h → list.new.items ≡ slice_set list.old.items c (left result (hand_taken (done_of cluster.now (verb_of request.now) (Some (ckpt_of request.now)) (Some r) (word_of reply.now)) h)) }
+    ensures end { (h : InHand) → hand_at list.old.items c ≡ Some h → result ≡ hand_end (done_of cluster.now (verb_of request.now) (Some (ckpt_of request.now)) (Some r) (word_of reply.now)) reply.now (hand_taken (done_of cluster.now (verb_of request.now) (Some (ckpt_of request.now)) (Some r) (word_of reply.now)) h) }
+    ensures len { length list.new.items ≡ length list.old.items }
+    ensures capacity { vec_capacity list.new ≡ vec_capacity list.old }
 {
     settle(&mut list[c], cluster, r, request, reply)
 }
@@ -271,7 +275,7 @@ fn settle(
 }
 
 fn told_at(
-    list: &mut [Option<InHand>],
+    list: &mut Vec<Option<InHand>>,
     c: usize,
     cluster: &Record,
     step: &RecordStep,
@@ -280,8 +284,10 @@ fn told_at(
     word: StepReply,
     end: &Option<Outcome>,
 )
-    requires { hand_at list.old c ≢ None }
-    ensures { (h : InHand) → hand_at list.old c ≡ Some h → list.new ≡ slice_set list.old c (left end.now (hand_taken (done_of cluster.now (event_verb step.now) ckpt node word) h)) }
+    requires { hand_at list.old.items c ≢ None }
+    ensures new { (h : InHand) → hand_at list.old.items c ≡ Some h → list.new.items ≡ slice_set list.old.items c (left end.now (hand_taken (done_of cluster.now (event_verb step.now) ckpt node word) h)) }
+    ensures len { length list.new.items ≡ length list.old.items }
+    ensures capacity { vec_capacity list.new ≡ vec_capacity list.old }
 {
     settle_told(&mut list[c], cluster, step, ckpt, node, word, end);
 }
@@ -305,25 +311,28 @@ fn settle_told(
     }
 }
 
-fn remove_at(list: &mut [Option<InHand>], c: usize) -> Option<InHand>
-    requires { hand_at list.old c ≢ None }
-    ensures hand { result ≡ hand_at list.old c }
-    ensures new { list.new ≡ slice_set list.old c None }
+fn remove_at(list: &mut Vec<Option<InHand>>, c: usize) -> Option<InHand>
+    requires { hand_at list.old.items c ≢ None }
+    ensures hand { result ≡ hand_at list.old.items c }
+    ensures new { list.new.items ≡ slice_set list.old.items c None }
+    ensures capacity { vec_capacity list.new ≡ vec_capacity list.old }
 {
     let slot = &mut list[c];
     slot.take()
 }
 
-fn clear_at(list: &mut [Option<InHand>], c: usize)
-    requires { hand_at list.old c ≢ None }
-    ensures { list.new ≡ slice_set list.old c None }
+fn clear_at(list: &mut Vec<Option<InHand>>, c: usize)
+    requires { hand_at list.old.items c ≢ None }
+    ensures new { list.new.items ≡ slice_set list.old.items c None }
+    ensures capacity { vec_capacity list.new ≡ vec_capacity list.old }
 {
     list[c] = None;
 }
 
-fn begin_at(list: &mut [Option<InHand>], c: usize, hand: InHand, end: &Option<Outcome>)
-    requires { c < length list.old }
-    ensures { list.new ≡ slice_set list.old c (left end.now hand) }
+fn begin_at(list: &mut Vec<Option<InHand>>, c: usize, hand: InHand, end: &Option<Outcome>)
+    requires { c < length list.old.items }
+    ensures new { list.new.items ≡ slice_set list.old.items c (left end.now hand) }
+    ensures capacity { vec_capacity list.new ≡ vec_capacity list.old }
 {
     match end {
         None => list[c] = Some(hand),

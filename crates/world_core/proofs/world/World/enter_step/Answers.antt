@@ -1,4 +1,3 @@
-use Rattle.std.proofs.Common.{◌≡◌}
 use Rattle.node_msgs.specs.declared.next.Next.TheVariants.{Event}
 use Rattle.node_msgs.specs.declared.next.RecordStep.TheVariants.{Enter}
 use Rattle.world_core.proofs.TakenRoom.{keeps_taken}

@@ -1,11 +1,11 @@
 use Rattle.std.proofs.Common.{◌≡◌, ℕ, Some, sym, subst, ◌∙◌}
-use Rattle.std.specs.Prelude.{Option, IsTrue}
+use Rattle.std.specs.Prelude.{Option}
 use Rattle.node_msgs.specs.declared.next.Next.TheVariants.{Event}
-use Rattle.world_core.specs.Driving.{event_after, takes_memory}
+use Rattle.world_core.specs.Driving.{event_after}
 use Rattle.world_core.specs.Settling.{CanSettle}
 use Rattle.world_core.specs.Shows.{hand_at}
 use Rattle.world_core.proofs.Held.{next_for}
-use Rattle.world_core.proofs.RecordSteps.{can_settle, is_ready, when_ok, when_err, event_step, refused_step}
+use Rattle.world_core.proofs.RecordSteps.{can_settle, is_ready, when_ok, event_step}
 use Rattle.world_core.proofs.world.World.record_step.Goals as goal
 
 pub apply-requires : goal.apply-requires
