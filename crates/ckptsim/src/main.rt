@@ -13,12 +13,11 @@ use outside_io::{OpenGate, StdSink, StdSource};
 use run_labels::RunLog;
 use running::{Status, ckpt_run};
 use std::alloc::Global;
-use std::io;
-use std::mem;
 use std::process::ExitCode;
 use std::string::String;
 use std::sync::Wait;
 use std::thread::Threads;
+use std::{io, mem};
 use words::words;
 use world_core::World;
 

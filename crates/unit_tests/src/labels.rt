@@ -183,7 +183,13 @@ fn a_call_prints_its_steps_only_where_they_are_asked_for(rt: HostRuntime) -> Res
     )?;
     let begins = Label::Began {
         call: client(0, 2),
-        op: Op::Open(0, Shared::new(alloc, Bytes::from_slice(alloc, b"ck")?)?, 7, NEVER, Shared::new(alloc, None)?),
+        op: Op::Open(
+            0,
+            Shared::new(alloc, Bytes::from_slice(alloc, b"ck")?)?,
+            7,
+            NEVER,
+            Shared::new(alloc, None)?,
+        ),
         end: None,
     };
     prints(alloc, begins, "+ c0.2 begin open\n", "")?;

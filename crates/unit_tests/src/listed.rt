@@ -129,9 +129,7 @@ pub fn are_short(items: &[Kept], size: u64) -> bool
 {
     match items {
         [] => true,
-        [first, rest @ ..] => {
-            first.id.as_slice().len() as u64 <= size && are_short(rest, size)
-        }
+        [first, rest @ ..] => { first.id.as_slice().len() as u64 <= size && are_short(rest, size) }
     }
 }
 

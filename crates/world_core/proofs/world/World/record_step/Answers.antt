@@ -35,5 +35,5 @@ returns c =
       label = _;
       labels = c.push.ensures.labels;
       is = event_step w c.args.c c.args.step hand held next c.requires.shown c.apply.new.cluster c.free_gone.new.self c.settle.new.tables c.told.new.self c.word-op.result c.verb-verb.result c.event_ckpt-ckpt.result c.event_node-node.result c.event_end-end.result
-    c.requires.roomy c.settle.ensures.places c.requires.has_room record_is c.event_ckpt-ckpt.ensures c.event_node-node.ensures c.event_end-end.ensures c.settle.ensures.new c.told.ensures c.free_gone.ensures c.word-op.ensures c.verb-verb.ensures;
+          c.requires.roomy c.settle.ensures.places c.requires.has_room record_is c.event_ckpt-ckpt.ensures c.event_node-node.ensures c.event_end-end.ensures c.settle.ensures.new c.told.ensures c.free_gone.ensures c.word-op.ensures c.verb-verb.ensures;
     }
