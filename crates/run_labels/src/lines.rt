@@ -29,7 +29,7 @@ pub fn append_line(out: &mut Vec<u8>, label: &Label, steps: bool) -> Result<(), 
     ensures { OnOk result (out.new.items ≡ out.old.items ++ line_of steps label.now) }
 {
     match label {
-        Label::Began { call, op, end } => append_began(out, *call, op, end, steps),
+        Label::Began { call, op, end } => append_began(out, call, op, end, steps),
         Label::Stepped {
             call,
             op,
@@ -40,8 +40,8 @@ pub fn append_line(out: &mut Vec<u8>, label: &Label, steps: bool) -> Result<(), 
             end,
             pieces,
         } => {
-            append_asked_step(out, *call, *verb, *ckpt, *node, *reply, steps)?;
-            append_stepped_end(out, *call, *op, end, pieces)
+            append_asked_step(out, call, *verb, ckpt, node, reply, steps)?;
+            append_stepped_end(out, call, *op, end, pieces)
         }
         Label::Failed(node, failed) => append_fail(out, *node, *failed),
         Label::Joined(node, incarnation) => append_join(out, *node, *incarnation),
@@ -58,12 +58,12 @@ pub fn append_line(out: &mut Vec<u8>, label: &Label, steps: bool) -> Result<(), 
 #[inline(always)]
 fn append_began(
     out: &mut Vec<u8>,
-    call: CallId,
+    call: &CallId,
     op: &Op,
     end: &Option<Outcome>,
     steps: bool,
 ) -> Result<(), AllocError>
-    ensures { OnOk result (out.new.items ≡ out.old.items ++ (where_asked steps (begin_line call (word_of_op op.now)) ++ end_text call (word_of_op op.now) end.now None)) }
+    ensures { OnOk result (out.new.items ≡ out.old.items ++ (where_asked steps (begin_line call.now (word_of_op op.now)) ++ end_text call.now (word_of_op op.now) end.now None)) }
 {
     let word = OpWord::of(op);
     append_asked_begin(out, call, word, steps)?;
@@ -74,14 +74,14 @@ fn append_began(
 #[inline(always)]
 fn append_asked_begin(
     out: &mut Vec<u8>,
-    call: CallId,
+    call: &CallId,
     op: OpWord,
     steps: bool,
 ) -> Result<(), AllocError>
-    ensures { OnOk result (out.new.items ≡ out.old.items ++ where_asked steps (begin_line call op)) }
+    ensures { OnOk result (out.new.items ≡ out.old.items ++ where_asked steps (begin_line call.now op)) }
 {
     if steps {
-        append_begin(out, call, op)
+        append_begin(out, *call, op)
     } else {
         Ok(())
     }
@@ -91,17 +91,17 @@ fn append_asked_begin(
 #[inline(always)]
 fn append_asked_step(
     out: &mut Vec<u8>,
-    call: CallId,
+    call: &CallId,
     verb: Verb,
-    ckpt: Option<CkptId>,
-    node: Option<NodeId>,
-    reply: StepReply,
+    ckpt: &Option<CkptId>,
+    node: &Option<NodeId>,
+    reply: &StepReply,
     steps: bool,
 ) -> Result<(), AllocError>
-    ensures { OnOk result (out.new.items ≡ out.old.items ++ where_asked steps (step_line call verb ckpt node reply)) }
+    ensures { OnOk result (out.new.items ≡ out.old.items ++ where_asked steps (step_line call.now verb ckpt.now node.now reply.now)) }
 {
     if steps {
-        append_step(out, call, verb, ckpt, node, reply)
+        append_step(out, *call, verb, *ckpt, *node, *reply)
     } else {
         Ok(())
     }

@@ -18,12 +18,12 @@ use std::alloc::AllocError;
 #[inline(always)]
 pub(crate) fn append_stepped_end(
     out: &mut Vec<u8>,
-    call: CallId,
+    call: &CallId,
     op: OpWord,
     end: &Option<Outcome>,
     pieces: &Option<Pieces>,
 ) -> Result<(), AllocError>
-    ensures { OnOk result (out.new.items ≡ out.old.items ++ stepped_end_text call op end.now pieces.now) }
+    ensures { OnOk result (out.new.items ≡ out.old.items ++ stepped_end_text call.now op end.now pieces.now) }
 {
     if is_async(op) {
         return Ok(());
@@ -42,12 +42,12 @@ fn is_async(op: OpWord) -> bool
 #[inline(always)]
 pub(crate) fn append_end(
     out: &mut Vec<u8>,
-    call: CallId,
+    call: &CallId,
     op: OpWord,
     end: &Option<Outcome>,
     pieces: &Option<Pieces>,
 ) -> Result<(), AllocError>
-    ensures { OnOk result (out.new.items ≡ out.old.items ++ end_text call op end.now pieces.now) }
+    ensures { OnOk result (out.new.items ≡ out.old.items ++ end_text call.now op end.now pieces.now) }
 {
     match end {
         None => Ok(()),
@@ -59,17 +59,17 @@ pub(crate) fn append_end(
 #[inline(never)]
 fn append_result(
     out: &mut Vec<u8>,
-    call: CallId,
+    call: &CallId,
     op: OpWord,
     outcome: &Outcome,
     pieces: &Option<Pieces>,
 ) -> Result<(), AllocError>
-    ensures { OnOk result (out.new.items ≡ out.old.items ++ result_line call op outcome.now pieces.now) }
+    ensures { OnOk result (out.new.items ≡ out.old.items ++ result_line call.now op outcome.now pieces.now) }
 {
     match outcome {
         Outcome::Done(answer) => append_done(out, call, op, answer, pieces),
-        Outcome::Refused(error, cause) => append_refusal(out, call, op, *error, *cause),
-        Outcome::NoMemory => append_refusal(out, call, op, AisError::NoMemory, Cause::Plain),
+        Outcome::Refused(error, cause) => append_refusal(out, call, op, *error, cause),
+        Outcome::NoMemory => append_refusal(out, call, op, AisError::NoMemory, &Cause::Plain),
         Outcome::Abandoned | Outcome::Busy | Outcome::Astray => Ok(()),
     }
 }
@@ -78,12 +78,12 @@ fn append_result(
 #[inline(always)]
 fn append_done(
     out: &mut Vec<u8>,
-    call: CallId,
+    call: &CallId,
     op: OpWord,
     answer: &Answer,
     pieces: &Option<Pieces>,
 ) -> Result<(), AllocError>
-    ensures { OnOk result (out.new.items ≡ out.old.items ++ done_line call op answer.now pieces.now) }
+    ensures { OnOk result (out.new.items ≡ out.old.items ++ done_line call.now op answer.now pieces.now) }
 {
     append_head(out, call, op)?;
     append_text(out, " OK")?;
@@ -94,27 +94,27 @@ fn append_done(
 /// The result line of a call that was refused.
 fn append_refusal(
     out: &mut Vec<u8>,
-    call: CallId,
+    call: &CallId,
     op: OpWord,
     error: AisError,
-    cause: Cause,
+    cause: &Cause,
 ) -> Result<(), AllocError>
-    ensures { OnOk result (out.new.items ≡ out.old.items ++ refusal_line call op error cause) }
+    ensures { OnOk result (out.new.items ≡ out.old.items ++ refusal_line call.now op error cause.now) }
 {
     append_head(out, call, op)?;
     append_text(out, " ")?;
     append_text(out, error.word())?;
     append_told_version(out, error)?;
-    append_cause(out, cause)?;
+    append_cause(out, *cause)?;
     append_text(out, "\n")
 }
 
 /// The call and its first word.
 #[inline(always)]
-fn append_head(out: &mut Vec<u8>, call: CallId, op: OpWord) -> Result<(), AllocError>
-    ensures { OnOk result (out.new.items ≡ out.old.items ++ head_text call op) }
+fn append_head(out: &mut Vec<u8>, call: &CallId, op: OpWord) -> Result<(), AllocError>
+    ensures { OnOk result (out.new.items ≡ out.old.items ++ head_text call.now op) }
 {
-    append_call(out, call)?;
+    append_call(out, *call)?;
     append_text(out, " ")?;
     append_text(out, op.word())
 }

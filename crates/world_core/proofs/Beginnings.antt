@@ -1,13 +1,18 @@
 -- What a client's table says where a call begins.
-use Rattle.std.proofs.Common.{◌≡◌, ◌≤◌, ℕ, List, [], ◌∷◌, refl, ap, subst, Bool, true, false, cond, arith}
-use Rattle.std.specs.Prelude.{Option, Some, None, IsSomeAnd, Contains, ◌==◌, slice_get}
+use Rattle.std.proofs.Common.{◌≡◌, ◌≤◌, ℕ, zero, suc, List, [], ◌∷◌, refl, sym, ap, subst, ◌∙◌, Bool, true, false, cond, arith}
+use Rattle.std.specs.Prelude.{Option, Some, None, IsSomeAnd, Contains, ◌==◌, ◌<◌, is_some, length, slice_get, slice_set}
+use Rattle.std.proofs.lemmas.Option.{same_Some}
 use Rattle.std.proofs.lemmas.Bool.{eqb-true}
 use Rattle.std.proofs.lemmas.List.Elements.{Contains-append_right}
 use Rattle.client_handles.specs.ClientState.{handle_numbered}
 use Rattle.client_handles.specs.declared.handle_view.HandleView.{HandleView}
 use Rattle.world_core.specs.declared.world.World.{World}
 use Rattle.world_core.specs.TableState.{TableState}
-use Rattle.world_core.specs.Shows.{IsShown, handle_in_place, handle_over_place}
+use Rattle.world_core.specs.Shows.{IsShown, handle_in_place, handle_over_place, hand_at}
+use Rattle.world_core.specs.declared.hands.InHand.{InHand}
+use Rattle.cluster_record.specs.Calls.{left}
+use Rattle.cluster_record.specs.Places.{or_none}
+use Rattle.cluster_record.proofs.Places.{there_is}
 use Rattle.world_core.specs.Happenings.{handle_named}
 use Rattle.world_core.proofs.Begin.{named_in}
 use Rattle.world_core.proofs.Held.{handles_fact}
@@ -37,3 +42,22 @@ handle_named_is w c (Some place) iteration t table = ap (λ o. handle_in_place o
 -- what is told of some table is told of this one
 pub at_table : (P : TableState → Type 0) (o : Option TableState) (t : TableState) → o ≡ Some t → IsSomeAnd o P → P t
 at_table P o t is some = subst (λ o. IsSomeAnd o P) is some
+
+-- what is there, set again
+set_again : {X : Type 0} (xs : List X) (c : ℕ) (x : X) → slice_get xs c ≡ Some x → slice_set xs c x ≡ xs
+set_again [] c x is = refl
+set_again (y ∷ xs) zero x is = ap (λ z. z ∷ xs) (sym (same_Some y x is))
+set_again (y ∷ xs) (suc c) x is = ap (λ ys. y ∷ ys) (set_again xs c x is)
+
+-- a call that has ended where it began leaves the calls in hand as they are
+pub ended_hands : (hands : List (Option InHand)) (c : ℕ) {E : Type 0} (end : Option E) (hand : InHand) → c < length hands → hand_at hands c ≡ None → is_some end ≡ true → hands ≡ slice_set hands c (left end hand)
+ended_hands hands c None hand within free ended = absurd (let e : false ≡ true = ended in cc)
+ended_hands hands c (Some e) hand within free ended =
+    let q = there_is hands c within in
+    let none : q.0 ≡ None = ap or_none (sym q.1) ∙ free in
+    sym (set_again hands c None (q.1 ∙ ap Some none))
+
+-- what is not there is none
+pub none_where_false : {E : Type 0} (end : Option E) → is_some end ≡ false → end ≡ None
+none_where_false None goes = refl
+none_where_false (Some e) goes = absurd (let e : true ≡ false = goes in cc)

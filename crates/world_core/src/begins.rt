@@ -7,7 +7,7 @@ ghost use Rattle.run_labels.specs.declared.labels.Label.TheVariants as labels;
 ghost use Rattle.section_iter.specs.Room.{room_declared};
 ghost use Rattle.cluster_record.specs.RecordState.{empty_record};
 ghost use Rattle.world_core.specs.Beginning.{IsBuilt, handle_place, iteration_place};
-ghost use Rattle.world_core.specs.Steps.{MayBegin, IsBeginEnd, room_at};
+ghost use Rattle.world_core.specs.Steps.{MayBegin, IsBeginEnd, room_at, ckpt_of_handle};
 ghost use Rattle.world_core.specs.Shows.{IsShown, IsRoomy, hand_at, room_for};
 ghost use Rattle.world_core.specs.Happenings.{Adds, BringsUp, Begins, handle_named};
 
@@ -103,19 +103,28 @@ impl World {
         };
         let handle = self.named_handle(c, &op);
         let due = begin_end(self.cluster.is_live_client(c), &handle, &op);
+        let (end, iteration) = take_room(alloc, &op, &self.cluster, &handle, due);
+        if end.is_some() {
+            self.hands.covers(c);
+            self.tables.begin(c, ended_place(&op, &end));
+            log.push(Label::Began { call, op, end });
+            return Ok(());
+        }
         let driver = Driver::start(call, &op, &handle, &self.cluster)?;
         let own = copy(&op)?;
-        let declared = declared_by(&self.cluster, ckpt_of_handle(&handle));
-        let (end, iteration) = take_room(alloc, &op, &declared, due);
         let hand = InHand {
             call,
             op: own,
             driver,
             iteration,
         };
-        self.tables.begin(c, ended_place(&op, &end));
-        self.hands.begin(c, hand, &end);
-        log.push(Label::Began { call, op, end });
+        self.tables.begin(c, None);
+        self.hands.begin(c, hand);
+        log.push(Label::Began {
+            call,
+            op,
+            end: None,
+        });
         Ok(())
     }
 
@@ -151,16 +160,18 @@ fn declared_by(cluster: &Record, ckpt: Option<CkptId>) -> CreationAttributes
 fn take_room(
     alloc: Global,
     op: &Op,
-    declared: &CreationAttributes,
+    cluster: &Record,
+    handle: &Option<HandleView>,
     due: Option<Outcome>,
 ) -> (Option<Outcome>, Option<Iteration>)
     ensures end { IsBeginEnd op.now due result.0 }
-    ensures room { result.0 ≡ None → result.1 ≡ room_for op.now (room_declared declared.now) }
+    ensures room { result.0 ≡ None → result.1 ≡ room_for op.now (room_at cluster.now (ckpt_of_handle handle.now)) }
 {
     if !takes_room(op) || due.is_some() {
         return (due, None);
     }
-    match Iteration::reserve(alloc, declared) {
+    let declared = declared_by(cluster, ckpt_of_handle(handle));
+    match Iteration::reserve(alloc, &declared) {
         Ok(iteration) => (None, Some(iteration)),
         Err(AllocError) => (Some(Outcome::NoMemory), None),
     }

@@ -192,14 +192,22 @@ impl Hands {
         clear_at(&mut self.list, c as usize);
     }
 
-    /// A client's call is in hand from now on, unless it has ended.
-    pub fn begin(&mut self, c: u8, hand: InHand, end: &Option<Outcome>)
+    /// There is a place for the call of each client.
+    pub fn covers(&self, c: u8)
         requires { c < client_numbers }
-        ensures new { self.new ≡ slice_set self.old c (left end.now hand) }
+        ensures { c < length self.now }
+    {
+        let _kept = self.list.as_slice();
+    }
+
+    /// A client's call is in hand from now on.
+    pub fn begin(&mut self, c: u8, hand: InHand)
+        requires { c < client_numbers }
+        ensures new { self.new ≡ slice_set self.old c (Some hand) }
         ensures within { c < length self.old }
     {
         reach(&mut self.list, c as usize);
-        begin_at(&mut self.list, c as usize, hand, end);
+        begin_at(&mut self.list, c as usize, hand);
     }
 }
 
@@ -329,15 +337,12 @@ fn clear_at(list: &mut Vec<Option<InHand>>, c: usize)
     list[c] = None;
 }
 
-fn begin_at(list: &mut Vec<Option<InHand>>, c: usize, hand: InHand, end: &Option<Outcome>)
+fn begin_at(list: &mut Vec<Option<InHand>>, c: usize, hand: InHand)
     requires { c < length list.old.items }
-    ensures new { list.new.items ≡ slice_set list.old.items c (left end.now hand) }
+    ensures new { list.new.items ≡ slice_set list.old.items c (Some hand) }
     ensures capacity { vec_capacity list.new ≡ vec_capacity list.old }
 {
-    match end {
-        None => list[c] = Some(hand),
-        Some(_) => list[c] = None,
-    }
+    list[c] = Some(hand);
 }
 
 fn lend_nothing(alloc: Global) -> Result<Lent, AllocError> {
