@@ -1,7 +1,7 @@
 ghost use Rattle.std.specs.Prelude.{◌≡◌, None, false, not, if◌then◌else◌, pos, int_lt};
 ghost use Rattle.ckpt_types.specs.declared.ais_error.AisError.TheVariants as errors;
 ghost use Rattle.ckpt_types.specs.Attributes.{has_flag, has_bad_open_flags, is_malformed};
-ghost use Rattle.world_core.specs.Beginning.{refused, version_is_bad, name_is_bad, attributes_are_bad, open_begin, vector_is_bad, update_is_bad, on_handle, may_write, may_read, may_always, choice_is_bad, choice_of, end_iteration, update_begin, begin_end, handle_place, closed_place, iteration_place, started_place, ended_place, takes_room, opened_place, no_flags, opened_for};
+ghost use Rattle.world_core.specs.Beginning.{refused, if_live, version_is_bad, name_is_bad, attributes_are_bad, open_begin, vector_is_bad, update_is_bad, on_handle, may_write, may_read, may_always, choice_is_bad, choice_of, end_iteration, update_begin, begin_end, handle_place, closed_place, iteration_place, started_place, ended_place, takes_room, opened_place, no_flags, opened_for};
 ghost use Rattle.world_core.specs.Steps.{ckpt_of_handle};
 
 use ckpt_types::{
@@ -19,66 +19,37 @@ pub fn begin_end(live: bool, handle: &Option<HandleView>, op: &Op) -> Option<Out
     match op {
         Op::Client(_, version, _) => client_begin(version),
         Op::Open(_, name, flags, timeout, attributes) => {
-            if live {
-                open_begin(name.value(), *flags, *timeout, attributes.value())
-            } else {
-                refused(AisError::BadHandle)
-            }
+            if_live(
+                live,
+                open_begin(name.value(), *flags, *timeout, attributes.value()),
+            )
         }
         Op::Create(_, update)
         | Op::Delete(_, update)
         | Op::Expire(_, update)
         | Op::Write(_, update)
-        | Op::Over(_, update) => {
-            if live {
-                update_begin(handle, update.value())
-            } else {
-                refused(AisError::BadHandle)
-            }
-        }
+        | Op::Over(_, update) => if_live(live, update_begin(handle, update.value())),
         Op::Read(_, elements) => {
-            if live {
-                read_begin(handle, vector_is_bad(elements.value().as_slice().len()))
-            } else {
-                refused(AisError::BadHandle)
-            }
+            let bad = vector_is_bad(elements.value().as_slice().len());
+            if_live(live, read_begin(handle, bad))
         }
-        Op::Iter(_, _, chosen, _) => {
-            if live {
-                read_begin(handle, choice_is_bad(*chosen))
-            } else {
-                refused(AisError::BadHandle)
-            }
-        }
-        Op::Status(_) | Op::Next(_) | Op::Close(_) => {
-            if live {
-                handle_begin(handle)
-            } else {
-                refused(AisError::BadHandle)
-            }
-        }
-        Op::EndIter(_) => {
-            if live {
-                end_iteration(handle)
-            } else {
-                refused(AisError::BadHandle)
-            }
-        }
-        Op::Retain(_, duration) => {
-            if live {
-                retain_begin(handle, *duration)
-            } else {
-                refused(AisError::BadHandle)
-            }
-        }
-        Op::Unlink(_) | Op::Finalize => {
-            if live {
-                None
-            } else {
-                refused(AisError::BadHandle)
-            }
-        }
+        Op::Iter(_, _, chosen, _) => if_live(live, read_begin(handle, choice_is_bad(*chosen))),
+        Op::Status(_) | Op::Next(_) | Op::Close(_) => if_live(live, handle_begin(handle)),
+        Op::EndIter(_) => if_live(live, end_iteration(handle)),
+        Op::Retain(_, duration) => if_live(live, retain_begin(handle, *duration)),
+        Op::Unlink(_) | Op::Finalize => if_live(live, None),
         _ => None,
+    }
+}
+
+// What a call answers where its client is live; BAD_HANDLE where it is not.
+fn if_live(live: bool, answer: Option<Outcome>) -> Option<Outcome>
+    ensures { result ≡ if_live live answer }
+{
+    if live {
+        answer
+    } else {
+        refused(AisError::BadHandle)
     }
 }
 
