@@ -20,7 +20,7 @@ use Rattle.world_core.specs.declared.drivers.Driver.TheVariants as drivers
 use Rattle.world_core.specs.declared.world.World.{World}
 use Rattle.world_core.specs.Beginning.{opened_place, opened_for, closed_place}
 use Rattle.world_core.specs.Driving.{event_change, event_after}
-use Rattle.world_core.specs.LiveRooms.{is_roomy, LiveHaveRoom}
+use Rattle.world_core.specs.LiveRooms.{room_is_taken, LiveHaveRoom}
 use Rattle.world_core.specs.Settling.{changed_at, at_client, given, closed_at, settled, looked}
 use Rattle.world_core.specs.TableState.{TableState, with_closed, with_none, with_handle, begun_with}
 use Rattle.cluster_record.specs.LookUps.{creation_flags_of}
@@ -32,7 +32,7 @@ use Rattle.world_core.proofs.TableFields.{field_same}
 module _ (w : World) (R : RecordState) (c : ℕ) where
   -- with as much room taken
   pub rooms_set : (t t' : TableState) → slice_get w.tables c ≡ Some t → t.roomy ≡ t'.roomy → LiveHaveRoom R w.tables → LiveHaveRoom R (slice_set w.tables c t')
-  rooms_set t t' table same rooms d live = sym (field_same w c t t' table is_roomy same d) ∙ rooms d live
+  rooms_set t t' table same rooms d live = sym (field_same w c t t' table room_is_taken same d) ∙ rooms d live
 
   changed : (f : TableState → TableState) → ((t : TableState) → t.roomy ≡ (f t).roomy) → (o : Option TableState) → slice_get w.tables c ≡ o → LiveHaveRoom R w.tables → LiveHaveRoom R (changed_at c f w.tables o)
   changed f same None is rooms = rooms
@@ -109,11 +109,11 @@ more P new d (x ∷ xs) here there found = by_key (client_key x == d) there (λ 
 
 -- a client that becomes live has its room
 abbrev pub EntersWithRoom : CallId → Driver → List TableState → Type 0
-EntersWithRoom call (drivers.Enter r) tables = is_roomy (slice_get tables (client_of call)) ≡ true
+EntersWithRoom call (drivers.Enter r) tables = room_is_taken (slice_get tables (client_of call)) ≡ true
 EntersWithRoom call driver tables = Unit {0}
 
 rooms_changed : (call : CallId) (x : Driver) (step : RecordStep) (R : RecordState) (tables : List TableState) → EntersWithRoom call x tables → LiveHaveRoom R tables → LiveHaveRoom (event_change call x step R) tables
-rooms_changed call (drivers.Enter r) step R tables enters rooms = λ d live. more (λ d. is_roomy (slice_get tables d) ≡ true) (record { client = client_of call; node = r; incarnation = slice_index R.up r; initialize = call.number }) d R.clients enters (rooms d) live
+rooms_changed call (drivers.Enter r) step R tables enters rooms = λ d live. more (λ d. room_is_taken (slice_get tables d) ≡ true) (record { client = client_of call; node = r; incarnation = slice_index R.up r; initialize = call.number }) d R.clients enters (rooms d) live
 rooms_changed call (drivers.Open o) events.Create R tables enters rooms = λ d live. rooms d (created_live call o.ask.name o.ask.attrs R d live)
 rooms_changed call (drivers.Open o) events.Open R tables enters rooms = λ d live. rooms d (at_live (identity_in (named o.ask.name R.entries)) R (λ k. opened k o.ask.client R) (λ k d live. live) d live)
 rooms_changed call (drivers.Open o) events.Finish R tables enters rooms = λ d live. rooms d (at_live (making_ckpt o.making) R (λ k. finished k o.ask.client R) (λ k d live. live) d live)

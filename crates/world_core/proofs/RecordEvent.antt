@@ -40,7 +40,7 @@ use Rattle.world_core.specs.Steps.{IsDue, IsDone, after, changed, driver_of, eve
 use Rattle.cluster_record.specs.LookUps.{creation_flags_of}
 use Rattle.world_core.specs.HandSteps.{hand_taken}
 use Rattle.world_core.specs.Freeing.{freed}
-use Rattle.world_core.specs.LiveRooms.{is_roomy}
+use Rattle.world_core.specs.LiveRooms.{room_is_taken}
 use Rattle.world_core.specs.Holding.{HoldsOnlyWhatStands}
 use Rattle.world_core.specs.Serving.{replica_in}
 use Rattle.world_core.specs.Happenings.{rooms_in}
@@ -325,13 +325,13 @@ module _ (w : World) (c : ℕ) (step : RecordStep) (hand : InHand) (held : hand_
   }
 
   -- a client that becomes live has its room
-  pub enters : IsShown w → (step ≡ events.Enter → is_roomy (slice_get w.tables c) ≡ true) → EntersWithRoom hand.call hand.driver w.tables
+  pub enters : IsShown w → (step ≡ events.Enter → room_is_taken (slice_get w.tables c) ≡ true) → EntersWithRoom hand.call hand.driver w.tables
   enters shown roomy = of_driver step hand.driver (event_ready shown) roomy where
     client : client_of hand.call ≡ c
     client = ap number_of (actor_is w shown.shows.history c hand held (subst Facts shown.shows.same shown.facts))
 
-    of_driver : (step : RecordStep) (x : Driver) → EventNeeds hand.call w.cluster x step → (step ≡ events.Enter → is_roomy (slice_get w.tables c) ≡ true) → EntersWithRoom hand.call x w.tables
-    of_driver events.Enter (drivers.Enter r) needs roomy = subst (λ d. is_roomy (slice_get w.tables d) ≡ true) (sym client) (roomy refl)
+    of_driver : (step : RecordStep) (x : Driver) → EventNeeds hand.call w.cluster x step → (step ≡ events.Enter → room_is_taken (slice_get w.tables c) ≡ true) → EntersWithRoom hand.call x w.tables
+    of_driver events.Enter (drivers.Enter r) needs roomy = subst (λ d. room_is_taken (slice_get w.tables d) ≡ true) (sym client) (roomy refl)
     of_driver step (drivers.Enter r) needs roomy = absurd needs
     of_driver step (drivers.Open o) needs roomy = tt
     of_driver step (drivers.Update u) needs roomy = tt

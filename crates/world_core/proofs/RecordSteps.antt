@@ -21,7 +21,7 @@ use Rattle.world_core.specs.declared.replica.Replica.{Replica}
 use Rattle.world_core.specs.declared.world.World.{World}
 use Rattle.cluster_record.specs.Calls.{number_of, left}
 use Rattle.cluster_record.specs.RecordState.{RecordState, entry_of, is_live_client}
-use Rattle.world_core.specs.LiveRooms.{is_roomy}
+use Rattle.world_core.specs.LiveRooms.{room_is_taken}
 use Rattle.world_core.specs.RecordReady.{IsRecordReady}
 use Rattle.node_msgs.specs.Steps.{event_verb}
 use Rattle.world_core.specs.Driving.{driver_next, event_ckpt, event_node, event_end, event_after, takes_memory}
@@ -63,7 +63,7 @@ when_err P (Err e) is h = h
 
 module _ (w : World) (c : ℕ) (step : RecordStep) (hand : InHand) (held : hand_at w.hands c ≡ Some hand) (next : driver_next w.cluster (rooms_in w c) hand.driver ≡ Event step) (shown : IsShown w) where
   abbrev OpensSo : OpenState → Type 0
-  OpensSo o = IsBuilt hand.op × (IsSome o.making → (rooms_in w c).handles ≡ true) × (is_roomy (slice_get w.tables c) ≡ true)
+  OpensSo o = IsBuilt hand.op × (IsSome o.making → (rooms_in w c).handles ≡ true) × (room_is_taken (slice_get w.tables c) ≡ true)
 
   -- what the facts say of an open in hand
   opens_fact : (o : OpenState) → hand.driver ≡ drivers.Open o → OpensSo o
@@ -79,7 +79,7 @@ module _ (w : World) (c : ℕ) (step : RecordStep) (hand : InHand) (held : hand_
   making_there (Some m) h = refl
 
   -- the client has room for a handle, and the operation a place for it and a checkpoint
-  gives_well : (step : RecordStep) → IsRoomy w → GivesHandle step → EventNeeds hand.call w.cluster hand.driver step → IsBuilt hand.op → is_roomy (slice_get w.tables c) ≡ true → (rooms_in w c).handles ≡ true → CanGive c hand.op (event_ckpt w.cluster hand.driver step) w.tables
+  gives_well : (step : RecordStep) → IsRoomy w → GivesHandle step → EventNeeds hand.call w.cluster hand.driver step → IsBuilt hand.op → room_is_taken (slice_get w.tables c) ≡ true → (rooms_in w c).handles ≡ true → CanGive c hand.op (event_ckpt w.cluster hand.driver step) w.tables
   gives_well step roomy gives needs built taken room = record {
     ckpt = is_there (event_ckpt w.cluster hand.driver step) (ckpt_there hand.call w.cluster step hand.driver gives needs);
     place = some_within (λ p. p < 100) (opened_place hand.op) (λ p is. place_within hand.op p built is) (place_there w c hand held shown step gives needs);
@@ -118,7 +118,7 @@ module _ (w : World) (c : ℕ) (step : RecordStep) (hand : InHand) (held : hand_
   its_hand R k r = hand_taken (done_of R (event_verb step) k r words.Ok) hand
 
   -- the step is done
-  pub event_step : (R : RecordState) (nodes : List (List Replica)) (tables : List TableState) (hands : List (Option InHand)) (word : OpWord) (verb : Verb) (k r : Option ℕ) (end : Option Outcome) → IsRoomy w → HasPlaces step (slice_get w.tables c) → (step ≡ events.Enter → is_roomy (slice_get w.tables c) ≡ true) →
+  pub event_step : (R : RecordState) (nodes : List (List Replica)) (tables : List TableState) (hands : List (Option InHand)) (word : OpWord) (verb : Verb) (k r : Option ℕ) (end : Option Outcome) → IsRoomy w → HasPlaces step (slice_get w.tables c) → (step ≡ events.Enter → room_is_taken (slice_get w.tables c) ≡ true) →
       R ≡ event_after hand.call hand.driver step w.cluster → k ≡ event_ckpt w.cluster hand.driver step → r ≡ event_node hand.driver step → end ≡ event_end step k → tables ≡ settled R c hand.op step k w.tables →
       ((h : InHand) → hand_at w.hands c ≡ Some h → hands ≡ slice_set w.hands c (left end (hand_taken (done_of R (event_verb step) k r words.Ok) h))) → nodes ≡ freed R.entries w.nodes → word ≡ word_of_op hand.op → verb ≡ event_verb step →
       IsStep c w (record w { cluster = R; nodes = nodes; tables = tables; hands = hands }) (Stepped hand.call word verb k r words.Ok end None)

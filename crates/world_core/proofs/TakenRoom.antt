@@ -8,7 +8,7 @@ use Rattle.world_core.specs.declared.drivers.Rooms.{Rooms}
 use Rattle.world_core.specs.declared.world.World.{World}
 use Rattle.world_core.specs.Driving.{driver_next}
 use Rattle.world_core.specs.Happenings.{IsNext, IsStep, rooms_in}
-use Rattle.world_core.specs.LiveRooms.{is_roomy}
+use Rattle.world_core.specs.LiveRooms.{room_is_taken}
 use Rattle.world_core.specs.Machine.{Machine}
 use Rattle.world_core.specs.Shows.{Shows, IsShown, IsRoomy, History, machine_of, next_in, handles_in, place_in, last_in, iterations_in}
 use Rattle.world_core.specs.TableState.{TableState, with_room}
@@ -20,7 +20,7 @@ pub record Keeps (w : World) (c : ℕ) (taken : World) : Type 0 where
   pub shown : IsShown w → IsShown taken
   pub next : (n : Next) → IsNext w c n → IsNext taken c n
   pub roomy : IsRoomy w → IsRoomy taken
-  pub has_room : is_roomy (slice_get taken.tables c) ≡ true
+  pub has_room : room_is_taken (slice_get taken.tables c) ≡ true
   pub step : (new : World) (label : Label) → IsStep c taken new label → IsStep c w new label
 
 module _ (w : World) (c : ℕ) (t : TableState) (table : slice_get w.tables c ≡ Some t) where
@@ -39,9 +39,9 @@ module _ (w : World) (c : ℕ) (t : TableState) (table : slice_get w.tables c �
     iterations = λ d. same iterations_in refl d i;
   }
 
-  roomy_there : (d : ℕ) → is_roomy (slice_get w.tables d) ≡ true → is_roomy (slice_get with_it.tables d) ≡ true
-  roomy_there d roomy = subst (λ (o : Option TableState). is_roomy o ≡ true) (table_at w c t (with_room t) table d) (by_test (d == c)) where
-    by_test : (b : Bool) → is_roomy (cond b (Some (with_room t)) (slice_get w.tables d)) ≡ true
+  roomy_there : (d : ℕ) → room_is_taken (slice_get w.tables d) ≡ true → room_is_taken (slice_get with_it.tables d) ≡ true
+  roomy_there d roomy = subst (λ (o : Option TableState). room_is_taken o ≡ true) (table_at w c t (with_room t) table d) (by_test (d == c)) where
+    by_test : (b : Bool) → room_is_taken (cond b (Some (with_room t)) (slice_get w.tables d)) ≡ true
     by_test true = refl
     by_test false = roomy
 
@@ -57,8 +57,8 @@ module _ (w : World) (c : ℕ) (t : TableState) (table : slice_get w.tables c �
   rooms_same : rooms_in w c ≡ rooms_in with_it c
   rooms_same = λ i. record { handles = nat_lt (length (same handles_in refl c i)) 32; iterations = nat_lt (length (same iterations_in refl c i).begun) 8 }
 
-  has_it : is_roomy (slice_get with_it.tables c) ≡ true
-  has_it = subst (λ (o : Option TableState). is_roomy o ≡ true) (table_at w c t (with_room t) table c) (ap (λ b. is_roomy (cond b (Some (with_room t)) (slice_get w.tables c))) (eq-eqb c c refl))
+  has_it : room_is_taken (slice_get with_it.tables c) ≡ true
+  has_it = subst (λ (o : Option TableState). room_is_taken o ≡ true) (table_at w c t (with_room t) table c) (ap (λ b. room_is_taken (cond b (Some (with_room t)) (slice_get w.tables c))) (eq-eqb c c refl))
 
   keeps : Keeps w c with_it
   keeps = record {

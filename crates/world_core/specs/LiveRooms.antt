@@ -3,9 +3,10 @@ use Rattle.std.specs.Prelude.{◌≡◌, ℕ, List, Bool, true, false, Option, S
 use Rattle.cluster_record.specs.RecordState.{RecordState, is_live_client}
 use Rattle.world_core.specs.TableState.{TableState}
 
-abbrev pub is_roomy : Option TableState → Bool
-is_roomy None = false
-is_roomy (Some t) = t.roomy
+-- whether a client has taken its room; one that is none has not
+abbrev pub room_is_taken : Option TableState → Bool
+room_is_taken None = false
+room_is_taken (Some t) = t.roomy
 
 abbrev pub LiveHaveRoom : RecordState → List TableState → Type 0
-LiveHaveRoom R tables = (c : ℕ) → is_live_client c R ≡ true → is_roomy (slice_get tables c) ≡ true
+LiveHaveRoom R tables = (c : ℕ) → is_live_client c R ≡ true → room_is_taken (slice_get tables c) ≡ true

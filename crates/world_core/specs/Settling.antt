@@ -9,7 +9,7 @@ use Rattle.node_msgs.specs.declared.next.RecordStep.TheVariants as events
 use Rattle.cluster_record.specs.LookUps.{creation_flags_of}
 use Rattle.cluster_record.specs.RecordState.{RecordState, entry_of}
 use Rattle.world_core.specs.Beginning.{opened_for, opened_place, closed_place}
-use Rattle.world_core.specs.LiveRooms.{is_roomy}
+use Rattle.world_core.specs.LiveRooms.{room_is_taken}
 use Rattle.world_core.specs.Shows.{handles_in, last_in}
 use Rattle.world_core.specs.TableState.{TableState, with_handle, with_closed, with_none}
 
@@ -50,7 +50,7 @@ looked end c op tables = tables
 pub record CanGive (c : ℕ) (op : Op) (k : Option ℕ) (tables : List TableState) : Type 0 where
   pub ckpt : IsSome k
   pub place : IsSomeAnd (opened_place op) (λ p. p < places_max)
-  pub roomy : is_roomy (slice_get tables c) ≡ true
+  pub roomy : room_is_taken (slice_get tables c) ≡ true
   pub room : nat_lt (length (handles_in (slice_get tables c))) handles_max ≡ true
   pub number : last_in (slice_get tables c) < 2 ^ 32 - 1
 

@@ -12,7 +12,7 @@ ghost use Rattle.cluster_record.specs.LookUps.{creation_flags_of};
 ghost use Rattle.cluster_record.specs.RecordState.{entry_of};
 ghost use Rattle.world_core.specs.Beginning.{opened_place, closed_place};
 ghost use Rattle.world_core.specs.Driving.{takes_memory};
-ghost use Rattle.world_core.specs.LiveRooms.{is_roomy};
+ghost use Rattle.world_core.specs.LiveRooms.{room_is_taken};
 ghost use Rattle.world_core.specs.Reserving.{IsReserved};
 ghost use Rattle.world_core.specs.Runs.{step_word};
 ghost use Rattle.world_core.specs.Shows.{IsShown, IsRoomy, IsReservable};
@@ -37,8 +37,6 @@ use std::alloc::{AllocError, Global};
 impl World {
     /// The call of a client takes its next step, or a word says that it has none in hand. Want of memory leaves
     /// the world as it was; where the step's own memory is refused, the call is told so instead.
-    // Put in line: a call would copy its label once more.
-    #[inline(always)]
     pub(crate) fn step(
         &mut self,
         alloc: Global,
@@ -226,7 +224,7 @@ impl World {
     // has its room.
     fn record_step(&mut self, c: u8, step: RecordStep, log: &mut RunLog)
         requires next { IsNext self.old c (nexts.Event step) }
-        requires has_room { step ≡ events.Enter → is_roomy (slice_get self.old.tables c) ≡ true }
+        requires has_room { step ≡ events.Enter → room_is_taken (slice_get self.old.tables c) ≡ true }
         requires client { c < client_numbers }
         requires shown { IsShown self.old }
         requires roomy { IsRoomy self.old }

@@ -6,7 +6,7 @@ ghost use Rattle.world_core.specs.Lending.{pieces_told};
 ghost use Rattle.world_core.specs.Steps.{handle_over, ids_of};
 ghost use Rattle.world_core.specs.TableState.{with_room, with_handle, with_started_iteration, without_begun, gone_on, kept_at, begun_with, with_closed, with_none};
 ghost use Rattle.world_core.specs.NewTable.{new_table};
-ghost use Rattle.world_core.specs.LiveRooms.{is_roomy};
+ghost use Rattle.world_core.specs.LiveRooms.{room_is_taken};
 ghost use Rattle.world_core.specs.Shows.{next_in, handles_in, iterations_in, last_in, handle_in_place, handle_over_place};
 
 use crate::kept_client::{add, close, end, go_on, leave, new_client, start};
@@ -346,7 +346,7 @@ impl Tables {
     /// it. It takes no memory.
     pub fn add(&mut self, c: u8, id: CkptId, flags: OpenFlags, creation_flags: u32, place: u8)
         requires client { c < client_numbers }
-        requires roomy { is_roomy (slice_get self.old c) ≡ true }
+        requires roomy { room_is_taken (slice_get self.old c) ≡ true }
         requires room { nat_lt (length (handles_in (slice_get self.old c))) handles_max ≡ true }
         requires number { last_in (slice_get self.old c) < 2 ^ 32 - 1 }
         requires place { place < places_max }
@@ -457,7 +457,7 @@ fn add_at(
     place: u8,
 )
     requires client { c < length tables.old }
-    requires roomy { is_roomy (slice_get tables.old c) ≡ true }
+    requires roomy { room_is_taken (slice_get tables.old c) ≡ true }
     requires room { nat_lt (length (handles_in (slice_get tables.old c))) handles_max ≡ true }
     requires number { last_in (slice_get tables.old c) < 2 ^ 32 - 1 }
     requires place { place < places_max }
