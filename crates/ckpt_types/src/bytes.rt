@@ -1,4 +1,4 @@
-ghost use Rattle.std.specs.Prelude.{◌≡◌, ◌≤◌, ◌↔◌, List, ℕ, IfOk, IsTrue, length, nat_eq};
+ghost use Rattle.std.specs.Prelude.{◌≡◌, ◌≤◌, ◌↔◌, List, [], ℕ, IfOk, IsTrue, length, nat_eq};
 ghost use Rattle.std.specs.Hash as fed;
 ghost use Rattle.std.specs.Cmp.Lexicographic.{pointwise, nat_list_eq_equiv};
 ghost use Rattle.std.specs.Cmp.Rules.{hashing};
@@ -16,7 +16,8 @@ use std::marker::Model;
 /// How many bytes lie in place.
 const SHORT_MAX: usize = 30;
 
-/// A string of bytes: a checkpoint's name, or the data of a section. A short one lies in place.
+/// A string of bytes: a checkpoint's name, the identifier of a section that a line names, or the data of
+/// a section. A short one lies in place.
 #[derive(Debug, Drop)]
 pub struct Bytes {
     text: Text,
@@ -75,6 +76,17 @@ impl Bytes {
         match &self.text {
             Text::Short(len, front) => &front[..*len as usize],
             Text::Long(items) => items.as_slice(),
+        }
+    }
+}
+
+/// No bytes.
+impl Default for Bytes {
+    ghost is_default = { λ bytes. bytes ≡ [] };
+
+    fn default() -> Bytes {
+        Bytes {
+            text: Text::Short(0, [0; SHORT_MAX]),
         }
     }
 }

@@ -119,7 +119,7 @@ pub trait Sections {
         ensures { slice_get (sections self.now) place ≡ Some (section_of result) };
 
     /// The place of the section of that identifier.
-    fn find(&self, id: &SectionId) -> Option<usize>
+    fn find(&self, id: &[u8]) -> Option<usize>
         ensures place { result ≡ place_of id.now (sections self.now) }
         ensures section { MatchOption result (section_at id.now (sections self.now) ≡ None) (λ place. section_at id.now (sections self.now) ≡ slice_get (sections self.now) place) };
 

@@ -1,14 +1,13 @@
 use crate::bytes::Bytes;
 use crate::elements::Elements;
 use crate::identities::Moment;
-use crate::section_id::SectionId;
 use crate::shared::Shared;
 
 /// One element of a write: bytes, and where in which section they go.
 #[derive(Debug, Drop)]
 pub struct IoElement {
-    /// The section.
-    pub id: SectionId,
+    /// The identifier of the section.
+    pub id: Bytes,
     /// From which byte of the section on.
     pub offset: u64,
     /// What is written there.
@@ -16,10 +15,10 @@ pub struct IoElement {
 }
 
 /// One element of a read: which bytes of which section.
-#[derive(Clone, Copy, Debug)]
+#[derive(Debug, Drop)]
 pub struct ReadElement {
-    /// The section.
-    pub id: SectionId,
+    /// The identifier of the section.
+    pub id: Bytes,
     /// From which byte of the section on.
     pub offset: u64,
     /// How many bytes at most.
@@ -33,10 +32,10 @@ pub type IoVector = Elements<IoElement>;
 pub type ReadVector = Elements<ReadElement>;
 
 /// The identifier of a new section.
-#[derive(Clone, Copy, Debug)]
+#[derive(Debug, Drop)]
 pub enum NewId {
     /// The caller's.
-    Given(SectionId),
+    Given(Bytes),
     /// One that the service makes.
     Generated,
 }
@@ -47,13 +46,13 @@ pub enum Update {
     /// Writes the elements in order, all of them or none.
     Write(IoVector),
     /// Replaces the bytes of a section.
-    Overwrite(SectionId, Bytes),
+    Overwrite(Bytes, Bytes),
     /// Makes a section that expires at the moment.
     Create(NewId, Moment, Bytes),
     /// Takes a section away.
-    Delete(SectionId),
+    Delete(Bytes),
     /// Gives a section another expiration.
-    SetExpiration(SectionId, Moment),
+    SetExpiration(Bytes, Moment),
     /// Leaves the sections that are present; a joining node is copied under it.
     Nothing,
 }

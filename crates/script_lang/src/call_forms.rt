@@ -9,7 +9,7 @@ ghost use Rattle.script_lang.specs.Table.{texts, said_by, made, one_made, gather
 use crate::lines::Line;
 use ckpt_types::{
     CreationAttributes, IoElement, IoVector, LINE_ELEMENTS_MAX, Op, ReadElement, ReadVector,
-    SectionId, Shared, SharedName, Update,
+    Shared, SharedName, Update,
 };
 use script_words::{LineError, Reason};
 use std::alloc::Global;
@@ -395,15 +395,10 @@ fn io_element_at(alloc: Global, words: &[&[u8]]) -> Result<IoElement, LineError>
     let [id, offset, data, ..] = words else {
         unreachable!()
     };
-    let mut section = SectionId::default();
-    script_words::put_id(alloc, id, &mut section)?;
+    let id = script_words::id(alloc, id)?;
     let offset = script_words::number(0, u64::MAX, offset)?;
     let bytes = script_words::bytes(alloc, data)?;
-    Ok(IoElement {
-        id: section,
-        offset,
-        bytes,
-    })
+    Ok(IoElement { id, offset, bytes })
 }
 
 /// The line that the words behind `read` say.
@@ -460,13 +455,8 @@ fn read_element_at(alloc: Global, words: &[&[u8]]) -> Result<ReadElement, LineEr
     let [id, offset, len, ..] = words else {
         unreachable!()
     };
-    let mut section = SectionId::default();
-    script_words::put_id(alloc, id, &mut section)?;
+    let id = script_words::id(alloc, id)?;
     let offset = script_words::number(0, u64::MAX, offset)?;
     let len = script_words::number(0, u64::MAX, len)?;
-    Ok(ReadElement {
-        id: section,
-        offset,
-        len,
-    })
+    Ok(ReadElement { id, offset, len })
 }

@@ -8,7 +8,7 @@ ghost use Rattle.ckpt_types.specs.declared.update.Update.TheVariants as updates;
 
 use ckpt_types::{
     Bytes, CallbackSet, CreationAttributes, IoElement, Moment, NewId, NodeId, Op, ReadElement,
-    SectionId, Update, Version,
+    Update, Version,
 };
 use script_words::{
     write_bytes, write_callbacks, write_client, write_id, write_iteration, write_new_id,
@@ -438,7 +438,7 @@ fn overwrite_update(
     out: &mut Vec<u8>,
     client: u8,
     place: u8,
-    id: &SectionId,
+    id: &Bytes,
     text: &Bytes,
 ) -> Result<(), AllocError>
     ensures { OnOk result (out.new.items ≡ out.old.items ++ update_text client place (updates.Overwrite id.now text.now)) }
@@ -476,7 +476,7 @@ fn delete_update(
     out: &mut Vec<u8>,
     client: u8,
     place: u8,
-    id: &SectionId,
+    id: &Bytes,
 ) -> Result<(), AllocError>
     ensures { OnOk result (out.new.items ≡ out.old.items ++ update_text client place (updates.Delete id.now)) }
 {
@@ -492,7 +492,7 @@ fn expiration_update(
     out: &mut Vec<u8>,
     client: u8,
     place: u8,
-    id: &SectionId,
+    id: &Bytes,
     expiration: Moment,
 ) -> Result<(), AllocError>
     ensures { OnOk result (out.new.items ≡ out.old.items ++ update_text client place (updates.SetExpiration id.now expiration)) }

@@ -10,7 +10,7 @@ use crate::digits::decode_digits;
 use crate::reason::{LineError, Reason};
 use ckpt_types::{
     ActorName, Bytes, CLIENT_NUMBERS, CallId, CallbackSet, CkptId, Moment, NEVER, NODES_MAX, NewId,
-    NodeId, PLACES_MAX, SectionId, Version, Who,
+    NodeId, PLACES_MAX, SECTION_ID_MAX, Version, Who,
 };
 use std::alloc::Global;
 
@@ -156,27 +156,18 @@ fn all_graphic(text: &[u8]) -> bool
 }
 
 /// The identifier of a section: a bytes word of no more than `SECTION_ID_MAX` bytes.
-pub fn id(alloc: Global, word: &[u8]) -> Result<SectionId, LineError>
+#[tactic(auto, unfolding(crate::specs::Words::read, crate::specs::Words::id_of, crate::specs::Words::bytes_of))]
+pub fn id(alloc: Global, word: &[u8]) -> Result<Bytes, LineError>
     ensures { Reads result (read an_id word.now) }
 {
-    let mut id = SectionId::default();
-    put_id(alloc, word, &mut id)?;
-    Ok(id)
-}
-
-/// Puts the identifier that a word says in the place of one without bytes, where it is to stay: no copy of
-/// its 256 bytes is made on the way. After an error the place has any identifier.
-#[inline(always)]
-#[tactic(auto, unfolding(crate::specs::Words::read, crate::specs::Words::id_of, crate::specs::Words::bytes_of))]
-pub fn put_id(alloc: Global, word: &[u8], id: &mut SectionId) -> Result<(), LineError>
-    requires { id.old ≡ [] }
-    ensures ok { OnOk result (read an_id word.now ≡ Ok id.new) }
-    ensures err { IfErr result (λ e. Fails e (read an_id word.now)) }
-{
     if is_x(word) {
-        return Ok(());
+        return Ok(Bytes::default());
     }
-    put_bytes(alloc, word, id)
+    let found = bytes(alloc, word)?;
+    if SECTION_ID_MAX < found.as_slice().len() {
+        return Err(LineError::Fault(Reason::Bytes));
+    }
+    Ok(found)
 }
 
 // Whether the word says no bytes by a single letter.
@@ -187,53 +178,6 @@ fn is_x(word: &[u8]) -> bool
     match word {
         b"x" => true,
         _ => false,
-    }
-}
-
-#[inline(never)]
-#[tactic(auto, unfolding(crate::specs::Words::read, crate::specs::Words::id_of, crate::specs::Words::bytes_of))]
-fn put_bytes(alloc: Global, word: &[u8], id: &mut SectionId) -> Result<(), LineError>
-    ensures ok { OnOk result (read an_id word.now ≡ Ok id.new) }
-    ensures err { IfErr result (λ e. Fails e (read an_id word.now)) }
-{
-    match word {
-        [b'\'', text @ ..] => put_quoted(text, id),
-        _ => put_decoded(alloc, word, id),
-    }
-}
-
-// The bytes that stand behind a quote.
-#[tactic(auto, unfolding(crate::specs::Words::read, crate::specs::Words::id_of, crate::specs::Words::bytes_of))]
-fn put_quoted(text: &[u8], id: &mut SectionId) -> Result<(), LineError>
-    ensures ok { OnOk result (read an_id (39 ∷ text.now) ≡ Ok id.new) }
-    ensures err { IfErr result (λ e. Fails e (read an_id (39 ∷ text.now))) }
-{
-    if !may_be_quoted(text) {
-        return Err(LineError::Fault(Reason::Bytes));
-    }
-    put_slice(text, id)
-}
-
-#[tactic(auto, unfolding(crate::specs::Words::read, crate::specs::Words::id_of))]
-fn put_decoded(alloc: Global, word: &[u8], id: &mut SectionId) -> Result<(), LineError>
-    ensures ok { OnOk result (read an_id word.now ≡ Ok id.new) }
-    ensures err { IfErr result (λ e. Fails e (read an_id word.now)) }
-{
-    let found = bytes(alloc, word)?;
-    put_slice(found.as_slice(), id)
-}
-
-// Puts an identifier of these bytes.
-fn put_slice(text: &[u8], id: &mut SectionId) -> Result<(), LineError>
-    ensures ok { OnOk result (or_reason reasons.Bytes (if nat_le (length text.now) section_id_max then Some text.now else None) ≡ Ok id.new) }
-    ensures err { IfErr result (λ e. Fails e (or_reason reasons.Bytes (if nat_le (length text.now) section_id_max then Some text.now else None))) }
-{
-    match SectionId::from_slice(text) {
-        Some(found) => {
-            *id = found;
-            Ok(())
-        }
-        None => Err(LineError::Fault(Reason::Bytes)),
     }
 }
 

@@ -3,8 +3,7 @@ ghost use Rattle.script_words.specs.Spelling.{spell, bytes_text, time_text, acto
 ghost use Rattle.script_words.specs.Words.{a_client, a_node, a_place, an_iteration, a_ckpt, a_time, some_bytes, an_id, a_new_id, a_version, the_callbacks, a_who};
 
 use ckpt_types::{
-    ActorName, Bytes, CallId, CallbackSet, CkptId, Moment, NEVER, NewId, NodeId, SectionId,
-    Version, Who,
+    ActorName, Bytes, CallId, CallbackSet, CkptId, Moment, NEVER, NewId, NodeId, Version, Who,
 };
 use itoa::Buffer;
 use std::alloc::{AllocError, Global};
@@ -87,7 +86,7 @@ pub fn write_bytes(alloc: Global, out: &mut Vec<u8>, bytes: &[u8]) -> Result<(),
 }
 
 /// Writes a space and an identifier.
-pub fn write_id(alloc: Global, out: &mut Vec<u8>, id: &SectionId) -> Result<(), AllocError>
+pub fn write_id(alloc: Global, out: &mut Vec<u8>, id: &Bytes) -> Result<(), AllocError>
     ensures { OnOk result (out.new.items ≡ out.old.items ++ 32 ∷ spell an_id id.now) }
 {
     write_bytes(alloc, out, id.as_slice())

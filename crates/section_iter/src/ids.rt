@@ -46,18 +46,6 @@ pub(crate) fn push_id(bytes: &mut Vec<u8>, ends: &mut Vec<u32>, id: SectionId)
     ends.push_reserved(end as u32);
 }
 
-/// The identifier at a place.
-pub(crate) fn id_at(bytes: &[u8], ends: &[u32], place: usize) -> SectionId
-    requires kept { AreIds ends.now bytes.now }
-    requires there { place < length ends.now }
-    ensures { slice_get (ids_in ends.now bytes.now) place ≡ Some result }
-{
-    let Some(id) = SectionId::from_slice(bytes_between(bytes, ends, place)) else {
-        unreachable!()
-    };
-    id
-}
-
 /// Adds bytes within the room that was taken.
 fn extend_reserved(bytes: &mut Vec<u8>, more: &[u8])
     requires { length bytes.old.items + length more.now ≤ vec_capacity bytes.old }
@@ -69,8 +57,8 @@ fn extend_reserved(bytes: &mut Vec<u8>, more: &[u8])
     };
 }
 
-/// The bytes of the identifier at a place.
-fn bytes_between<'a>(bytes: &'a [u8], ends: &[u32], place: usize) -> &'a [u8]
+/// The identifier at a place.
+pub(crate) fn id_at<'a>(bytes: &'a [u8], ends: &[u32], place: usize) -> &'a [u8]
     requires kept { AreIds ends.now bytes.now }
     requires there { place < length ends.now }
     ensures { slice_get (ids_in ends.now bytes.now) place ≡ Some result.now }

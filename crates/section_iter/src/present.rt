@@ -5,7 +5,7 @@ ghost use Rattle.ckpt_types.specs.Sections.{section_of, section_at, is_present, 
 ghost use Rattle.section_iter.specs.Ids.{ids_in, AreIds};
 
 use crate::ids::id_at;
-use ckpt_types::{Moment, SectionDescriptor, SectionId, SectionRef, Sections};
+use ckpt_types::{Moment, SectionDescriptor, SectionRef, Sections};
 use moment_rules::expired;
 
 /// A section that is present, and the place of its identifier.
@@ -31,7 +31,7 @@ pub(crate) fn find_first<S: Sections>(
 {
     for place in from..ends.len() {
         let id = id_at(bytes, ends, place);
-        if let Some(section) = describe_present(sections, &id, now) {
+        if let Some(section) = describe_present(sections, id, now) {
             return Some(Found { place, section });
         }
     }
@@ -39,11 +39,7 @@ pub(crate) fn find_first<S: Sections>(
 }
 
 /// What is told of the section of that identifier, where it is present.
-fn describe_present<S: Sections>(
-    sections: &S,
-    id: &SectionId,
-    now: Moment,
-) -> Option<SectionDescriptor>
+fn describe_present<S: Sections>(sections: &S, id: &[u8], now: Moment) -> Option<SectionDescriptor>
     ensures { result ≡ option_map description (section_at id.now (present now (S.sections sections.now))) }
 {
     // The clause of `len` tells that the identifiers rise.

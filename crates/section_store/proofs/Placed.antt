@@ -6,12 +6,15 @@ use Rattle.ckpt_types.specs.declared.attributes.CreationAttributes.{CreationAttr
 use Rattle.ckpt_types.specs.declared.sections.SectionState.TheVariants.{Valid, Corrupted}
 use Rattle.ckpt_types.specs.declared.update.IoElement.{IoElement}
 use Rattle.ckpt_types.specs.declared.update.NewId.{NewId}
+use Rattle.ckpt_types.specs.Attributes.{is_malformed}
+use Rattle.ckpt_types.specs.Limits.{section_id_max}
 use Rattle.ckpt_types.specs.Sections.{Section, Rises, Fits, section_at, place_of, with_section, is_present, present, size_of}
 use Rattle.ckpt_types.specs.Updates.{Refusal, new_id, created, deleted, expiration_set, overwritten, written, element_written, elements_written}
 use Rattle.ckpt_types.proofs.Accepted.{and_then-Ok, element_written-Ok, overwritten-Ok, expiration_set-Ok, deleted-Ok, created-Ok}
 use Rattle.ckpt_types.proofs.Presence.{section_at-named, section_at-no_place, section_at-place_of, place_of-lt, All-section_at}
 use Rattle.ckpt_types.proofs.Placing.{Rises-with_section, Rises-without_section, memory_used-with_section_over}
-use Rattle.ckpt_types.proofs.Fitting.{Fits-element_written, Fits-overwritten, Fits-expiration_set, Fits-without_section, Fits-created, Fits-with_section_over}
+use Rattle.ckpt_types.proofs.AttributeLaws.{IsWellFormed-from_check}
+use Rattle.ckpt_types.proofs.Fitting.{length-new_id-le, Fits-element_written, Fits-overwritten, Fits-expiration_set, Fits-without_section, Fits-created, Fits-with_section_over}
 use Rattle.section_store.specs.Places.{count_below, changed_at}
 use Rattle.section_store.specs.StoreState.{corrupted, corrupted_where}
 use Rattle.section_store.proofs.PlaceLemmas.{slice_get-within, with_section-changed_at, with_section-insert, without_section-remove}
@@ -133,6 +136,14 @@ created-room a new expiration bytes t sections accepted =
     let (after, is) = Ok_from_IsOk (created a new expiration bytes t sections) accepted in
     let done = created-Ok a new expiration bytes t sections after is in
     (done.room, done.small)
+
+-- where a creation is not refused, its identifier is as short as any may be
+pub created-short : (a : CreationAttributes) (new : NewId) (expiration : ℤ) (bytes : List ℕ) (t : ℤ) (sections : List Section) → is_malformed a ≡ false → IsOk (created a new expiration bytes t sections) → length (new_id new sections) ≤ section_id_max
+created-short a new expiration bytes t sections checked accepted =
+    let (after, is) = Ok_from_IsOk (created a new expiration bytes t sections) accepted in
+    let done = created-Ok a new expiration bytes t sections after is in
+    let declared = IsWellFormed-from_check a checked in
+    omega (arith, length-new_id-le a new sections done.good_id, declared.few_id_bytes)
 
 -- those present at a moment are present then
 pub present-present : (t : ℤ) (sections : List Section) → present t (present t sections) ≡ present t sections

@@ -1,4 +1,5 @@
-ghost use Rattle.std.specs.Prelude.{◌≡◌, ◌<◌, ℕ, length, insert, remove, is_some, IfSome};
+ghost use Rattle.std.specs.Prelude.{◌≡◌, ◌<◌, ◌≤◌, ℕ, length, insert, remove, is_some, IfSome};
+ghost use Rattle.ckpt_types.specs.Limits.{section_id_max};
 ghost use Rattle.ckpt_types.specs.Sections.{Section, Rises, is_taken, place_of, present};
 ghost use Rattle.ckpt_types.specs.Updates.{free_number, new_id, numbered_id};
 ghost use Rattle.section_store.specs.Stored.{sections_of};
@@ -19,11 +20,17 @@ pub(crate) struct Made {
 pub(crate) fn new_id(new: &NewId, kept: &[Box<Stored>], first: u64, now: Moment) -> Made
     requires rises { Rises (sections_of kept.now) }
     requires taken { AreTaken first (present now (sections_of kept.now)) }
+    requires short { length (new_id new.now (present now (sections_of kept.now))) ≤ section_id_max }
     ensures id { result.id ≡ new_id new.now (present now (sections_of kept.now)) }
     ensures first { (place : ℕ) → (s : Section) → s.id ≡ result.id → AreTaken result.first (insert (present now (sections_of kept.now)) place s) }
 {
     match new {
-        NewId::Given(id) => Made { id: *id, first },
+        NewId::Given(id) => {
+            let Some(id) = SectionId::from_slice(id.as_slice()) else {
+                unreachable!()
+            };
+            Made { id, first }
+        }
         NewId::Generated => {
             let number = free_number(kept, first, now);
             Made {
@@ -77,7 +84,7 @@ fn find_number(kept: &[Box<Stored>], number: u64, near: usize) -> Option<usize>
     if near < kept.len() && kept[near].id.is_number(number) {
         Some(near)
     } else {
-        find(kept, &numbered(number))
+        find(kept, numbered(number).as_slice())
     }
 }
 

@@ -46,6 +46,13 @@ impl Keyed {
         &self.id
     }
 
+    /// Whether it has these bytes.
+    pub fn has_bytes(&self, id: &[u8]) -> bool
+        ensures { result ≡ pointwise nat_eq self.now id.now }
+    {
+        self.id.as_slice() == id
+    }
+
     /// Its first bytes as a number, the highest first, with zeros behind a shorter one.
     pub fn key(&self) -> u64
         ensures { result ≡ key_of self.now }
@@ -62,7 +69,7 @@ impl Keyed {
 }
 
 /// How an identifier, which has this key, compares with another.
-pub(crate) fn compare(id: &SectionId, key: u64, other: &Keyed) -> Ordering
+pub(crate) fn compare(id: &[u8], key: u64, other: &Keyed) -> Ordering
     requires key { key ≡ key_of id.now }
     requires bytes { AreBytes id.now }
     ensures { result ≡ id_cmp id.now other.now }
@@ -72,7 +79,7 @@ pub(crate) fn compare(id: &SectionId, key: u64, other: &Keyed) -> Ordering
     } else if key > other.key {
         Ordering::Greater
     } else {
-        id.cmp(&other.id)
+        id.cmp(other.id.as_slice())
     }
 }
 

@@ -12,12 +12,12 @@ use std::alloc::{AllocError, Global};
 use std::cmp::Ordering;
 
 /// Where the section of that identifier stands, or would stand.
-pub(crate) fn place_for(kept: &[Box<Stored>], id: &SectionId) -> usize
+pub(crate) fn place_for(kept: &[Box<Stored>], id: &[u8]) -> usize
     requires { Rises (sections_of kept.now) }
     ensures place { result ≡ count_below id.now (sections_of kept.now) }
     ensures within { result ≤ length kept.now }
 {
-    let key = key_of(id.as_slice());
+    let key = key_of(id);
     let mut low = 0;
     let mut high = kept.len();
     while low < high {
@@ -31,13 +31,13 @@ pub(crate) fn place_for(kept: &[Box<Stored>], id: &SectionId) -> usize
 }
 
 /// The place of the section of that identifier.
-pub(crate) fn find(kept: &[Box<Stored>], id: &SectionId) -> Option<usize>
+pub(crate) fn find(kept: &[Box<Stored>], id: &[u8]) -> Option<usize>
     requires { Rises (sections_of kept.now) }
     ensures place { result ≡ place_of id.now (sections_of kept.now) }
     ensures within { IfSome result (λ place. place < length kept.now) }
 {
     let place = place_for(kept, id);
-    if place < kept.len() && kept[place].id.id() == id {
+    if place < kept.len() && kept[place].id.has_bytes(id) {
         Some(place)
     } else {
         None

@@ -27,7 +27,7 @@ fn piece<'a>(kept: &'a [Box<Stored>], element: &ReadElement) -> &'a [u8]
     requires readable { IsOk (piece_read 0 element.now (sections_of kept.now)) }
     ensures { piece_read 0 element.now (sections_of kept.now) ≡ Ok result.now }
 {
-    let Some(place) = find(kept, &element.id) else {
+    let Some(place) = find(kept, element.id.as_slice()) else {
         unreachable!()
     };
     let stored = &*kept[place];

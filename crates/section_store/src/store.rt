@@ -72,15 +72,17 @@ impl Store {
         self.drop_absent(now);
         match update {
             Update::Write(elements) => self.write(elements.as_slice(), now),
-            Update::Overwrite(id, bytes) => self.overwrite(id, bytes.as_slice(), now),
+            Update::Overwrite(id, bytes) => self.overwrite(id.as_slice(), bytes.as_slice(), now),
             Update::Create(new, expiration, bytes) => self.create(
                 new,
                 *expiration,
                 bytes.as_slice(),
                 now,
             ),
-            Update::Delete(id) => self.delete(id),
-            Update::SetExpiration(id, expiration) => self.set_expiration(id, *expiration, now),
+            Update::Delete(id) => self.delete(id.as_slice()),
+            Update::SetExpiration(id, expiration) => {
+                self.set_expiration(id.as_slice(), *expiration, now);
+            }
             Update::Nothing => {}
         }
     }
@@ -96,7 +98,7 @@ impl Store {
     }
 
     /// Makes the section of that identifier a corrupted one, where one stands.
-    pub fn corrupt(&mut self, id: &SectionId)
+    pub fn corrupt(&mut self, id: &[u8])
         ensures { self.new ≡ record self.old { sections = corrupted id.now self.old.sections } }
     {
         if let Some(place) = find(self.kept.as_slice(), id) {
@@ -221,7 +223,7 @@ impl Store {
         ensures attributes { self.new.attributes ≡ self.old.attributes }
         ensures sections { element_written self.old.attributes now 0 element.now self.old.sections ≡ Ok self.new.sections }
     {
-        let Some(place) = find(self.kept.as_slice(), &element.id) else {
+        let Some(place) = find(self.kept.as_slice(), element.id.as_slice()) else {
             unreachable!()
         };
         let grown = write_into(
@@ -234,7 +236,7 @@ impl Store {
         self.summary.used += grown;
     }
 
-    fn overwrite(&mut self, id: &SectionId, bytes: &[u8], now: Moment)
+    fn overwrite(&mut self, id: &[u8], bytes: &[u8], now: Moment)
         requires { IsOk (overwritten self.old.attributes id.now bytes.now now self.old.sections) }
         ensures attributes { self.new.attributes ≡ self.old.attributes }
         ensures sections { overwritten self.old.attributes id.now bytes.now now self.old.sections ≡ Ok self.new.sections }
@@ -260,7 +262,7 @@ impl Store {
             state: SectionState::Valid,
             last_update: now,
         };
-        let place = place_for(self.kept.as_slice(), &made.id);
+        let place = place_for(self.kept.as_slice(), made.id.as_slice());
         put_in(&mut self.kept, &mut self.spare, place, &section);
         self.summary = Summary {
             earliest: self.summary.earliest.min(expiration),
@@ -269,7 +271,7 @@ impl Store {
         };
     }
 
-    fn delete(&mut self, id: &SectionId)
+    fn delete(&mut self, id: &[u8])
         requires { IsOk (deleted self.old.attributes id.now self.old.sections) }
         ensures attributes { self.new.attributes ≡ self.old.attributes }
         ensures sections { deleted self.old.attributes id.now self.old.sections ≡ Ok self.new.sections }
@@ -282,7 +284,7 @@ impl Store {
         self.summary.used -= before;
     }
 
-    fn set_expiration(&mut self, id: &SectionId, expiration: Moment, now: Moment)
+    fn set_expiration(&mut self, id: &[u8], expiration: Moment, now: Moment)
         requires { IsOk (expiration_set self.old.attributes id.now expiration now self.old.sections) }
         ensures attributes { self.new.attributes ≡ self.old.attributes }
         ensures sections { expiration_set self.old.attributes id.now expiration now self.old.sections ≡ Ok self.new.sections }
@@ -313,7 +315,7 @@ impl Sections for Store {
         }
     }
 
-    fn find(&self, id: &SectionId) -> Option<usize> {
+    fn find(&self, id: &[u8]) -> Option<usize> {
         find(self.kept.as_slice(), id)
     }
 

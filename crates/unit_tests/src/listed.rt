@@ -84,7 +84,7 @@ impl Sections for Listed<'_> {
         lent_at(self.items, place)
     }
 
-    fn find(&self, id: &SectionId) -> Option<usize> {
+    fn find(&self, id: &[u8]) -> Option<usize> {
         place_in(self.items, id)
     }
 
@@ -107,14 +107,14 @@ fn lent_at(items: &[Kept], place: usize) -> SectionRef<'_>
     }
 }
 
-fn place_in(items: &[Kept], id: &SectionId) -> Option<usize>
+fn place_in(items: &[Kept], id: &[u8]) -> Option<usize>
     ensures place { result ≡ place_of id.now items.now }
     ensures within { IfSome result (λ place. place < length items.now) }
 {
     let [first, rest @ ..] = items else {
         return None;
     };
-    if first.id == *id {
+    if first.id.as_slice() == id {
         return Some(0);
     }
     match place_in(rest, id) {

@@ -1,10 +1,10 @@
 use crate::listed::{Given, Listed, sections_of};
-use crate::values::{bytes_of, id_of};
+use crate::values::bytes_of;
 use ckpt_types::{
     CreationAttributes, IoElement, IoVector, Moment, NEVER, NewId, ReadElement, SectionState,
     Update, WR_ALL_REPLICAS,
 };
-use std::alloc::Global;
+use std::alloc::{AllocError, Global};
 use std::test::Fail;
 use update_rules::{Refused, check, check_read};
 
@@ -61,15 +61,14 @@ impl Case<'_> {
     }
 
     /// Whether a read is answered so.
-    fn reads(&self, alloc: Global, elements: &[ReadElement], want: &str) -> Result<bool, Fail> {
+    fn reads(&self, alloc: Global, elements: &[(&str, u64)], want: &str) -> Result<bool, Fail> {
+        let elements = reads_of(alloc, elements)?;
         let items = sections_of(alloc, self.given)?;
         let Some(sections) = Listed::new(items.as_slice()) else {
             return Err(Fail::new("the identifiers do not rise"));
         };
-        if elements.len() > 2 {
-            return Err(Fail::new("many elements"));
-        }
-        is_told(alloc, check_read(&sections, elements, self.now), want)
+        let answer = check_read(&sections, elements.as_slice(), self.now);
+        is_told(alloc, answer, want)
     }
 }
 
@@ -86,23 +85,53 @@ fn is_told(alloc: Global, answer: Result<(), Refused>, want: &str) -> Result<boo
 fn update_of(alloc: Global, call: Call<'_>) -> Result<Update, Fail> {
     Ok(match call {
         Call::Write(elements) => Update::Write(vector_of(alloc, elements)?),
-        Call::Overwrite(id, bytes) => Update::Overwrite(id_of(id), bytes_of(alloc, bytes)?),
-        Call::Create(id, expiration, bytes) => {
-            let new = NewId::Given(id_of(id));
-            Update::Create(new, expiration, bytes_of(alloc, bytes)?)
-        }
+        Call::Overwrite(id, bytes) => overwrite_of(alloc, id, bytes)?,
+        Call::Create(id, expiration, bytes) => create_of(alloc, id, expiration, bytes)?,
         Call::Generate => Update::Create(NewId::Generated, NEVER, bytes_of(alloc, "")?),
-        Call::Delete(id) => Update::Delete(id_of(id)),
-        Call::Expire(id, expiration) => Update::SetExpiration(id_of(id), expiration),
+        Call::Delete(id) => Update::Delete(bytes_of(alloc, id)?),
+        Call::Expire(id, expiration) => Update::SetExpiration(bytes_of(alloc, id)?, expiration),
         Call::Nothing => Update::Nothing,
     })
+}
+
+fn overwrite_of(alloc: Global, id: &str, bytes: &str) -> Result<Update, AllocError> {
+    let id = bytes_of(alloc, id)?;
+    let bytes = bytes_of(alloc, bytes)?;
+    Ok(Update::Overwrite(id, bytes))
+}
+
+fn create_of(
+    alloc: Global,
+    id: &str,
+    expiration: Moment,
+    bytes: &str,
+) -> Result<Update, AllocError> {
+    let id = bytes_of(alloc, id)?;
+    let bytes = bytes_of(alloc, bytes)?;
+    Ok(Update::Create(NewId::Given(id), expiration, bytes))
+}
+
+/// Reads of 16 bytes each.
+fn reads_of(alloc: Global, elements: &[(&str, u64)]) -> Result<Vec<ReadElement>, Fail> {
+    if elements.len() > 2 {
+        return Err(Fail::new("many elements"));
+    }
+    let mut items = Vec::new(alloc);
+    for (id, offset) in elements {
+        items.push(ReadElement {
+            id: bytes_of(alloc, id)?,
+            offset: *offset,
+            len: 16,
+        })?;
+    }
+    Ok(items)
 }
 
 fn vector_of(alloc: Global, elements: &[(&str, u64, &str)]) -> Result<IoVector, Fail> {
     let mut items = Vec::new(alloc);
     for (id, offset, bytes) in elements {
         items.push(IoElement {
-            id: id_of(id),
+            id: bytes_of(alloc, id)?,
             offset: *offset,
             bytes: bytes_of(alloc, bytes)?,
         })?;
@@ -290,21 +319,16 @@ fn a_read_is_refused_with_the_first_element_that_is_refused(rt: HostRuntime) -> 
         given: &[("a", "abcd\0f\0h", 20, VALID), ("b", "", NEVER, VALID)],
         now: 19,
     };
-    let element = |name: &str, offset: u64| ReadElement {
-        id: id_of(name),
-        offset,
-        len: 16,
-    };
-    assert!(rt; case.reads(alloc, &[element("a", 0), element("a", 8)], "ok")?);
+    assert!(rt; case.reads(alloc, &[("a", 0), ("a", 8)], "ok")?);
     assert!(rt;
         case.reads(
             alloc,
-            &[element("a", 0), element("a", 9)],
+            &[("a", 0), ("a", 9)],
             "INVALID_PARAM 1"
         )?
     );
-    assert!(rt; case.reads(alloc, &[element("c", 0), element("a", 9)], "NOT_EXIST 0")?);
+    assert!(rt; case.reads(alloc, &[("c", 0), ("a", 9)], "NOT_EXIST 0")?);
     let case = Case { now: 20, ..case };
-    assert!(rt; case.reads(alloc, &[element("a", 0)], "NOT_EXIST 0")?);
+    assert!(rt; case.reads(alloc, &[("a", 0)], "NOT_EXIST 0")?);
     Ok(())
 }

@@ -1,6 +1,6 @@
 use ckpt_types::{
     Bytes, CreationAttributes, IoElement, IoVector, Moment, NEVER, NewId, ReadBuf, ReadElement,
-    SectionId, SectionState, Sections, Update, WR_ALL_REPLICAS,
+    SectionState, Sections, Update, WR_ALL_REPLICAS,
 };
 use section_store::Store;
 use std::alloc::{AllocError, Global};
@@ -29,7 +29,7 @@ const TWO: CreationAttributes = CreationAttributes {
 /// A write of one element into the default section.
 fn write(alloc: Global, offset: u64, bytes: &[u8]) -> Result<Update, AllocError> {
     let element = IoElement {
-        id: SectionId::default(),
+        id: Bytes::default(),
         offset,
         bytes: Bytes::from_slice(alloc, bytes)?,
     };
@@ -84,16 +84,16 @@ fn gives(
     bytes: &[u8],
     now: Moment,
 ) -> Result<bool, AllocError> {
-    let element = ReadElement {
-        id: SectionId::default(),
+    let elements = [ReadElement {
+        id: Bytes::default(),
         offset,
         len: 2,
-    };
+    }];
     let mut out = ReadBuf::reserve(alloc, 1, 8)?;
-    if check_read(store, &[element], now).is_err() {
+    if check_read(store, &elements, now).is_err() {
         return Ok(false);
     }
-    store.read_into(&[element], now, &mut out);
+    store.read_into(&elements, now, &mut out);
     Ok(out.len() == 1 && out.piece(0) == bytes)
 }
 
@@ -103,7 +103,7 @@ fn a_gap_before_what_is_written_is_zeros(rt: HostRuntime) -> Result<(), Fail> {
     let mut store = Store::reserve(alloc, &ONE, 5)?;
     assert!(rt; writes(&mut store, alloc, 2, b"ab", 7)?);
     assert!(rt; gives(&store, alloc, 1, &[0, 97], 7)?);
-    store.corrupt(&SectionId::default());
+    store.corrupt(&[]);
     assert_eq!(rt; store.len(), 1);
     let section = store.at(0);
     assert_eq!(rt; section.bytes, [0, 0, 97, 98].as_slice());
@@ -156,6 +156,7 @@ fn the_least_free_number_is_made_again(rt: HostRuntime) -> Result<(), Fail> {
     let alloc = rt.alloc();
     let mut store = Store::reserve(alloc, &TWO, 5)?;
     let first = store.generated(6);
+    let first = Bytes::from_slice(alloc, first.as_slice())?;
     assert!(rt; creates(&mut store, alloc, 10, b"abcd", 6)?);
     assert!(rt; makes(&store, 2, 9));
     assert!(rt; makes(&store, 1, 10));

@@ -21,7 +21,7 @@ fn copies_and_shares_give_the_value(rt: HostRuntime) -> Result<(), Fail> {
     let name = Bytes::from_slice(alloc, b"calls")?;
     assert_eq!(rt; name.clone()?.as_slice(), b"calls".as_slice());
     let element = IoElement {
-        id: SectionId::default(),
+        id: Bytes::default(),
         offset: 3,
         bytes: name,
     };
@@ -42,7 +42,7 @@ fn copies_and_shares_give_the_value(rt: HostRuntime) -> Result<(), Fail> {
 #[test]
 fn the_elements_of_a_read_are_shared(rt: HostRuntime) -> Result<(), Fail> {
     let alloc = rt.alloc();
-    let id = SectionId::from_slice(b"s63").ok_or("too long")?;
+    let id = Bytes::from_slice(alloc, b"s63")?;
     let mut elements = Vec::new(alloc);
     elements.push(ReadElement {
         id,

@@ -1,7 +1,7 @@
 use ckpt_types::{Bytes, SectionId};
 use std::alloc::{AllocError, Global};
 
-/// The identifier with these bytes.
+/// The identifier with these bytes, as a store keeps it.
 pub fn id_of(text: &str) -> SectionId {
     SectionId::from_slice(text.as_bytes()).unwrap_or(SectionId::default())
 }

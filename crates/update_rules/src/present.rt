@@ -2,11 +2,11 @@ ghost use Rattle.std.specs.Prelude.{◌≡◌};
 ghost use Rattle.ckpt_types.specs.Sections.{Rises, section_of, is_present, present};
 ghost use Rattle.update_rules.specs.Present.{size_at};
 
-use ckpt_types::{Moment, SectionId, SectionRef, Sections};
+use ckpt_types::{Moment, SectionRef, Sections};
 use moment_rules::expired;
 
 /// How many bytes the section of that identifier has, where it is present.
-pub(crate) fn size_present<S: Sections>(sections: &S, id: &SectionId, now: Moment) -> Option<u64>
+pub(crate) fn size_present<S: Sections>(sections: &S, id: &[u8], now: Moment) -> Option<u64>
     requires in_order { Rises (S.sections sections.now) }
     ensures { result ≡ size_at id.now (present now (S.sections sections.now)) }
 {

@@ -20,7 +20,7 @@ pub fn check_read<S: Sections>(
     let _count = sections.len();
     for (place, element) in elements.iter().enumerate() {
         let index = place as u32;
-        let Some(size) = size_present(sections, &element.id, now) else {
+        let Some(size) = size_present(sections, element.id.as_slice(), now) else {
             return Err(Refused {
                 error: AisError::NotExist,
                 index,

@@ -7,7 +7,7 @@ use crate::present::size_present;
 use crate::refused::{Refused, refuse};
 use crate::writes::check_write;
 use ckpt_types::{
-    AisError, CreationAttributes, GENERATED_ID_BYTES, Moment, NewId, SectionId, Sections, Update,
+    AisError, CreationAttributes, GENERATED_ID_BYTES, Moment, NewId, Sections, Update,
 };
 use moment_rules::expired;
 
@@ -26,14 +26,14 @@ pub fn check<S: Sections>(
     match update {
         Update::Write(vector) => check_write(attrs, sections, vector.as_slice(), now),
         Update::Overwrite(id, bytes) => {
-            check_overwrite(attrs, sections, id, bytes.as_slice(), now)
+            check_overwrite(attrs, sections, id.as_slice(), bytes.as_slice(), now)
         }
         Update::Create(new, expiration, bytes) => {
             check_create(attrs, sections, new, *expiration, bytes.as_slice(), now)
         }
-        Update::Delete(id) => check_delete(attrs, sections, id, now),
+        Update::Delete(id) => check_delete(attrs, sections, id.as_slice(), now),
         Update::SetExpiration(id, expiration) => {
-            check_expiration(attrs, sections, id, *expiration, now)
+            check_expiration(attrs, sections, id.as_slice(), *expiration, now)
         }
         Update::Nothing => Ok(()),
     }
@@ -87,7 +87,7 @@ fn is_taken<S: Sections>(sections: &S, new: &NewId, now: Moment) -> bool
     ensures { result ≡ is_taken (new_id new.now (present now (S.sections sections.now))) (present now (S.sections sections.now)) }
 {
     match new {
-        NewId::Given(id) => size_present(sections, id, now).is_some(),
+        NewId::Given(id) => size_present(sections, id.as_slice(), now).is_some(),
         NewId::Generated => false,
     }
 }
@@ -104,7 +104,7 @@ fn lacks_room<S: Sections>(attrs: &CreationAttributes, sections: &S, len: u64, n
 fn check_delete<S: Sections>(
     attrs: &CreationAttributes,
     sections: &S,
-    id: &SectionId,
+    id: &[u8],
     now: Moment,
 ) -> Result<(), Refused>
     requires in_order { Rises (S.sections sections.now) }
@@ -122,7 +122,7 @@ fn check_delete<S: Sections>(
 fn check_expiration<S: Sections>(
     attrs: &CreationAttributes,
     sections: &S,
-    id: &SectionId,
+    id: &[u8],
     expiration: Moment,
     now: Moment,
 ) -> Result<(), Refused>
@@ -144,7 +144,7 @@ fn check_expiration<S: Sections>(
 fn check_overwrite<S: Sections>(
     attrs: &CreationAttributes,
     sections: &S,
-    id: &SectionId,
+    id: &[u8],
     bytes: &[u8],
     now: Moment,
 ) -> Result<(), Refused>

@@ -6,7 +6,7 @@ ghost use Rattle.update_rules.specs.Writes.{with_elements, end_of, end_in, last_
 
 use crate::present::size_present;
 use crate::refused::Refused;
-use ckpt_types::{AisError, CreationAttributes, IoElement, Moment, SectionId, Sections};
+use ckpt_types::{AisError, CreationAttributes, IoElement, Moment, Sections};
 
 /// Refuses a write with its first element that is refused over what the elements before it leave.
 pub(crate) fn check_write<S: Sections>(
@@ -43,13 +43,14 @@ fn bytes_after<S: Sections>(
     ensures small { IfOk result (λ bytes. bytes < 2 ^ 64) }
 {
     let index = earlier.len() as u32;
-    let Some(size_before) = size_present(sections, &element.id, now) else {
+    let id = element.id.as_slice();
+    let Some(size_before) = size_present(sections, id, now) else {
         return Err(Refused {
             error: AisError::NotExist,
             index,
         });
     };
-    let size = size_after(u128::from(size_before), &element.id, earlier);
+    let size = size_after(u128::from(size_before), id, earlier);
     let end = end_of(element);
     if end > u128::from(attrs.max_section_size) {
         return Err(Refused {
@@ -68,7 +69,7 @@ fn bytes_after<S: Sections>(
 }
 
 /// How many bytes the section of that identifier has once the elements are written.
-fn size_after(size_before: u128, id: &SectionId, elements: &[IoElement]) -> u128
+fn size_after(size_before: u128, id: &[u8], elements: &[IoElement]) -> u128
     ensures { result ≡ max size_before (last_end_in id.now elements.now) }
 {
     let mut size = size_before;
@@ -79,12 +80,12 @@ fn size_after(size_before: u128, id: &SectionId, elements: &[IoElement]) -> u128
 }
 
 /// How many bytes the section of that identifier has once an element is written.
-fn size_with(size: u128, id: &SectionId, element: &IoElement) -> u128
+fn size_with(size: u128, id: &[u8], element: &IoElement) -> u128
     ensures { result ≡ max size (end_in id.now element.now) }
 {
     let end = end_of(element);
     // Most elements end within their section, and then it does not matter whose they are.
-    if end > size && element.id == *id {
+    if end > size && element.id.as_slice() == id {
         end
     } else {
         size

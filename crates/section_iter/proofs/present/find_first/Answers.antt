@@ -15,8 +15,8 @@ returns-in-Some-clause-section g c =
     let ids = ids_in c.args.ends.now c.args.bytes.now in
     let place = c.loop-place.place in
     let before : given (drop c.args.from ids) c.args.now sections ≡ given (drop place ids) c.args.now sections = simp to_z-of_z at c.loop-place.invariant in
-    let here : Some c.in-Some.section ≡ option_map description (section_at c.id_at-id.result (present c.args.now sections)) = simp to_z-of_z at c.in-Some.ensures in
-    let next = given_here (drop c.args.from ids) ids place c.id_at-id.result c.args.now sections c.id_at-id.ensures before c.in-Some.section here in
+    let here : Some c.in-Some.section ≡ option_map description (section_at c.id_at-id.result.now (present c.args.now sections)) = simp to_z-of_z at c.in-Some.ensures in
+    let next = given_here (drop c.args.from ids) ids place c.id_at-id.result.now c.args.now sections c.id_at-id.ensures before c.in-Some.section here in
     ap Some next.2 ∙ sym (ap (option_map (λ n. description n.section)) next.1)
 
 pub returns-in-Some-clause-rest : goal.returns-in-Some-clause-rest
@@ -26,16 +26,16 @@ returns-in-Some-clause-rest g c =
     let ids = ids_in c.args.ends.now c.args.bytes.now in
     let place = c.loop-place.place in
     let before : given (drop c.args.from ids) c.args.now sections ≡ given (drop place ids) c.args.now sections = simp to_z-of_z at c.loop-place.invariant in
-    let here : Some c.in-Some.section ≡ option_map description (section_at c.id_at-id.result (present c.args.now sections)) = simp to_z-of_z at c.in-Some.ensures in
-    let next = given_here (drop c.args.from ids) ids place c.id_at-id.result c.args.now sections c.id_at-id.ensures before c.in-Some.section here in
+    let here : Some c.in-Some.section ≡ option_map description (section_at c.id_at-id.result.now (present c.args.now sections)) = simp to_z-of_z at c.in-Some.ensures in
+    let next = given_here (drop c.args.from ids) ids place c.id_at-id.result.now c.args.now sections c.id_at-id.ensures before c.in-Some.section here in
     ap Some next.3 ∙ sym (ap (option_map (λ n. n.rest)) next.1)
 
 pub loop-place-preserved : goal.loop-place-preserved
 loop-place-preserved g c =
     let sections = g.S.Sections.sections c.args.sections.now in
     let ids = ids_in c.args.ends.now c.args.bytes.now in
-    let later : None ≡ option_map description (section_at c.id_at-id.result (present (to_z w64 (of_z w64 c.args.now)) sections)) = sym c.in_default.is ∙ c.describe_present.ensures in
-    given_later (drop c.args.from ids) ids c.loop-place.place c.id_at-id.result (to_z w64 (of_z w64 c.args.now)) sections c.id_at-id.ensures c.loop-place.invariant later
+    let later : None ≡ option_map description (section_at c.id_at-id.result.now (present (to_z w64 (of_z w64 c.args.now)) sections)) = sym c.in_default.is ∙ c.describe_present.ensures in
+    given_later (drop c.args.from ids) ids c.loop-place.place c.id_at-id.result.now (to_z w64 (of_z w64 c.args.now)) sections c.id_at-id.ensures c.loop-place.invariant later
 
 pub returns-clause-section : goal.returns-clause-section
 returns-clause-section g c =

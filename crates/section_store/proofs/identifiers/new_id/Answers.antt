@@ -19,8 +19,8 @@ overflow_add-result c =
     omega (arith, c.free_number-number.ensures, free_number-le sections, length-present-le t (sections_of c.args.kept.now), length-sections_of c.args.kept.now) in
     search (rules, counted)
 
-pub returns-in-Given-clause-first : goal.returns-in-Given-clause-first
-returns-in-Given-clause-first c = λ place s same. AreTaken-insert c.args.first place s (present c.args.now (sections_of c.args.kept.now)) c.requires.taken
+pub returns-in-Some-clause-first : goal.returns-in-Some-clause-first
+returns-in-Some-clause-first c = λ place s same. AreTaken-insert c.args.first place s (present c.args.now (sections_of c.args.kept.now)) c.requires.taken
 
 pub returns-in-Generated-clause-first : goal.returns-in-Generated-clause-first
 returns-in-Generated-clause-first c = λ place s same.

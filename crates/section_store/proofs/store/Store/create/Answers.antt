@@ -1,7 +1,8 @@
-use Rattle.std.proofs.Common.{◌+◌, ◌^◌, ◌<◌, ◌≡◌, ◌≤ℤ◌, rules, ◌∙◌, ap, sym, subst, refl, length, to_z, of_z, w64, arith}
+use Rattle.std.proofs.Common.{◌+◌, ◌^◌, ◌<◌, ◌≡◌, ◌≤ℤ◌, ◌≤◌, rules, ◌∙◌, ap, sym, subst, refl, length, to_z, of_z, w64, arith}
 use Rattle.std.specs.Prelude.{insert}
 use Rattle.std.proofs.lemmas.Int.{ints, to_z-of_z}
 use Rattle.ckpt_types.specs.declared.sections.SectionState.TheVariants.{Valid}
+use Rattle.ckpt_types.specs.Limits.{section_id_max}
 use Rattle.ckpt_types.specs.Sections.{Section, present}
 use Rattle.ckpt_types.specs.Updates.{created, new_id}
 use Rattle.section_store.specs.Places.{count_below}
@@ -9,11 +10,20 @@ use Rattle.section_store.specs.Stored.{sections_of, ExpireFrom}
 use Rattle.section_store.specs.Summary.{AreTaken, IsSummary}
 use Rattle.ckpt_types.specs.Sections.{memory_used, size_of}
 use Rattle.std.proofs.lemmas.List.Sums.{sum_by-insert}
-use Rattle.section_store.proofs.Placed.{Leaves, created-insert, created-room}
+use Rattle.section_store.proofs.Placed.{Leaves, created-insert, created-room, created-short}
 use Rattle.section_store.proofs.StoredLemmas.{length-sections_of, HaveRoom-less}
 use Rattle.section_store.proofs.Expiring.{ExpireFrom-insert, ExpireFrom-earlier}
 use Rattle.section_store.proofs.Reserved.{IsReserved-Replaces, few_bytes}
 use Rattle.section_store.proofs.store.Store.create.Goals as goal
+
+pub new_id-made-requires-clause-short : goal.new_id-made-requires-clause-short
+new_id-made-requires-clause-short c =
+    let kept = sections_of c.self.inside.kept.items in
+    let moment : to_z w64 (of_z w64 c.args.now) ≡ c.args.now = to_z-of_z w64 c.args.now c.ranges.now in
+    let all_present : present c.args.now kept ≡ kept = rw (← c.self.view_is) at c.requires.all_present in
+    let shown : present (to_z w64 (of_z w64 c.args.now)) (sections_of c.as_slice.result.now) ≡ kept = (λ i. present (moment i) (sections_of (c.as_slice.ensures.value i))) ∙ all_present in
+    subst (λ xs. length (new_id c.args.new.now xs) ≤ section_id_max) (sym shown)
+    (created-short c.self.inside.attributes c.args.new.now c.args.expiration c.args.bytes.now c.args.now kept c.self.invariant.checked (rw (← c.self.view_is) at c.requires.accepted))
 
 pub put_in-requires-clause-buffer : goal.put_in-requires-clause-buffer
 put_in-requires-clause-buffer c =
@@ -42,7 +52,7 @@ left c =
     let id : c.new_id-made.result.id ≡ new_id c.args.new.now kept =
     c.new_id-made.ensures.id ∙ (λ i. new_id c.args.new.now (present (moment i) (sections_of (c.as_slice.ensures.value i)))) ∙ ap (new_id c.args.new.now) all_present in
     let place : c.place_for-place.result ≡ count_below (new_id c.args.new.now kept) kept =
-    c.place_for-place.ensures.place ∙ (λ i. count_below (id i) (sections_of (c.as_slice-2.ensures.value i))) in
+    c.place_for-place.ensures.place ∙ (λ i. count_below ((c.as_slice-3.ensures ∙ id) i) (sections_of (c.as_slice-2.ensures.value i))) in
     let changed : sections_of c.put_in.new.kept.items ≡ insert kept (count_below (new_id c.args.new.now kept) kept) (record { id = new_id c.args.new.now kept; bytes = c.args.bytes.now; expiration = c.args.expiration; state = Valid; last_update = c.args.now }) =
     c.put_in.ensures.sections ∙ (λ i. insert kept (place i) (record { id = id i; bytes = c.args.bytes.now; expiration = end i; state = Valid; last_update = moment i })) in
     subst (Leaves c.self.inside.attributes (created c.self.inside.attributes c.args.new.now c.args.expiration c.args.bytes.now c.args.now kept)) (sym changed)

@@ -8,7 +8,6 @@ use Rattle.section_store.proofs.StoredLemmas.{place_found}
 use Rattle.section_store.proofs.Expiring.{ExpireFrom-remove}
 use Rattle.section_store.proofs.Reserved.{IsReserved-Replaces}
 use Rattle.section_store.proofs.store.Store.delete.Goals as goal
-use Rattle.section_store.proofs.store.Store.delete.Goals.{After-take_out-before}
 
 pub unreachable-requires : goal.unreachable-requires
 unreachable-requires c =
@@ -16,7 +15,7 @@ unreachable-requires c =
     (place_found c.args.id.now c.self.inside.kept.items _ _ _ c.as_slice.ensures.value c.find.ensures.place c.in_default.is) (rw (← c.self.view_is) at c.requires)
 
 -- the section is gone
-left : (c : After-take_out-before) → Leaves c.self.inside.attributes (deleted c.self.inside.attributes c.args.id.now (sections_of c.self.inside.kept.items)) (sections_of c.take_out-before.new.kept.items)
+left : (c : goal.After-self-2-1) → Leaves c.self.inside.attributes (deleted c.self.inside.attributes c.args.id.now (sections_of c.self.inside.kept.items)) (sections_of c.take_out-before.new.kept.items)
 left c =
     let kept = sections_of c.self.inside.kept.items in
     let place = place_found c.args.id.now c.self.inside.kept.items _ _ _ c.as_slice.ensures.value c.find.ensures.place c.in-Some.is in
@@ -24,7 +23,7 @@ left c =
     (deleted-remove c.self.inside.attributes c.args.id.now kept c.in-Some.place c.self.invariant.rises c.self.invariant.fits place (rw (← c.self.view_is) at c.requires))
 
 -- the others expire when they did, have the bytes that it had not, and the numbers below its key are taken
-summary : (c : After-take_out-before) → IsSummary (record { earliest = c.self.inside.summary.earliest; used = c.self.inside.summary.used - c.take_out-before.result; first = c.first_without-self-inside.result }) (sections_of c.take_out-before.new.kept.items)
+summary : (c : goal.After-self-2-1) → IsSummary (record { earliest = c.self.inside.summary.earliest; used = c.self.inside.summary.used - c.take_out-before.result; first = c.first_without-self-inside.result }) (sections_of c.take_out-before.new.kept.items)
 summary c =
     let was = c.self.invariant.summary in
     let kept = sections_of c.self.inside.kept.items in
@@ -38,9 +37,9 @@ summary c =
 pub invariant_of-self : goal.invariant_of-self
 invariant_of-self c =
     IsReserved-Replaces c.self.inside _ refl c.self.invariant (record {
-      rises = (left c.before).rises;
-      fits = (left c.before).fits;
-      summary = summary c.before;
+      rises = (left c).rises;
+      fits = (left c).fits;
+      summary = summary c;
       all = c.take_out-before.ensures.all;
       kept_room = λ size kept spare. c.take_out-before.ensures.kept_room size kept;
       spare_room = c.take_out-before.ensures.spare_room;
@@ -49,4 +48,4 @@ invariant_of-self c =
     })
 
 pub returns-clause-sections : goal.returns-clause-sections
-returns-clause-sections c = rw (← c.self.view_is) (left c.before).is
+returns-clause-sections c = rw (← c.self.view_is) (left c).is

@@ -1,5 +1,6 @@
-use Rattle.std.proofs.Common.{◌≡◌, ◌+◌, ◌^◌, ◌<◌, arith, rules, ◌∙◌, sym, subst, refl, to_z, of_z, w64}
+use Rattle.std.proofs.Common.{◌≡◌, ℕ, List, Option, ◌+◌, ◌^◌, ◌<◌, arith, rules, ◌∙◌, sym, subst, refl, to_z, of_z, w64}
 use Rattle.std.proofs.lemmas.Int.{to_z-of_z}
+use Rattle.ckpt_types.specs.Sections.{Section, place_of}
 use Rattle.ckpt_types.specs.Updates.{written, element_written}
 use Rattle.section_store.specs.Places.{changed_at}
 use Rattle.section_store.specs.Stored.{sections_of, ExpireFrom}
@@ -11,20 +12,24 @@ use Rattle.section_store.proofs.Expiring.{ExpireFrom-changed_at}
 use Rattle.section_store.proofs.Reserved.{IsReserved-changed, few_bytes}
 use Rattle.section_store.proofs.store.Store.write_element.Goals as goal
 
+-- what is found of the bytes that were sought is found of the identifier
+sought : {lent : List ℕ} {found : Option ℕ} (sections : List Section) (id : List ℕ) → lent ≡ id → place_of lent sections ≡ found → place_of id sections ≡ found
+sought {found} sections id same place = subst (λ x. place_of x sections ≡ found) same place
+
 pub unreachable-requires : goal.unreachable-requires
 unreachable-requires c =
     element_written-no_place c.self.inside.attributes c.args.now c.args.element.now (sections_of c.self.inside.kept.items)
-    (place_found c.args.element.now.id c.self.inside.kept.items _ _ _ c.as_slice.ensures.value c.find.ensures.place c.in_default.is) (rw (← c.self.view_is) at c.requires)
+    (sought _ c.args.element.now.id c.as_slice-2.ensures (place_found c.as_slice-2.result.now c.self.inside.kept.items _ _ _ c.as_slice.ensures.value c.find.ensures.place c.in_default.is)) (rw (← c.self.view_is) at c.requires)
 
 -- the element is written
 left : (c : goal.After-write_into-grown) → Leaves c.self.inside.attributes (element_written c.self.inside.attributes c.args.now 0 c.args.element.now (sections_of c.self.inside.kept.items)) (sections_of c.write_into-grown.new.kept.items)
 left c =
     let e = c.args.element.now in
     let kept = sections_of c.self.inside.kept.items in
-    let place = place_found e.id c.self.inside.kept.items _ _ _ c.as_slice.ensures.value c.find.ensures.place c.in-Some.is in
+    let place = sought _ e.id c.as_slice-2.ensures (place_found c.as_slice-2.result.now c.self.inside.kept.items _ _ _ c.as_slice.ensures.value c.find.ensures.place c.in-Some.is) in
     let moment : to_z w64 (of_z w64 c.args.now) ≡ c.args.now = to_z-of_z w64 c.args.now c.ranges.now in
     let written_now : sections_of c.write_into-grown.new.kept.items ≡ changed_at (λ s. record s { bytes = written s.bytes e.offset e.bytes; last_update = c.args.now }) c.in-Some.place kept =
-    c.write_into-grown.ensures.sections ∙ (λ i. changed_at (λ s. record s { bytes = written s.bytes e.offset (c.as_slice-2.ensures i); last_update = moment i }) c.in-Some.place kept) in
+    c.write_into-grown.ensures.sections ∙ (λ i. changed_at (λ s. record s { bytes = written s.bytes e.offset (c.as_slice-3.ensures i); last_update = moment i }) c.in-Some.place kept) in
     subst (Leaves c.self.inside.attributes (element_written c.self.inside.attributes c.args.now 0 e kept)) (sym written_now)
     (element_written-changed_at c.self.inside.attributes c.args.now e kept c.in-Some.place c.self.invariant.rises c.self.invariant.fits place (rw (← c.self.view_is) at c.requires))
 

@@ -1,6 +1,6 @@
 use Rattle.std.proofs.Common.{rules}
 use Rattle.ckpt_types.proofs.EndsLemmas.{slice_get-pieces_between, start_before-le, slice_index-le}
-use Rattle.section_iter.proofs.ids.bytes_between.Goals as goal
+use Rattle.section_iter.proofs.ids.id_at.Goals as goal
 
 pub slice_bounds-result-count : goal.slice_bounds-result-count
 slice_bounds-result-count c = rw c.start_before-start.ensures (start_before-le 0 c.args.ends.now _ c.args.place c.requires.kept.follow c.requires.there)
