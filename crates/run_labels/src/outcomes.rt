@@ -4,7 +4,7 @@ ghost use Rattle.run_labels.specs.Texts.{time_text};
 ghost use Rattle.run_labels.specs.Outcomes.{version_text, cause_text, told_version, piece_text, pieces_text, facts_text, attributes_text, status_text, answer_text, head_text, done_line, refusal_line, result_line, end_text, stepped_end_text, is_async};
 
 use crate::texts::{
-    append_call, append_ckpt, append_number, append_spaced, append_spaced_bytes,
+    append_call, append_ckpt, append_line_end, append_number, append_spaced, append_spaced_bytes,
     append_spaced_state, append_spaced_time, append_text,
 };
 use crate::words::OpWord;
@@ -88,7 +88,7 @@ fn append_done(
     append_head(out, call, op)?;
     append_text(out, " OK")?;
     append_answer(out, answer, pieces)?;
-    append_text(out, "\n")
+    append_line_end(out)
 }
 
 /// The result line of a call that was refused.

@@ -19,6 +19,16 @@ pub(crate) fn append_text(out: &mut Vec<u8>, text: &str) -> Result<(), AllocErro
     out.extend_from_slice(text.as_bytes())
 }
 
+/// Ends a line.
+#[inline(always)]
+pub(crate) fn append_line_end(out: &mut Vec<u8>) -> Result<(), AllocError>
+    ensures { OnOk result (out.new.items ≡ out.old.items ++ codes "\n") }
+{
+    out.reserve(1)?;
+    out.push_reserved(b'\n');
+    Ok(())
+}
+
 /// Adds a number.
 #[inline(always)]
 pub(crate) fn append_number(out: &mut Vec<u8>, number: u64) -> Result<(), AllocError>

@@ -12,8 +12,11 @@ use crate::marks::{Marks, is_race, next_marks};
 use crate::reading::{first_line, read_line, says_nothing};
 use ckpt_types::{SCRIPT_BYTES_MAX, SCRIPT_LINES_MAX, Vector};
 use script_words::{LineError, Reason};
-use std::alloc::Global;
+use std::alloc::{AllocError, Global};
 use std::marker::Model;
+
+// Most lines have more bytes.
+const LINE_BYTES: usize = 16;
 
 /// The script that the bytes spell, or the first line at fault. Memory may be refused at any line.
 pub fn parse(alloc: Global, bytes: &[u8]) -> Result<Script, ParseError>
@@ -35,9 +38,14 @@ fn parse_exactly(alloc: Global, bytes: &[u8]) -> Result<Script, ParseError>
         };
         return Err(fault.into());
     }
-    let mut reader = Reader::new(alloc);
+    let mut reader = Reader::new(alloc, room_for(bytes.len()))?;
     read_all(alloc, &mut reader, bytes)?;
     reader.finish()
+}
+
+// So many lines have room from the beginning in a script of so many bytes: those of most scripts.
+fn room_for(bytes: usize) -> usize {
+    (bytes / LINE_BYTES).min(SCRIPT_LINES_MAX as usize)
 }
 
 // The lines one after the other.
@@ -77,11 +85,12 @@ impl Model for Reader {
 
 impl Reader {
     #[tactic(auto, unfolding(crate::specs::Grammar::marks_of))]
-    fn new(alloc: Global) -> Reader
-        ensures { result ≡ start }
+    fn new(alloc: Global, room: usize) -> Result<Reader, AllocError>
+        ensures { IfOk result (λ r. r ≡ start) }
     {
-        Reader {
-            lines: Vec::new(alloc),
+        let lines = Vec::with_capacity(alloc, room)?;
+        Ok(Reader {
+            lines,
             number: 0,
             race: 0,
             marks: Marks {
@@ -91,7 +100,7 @@ impl Reader {
                 asked: 0,
                 shows: 0,
             },
-        }
+        })
     }
 
     // One more line of the text.

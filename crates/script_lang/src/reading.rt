@@ -15,9 +15,6 @@ use std::alloc::{AllocError, Global};
 // The words of most lines are no more.
 const FEW: usize = 12;
 
-// From this length on, a line is likely to have a long word.
-const LONG: usize = 64;
-
 /// Whether a line says nothing, as it is empty or a comment.
 #[tactic(auto, unfolding(crate::specs::Grammar::reading))]
 pub fn says_nothing(line: &[u8]) -> bool
@@ -129,48 +126,6 @@ fn words_in(alloc: Global, line: &[u8]) -> Result<Vec<&[u8]>, AllocError>
 
 // Puts the words of a line in front, and tells how many they are; none where there is no place for each.
 fn few_words<'a>(line: &'a [u8], words: &mut [&'a [u8]]) -> Option<usize>
-    requires { 0 < length words.old }
-    ensures { IfSome result (λ count. HasWords line.now words.new count) }
-{
-    if line.len() < LONG {
-        words_by_byte(line, words)
-    } else {
-        words_by_search(line, words)
-    }
-}
-
-// The same in one pass, which is quick where words are short.
-fn words_by_byte<'a>(line: &'a [u8], words: &mut [&'a [u8]]) -> Option<usize>
-    requires { 0 < length words.old }
-    ensures { IfSome result (λ count. HasWords line.now words.new count) }
-{
-    let mut count = 0;
-    let mut begin = 0;
-    for end in 0..line.len() {
-        if line[end] == b' ' {
-            if count + 1 >= words.len() {
-                return None;
-            }
-            words[count] = between(line, begin, end);
-            count += 1;
-            begin = end + 1;
-        }
-    }
-    words[count] = between(line, begin, line.len());
-    Some(count + 1)
-}
-
-// What stands from one place up to another.
-#[inline(always)]
-fn between(line: &[u8], begin: usize, end: usize) -> &[u8]
-    requires { (begin ≤ end) × (end ≤ length line.now) }
-    ensures { result.now ≡ take (end - begin) (drop begin line.now) }
-{
-    &line[begin..end]
-}
-
-// The same by a search for each space, which is quick where words are long.
-fn words_by_search<'a>(line: &'a [u8], words: &mut [&'a [u8]]) -> Option<usize>
     ensures { IfSome result (λ count. HasWords line.now words.new count) }
 {
     let mut rest = line;
@@ -190,11 +145,41 @@ fn first_word(line: &[u8]) -> Option<(&[u8], &[u8])>
     ensures some { IfSome result (λ p. words_of line.now ≡ p.0.now ∷ words_of p.1.now) }
     ensures none { IfNone result (words_of line.now ≡ line.now ∷ []) }
 {
-    let end = found_or_len(b' ', line);
+    let end = space_or_len(line);
     if end < line.len() {
         Some((&line[..end], &line[end + 1..]))
     } else {
         None
+    }
+}
+
+// The place of the first space, or the length. The first six bytes are looked at one by one, since most
+// words are short.
+#[inline(always)]
+fn space_or_len(text: &[u8]) -> usize
+    ensures value { result ≡ position_or_len (λ b. b == 32) text.now }
+    ensures within { result ≤ length text.now }
+{
+    match text {
+        [b' ', _, _, ..] => 0,
+        [_, b' ', _, ..] => 1,
+        [_, _, b' ', ..] => 2,
+        [_, _, _, rest @ ..] => 3 + space_behind(rest),
+        _ => found_or_len(b' ', text),
+    }
+}
+
+// The same of what stands behind three bytes.
+#[inline(always)]
+fn space_behind(text: &[u8]) -> usize
+    ensures value { result ≡ position_or_len (λ b. b == 32) text.now }
+    ensures within { result ≤ length text.now }
+{
+    match text {
+        [b' ', _, _, ..] => 0,
+        [_, b' ', _, ..] => 1,
+        [_, _, b' ', ..] => 2,
+        _ => found_or_len(b' ', text),
     }
 }
 

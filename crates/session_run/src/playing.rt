@@ -22,6 +22,9 @@ use std::sync::Wait;
 use std::thread::Threads;
 use world_core::{Event, World};
 
+// Most lines give no more labels.
+const LABELS_A_LINE: usize = 3;
+
 /// Plays a script. The log is a run that follows it, and the world shows the state after it. Where
 /// memory for the log or for an event is refused, the log is a run all the same, and follows it as far as it goes.
 pub fn session<R: Threads + Wait + Sync, G: Gate>(
@@ -40,6 +43,8 @@ pub fn session<R: Threads + Wait + Sync, G: Gate>(
     ensures follows { OnOk result (Follows script.now log.new.labels) }
     ensures front { FollowsFront script.now log.new.labels }
 {
+    // Where room is refused at once, it is asked for again as it is needed.
+    let _ = log.reserve(LABELS_A_LINE * script.as_slice().len());
     play(alloc, script.as_slice(), log, world)
 }
 

@@ -320,13 +320,7 @@ fn a_read_is_refused_with_the_first_element_that_is_refused(rt: HostRuntime) -> 
         now: 19,
     };
     assert!(rt; case.reads(alloc, &[("a", 0), ("a", 8)], "ok")?);
-    assert!(rt;
-        case.reads(
-            alloc,
-            &[("a", 0), ("a", 9)],
-            "INVALID_PARAM 1"
-        )?
-    );
+    assert!(rt; case.reads(alloc, &[("a", 0), ("a", 9)], "INVALID_PARAM 1")?);
     assert!(rt; case.reads(alloc, &[("c", 0), ("a", 9)], "NOT_EXIST 0")?);
     let case = Case { now: 20, ..case };
     assert!(rt; case.reads(alloc, &[("a", 0)], "NOT_EXIST 0")?);

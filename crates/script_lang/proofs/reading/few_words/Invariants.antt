@@ -1,7 +1,7 @@
 use Rattle.std.proofs.Common.{◌≡◌, ◌++◌, length, take}
 use Rattle.script_lang.specs.Table.{texts}
 use Rattle.script_lang.specs.Grammar.{words_of}
-use Rattle.script_lang.proofs.reading.words_by_search.Given as goal
+use Rattle.script_lang.proofs.reading.few_words.Given as goal
 
 abbrev pub invariant-loop-count : goal.invariant-loop-count
 invariant-loop-count l = record {
