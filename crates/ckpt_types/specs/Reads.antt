@@ -6,7 +6,6 @@ use Rattle.ckpt_types.specs.declared.attributes.CreationAttributes.{CreationAttr
 use Rattle.ckpt_types.specs.declared.sections.CheckpointDescriptor.{CheckpointDescriptor}
 use Rattle.ckpt_types.specs.declared.sections.Choice.{Choice}
 use Rattle.ckpt_types.specs.declared.sections.SectionDescriptor.{SectionDescriptor}
-use Rattle.ckpt_types.specs.declared.sections.SectionFacts.{SectionFacts}
 use Rattle.ckpt_types.specs.declared.sections.SectionState.{SectionState}
 use Rattle.ckpt_types.specs.declared.sections.SectionState.TheVariants.{Valid, Corrupted}
 use Rattle.ckpt_types.specs.declared.update.ReadElement.{ReadElement}
@@ -64,10 +63,6 @@ given (id ∷ rest) t sections = given_first rest (section_at id (present t sect
 -- what is told of a section
 abbrev pub description : Section → SectionDescriptor
 description s = record { id = s.id; expiration = s.expiration; size = size_of s; state = s.state; last_update = s.last_update }
-
--- all of it but the identifier
-abbrev pub facts_of : SectionDescriptor → SectionFacts
-facts_of d = record { expiration = d.expiration; size = d.size; state = d.state; last_update = d.last_update }
 
 -- what is told of a checkpoint
 abbrev pub status : CreationAttributes → ℤ → List Section → CheckpointDescriptor

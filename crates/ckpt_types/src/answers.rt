@@ -1,6 +1,5 @@
 use crate::ais_error::AisError;
 use crate::identities::{CallId, CkptId, Moment};
-use crate::sections::{CheckpointDescriptor, SectionFacts};
 
 /// What shows that a refusal is right.
 #[derive(Clone, Copy, Debug, PartialEq, Eq)]
@@ -28,8 +27,8 @@ pub struct Given {
     pub left: u32,
 }
 
-/// What a call that was done answers. An outcome is moved often, so it is small: strings of bytes that
-/// belong to an answer stand in the caller's buffer, beside it.
+/// What a call that was done answers. An outcome is moved often, so it is small: the details of an answer are told
+/// beside it.
 #[derive(Clone, Copy, Debug, PartialEq, Eq)]
 pub enum Answer {
     /// No more than that it was done.
@@ -38,14 +37,14 @@ pub enum Answer {
     Version,
     /// The checkpoint that was opened.
     Opened(CkptId),
-    /// A section was made. Its identifier stands in the caller's buffer.
+    /// A section was made. Its identifier is told beside the answer.
     Created,
-    /// The bytes of a read, which stand in the caller's buffer.
+    /// The bytes of a read, which are told beside the answer.
     Pieces,
-    /// The next section of an iteration. Its identifier stands in the caller's buffer.
-    Section(SectionFacts),
-    /// The status of a checkpoint.
-    Status(CheckpointDescriptor),
+    /// The next section of an iteration, which is told beside the answer.
+    Section,
+    /// The status of a checkpoint, which is told beside the answer.
+    Status,
     /// The number of updates that the replicas were brought to.
     Pulled(u64),
     /// What a dispatch gave.

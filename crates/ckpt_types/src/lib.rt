@@ -3,6 +3,7 @@
 
 mod ais_error;
 mod answers;
+mod apart;
 mod attributes;
 mod bytes;
 mod calls;
@@ -20,6 +21,7 @@ mod vector;
 
 pub use ais_error::AisError;
 pub use answers::{Answer, Cause, Given, Outcome};
+pub use apart::Apart;
 pub use attributes::{CreationAttributes, SharedAttributes};
 pub use bytes::{Bytes, SharedName, name_fits};
 pub use calls::{AsyncKind, CallbackSet, Count, Held, OpenAsk, RaceBlock, RaceLine, Version};
@@ -40,8 +42,7 @@ pub use operation::Op;
 pub use read_buf::{Pieces, ReadBuf};
 pub use section_id::SectionId;
 pub use sections::{
-    CheckpointDescriptor, Choice, SectionDescriptor, SectionFacts, SectionRef, SectionState,
-    Sections, Totals,
+    CheckpointDescriptor, Choice, SectionDescriptor, SectionRef, SectionState, Sections, Totals,
 };
 pub use shared::Shared;
 pub use update::{

@@ -52,35 +52,6 @@ pub struct SectionDescriptor {
     pub last_update: Moment,
 }
 
-/// What an iteration tells of a section beside its identifier.
-#[derive(Clone, Copy, Debug, PartialEq, Eq)]
-pub struct SectionFacts {
-    /// The moment from which on it is absent.
-    pub expiration: Moment,
-    /// How many bytes it has.
-    pub size: u64,
-    /// Whether it has what was written.
-    pub state: SectionState,
-    /// The moment of the last update of its bytes.
-    pub last_update: Moment,
-}
-
-impl SectionDescriptor {
-    ghost use Rattle.ckpt_types.specs.Reads.{facts_of};
-
-    /// All but the identifier.
-    pub fn facts(&self) -> SectionFacts
-        ensures { result ≡ facts_of self.now }
-    {
-        SectionFacts {
-            expiration: self.expiration,
-            size: self.size,
-            state: self.state,
-            last_update: self.last_update,
-        }
-    }
-}
-
 /// What a status tells of a checkpoint.
 #[derive(Clone, Copy, Debug, PartialEq, Eq)]
 pub struct CheckpointDescriptor {

@@ -59,12 +59,16 @@ create_next R room =
     else if nat_le checkpoints_max (length R.entries) then End (Refused NoResources (Count checkpoints_max))
     else Event events.Create
 
--- a checkpoint is opened that has the attributes asked for, where there is room for its handle
-abbrev pub entry_next : Bool → Option CreationAttributes → Entry → Next
-entry_next room a e =
+-- a checkpoint is opened that has the attributes asked for, where there is room for its handle; of one that is in the making the record is asked, which refuses it
+abbrev pub entry_by : Option CallId → Bool → Option CreationAttributes → Entry → Next
+entry_by (Some call) room a e = Event events.Open
+entry_by None room a e =
     if not (accepts a e) then End (Refused Exist Plain)
     else if not room then End (Refused NoResources (Count handles_max))
     else Event events.Open
+
+abbrev pub entry_next : Bool → Option CreationAttributes → Entry → Next
+entry_next room a e = entry_by e.making room a e
 
 -- of a name that no checkpoint has: one is made where attributes are given
 abbrev pub on_free_name : RecordState → Bool → Option ℤ → Option CreationAttributes → Next
@@ -80,14 +84,13 @@ abbrev pub reserve_or_finish : ℕ → Option ℕ → Next
 reserve_or_finish k (Some r) = Serve r (requests.Reserve k)
 reserve_or_finish k None = Event events.Finish
 
--- a making: each node that is up reserves, then it is finished; it is undone where memory was refused. A making that meets
--- its deadline is not built: the moment stands still while a call is in hand
+-- a making before its deadline: each node that is up reserves, then it is finished; it is undone where memory was refused
 abbrev pub on_making : RecordState → Making → Next
 on_making R m = if m.refused then Event events.Undo else reserve_or_finish m.ckpt (first_lacking 0 R.up m.reserved)
 
 abbrev pub by_making : RecordState → Bool → OpenState → Option Making → Next
 by_making R room o None = on_named R room o.deadline o.ask.attrs (named o.ask.name R.entries)
-by_making R room o (Some m) = on_making R m
+by_making R room o (Some m) = in_time o.deadline R.moment (on_making R m)
 
 abbrev pub open_next : RecordState → Bool → OpenState → Next
 open_next R room o = by_making R room o o.making

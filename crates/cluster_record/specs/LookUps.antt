@@ -3,7 +3,7 @@ use Rattle.std.specs.Prelude.{ℕ, Option, Some, None, slice_index, if◌then◌
 use Rattle.ckpt_types.specs.declared.attributes.CreationAttributes.{CreationAttributes}
 use Rattle.cluster_record.specs.declared.entries.Entry.{Entry}
 use Rattle.cluster_record.specs.declared.clients.LiveClient.{LiveClient}
-use Rattle.cluster_record.specs.RecordState.{RecordState, entry_of, is_up}
+use Rattle.cluster_record.specs.RecordState.{RecordState, is_up}
 
 -- the node of a client that is live
 abbrev pub node_in : Option LiveClient → Option ℕ

@@ -6,7 +6,7 @@ ghost use Rattle.cluster_record.specs.Calls.{client_of, IsClient};
 ghost use Rattle.cluster_record.specs.Kept.{IsKeptEntry, AreKeptClients};
 ghost use Rattle.cluster_record.specs.Makings.{making_call, making_finished, making_undone};
 ghost use Rattle.cluster_record.specs.Numbers.{numbers_left};
-ghost use Rattle.cluster_record.specs.Opening.{answer_free, open_answer, after_open};
+ghost use Rattle.cluster_record.specs.Opening.{answer_free, answer_named, open_answer, after_open};
 ghost use Rattle.cluster_record.specs.Refusals.{enter_answer, all_taken, plainly, held_by, unlinkable, unlink_answer, retain_answer};
 ghost use Rattle.ckpt_types.specs.Limits.{nodes_max, client_numbers, clients_max, checkpoints_max};
 ghost use Rattle.cluster_record.specs.Places.{find_key};
@@ -330,14 +330,14 @@ impl Record {
         OpenAnswer::Made(self.last_identity + 1)
     }
 
-    // What an open gets.
-    fn open_answer(&self, ask: &OpenAsk) -> OpenAnswer
+    /// What an open of the name gets, with the attributes to make the checkpoint with.
+    pub fn open_answer(&self, name: &Bytes, attributes: &Option<CreationAttributes>) -> OpenAnswer
         requires { self.now.last_identity < 2 ^ 32 - 1 }
-        ensures { result ≡ open_answer self.now ask.now }
+        ensures { result ≡ answer_named self.now attributes.now (named name.now self.now.entries) }
     {
-        match self.named(&ask.name) {
-            None => self.answer_free(&ask.attrs),
-            Some(entry) => answer_of(entry, &ask.attrs),
+        match self.named(name) {
+            None => self.answer_free(attributes),
+            Some(entry) => answer_of(entry, attributes),
         }
     }
 
@@ -381,7 +381,7 @@ impl Record {
         ensures answer { result ≡ open_answer self.old ask }
         ensures after { self.new ≡ after_open call ask self.old }
     {
-        let answer = self.open_answer(&ask);
+        let answer = self.open_answer(&ask.name, &ask.attrs);
         match answer {
             OpenAnswer::Opened(identity, _) => self.refer(identity, ask.client),
             OpenAnswer::Made(_) => self.create(call, ask),

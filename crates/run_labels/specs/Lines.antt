@@ -1,6 +1,7 @@
 -- The text of a run.
-use Rattle.std.specs.Prelude.{ℕ, List, [], ◌++◌, None, Bool}
+use Rattle.std.specs.Prelude.{ℕ, List, [], ◌++◌, Bool}
 use Rattle.std.specs.List.{flat_map}
+use Rattle.run_labels.specs.declared.details.Details.TheVariants.{Nothing}
 use Rattle.run_labels.specs.declared.labels.Label.{Label}
 use Rattle.run_labels.specs.declared.labels.Label.TheVariants as labels
 use Rattle.run_labels.specs.Events.{fail_line, join_line, pull_line, put_line, word_line}
@@ -11,8 +12,8 @@ use Rattle.run_labels.specs.Steps.{step_line, begin_line, moment_line, where_ask
 
 -- what a label prints: the line of its step where steps are asked for, then its own lines
 abbrev pub line_of : Bool → Label → List ℕ
-line_of steps (labels.Began call op end) = where_asked steps (begin_line call (word_of_op op)) ++ end_text call (word_of_op op) end None
-line_of steps (labels.Stepped call op verb ckpt node reply end pieces) = where_asked steps (step_line call verb ckpt node reply) ++ stepped_end_text call op end pieces
+line_of steps (labels.Began call op end) = where_asked steps (begin_line call (word_of_op op)) ++ end_text call (word_of_op op) end Nothing
+line_of steps (labels.Stepped call op verb ckpt node reply end details) = where_asked steps (step_line call verb ckpt node reply) ++ stepped_end_text call op end details
 line_of steps (labels.Failed node failed) = fail_line node failed
 line_of steps (labels.Joined node incarnation) = join_line node incarnation
 line_of steps (labels.Moved moment) = where_asked steps (moment_line moment)

@@ -12,9 +12,11 @@ use Rattle.ckpt_types.specs.declared.answers.Outcome.TheVariants as outcomes
 use Rattle.ckpt_types.specs.declared.attributes.CreationAttributes.{CreationAttributes}
 use Rattle.ckpt_types.specs.declared.identities.CallId.{CallId}
 use Rattle.ckpt_types.specs.declared.sections.CheckpointDescriptor.{CheckpointDescriptor}
-use Rattle.ckpt_types.specs.declared.sections.SectionFacts.{SectionFacts}
+use Rattle.ckpt_types.specs.declared.sections.SectionDescriptor.{SectionDescriptor}
 use Rattle.ckpt_types.specs.AisError.{word_of}
 use Rattle.ckpt_types.specs.Limits.{release, major_max, minor_answered}
+use Rattle.run_labels.specs.declared.details.Details.{Details}
+use Rattle.run_labels.specs.declared.details.Details.TheVariants as beside
 use Rattle.run_labels.specs.declared.words.OpWord.{OpWord}
 use Rattle.run_labels.specs.declared.words.OpWord.TheVariants as words
 use Rattle.run_labels.specs.OpWord.{op_text}
@@ -42,18 +44,17 @@ told_version _ = []
 abbrev pub piece_text : List ℕ → List ℕ
 piece_text piece = codes " " ++ bytes_text piece
 
--- the pieces that came with an answer: the bytes of a read in the order of its elements, or the identifier of a section
-abbrev pub pieces_text : Option (List (List ℕ)) → List ℕ
-pieces_text None = []
-pieces_text (Some pieces) = flat_map piece_text pieces
-
 -- what an iteration tells of a section beside its identifier
-abbrev pub facts_text : SectionFacts → List ℕ
-facts_text facts =
-    codes " " ++ time_text facts.expiration
-    ++ codes " " ++ decimal facts.size
-    ++ codes " " ++ state_text facts.state
-    ++ codes " " ++ time_text facts.last_update
+abbrev pub facts_text : SectionDescriptor → List ℕ
+facts_text section =
+    codes " " ++ time_text section.expiration
+    ++ codes " " ++ decimal section.size
+    ++ codes " " ++ state_text section.state
+    ++ codes " " ++ time_text section.last_update
+
+-- what an iteration tells of a section
+abbrev pub section_text : SectionDescriptor → List ℕ
+section_text section = piece_text section.id ++ facts_text section
 
 -- what a checkpoint is declared to have
 abbrev pub attributes_text : CreationAttributes → List ℕ
@@ -72,43 +73,50 @@ status_text status =
     ++ codes " " ++ decimal status.number_of_sections
     ++ codes " " ++ decimal status.memory_used
 
+-- what is told beside an answer
+abbrev pub details_text : Details → List ℕ
+details_text beside.Nothing = []
+details_text (beside.Pieces pieces) = flat_map piece_text pieces
+details_text (beside.Section section) = section_text section
+details_text (beside.Status status) = status_text status
+
 -- the details of an answer, behind `OK`
-abbrev pub answer_text : Answer → Option (List (List ℕ)) → List ℕ
-answer_text answers.Nothing pieces = []
-answer_text answers.Version pieces = version_text
-answer_text (answers.Opened ckpt) pieces = codes " " ++ ckpt_text ckpt
-answer_text answers.Created pieces = pieces_text pieces
-answer_text answers.Pieces pieces = pieces_text pieces
-answer_text (answers.Section facts) pieces = pieces_text pieces ++ facts_text facts
-answer_text (answers.Status status) pieces = status_text status
-answer_text (answers.Pulled count) pieces = codes " " ++ decimal count
-answer_text (answers.Dispatched given) pieces = codes " " ++ decimal given.given ++ codes " " ++ decimal given.left
+abbrev pub answer_text : Answer → Details → List ℕ
+answer_text answers.Nothing details = []
+answer_text answers.Version details = version_text
+answer_text (answers.Opened ckpt) details = codes " " ++ ckpt_text ckpt
+answer_text answers.Created details = details_text details
+answer_text answers.Pieces details = details_text details
+answer_text answers.Section details = details_text details
+answer_text answers.Status details = details_text details
+answer_text (answers.Pulled count) details = codes " " ++ decimal count
+answer_text (answers.Dispatched given) details = codes " " ++ decimal given.given ++ codes " " ++ decimal given.left
 
 -- the front of a result line: `c0.5 write`
 abbrev pub head_text : CallId → OpWord → List ℕ
 head_text call op = call_text call ++ codes " " ++ op_text op
 
 -- the result line of a call that was done
-abbrev pub done_line : CallId → OpWord → Answer → Option (List (List ℕ)) → List ℕ
-done_line call op answer pieces = head_text call op ++ codes " OK" ++ answer_text answer pieces ++ codes "\n"
+abbrev pub done_line : CallId → OpWord → Answer → Details → List ℕ
+done_line call op answer details = head_text call op ++ codes " OK" ++ answer_text answer details ++ codes "\n"
 
 -- the result line of a call that was refused
 abbrev pub refusal_line : CallId → OpWord → AisError → Cause → List ℕ
 refusal_line call op error cause = head_text call op ++ codes " " ++ word_of error ++ told_version error ++ cause_text cause ++ codes "\n"
 
 -- the result line of a call that ended; one that was abandoned or not begun has none
-abbrev pub result_line : CallId → OpWord → Outcome → Option (List (List ℕ)) → List ℕ
-result_line call op (outcomes.Done answer) pieces = done_line call op answer pieces
-result_line call op (outcomes.Refused error cause) pieces = refusal_line call op error cause
-result_line call op outcomes.NoMemory pieces = refusal_line call op errors.NoMemory causes.Plain
-result_line call op outcomes.Abandoned pieces = []
-result_line call op outcomes.Busy pieces = []
-result_line call op outcomes.Astray pieces = []
+abbrev pub result_line : CallId → OpWord → Outcome → Details → List ℕ
+result_line call op (outcomes.Done answer) details = done_line call op answer details
+result_line call op (outcomes.Refused error cause) details = refusal_line call op error cause
+result_line call op outcomes.NoMemory details = refusal_line call op errors.NoMemory causes.Plain
+result_line call op outcomes.Abandoned details = []
+result_line call op outcomes.Busy details = []
+result_line call op outcomes.Astray details = []
 
 -- the result line, where the call has ended
-abbrev pub end_text : CallId → OpWord → Option Outcome → Option (List (List ℕ)) → List ℕ
-end_text call op None pieces = []
-end_text call op (Some outcome) pieces = result_line call op outcome pieces
+abbrev pub end_text : CallId → OpWord → Option Outcome → Details → List ℕ
+end_text call op None details = []
+end_text call op (Some outcome) details = result_line call op outcome details
 
 -- an asynchronous operation answers when it begins, and its end has no line
 abbrev pub is_async : OpWord → Bool
@@ -117,5 +125,5 @@ is_async words.SyncAsync = true
 is_async _ = false
 
 -- the result line of a call that ended by a step
-abbrev pub stepped_end_text : CallId → OpWord → Option Outcome → Option (List (List ℕ)) → List ℕ
-stepped_end_text call op end pieces = if is_async op then [] else end_text call op end pieces
+abbrev pub stepped_end_text : CallId → OpWord → Option Outcome → Details → List ℕ
+stepped_end_text call op end details = if is_async op then [] else end_text call op end details

@@ -1,6 +1,7 @@
+use crate::details::Details;
 use crate::shown::ShownReplicas;
 use crate::words::{LineWord, OpWord, Said};
-use ckpt_types::{CallId, CkptId, Incarnation, Moment, NodeId, Op, Outcome, Pieces, Who};
+use ckpt_types::{CallId, CkptId, Incarnation, Moment, NodeId, Op, Outcome, Who};
 use node_msgs::{StepReply, Verb};
 
 /// How a `pull` line was answered.
@@ -55,8 +56,8 @@ pub enum Label {
         reply: StepReply,
         /// How the call ended.
         end: Option<Outcome>,
-        /// The bytes of a read.
-        pieces: Option<Pieces>,
+        /// What the call is told beside its end.
+        details: Details,
     },
     /// A node failed, or was not up.
     Failed(NodeId, bool),

@@ -1,6 +1,7 @@
 //! The labels of a run, the log that keeps them, and the lines that they print.
 #![tactic(auto)]
 
+mod details;
 mod digits;
 mod events;
 mod labels;
@@ -13,6 +14,7 @@ mod steps;
 mod texts;
 mod words;
 
+pub use details::Details;
 pub use labels::{Label, PullReply, PutReply};
 pub use lines::{append_line, render_line};
 pub use log::RunLog;

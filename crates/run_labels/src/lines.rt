@@ -1,9 +1,11 @@
-ghost use Rattle.std.specs.Prelude.{◌≡◌, ◌++◌, IfOk, OnOk, None};
+ghost use Rattle.std.specs.Prelude.{◌≡◌, ◌++◌, IfOk, OnOk};
+ghost use Rattle.run_labels.specs.declared.details.Details.TheVariants.{Nothing};
 ghost use Rattle.run_labels.specs.OpWord.{word_of_op};
 ghost use Rattle.run_labels.specs.Outcomes.{end_text};
 ghost use Rattle.run_labels.specs.Steps.{where_asked, begin_line, step_line, moment_line};
 ghost use Rattle.run_labels.specs.Lines.{line_of};
 
+use crate::details::Details;
 use crate::events::{append_fail, append_join, append_pull, append_put, append_word};
 use crate::labels::Label;
 use crate::outcomes::{append_end, append_stepped_end};
@@ -38,10 +40,10 @@ pub fn append_line(out: &mut Vec<u8>, label: &Label, steps: bool) -> Result<(), 
             node,
             reply,
             end,
-            pieces,
+            details,
         } => {
             append_asked_step(out, call, *verb, ckpt, node, reply, steps)?;
-            append_stepped_end(out, call, *op, end, pieces)
+            append_stepped_end(out, call, *op, end, details)
         }
         Label::Failed(node, failed) => append_fail(out, *node, *failed),
         Label::Joined(node, incarnation) => append_join(out, *node, *incarnation),
@@ -63,11 +65,11 @@ fn append_began(
     end: &Option<Outcome>,
     steps: bool,
 ) -> Result<(), AllocError>
-    ensures { OnOk result (out.new.items ≡ out.old.items ++ (where_asked steps (begin_line call.now (word_of_op op.now)) ++ end_text call.now (word_of_op op.now) end.now None)) }
+    ensures { OnOk result (out.new.items ≡ out.old.items ++ (where_asked steps (begin_line call.now (word_of_op op.now)) ++ end_text call.now (word_of_op op.now) end.now Nothing)) }
 {
     let word = OpWord::of(op);
     append_asked_begin(out, call, word, steps)?;
-    append_end(out, call, word, end, &None)
+    append_end(out, call, word, end, &Details::Nothing)
 }
 
 /// The line of a call that begins, where steps are asked for.

@@ -1,8 +1,9 @@
 ghost use Rattle.std.specs.Prelude.{◌≡◌, ◌++◌, OnOk, Some, codes, decimal};
 ghost use Rattle.std.specs.List.{flat_map};
 ghost use Rattle.run_labels.specs.Texts.{time_text};
-ghost use Rattle.run_labels.specs.Outcomes.{version_text, cause_text, told_version, piece_text, pieces_text, facts_text, attributes_text, status_text, answer_text, head_text, done_line, refusal_line, result_line, end_text, stepped_end_text, is_async};
+ghost use Rattle.run_labels.specs.Outcomes.{version_text, cause_text, told_version, piece_text, facts_text, section_text, attributes_text, status_text, details_text, answer_text, head_text, done_line, refusal_line, result_line, end_text, stepped_end_text, is_async};
 
+use crate::details::Details;
 use crate::texts::{
     append_call, append_ckpt, append_line_end, append_number, append_spaced, append_spaced_bytes,
     append_spaced_state, append_spaced_time, append_text,
@@ -10,7 +11,7 @@ use crate::texts::{
 use crate::words::OpWord;
 use ckpt_types::{
     AisError, Answer, CallId, Cause, CheckpointDescriptor, CreationAttributes, MAJOR_MAX,
-    MINOR_ANSWERED, Outcome, Pieces, RELEASE, SectionFacts,
+    MINOR_ANSWERED, Outcome, Pieces, RELEASE, SectionDescriptor,
 };
 use std::alloc::AllocError;
 
@@ -21,14 +22,14 @@ pub(crate) fn append_stepped_end(
     call: &CallId,
     op: OpWord,
     end: &Option<Outcome>,
-    pieces: &Option<Pieces>,
+    details: &Details,
 ) -> Result<(), AllocError>
-    ensures { OnOk result (out.new.items ≡ out.old.items ++ stepped_end_text call.now op end.now pieces.now) }
+    ensures { OnOk result (out.new.items ≡ out.old.items ++ stepped_end_text call.now op end.now details.now) }
 {
     if is_async(op) {
         return Ok(());
     }
-    append_end(out, call, op, end, pieces)
+    append_end(out, call, op, end, details)
 }
 
 /// Whether the operation answers when it begins, and not at its end.
@@ -45,13 +46,13 @@ pub(crate) fn append_end(
     call: &CallId,
     op: OpWord,
     end: &Option<Outcome>,
-    pieces: &Option<Pieces>,
+    details: &Details,
 ) -> Result<(), AllocError>
-    ensures { OnOk result (out.new.items ≡ out.old.items ++ end_text call.now op end.now pieces.now) }
+    ensures { OnOk result (out.new.items ≡ out.old.items ++ end_text call.now op end.now details.now) }
 {
     match end {
         None => Ok(()),
-        Some(outcome) => append_result(out, call, op, outcome, pieces),
+        Some(outcome) => append_result(out, call, op, outcome, details),
     }
 }
 
@@ -62,12 +63,12 @@ fn append_result(
     call: &CallId,
     op: OpWord,
     outcome: &Outcome,
-    pieces: &Option<Pieces>,
+    details: &Details,
 ) -> Result<(), AllocError>
-    ensures { OnOk result (out.new.items ≡ out.old.items ++ result_line call.now op outcome.now pieces.now) }
+    ensures { OnOk result (out.new.items ≡ out.old.items ++ result_line call.now op outcome.now details.now) }
 {
     match outcome {
-        Outcome::Done(answer) => append_done(out, call, op, answer, pieces),
+        Outcome::Done(answer) => append_done(out, call, op, answer, details),
         Outcome::Refused(error, cause) => append_refusal(out, call, op, *error, cause),
         Outcome::NoMemory => append_refusal(out, call, op, AisError::NoMemory, &Cause::Plain),
         Outcome::Abandoned | Outcome::Busy | Outcome::Astray => Ok(()),
@@ -81,13 +82,13 @@ fn append_done(
     call: &CallId,
     op: OpWord,
     answer: &Answer,
-    pieces: &Option<Pieces>,
+    details: &Details,
 ) -> Result<(), AllocError>
-    ensures { OnOk result (out.new.items ≡ out.old.items ++ done_line call.now op answer.now pieces.now) }
+    ensures { OnOk result (out.new.items ≡ out.old.items ++ done_line call.now op answer.now details.now) }
 {
     append_head(out, call, op)?;
     append_text(out, " OK")?;
-    append_answer(out, answer, pieces)?;
+    append_answer(out, answer, details)?;
     append_line_end(out)
 }
 
@@ -120,12 +121,8 @@ fn append_head(out: &mut Vec<u8>, call: &CallId, op: OpWord) -> Result<(), Alloc
 }
 
 /// The details of an answer.
-fn append_answer(
-    out: &mut Vec<u8>,
-    answer: &Answer,
-    pieces: &Option<Pieces>,
-) -> Result<(), AllocError>
-    ensures { OnOk result (out.new.items ≡ out.old.items ++ answer_text answer.now pieces.now) }
+fn append_answer(out: &mut Vec<u8>, answer: &Answer, details: &Details) -> Result<(), AllocError>
+    ensures { OnOk result (out.new.items ≡ out.old.items ++ answer_text answer.now details.now) }
 {
     match answer {
         Answer::Nothing => Ok(()),
@@ -134,12 +131,9 @@ fn append_answer(
             append_text(out, " ")?;
             append_ckpt(out, *ckpt)
         }
-        Answer::Created | Answer::Pieces => append_pieces(out, pieces),
-        Answer::Section(facts) => {
-            append_pieces(out, pieces)?;
-            append_facts(out, facts)
+        Answer::Created | Answer::Pieces | Answer::Section | Answer::Status => {
+            append_details(out, details)
         }
-        Answer::Status(status) => append_status(out, status),
         Answer::Pulled(count) => append_spaced(out, *count),
         Answer::Dispatched(given) => {
             append_spaced(out, u64::from(given.given))?;
@@ -148,13 +142,15 @@ fn append_answer(
     }
 }
 
-/// The pieces that came with an answer.
-fn append_pieces(out: &mut Vec<u8>, pieces: &Option<Pieces>) -> Result<(), AllocError>
-    ensures { OnOk result (out.new.items ≡ out.old.items ++ pieces_text pieces.now) }
+/// What is told beside an answer.
+fn append_details(out: &mut Vec<u8>, details: &Details) -> Result<(), AllocError>
+    ensures { OnOk result (out.new.items ≡ out.old.items ++ details_text details.now) }
 {
-    match pieces {
-        None => Ok(()),
-        Some(pieces) => append_each_piece(out, pieces),
+    match details {
+        Details::Nothing => Ok(()),
+        Details::Pieces(pieces) => append_each_piece(out, pieces),
+        Details::Section(section) => append_section(out, section.value()),
+        Details::Status(status) => append_status(out, status.value()),
     }
 }
 
@@ -168,14 +164,22 @@ fn append_each_piece(out: &mut Vec<u8>, pieces: &Pieces) -> Result<(), AllocErro
     Ok(())
 }
 
-/// What an iteration tells of a section beside its identifier.
-fn append_facts(out: &mut Vec<u8>, facts: &SectionFacts) -> Result<(), AllocError>
-    ensures { OnOk result (out.new.items ≡ out.old.items ++ facts_text facts.now) }
+/// What an iteration tells of a section.
+fn append_section(out: &mut Vec<u8>, section: &SectionDescriptor) -> Result<(), AllocError>
+    ensures { OnOk result (out.new.items ≡ out.old.items ++ section_text section.now) }
 {
-    append_spaced_time(out, facts.expiration)?;
-    append_spaced(out, facts.size)?;
-    append_spaced_state(out, facts.state)?;
-    append_spaced_time(out, facts.last_update)
+    append_spaced_bytes(out, section.id.as_slice())?;
+    append_facts(out, section)
+}
+
+/// What it tells of a section beside its identifier.
+fn append_facts(out: &mut Vec<u8>, section: &SectionDescriptor) -> Result<(), AllocError>
+    ensures { OnOk result (out.new.items ≡ out.old.items ++ facts_text section.now) }
+{
+    append_spaced_time(out, section.expiration)?;
+    append_spaced(out, section.size)?;
+    append_spaced_state(out, section.state)?;
+    append_spaced_time(out, section.last_update)
 }
 
 /// The status of a checkpoint.

@@ -1,9 +1,7 @@
-ghost use Rattle.std.specs.Prelude.{◌≡◌, ◌<◌, ◌≤◌, ◌^◌, [], ◌∷◌, Ok, Some, None, OnOk, IfErr, IfOk, IfSome, IfNone, length, ◌==◌, nat_le, if◌then◌else◌, bytes_eq, codes, not, ◌&&◌};
+ghost use Rattle.std.specs.Prelude.{◌≡◌, ◌<◌, ◌≤◌, ◌^◌, [], ◌∷◌, Ok, Some, None, IfOk, IfSome, IfNone, length, ◌==◌, bytes_eq, codes, not, ◌&&◌};
 ghost use Rattle.std.specs.List.{list_all, position_or_len, before_first, after_first};
 ghost use Rattle.std.specs.Str.Parse.{AllDigits, digits_value};
-ghost use Rattle.ckpt_types.specs.Limits.{section_id_max};
-ghost use Rattle.script_words.specs.declared.reason.Reason.TheVariants as reasons;
-ghost use Rattle.script_words.specs.Reasons.{Reads, Fails, or_reason};
+ghost use Rattle.script_words.specs.Reasons.{Reads};
 ghost use Rattle.script_words.specs.Words.{starts_well, is_graphic, is_dot, number as spec_number, lettered, call_of, read, a_client, a_node, a_place, an_iteration, a_ckpt, a_number, a_time, a_moment, some_bytes, an_id, a_new_id, a_version, the_callbacks, a_who};
 
 use crate::digits::decode_digits;

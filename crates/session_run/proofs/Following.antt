@@ -16,9 +16,10 @@ use Rattle.script_lang.specs.declared.lines.Line.{Line}
 use Rattle.world_core.specs.declared.hands.InHand.{InHand}
 use Rattle.world_core.specs.declared.world.World.{World}
 use Rattle.cluster_record.specs.RecordState.{is_up}
-use Rattle.world_core.specs.Machine.{Machine, empty_cluster}
-use Rattle.world_core.specs.Steps.{after}
-use Rattle.world_core.specs.Runs.{GoesOn, IsRunTo, SaysTrue, AnswersBegin, AnswersStep, NoneInHand, last, last_from}
+use Rattle.ckpt_machine.specs.Machine.{Machine, empty_cluster}
+use Rattle.ckpt_machine.specs.Steps.{after}
+use Rattle.ckpt_machine.specs.Runs.{last, last_from}
+use Rattle.world_core.specs.Runs.{GoesOn, IsRunTo, SaysTrue, AnswersBegin, AnswersStep, NoneInHand}
 use Rattle.world_core.specs.Shows.{hand_at}
 use Rattle.session_run.specs.Follows.{StepsToEnd, SaysTrueIn, IsWholeCall, AnswersLine, FollowsFrom, Follows}
 use Rattle.session_run.specs.Growing.{one_node_labels, GrowsBy, IsFinish, NoneBut}
@@ -39,7 +40,7 @@ IfSome-held (Some x) held so = so
 pub step_grows : (c : ℕ) (o : Option InHand) (old new : World) (l : Label) → AnswersStep (Client c) false o old new l → is_some o ≡ true →
     (more : List Label) → IsFinish (hand_at new.hands c) more → IsFinish o (l ∷ more)
 step_grows c None old new l answers held more f = absurd cc
-step_grows c (Some h) old new (labels.Stepped call op verb k r reply end pieces) answers held more f = (answers.0, steps_of_hand h.call h.op end (hand_at new.hands c) more answers.1 f)
+step_grows c (Some h) old new (labels.Stepped call op verb k r reply end details) answers held more f = (answers.0, steps_of_hand h.call h.op end (hand_at new.hands c) more answers.1 f)
 step_grows c (Some h) old new l answers held more f = absurd answers
 
 -- what a word says of the world, it says of the machine's state that the world shows

@@ -5,6 +5,7 @@ use Rattle.ckpt_types.specs.declared.answers.Outcome.TheVariants.{NoMemory}
 use Rattle.ckpt_types.specs.declared.identities.ActorName.TheVariants.{Client}
 use Rattle.node_msgs.specs.declared.steps.StepReply.TheVariants as replies
 use Rattle.node_msgs.specs.declared.steps.Verb.TheVariants.{Look}
+use Rattle.run_labels.specs.declared.details.Details.TheVariants as beside
 use Rattle.run_labels.specs.declared.labels.Label.{Label}
 use Rattle.run_labels.specs.declared.labels.Label.TheVariants as labels
 use Rattle.run_labels.specs.OpWord.{word_of_op}
@@ -12,8 +13,8 @@ use Rattle.script_lang.specs.declared.lines.Line.{Line}
 use Rattle.script_lang.specs.declared.lines.Line.TheVariants as lines
 use Rattle.script_lang.specs.BuiltScripts.{moment_behind}
 use Rattle.world_core.specs.declared.hands.InHand.{InHand}
-use Rattle.world_core.specs.Machine.{Machine}
-use Rattle.world_core.specs.Runs.{last, last_from}
+use Rattle.ckpt_machine.specs.Machine.{Machine}
+use Rattle.ckpt_machine.specs.Runs.{last, last_from}
 use Rattle.session_run.specs.Follows.{AnswersLine, FollowsFrom, Follows, FollowsFront}
 use Rattle.session_run.specs.Growing.{one_node_labels, GrowsBy, GrowsTowards, IsFinish, AreLeft}
 use Rattle.session_run.specs.Playable.{IsPlayableLine, ArePlayable}
@@ -48,7 +49,7 @@ rest_follows (suc i) t line rest left m = could_follow m (moment_behind t line) 
 -- a step by which the call in hand could end
 abbrev pub could_finish : Option InHand → List Label
 could_finish None = []
-could_finish (Some h) = labels.Stepped h.call (word_of_op h.op) Look None None replies.Ok (Some NoMemory) None ∷ []
+could_finish (Some h) = labels.Stepped h.call (word_of_op h.op) Look None None replies.Ok (Some NoMemory) beside.Nothing ∷ []
 
 could_finish-finishes : (o : Option InHand) → IsFinish o (could_finish o)
 could_finish-finishes None = refl

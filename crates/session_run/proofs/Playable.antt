@@ -10,7 +10,7 @@ use Rattle.run_labels.specs.declared.labels.Label.{Label}
 use Rattle.script_lang.specs.declared.lines.Line.{Line}
 use Rattle.script_lang.specs.declared.lines.Line.TheVariants as lines
 use Rattle.script_lang.specs.BuiltScripts.{no_callbacks, AreBuiltAttributes, IsBuiltOp, IsBuiltLine, AreBuiltLines, IsOneNodeFirst, moment_behind}
-use Rattle.world_core.specs.Beginning.{RegistersNone, AreBuilt, IsBuilt}
+use Rattle.ckpt_machine.specs.Beginning.{RegistersNone, AreBuilt, IsBuilt}
 use Rattle.cluster_record.specs.RecordState.{IsMomentFrom}
 use Rattle.session_run.specs.Growing.{AreLeft, CanPlay}
 use Rattle.session_run.specs.Playable.{IsPlayableLine, ArePlayable, IsPlayable}

@@ -16,14 +16,14 @@ use Rattle.run_labels.specs.OpWord.{word_of_op}
 use Rattle.script_lang.specs.declared.lines.Line.{Line}
 use Rattle.script_lang.specs.declared.lines.Line.TheVariants as lines
 use Rattle.cluster_record.specs.RecordState.{is_up}
-use Rattle.world_core.specs.Machine.{Machine, empty_cluster}
-use Rattle.world_core.specs.Runs.{last_from}
+use Rattle.ckpt_machine.specs.Machine.{Machine, empty_cluster}
+use Rattle.ckpt_machine.specs.Runs.{last_from}
 
 -- the steps of a call to its end, and nothing else; none where it has ended
 abbrev pub StepsToEnd : CallId → Option Outcome → List Label → Type 0
 StepsToEnd call (Some end) rest = rest ≡ []
 StepsToEnd call None [] = ⊥
-StepsToEnd call None (labels.Stepped other op verb k r reply end pieces ∷ rest) = (other ≡ call) × StepsToEnd call end rest
+StepsToEnd call None (labels.Stepped other op verb k r reply end details ∷ rest) = (other ≡ call) × StepsToEnd call end rest
 StepsToEnd call None (label ∷ rest) = ⊥
 
 -- a word that says DOWN is said of a node that is not up

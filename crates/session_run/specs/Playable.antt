@@ -4,7 +4,7 @@ use Rattle.ckpt_types.specs.Limits.{client_numbers}
 use Rattle.script_lang.specs.declared.lines.Line.{Line}
 use Rattle.script_lang.specs.declared.lines.Line.TheVariants as lines
 use Rattle.script_lang.specs.BuiltScripts.{IsOneNode, moment_behind}
-use Rattle.world_core.specs.Beginning.{IsBuilt}
+use Rattle.ckpt_machine.specs.Beginning.{IsBuilt}
 use Rattle.cluster_record.specs.RecordState.{IsMomentFrom}
 
 -- the most lines of a script that is played

@@ -1,12 +1,13 @@
 ghost use Rattle.std.specs.Prelude.{◌≡◌, ◌≢◌, ◌+◌, ◌-◌, ◌*◌, ◌<◌, ◌≤◌, ◌^◌, List, [], length, None, OnOk, OnErr, IfOk};
 ghost use Rattle.ckpt_types.specs.declared.identities.ActorName.TheVariants.{Client};
 ghost use Rattle.script_lang.specs.BuiltScripts.{moment_behind};
-ghost use Rattle.world_core.specs.Beginning.{IsBuilt};
+ghost use Rattle.ckpt_machine.specs.Beginning.{IsBuilt};
 ghost use Rattle.std.specs.Prelude.{false};
 ghost use Rattle.ckpt_types.specs.declared.identities.Who.TheVariants.{Actor};
 ghost use Rattle.ckpt_types.specs.Limits.{client_numbers};
 ghost use Rattle.world_core.specs.declared.world.Event.TheVariants as happenings;
-ghost use Rattle.world_core.specs.Runs.{IsNew, IsRunTo, Happens, NoneInHand, last};
+ghost use Rattle.ckpt_machine.specs.Runs.{last};
+ghost use Rattle.world_core.specs.Runs.{IsNew, IsRunTo, Happens, NoneInHand};
 ghost use Rattle.world_core.specs.StepsLeft.{ComesNearer, left_of};
 ghost use Rattle.world_core.specs.Shows.{hand_at};
 ghost use Rattle.session_run.specs.Follows.{AnswersLine, Follows, FollowsFront, IsWholeCall};

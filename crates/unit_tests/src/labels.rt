@@ -1,12 +1,12 @@
 use ckpt_types::{
-    ActorName, AisError, Answer, Bytes, CallId, Cause, CheckpointDescriptor, CkptId,
+    ActorName, AisError, Answer, Apart, Bytes, CallId, Cause, CheckpointDescriptor, CkptId,
     CreationAttributes, Given, NEVER, Op, Outcome, Pieces, ReadBuf, SectionDescriptor, SectionId,
     SectionState, Shared, Vector, Who,
 };
 use node_msgs::{StepReply, Verb};
 use run_labels::{
-    Label, LineWord, OpWord, PullReply, PutReply, RunLog, Said, ShownReplica, ShownSection,
-    ShownSlot, append_line, render_line,
+    Details, Label, LineWord, OpWord, PullReply, PutReply, RunLog, Said, ShownReplica,
+    ShownSection, ShownSlot, append_line, render_line,
 };
 use std::alloc::{AllocError, Global};
 use std::test::Fail;
@@ -41,7 +41,7 @@ fn step(call: CallId, verb: Verb, node: u8, reply: StepReply) -> Label {
         node: Some(node),
         reply,
         end: None,
-        pieces: None,
+        details: Details::Nothing,
     }
 }
 
@@ -55,12 +55,12 @@ fn ended(call: CallId, op: OpWord, end: Outcome) -> Label {
         node: None,
         reply: StepReply::Done,
         end: Some(end),
-        pieces: None,
+        details: Details::Nothing,
     }
 }
 
 /// The pieces that came with an answer.
-fn pieces(alloc: Global, pieces: &[&[u8]]) -> Result<Option<Pieces>, AllocError> {
+fn pieces(alloc: Global, pieces: &[&[u8]]) -> Result<Details, AllocError> {
     let mut buf = ReadBuf::reserve(alloc, pieces.len(), 64)?;
     for piece in pieces {
         let (places, bytes) = buf.spare();
@@ -69,12 +69,12 @@ fn pieces(alloc: Global, pieces: &[&[u8]]) -> Result<Option<Pieces>, AllocError>
         }
         buf.push(piece);
     }
-    Ok(Some(Pieces::from_buf(buf)))
+    Ok(Details::Pieces(Pieces::from_buf(buf)))
 }
 
-/// The end of a call that told an identifier.
-fn told(alloc: Global, op: OpWord, answer: Answer, id: &[u8]) -> Result<Label, AllocError> {
-    Ok(Label::Stepped {
+/// The end of a call that told these details.
+fn told(op: OpWord, answer: Answer, details: Details) -> Label {
+    Label::Stepped {
         call: client(0, 5),
         op,
         verb: Verb::Look,
@@ -82,20 +82,28 @@ fn told(alloc: Global, op: OpWord, answer: Answer, id: &[u8]) -> Result<Label, A
         node: None,
         reply: StepReply::Done,
         end: Some(Outcome::Done(answer)),
-        pieces: pieces(alloc, &[id])?,
-    })
+        details,
+    }
 }
 
-/// What a `next` told of a section.
-fn facts(expiration: i64, size: u64, state: SectionState) -> Answer {
+/// What a `next` told of the section `a`.
+fn section(
+    alloc: Global,
+    expiration: i64,
+    size: u64,
+    state: SectionState,
+) -> Result<Details, AllocError> {
+    let Some(id) = SectionId::from_slice(b"a") else {
+        return Err(AllocError);
+    };
     let descriptor = SectionDescriptor {
-        id: SectionId::default(),
+        id,
         expiration,
         size,
         state,
         last_update: 0,
     };
-    Answer::Section(descriptor.facts())
+    Ok(Details::Section(Apart::new(alloc, descriptor)?))
 }
 
 /// The end of a read that gave these pieces.
@@ -108,7 +116,7 @@ fn read(alloc: Global, bytes: &[&[u8]]) -> Result<Label, AllocError> {
         node: Some(0),
         reply: StepReply::Ok,
         end: Some(Outcome::Done(Answer::Pieces)),
-        pieces: pieces(alloc, bytes)?,
+        details: pieces(alloc, bytes)?,
     })
 }
 
@@ -167,7 +175,7 @@ fn last(number: u32, words: (OpWord, Verb), ckpt: Option<CkptId>, answer: Answer
         node: Some(0),
         reply: StepReply::Ok,
         end: Some(Outcome::Done(answer)),
-        pieces: None,
+        details: Details::Nothing,
     }
 }
 
@@ -276,17 +284,23 @@ fn answers(alloc: Global, op: OpWord, answer: Answer, line: &str) -> Result<(), 
     prints(alloc, ended(C0_5, op, Outcome::Done(answer)), LOOK, line)
 }
 
-/// This is printed of an answer of c0.5 that told an identifier.
-fn tells(alloc: Global, op: OpWord, answer: Answer, id: &[u8], line: &str) -> Result<(), Fail> {
-    match told(alloc, op, answer, id) {
-        Ok(label) => prints(alloc, label, LOOK, line),
+/// This is printed of an answer of c0.5 that told these details.
+fn tells(
+    alloc: Global,
+    op: OpWord,
+    answer: Answer,
+    details: Result<Details, AllocError>,
+    line: &str,
+) -> Result<(), Fail> {
+    match details {
+        Ok(details) => prints(alloc, told(op, answer, details), LOOK, line),
         Err(AllocError) => Err(Fail::new("there is memory")),
     }
 }
 
 /// The status of a checkpoint.
-fn status() -> Answer {
-    Answer::Status(CheckpointDescriptor {
+fn status(alloc: Global) -> Result<Details, AllocError> {
+    let descriptor = CheckpointDescriptor {
         attributes: CreationAttributes {
             creation_flags: 1,
             checkpoint_size: 65536,
@@ -297,38 +311,14 @@ fn status() -> Answer {
         },
         number_of_sections: 64,
         memory_used: 448,
-    })
+    };
+    Ok(Details::Status(Apart::new(alloc, descriptor)?))
 }
 
 #[test]
 fn an_answer_has_its_details(rt: HostRuntime) -> Result<(), Fail> {
     let alloc = rt.alloc();
     answers(alloc, OpWord::Open, Answer::Opened(1), "c0.5 open OK K1\n")?;
-    tells(
-        alloc,
-        OpWord::Create,
-        Answer::Created,
-        b"c",
-        "c0.5 create OK x63\n",
-    )?;
-    let first = facts(NEVER, 0, SectionState::Valid);
-    tells(
-        alloc,
-        OpWord::Next,
-        first,
-        b"a",
-        "c0.5 next OK x61 end 0 VALID 0\n",
-    )?;
-    let corrupted = facts(20, 4, SectionState::Corrupted);
-    tells(
-        alloc,
-        OpWord::Next,
-        corrupted,
-        b"a",
-        "c0.5 next OK x61 20 4 CORRUPTED 0\n",
-    )?;
-    let line = "c0.5 status OK 1 65536 3600000000000 64 1024 8 64 448\n";
-    answers(alloc, OpWord::Status, status(), line)?;
     answers(alloc, OpWord::Sync, Answer::Pulled(1), "c0.5 sync OK 1\n")?;
     let dispatched = Answer::Dispatched(Given { given: 1, left: 0 });
     answers(
@@ -336,6 +326,39 @@ fn an_answer_has_its_details(rt: HostRuntime) -> Result<(), Fail> {
         OpWord::Dispatch,
         dispatched,
         "c0.5 dispatch OK 1 0\n",
+    )
+}
+
+#[test]
+fn what_is_told_stands_behind_ok(rt: HostRuntime) -> Result<(), Fail> {
+    let alloc = rt.alloc();
+    tells(
+        alloc,
+        OpWord::Create,
+        Answer::Created,
+        pieces(alloc, &[b"c".as_slice()]),
+        "c0.5 create OK x63\n",
+    )?;
+    tells(
+        alloc,
+        OpWord::Next,
+        Answer::Section,
+        section(alloc, NEVER, 0, SectionState::Valid),
+        "c0.5 next OK x61 end 0 VALID 0\n",
+    )?;
+    tells(
+        alloc,
+        OpWord::Next,
+        Answer::Section,
+        section(alloc, 20, 4, SectionState::Corrupted),
+        "c0.5 next OK x61 20 4 CORRUPTED 0\n",
+    )?;
+    tells(
+        alloc,
+        OpWord::Status,
+        Answer::Status,
+        status(alloc),
+        "c0.5 status OK 1 65536 3600000000000 64 1024 8 64 448\n",
     )
 }
 

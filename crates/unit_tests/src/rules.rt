@@ -67,8 +67,11 @@ impl Case<'_> {
         let Some(sections) = Listed::new(items.as_slice()) else {
             return Err(Fail::new("the identifiers do not rise"));
         };
-        let answer = check_read(&sections, elements.as_slice(), self.now);
-        is_told(alloc, answer, want)
+        let elements = elements.as_slice();
+        if elements.len() > 2 {
+            return Err(Fail::new("many elements"));
+        }
+        is_told(alloc, check_read(&sections, elements, self.now), want)
     }
 }
 
@@ -113,9 +116,6 @@ fn create_of(
 
 /// Reads of 16 bytes each.
 fn reads_of(alloc: Global, elements: &[(&str, u64)]) -> Result<Vec<ReadElement>, Fail> {
-    if elements.len() > 2 {
-        return Err(Fail::new("many elements"));
-    }
     let mut items = Vec::new(alloc);
     for (id, offset) in elements {
         items.push(ReadElement {

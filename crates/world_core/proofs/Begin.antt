@@ -1,6 +1,6 @@
 -- A beginning, whatever the operation.
 use Rattle.section_iter.specs.KeptIds.{KeptIds}
-use Rattle.world_core.specs.Machine.{Machine}
+use Rattle.ckpt_machine.specs.Machine.{Machine}
 use Rattle.std.proofs.Common.{◌≡◌, ℕ, ◌+◌, ◌<◌, Bool, true, false, List, [], length, refl, sym, ap, subst, ◌∙◌, cond}
 use Rattle.std.specs.Prelude.{Option, Some, None, ◌==◌, slice_get, slice_set, slice_index}
 use Rattle.std.proofs.lemmas.Bool.{eqb-true}
@@ -13,7 +13,7 @@ use Rattle.run_labels.specs.declared.labels.Label.{Label}
 use Rattle.run_labels.specs.declared.labels.Label.TheVariants.{Began}
 use Rattle.client_handles.specs.ClientState.{handle_numbered, handle_at, iteration_at}
 use Rattle.client_handles.specs.declared.handle_view.HandleView.{HandleView}
-use Rattle.world_core.specs.declared.drivers.Driver.{Driver}
+use Rattle.ckpt_machine.specs.Drivers.{Driver}
 use Rattle.world_core.specs.declared.hands.InHand.{InHand}
 use Rattle.world_core.specs.declared.world.World.{World}
 use Rattle.cluster_record.specs.Calls.{put_actor, left}
@@ -22,11 +22,11 @@ use Rattle.cluster_record.specs.RecordState.{is_live_client}
 use Rattle.world_core.specs.TableState.{TableState, advanced, begun_with}
 use Rattle.world_core.proofs.LiveRooms.{rooms_set, roomy-begun}
 use Rattle.cluster_record.specs.StepDone.{StepDone}
-use Rattle.world_core.specs.Driving.{Kept, driver_start}
-use Rattle.world_core.specs.Beginning.{IsBuilt, begin_end, handle_place, iteration_place, ended_place}
-use Rattle.world_core.specs.Steps.{IsDue, MayBegin, after, room_at, handle_of_number, kept_at, handle_by, handle_over, iteration_in, with_ended, without_iteration, begun_call, IsBeginEnd, ckpt_of_handle}
+use Rattle.ckpt_machine.specs.Driving.{Kept, driver_start}
+use Rattle.ckpt_machine.specs.Beginning.{IsBuilt, begin_end, handle_place, iteration_place, ended_place}
+use Rattle.ckpt_machine.specs.Steps.{IsDue, MayBegin, after, room_at, handle_of_number, kept_at_beginning, handle_by, handle_over, iteration_in, with_ended, without_iteration, begun_call, IsBeginEnd, ckpt_of_handle}
 use Rattle.section_iter.specs.declared.room.Room.{Room}
-use Rattle.world_core.specs.Shows.{Does, Fits, FitsHand, History, machine_of, next_in, next_of, handles_in, place_in, numbered, last_in, hand_at, hand_of, shown_hand, iterations_in, room_for}
+use Rattle.world_core.specs.Shows.{Does, Fits, FitsHand, History, machine_of, next_in, next_of, handles_in, place_in, numbered_or_none, last_in, hand_at, hand_of, shown_hand, iterations_in, room_for}
 use Rattle.cluster_record.proofs.Places.{get_set, there_is}
 
 -- the handle of the place of a handle, or else of the place of an iteration
@@ -36,7 +36,7 @@ named_in None None t = None
 named_in None (Some iteration) t = handle_over t.client.handles (iteration_at iteration t.client)
 
 -- where no handle has the number 0, a place with 0 stands for none
-pub find_numbered : (n : ℕ) (handles : List HandleView) → handle_numbered 0 handles ≡ None → handle_of_number handles (numbered n) ≡ handle_numbered n handles
+pub find_numbered : (n : ℕ) (handles : List HandleView) → handle_numbered 0 handles ≡ None → handle_of_number handles (numbered_or_none n) ≡ handle_numbered n handles
 find_numbered n handles none = by_test (n == 0) refl where
   by_test : (b : Bool) → (n == 0) ≡ b → handle_of_number handles (cond b None (Some n)) ≡ handle_numbered n handles
   by_test true e = sym (ap (λ n. handle_numbered n handles) (eqb-true n 0 e) ∙ none)
@@ -74,7 +74,7 @@ handles_case true q t o e = ap handles_in (e refl) ∙ sym (begun_handles q t)
 handles_case false q t o e = refl
 
 place_case : (b : Bool) (q : Option ℕ) (t : TableState) (o : Option TableState) (p : ℕ) → (b ≡ true → o ≡ Some t) → place_in o p ≡ place_in (cond b (Some (begun_with q t)) o) p
-place_case true q t o p e = ap (λ o. place_in o p) (e refl) ∙ ap (λ places. numbered (slice_index places p)) (sym (begun_places q t))
+place_case true q t o p e = ap (λ o. place_in o p) (e refl) ∙ ap (λ places. numbered_or_none (slice_index places p)) (sym (begun_places q t))
 place_case false q t o p e = refl
 
 last_case : (b : Bool) (q : Option ℕ) (t : TableState) (o : Option TableState) → (b ≡ true → o ≡ Some t) → last_in o ≡ last_in (cond b (Some (begun_with q t)) o)
@@ -109,12 +109,12 @@ fits_case true k l old p o h g = h
 fits_case false k l old p o h g = g
 
 module _ (w : World) (c : ℕ) (op : Op) (t : TableState) (q : Option InHand) (end : Option Outcome) (room : Option KeptIds) (within : c < 100) (built : IsBuilt op) (may : MayBegin w.cluster c op) (table : slice_get w.tables c ≡ Some t) (there : slice_get w.hands c ≡ Some q) (free : hand_at w.hands c ≡ None) (none : handle_numbered 0 t.client.handles ≡ None)
-    (answers : IsBeginEnd op (begin_end (is_live_client c w.cluster) (named_in (handle_place op) (iteration_place op) t) op) end) (took : end ≡ None → room ≡ room_for op (kept_at w.cluster c (named_in (handle_place op) (iteration_place op) t)).room) where
+    (answers : IsBeginEnd op (begin_end (is_live_client c w.cluster) (named_in (handle_place op) (iteration_place op) t) op) end) (took : end ≡ None → room ≡ room_for op (kept_at_beginning w.cluster c (named_in (handle_place op) (iteration_place op) t)).room) where
   abbrev handle : Option HandleView
   handle = named_in (handle_place op) (iteration_place op) t
 
   abbrev kept : Kept
-  kept = kept_at w.cluster c handle
+  kept = kept_at_beginning w.cluster c handle
 
   abbrev call : CallId
   call = record { actor = Client c; number = t.next }
@@ -160,7 +160,7 @@ module _ (w : World) (c : ℕ) (op : Op) (t : TableState) (q : Option InHand) (e
       let m = machine_of w h in
       let begun = begun_call m call op end in
       ended_is begun c place
-      ∙ (λ i. record m { next = put_actor m.next (Client c) (m.next (Client c) + 1); in_hand = put_actor m.in_hand (Client c) (left end (record { call = call; op = op; kept = kept_at w.cluster c (handle_same w h c t (handle_place op) (iteration_place op) table none i); steps = []; snapshot = None })); iterations = (with_ended c place begun).iterations })
+      ∙ (λ i. record m { next = put_actor m.next (Client c) (m.next (Client c) + 1); in_hand = put_actor m.in_hand (Client c) (left end (record { call = call; op = op; kept = kept_at_beginning w.cluster c (handle_same w h c t (handle_place op) (iteration_place op) table none i); steps = []; snapshot = None })); iterations = (with_ended c place begun).iterations })
       ∙ (λ i. record (machine_of w' (later h)) {
         next = λ a. nexts h a i;
         handles = λ d. (handles_case (d == c) place t (slice_get w.tables d) (its_table d) ∙ ap handles_in (sym (table_at d))) i;
@@ -201,7 +201,7 @@ pub begin_done : (w : World) (c : ℕ) (op own said : Op) (number : ℕ) (handle
     c < 100 → c < length w.tables → c < length w.hands → hand_at w.hands c ≡ None → IsBuilt op → MayBegin w.cluster c op → ((t : TableState) → slice_get w.tables c ≡ Some t → handle_numbered 0 t.client.handles ≡ None) →
     own ≡ op → said ≡ op → ((t : TableState) → slice_get w.tables c ≡ Some t → number ≡ t.next) → ((t : TableState) → slice_get w.tables c ≡ Some t → handle ≡ named_in (handle_place op) (iteration_place op) t) →
     live ≡ is_live_client c w.cluster → due ≡ begin_end live handle op → IsBeginEnd op due end → declared ≡ room_at w.cluster (ckpt_of_handle handle) → (end ≡ None → room ≡ room_for op declared) → ended ≡ ended_place end op →
-    ((t : TableState) → slice_get w.tables c ≡ Some t → tables ≡ slice_set w.tables c (begun_with ended t)) → driver ≡ driver_start (record { actor = Client c; number = number }) op (kept_at w.cluster c handle) →
+    ((t : TableState) → slice_get w.tables c ≡ Some t → tables ≡ slice_set w.tables c (begun_with ended t)) → driver ≡ driver_start (record { actor = Client c; number = number }) op (kept_at_beginning w.cluster c handle) →
     hands ≡ slice_set w.hands c (left end (record { call = record { actor = Client c; number = number }; op = own; driver = driver; iteration = room })) → Does w (record w { tables = tables; hands = hands }) (Began (record { actor = Client c; number = number }) said end)
 begin_done w c op own said number handle live due end declared room ended tables driver hands within table there free built may none own_is said_is number_is handle_is live_is due_is answers declared_is took place_is tables_are driver_is hands_are =
     let t = there_is w.tables c table in
@@ -212,8 +212,8 @@ begin_done w c op own said number handle live due end declared room ended tables
     let e : begin_end (is_live_client c w.cluster) (named_in (handle_place op) (iteration_place op) x) op ≡ due = (λ i. begin_end (sym live_is i) (f i) op) ∙ sym due_is in
     let own_answers = subst (λ (o : Option Outcome). IsBeginEnd op o end) (sym e) answers in
     let own_took = λ (goes : end ≡ None). took goes ∙ ap (room_for op) (declared_is ∙ ap (λ o. room_at w.cluster (ckpt_of_handle o)) (sym f)) in
-    let d : driver_start (record { actor = Client c; number = x.next }) op (kept_at w.cluster c (named_in (handle_place op) (iteration_place op) x)) ≡ driver = (λ i. driver_start (record { actor = Client c; number = n i }) op (kept_at w.cluster c (f i))) ∙ sym driver_is in
-    let g : slice_set w.hands c (left end (record { call = record { actor = Client c; number = x.next }; op = op; driver = driver_start (record { actor = Client c; number = x.next }) op (kept_at w.cluster c (named_in (handle_place op) (iteration_place op) x)); iteration = room })) ≡ hands
+    let d : driver_start (record { actor = Client c; number = x.next }) op (kept_at_beginning w.cluster c (named_in (handle_place op) (iteration_place op) x)) ≡ driver = (λ i. driver_start (record { actor = Client c; number = n i }) op (kept_at_beginning w.cluster c (f i))) ∙ sym driver_is in
+    let g : slice_set w.hands c (left end (record { call = record { actor = Client c; number = x.next }; op = op; driver = driver_start (record { actor = Client c; number = x.next }) op (kept_at_beginning w.cluster c (named_in (handle_place op) (iteration_place op) x)); iteration = room })) ≡ hands
     = (λ i. slice_set w.hands c (left end (record { call = record { actor = Client c; number = n i }; op = sym own_is i; driver = d i; iteration = room }))) ∙ sym hands_are in
     let b : slice_set w.tables c (begun_with (ended_place end op) x) ≡ tables = ap (λ p. slice_set w.tables c (begun_with p x)) (sym place_is) ∙ sym (tables_are x t.1) in
     subst (λ (y : List TableState × List (Option InHand) × ℕ × Op). Does w (record w { tables = y.0; hands = y.1 }) (Began (record { actor = Client c; number = y.2 }) y.3 end))

@@ -8,10 +8,10 @@ use Rattle.client_handles.specs.declared.begun.BegunIteration.{BegunIteration}
 use Rattle.client_handles.specs.declared.handle_view.HandleView.{HandleView}
 use Rattle.cluster_record.specs.Places.{put}
 use Rattle.world_core.specs.declared.world.World.{World}
-use Rattle.world_core.specs.Machine.{IterationTable, Machine}
-use Rattle.world_core.specs.Settling.{changed_at, at_client, closed_at}
+use Rattle.ckpt_machine.specs.Machine.{IterationTable, Machine}
+use Rattle.world_core.specs.Settling.{table_changed, at_client, closed_at}
 use Rattle.world_core.specs.Shows.{History, machine_of, handles_in, place_in, last_in, iterations_in}
-use Rattle.world_core.specs.Steps.{handle_in, handle_of_number, without_handle, with_none}
+use Rattle.ckpt_machine.specs.Steps.{handle_in, handle_of_number, without_handle, without_handles}
 use Rattle.world_core.specs.TableState.{TableState}
 use Rattle.world_core.specs.TableState as tables
 use Rattle.world_core.proofs.Begin.{handle_same}
@@ -64,7 +64,7 @@ module _ (w : World) (h : History) (c : ℕ) where
     by_handle (Some hd) is = ap (without_handle m c) (found ∙ is) ∙ one_closed t place hd table is
 
   by_table : (place : ℕ) (o : Option TableState) → slice_get w.tables c ≡ o → ((t : TableState) → slice_get w.tables c ≡ Some t → handle_numbered 0 t.client.handles ≡ None) → IsSome (handle_in m c (Some place)) →
-      without_handle m c (handle_in m c (Some place)) ≡ with_tables (changed_at c (tables.with_closed place) w.tables o)
+      without_handle m c (handle_in m c (Some place)) ≡ with_tables (table_changed c (tables.with_closed place) w.tables o)
   by_table place None table none there = let e : false ≡ true = subst (λ (o : Option TableState). IsSome (handle_of_number (handles_in o) (place_in o place))) table there in absurd (cc e)
   by_table place (Some t) table none there = closed_table t place table (none t table) there
 
@@ -79,7 +79,7 @@ module _ (w : World) (h : History) (c : ℕ) where
   abbrev emptied_iterations : Option TableState → IterationTable
   emptied_iterations o = record (iterations_in o) { begun = [] }
 
-  left_by : (o : Option TableState) → slice_get w.tables c ≡ o → with_none c m ≡ with_tables (changed_at c tables.with_none w.tables o)
+  left_by : (o : Option TableState) → slice_get w.tables c ≡ o → without_handles c m ≡ with_tables (table_changed c tables.with_none w.tables o)
   left_by (Some t) table = these_are t [] [] table
   left_by None table =
       let handles = λ (d : ℕ). same_there (d == c) [] (handles_in (slice_get w.tables d)) (λ e. ap (λ d. handles_in (slice_get w.tables d)) (eqb-true d c e) ∙ ap handles_in table) in
@@ -87,5 +87,5 @@ module _ (w : World) (h : History) (c : ℕ) where
       λ i. record m { handles = λ d. handles d i; iterations = λ d. begun d i }
 
   -- it has no handle and no iteration
-  pub left_is : with_none c m ≡ with_tables (at_client c tables.with_none w.tables)
+  pub left_is : without_handles c m ≡ with_tables (at_client c tables.with_none w.tables)
   left_is = left_by (slice_get w.tables c) refl

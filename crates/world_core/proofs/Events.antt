@@ -15,15 +15,16 @@ use Rattle.world_core.specs.declared.world.Event.TheVariants as happenings
 use Rattle.world_core.specs.declared.world.World.{World}
 use Rattle.cluster_record.specs.Calls.{left}
 use Rattle.cluster_record.specs.Places.{or_none}
-use Rattle.world_core.specs.Machine.{Machine}
+use Rattle.ckpt_machine.specs.Machine.{Machine}
 use Rattle.world_core.specs.Shows.{Does, History, hand_at, shown_hand}
-use Rattle.world_core.specs.Invariant.{Alone}
-use Rattle.world_core.specs.Runs.{IsRunTo, MayHappen, Happens, Answers, AnswersBegin, AnswersStep, IsStepOf, IsIdleWord, GoesOn, KeepsOthers, NoneInHand, last}
+use Rattle.ckpt_machine.specs.Runs.{last}
+use Rattle.world_core.specs.Runs.{IsRunTo, MayHappen, Happens, Answers, AnswersBegin, AnswersStep, IsStepOf, IsIdleWord, GoesOn, KeepsOthers}
 use Rattle.world_core.specs.StepsLeft.{left_of, ComesNearer}
 use Rattle.world_core.specs.Happenings.{ComesNow, IsAnswered, IsStep, BeginsOrSays}
 use Rattle.std.proofs.lemmas.Bool.{eq-eqb}
 use Rattle.cluster_record.proofs.Places.{get_set, there_is, tests_differ}
-use Rattle.world_core.proofs.LawFacts.{facts}
+use Rattle.ckpt_machine.proofs.Facts.{facts}
+use Rattle.ckpt_machine.proofs.RunLaws.{run_has}
 use Rattle.world_core.proofs.Moving.{shown-moment}
 use Rattle.world_core.proofs.Running.{goes_on, nearer}
 use Rattle.world_core.proofs.Words.{cluster_is_empty}
@@ -32,12 +33,12 @@ use Rattle.world_core.proofs.Words.{cluster_is_empty}
 
 pub comes_now : (w : World) (log : List Label) (event : Event) → MayHappen w log event → ComesNow w event
 comes_now w log (happenings.Nodes n) may = (may.comes.0, cluster_is_empty w (subst (IsRunTo w) may.comes.1 may.run))
-comes_now w log (happenings.Begin (Client c) op) may = (may.comes.0.0, may.comes.1)
+comes_now w log (happenings.Begin (Client c) op) may = may.comes
 comes_now w log (happenings.Begin (Node r) op) may = absurd may.comes.0
-comes_now w log (happenings.Step (whos.Actor (Client c)) finish) may = may.comes.0
+comes_now w log (happenings.Step (whos.Actor (Client c)) finish) may = may.comes
 comes_now w log (happenings.Step (whos.Actor (Node r)) finish) may = absurd may.comes
 comes_now w log (happenings.Step (whos.Call call) finish) may = absurd may.comes
-comes_now w log (happenings.At t) may = may.comes.1
+comes_now w log (happenings.At t) may = may.comes
 
 -- ---- the calls in hand after it
 
@@ -72,7 +73,7 @@ step_others c d old new label step apart =
 idle_hands : (a : ActorName) (finish : Bool) (old new : World) (label : Label) → IsIdleWord a finish old new label → new.hands ≡ old.hands
 idle_hands a finish old new (labels.Word who word said) is = is.2
 idle_hands a finish old new (labels.Began call op end) is = absurd is
-idle_hands a finish old new (labels.Stepped call op verb k r reply end pieces) is = absurd is
+idle_hands a finish old new (labels.Stepped call op verb k r reply end details) is = absurd is
 idle_hands a finish old new (labels.Failed node failed) is = absurd is
 idle_hands a finish old new (labels.Joined node incarnation) is = absurd is
 idle_hands a finish old new (labels.Moved moment) is = absurd is
@@ -90,7 +91,7 @@ module _ (c : ℕ) (op : Op) (old new : World) where
       let hand = ap (λ hands. hand_at hands c) is.hands ∙ hand_set old.hands c (left end is.hand) there.0 there.1 in
       (is.actor, is.op_is, subst (GoesOn call op end) (sym hand) (goes_on_left call op end is.hand is.same_call is.same_op))
   begin_does_answer (labels.Word who word said) is = is
-  begin_does_answer (labels.Stepped call word verb k r reply end pieces) is = absurd is
+  begin_does_answer (labels.Stepped call word verb k r reply end details) is = absurd is
   begin_does_answer (labels.Failed node failed) is = absurd is
   begin_does_answer (labels.Joined node incarnation) is = absurd is
   begin_does_answer (labels.Moved moment) is = absurd is
@@ -104,7 +105,7 @@ module _ (c : ℕ) (op : Op) (old new : World) where
       let there = there_is old.hands c is.within in
       ap (λ hands. hand_at hands d) is.hands ∙ hand_other old.hands c d (left end is.hand) there.0 there.1 apart
   begin_others (labels.Word who word said) d is apart = ap (λ hands. hand_at hands d) is.2
-  begin_others (labels.Stepped call word verb k r reply end pieces) d is apart = absurd is
+  begin_others (labels.Stepped call word verb k r reply end details) d is apart = absurd is
   begin_others (labels.Failed node failed) d is apart = absurd is
   begin_others (labels.Joined node incarnation) d is apart = absurd is
   begin_others (labels.Moved moment) d is apart = absurd is
@@ -113,45 +114,7 @@ module _ (c : ℕ) (op : Op) (old new : World) where
   begin_others (labels.Shown ckpt replicas) d is apart = absurd is
   begin_others (labels.Nodes count) d is apart = absurd is
 
-  -- nobody else has a call in hand where it begins
-  begin_alone : (log : List Label) (label : Label) → IsRunTo old log → ((d : ℕ) → d ≢ c → hand_at old.hands d ≡ None) → BeginsOrSays c op old new label → Alone (last log) label
-  begin_alone log (labels.Began call begun end) run others is = alone where
-    h : History
-    h = run.shows.history
-
-    in_hand : (a : ActorName) → a ≢ call.actor → (last log).in_hand a ≡ None
-    in_hand (Client d) apart = ap (λ (m : Machine). m.in_hand (Client d)) run.shows.same ∙ ap (shown_hand (h.kept d) (h.steps d)) (others d (λ same. apart (ap Client same ∙ sym is.actor)))
-    in_hand (Node r) apart = ap (λ (m : Machine). m.in_hand (Node r)) run.shows.same
-
-    alone : (a : ActorName) → a ≢ call.actor → (last log).in_hand a ≡ None
-    alone = in_hand
-  begin_alone log (labels.Word who word said) run others is = tt
-  begin_alone log (labels.Stepped call word verb k r reply end pieces) run others is = tt
-  begin_alone log (labels.Failed node failed) run others is = tt
-  begin_alone log (labels.Joined node incarnation) run others is = tt
-  begin_alone log (labels.Moved moment) run others is = absurd is
-  begin_alone log (labels.Pulled ckpt reply) run others is = tt
-  begin_alone log (labels.Put ckpt node reply) run others is = tt
-  begin_alone log (labels.Shown ckpt replicas) run others is = tt
-  begin_alone log (labels.Nodes count) run others is = tt
-
 -- ---- the label of a step
-
-step_alone : (log : List Label) (c : ℕ) (old new : World) (label : Label) → IsStep c old new label → Alone (last log) label
-step_alone log c old new label step =
-    subst (Alone (last log)) (sym step.label_is) tt
-
-idle_alone : (log : List Label) (a : ActorName) (finish : Bool) (old new : World) (label : Label) → IsIdleWord a finish old new label → Alone (last log) label
-idle_alone log a finish old new (labels.Word who word said) is = tt
-idle_alone log a finish old new (labels.Began call op end) is = absurd is
-idle_alone log a finish old new (labels.Stepped call op verb k r reply end pieces) is = tt
-idle_alone log a finish old new (labels.Failed node failed) is = tt
-idle_alone log a finish old new (labels.Joined node incarnation) is = tt
-idle_alone log a finish old new (labels.Moved moment) is = absurd is
-idle_alone log a finish old new (labels.Pulled ckpt reply) is = tt
-idle_alone log a finish old new (labels.Put ckpt node reply) is = tt
-idle_alone log a finish old new (labels.Shown ckpt replicas) is = tt
-idle_alone log a finish old new (labels.Nodes count) is = tt
 
 step_answers : (c : ℕ) (finish : Bool) (old new : World) (label : Label) → IsStep c old new label → AnswersStep (Client c) finish (hand_at old.hands c) old new label
 step_answers c finish old new label step =
@@ -159,13 +122,6 @@ step_answers c finish old new label step =
     let goes = subst (GoesOn step.hand.call step.hand.op step.end) (sym after_it) (goes_on_left step.hand.call step.hand.op step.end step.next step.same_call step.same_op) in
     subst (λ p. AnswersStep (Client c) finish p old new label) (sym step.held)
     (subst (IsStepOf (Client c) (Some step.hand) old new) (sym step.label_is) (refl, goes))
-
--- ---- the label of a moment
-
--- nobody has a call in hand where it is set
-moment_alone : (log : List Label) (old : World) → IsRunTo old log → NoneInHand old → (a : ActorName) → (last log).in_hand a ≡ None
-moment_alone log old run idle (Client d) = let h = run.shows.history in ap (λ (m : Machine). m.in_hand (Client d)) run.shows.same ∙ ap (shown_hand (h.kept d) (h.steps d)) (idle d)
-moment_alone log old run idle (Node r) = ap (λ (m : Machine). m.in_hand (Node r)) run.shows.same
 
 -- ---- any event
 
@@ -178,16 +134,6 @@ does_label (happenings.Step (whos.Actor (Client c)) finish) old new label (inr i
 does_label (happenings.Step (whos.Actor (Node r)) finish) old new label is = absurd is
 does_label (happenings.Step (whos.Call call) finish) old new label is = absurd is
 does_label (happenings.At t) old new label is = is.does
-
-alone_label : (event : Event) (log : List Label) (old new : World) (label : Label) → MayHappen old log event → IsAnswered event old new label → Alone (last log) label
-alone_label (happenings.Nodes n) log old new label may is = subst (Alone (last log)) (sym is.label_is) tt
-alone_label (happenings.Begin (Client c) op) log old new label may is = begin_alone c op old new log label may.run may.comes.0.1 is.begins
-alone_label (happenings.Begin (Node r) op) log old new label may is = absurd is
-alone_label (happenings.Step (whos.Actor (Client c)) finish) log old new label may (inl step) = step_alone log c old new label step
-alone_label (happenings.Step (whos.Actor (Client c)) finish) log old new label may (inr idle) = idle_alone log (Client c) finish old new label idle.word
-alone_label (happenings.Step (whos.Actor (Node r)) finish) log old new label may is = absurd is
-alone_label (happenings.Step (whos.Call call) finish) log old new label may is = absurd is
-alone_label (happenings.At t) log old new label may is = subst (Alone (last log)) (sym is.label_is) (moment_alone log old may.run may.comes.0)
 
 answers_label : (event : Event) (old new : World) (label : Label) → IsAnswered event old new label → Answers event old new label
 answers_label (happenings.Nodes n) old new label is = (is.label_is, is.hands)
@@ -213,7 +159,7 @@ keeps_others (happenings.At t) old new label is = tt
 comes_nearer : (log : List Label) (c : ℕ) (old new : World) (label : Label) → IsRunTo old log → IsStep c old new label → IfSome (hand_at old.hands c) (λ h. left_of new (Client c) < left_of old (Client c))
 comes_nearer log c old new label run step =
     let does = subst (Does old new) step.label_is step.does in
-    let fewer = nearer old new log c step.hand step.next step.op step.verb step.ckpt step.node step.reply step.end step.pieces run step.held does (step_hand c old new label step) in
+    let fewer = nearer old new log c step.hand step.next step.op step.verb step.ckpt step.node step.reply step.end step.details run step.held does (step_hand c old new label step) in
     subst (λ p. IfSome p (λ h. left_of new (Client c) < left_of old (Client c))) (sym step.held) fewer
 
 pub nearer_with : (event : Event) (log : List Label) (old new : World) (label : Label) → IsRunTo old log → IsAnswered event old new label → ComesNearer event old new
@@ -228,7 +174,7 @@ nearer_with (happenings.At t) log old new label run is = tt
 -- the run goes on by the label that answers the event
 pub run_with : (event : Event) (old new : World) (log longer : List Label) (label : Label) → MayHappen old log event → IsAnswered event old new label → longer ≡ log ++ label ∷ [] → IsRunTo new longer
 run_with event old new log longer label may is grows =
-    subst (IsRunTo new) (sym grows) (goes_on old new log label may.run (alone_label event log old new label may is) (does_label event old new label is))
+    subst (IsRunTo new) (sym grows) (goes_on old new log label may.run (does_label event old new label is))
 
 -- and the label answers it
 pub happens_with : (event : Event) (old new : World) (log longer : List Label) (label : Label) → MayHappen old log event → IsAnswered event old new label → longer ≡ log ++ label ∷ [] → Happens event old new log longer
@@ -239,5 +185,5 @@ happens_with event old new log longer label may is grows =
       grows = grows;
       answers = answers;
       others = keeps_others event old new label is;
-      moment = shown-moment event old new label (last log) may.run.shows (facts (last log) may.run.invariant) (does_label event old new label is) answers;
+      moment = shown-moment event old new label (last log) may.run.shows (facts (last log) (run_has log may.run.run).0) (does_label event old new label is) answers;
     }

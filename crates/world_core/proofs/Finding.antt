@@ -8,17 +8,18 @@ use Rattle.node_msgs.specs.declared.requests.Request.TheVariants.{Reserve}
 use Rattle.node_msgs.specs.declared.next.Next.TheVariants.{Serve}
 use Rattle.world_core.specs.declared.hands.InHand.{InHand}
 use Rattle.cluster_record.specs.declared.entries.Entry.{Entry}
-use Rattle.world_core.specs.declared.replica.Replica.{Replica}
-use Rattle.world_core.specs.declared.replica.Slot.{Slot}
+use Rattle.ckpt_machine.specs.Replicas.{Replica}
+use Rattle.ckpt_machine.specs.Replicas.{Slot}
 use Rattle.world_core.specs.declared.world.World.{World}
 use Rattle.cluster_record.specs.RecordState.{entry_of, complete_of}
 use Rattle.node_msgs.specs.Requests.{ckpt_of}
-use Rattle.world_core.specs.Serving.{replica_in, IsReadyFor}
-use Rattle.world_core.specs.Driving.{driver_next}
-use Rattle.world_core.specs.Machine.{Machine, Effect}
-use Rattle.world_core.specs.Steps.{seen_by, seen_at, seen_slot, due}
+use Rattle.ckpt_machine.specs.Serving.{replica_in, IsReadyFor}
+use Rattle.ckpt_machine.specs.Driving.{driver_next}
+use Rattle.ckpt_machine.specs.Machine.{Machine, Effect}
+use Rattle.ckpt_machine.specs.Steps.{seen_by, seen_at, seen_slot, due}
 use Rattle.world_core.specs.Happenings.{rooms_in}
-use Rattle.world_core.specs.Shows.{Fits, FitsReplica, Facts, IsServable, History, machine_of, shown_replica, shown_slot, where_complete, hand_at}
+use Rattle.ckpt_machine.specs.Facts.{Facts, IsServable}
+use Rattle.world_core.specs.Shows.{Fits, FitsReplica, History, machine_of, shown_replica, shown_slot, where_complete, hand_at}
 use Rattle.world_core.proofs.Held.{state_in, in_hand_is, due_is}
 
 seen_same : (o : CallId) (p : Option Slot) → seen_slot (shown_slot o p) ≡ p
@@ -32,7 +33,7 @@ pub record There (k c : ℕ) (e : Option Entry) (E : List Effect) (o : CallId) (
   pub at : e ≡ Some entry
   pub is : y ≡ Some replica
   pub complete : (c == 0) ≡ false
-  pub attributes : replica.store.attributes ≡ entry.attributes
+  pub attributes : replica.attributes ≡ entry.attributes
   pub fits : FitsReplica k e E (Some replica)
   pub seen : seen_by k e (shown_replica E o (where_complete c y)) ≡ Some replica
   pub holds : P replica
@@ -44,8 +45,8 @@ there k c (Some e) E o y P fits some = by_test (c == 0) refl y fits some where
   by_test true t y fits some = absurd some
   by_test false t None fits some = absurd some
   by_test false t (Some x) fits some =
-      let same : record { ckpt = k; store = record { attributes = e.attributes; sections = x.store.sections }; count = length E; generation = x.generation; slot = seen_slot (shown_slot o x.slot) } ≡ x
-      = λ i. record { ckpt = sym fits.0 i; store = record { attributes = sym fits.1 i; sections = x.store.sections }; count = fits.2 i; generation = x.generation; slot = seen_same o x.slot i } in
+      let same : record { ckpt = k; attributes = e.attributes; sections = x.sections; count = length E; generation = x.generation; slot = seen_slot (shown_slot o x.slot) } ≡ x
+      = λ i. record { ckpt = sym fits.0 i; attributes = sym fits.1 i; sections = x.sections; count = fits.2 i; generation = x.generation; slot = seen_same o x.slot i } in
       record {
         replica = x;
         entry = e;

@@ -8,17 +8,18 @@ use Rattle.cluster_record.specs.declared.entries.Entry.{Entry}
 use Rattle.cluster_record.specs.Places.{find_key, list_or}
 use Rattle.cluster_record.specs.RecordState.{RecordState, entry_of, complete_of}
 use Rattle.run_labels.specs.declared.labels.Label.{Label}
-use Rattle.world_core.specs.declared.replica.Replica.{Replica}
+use Rattle.ckpt_machine.specs.Replicas.{Replica}
 use Rattle.world_core.specs.declared.world.World.{World}
 use Rattle.world_core.specs.Freeing.{is_there, freed}
-use Rattle.world_core.specs.Machine.{Machine}
+use Rattle.ckpt_machine.specs.Machine.{Machine}
 use Rattle.world_core.specs.LiveRooms.{LiveHaveRoom}
 use Rattle.world_core.specs.Holding.{replicas_on, IsReservation, IsHeld, HoldsOnlyWhatStands}
-use Rattle.world_core.specs.Serving.{replica_key, replica_in, opened_replica}
-use Rattle.world_core.specs.Shows.{History, shown_replica, shown_reservation, where_complete, where_not_complete, complete_replica, reserved_in, machine_of, FitsReplica, Fits, Shows, Facts, Does}
-use Rattle.world_core.specs.Steps.{IsDue, after}
+use Rattle.ckpt_machine.specs.Serving.{replica_key, replica_in, opened_replica}
+use Rattle.ckpt_machine.specs.Facts.{Facts}
+use Rattle.world_core.specs.Shows.{History, shown_replica, shown_reservation, where_complete, where_not_complete, complete_replica, reserved_in, machine_of, FitsReplica, Fits, Shows, Does}
+use Rattle.ckpt_machine.specs.Steps.{IsDue, after}
 use Rattle.world_core.proofs.HoldingLaws.{held_at, holds_by_key}
-use Rattle.world_core.proofs.OnceByKey.{counted, counted-filter}
+use Rattle.ckpt_machine.proofs.OnceByKey.{counted, counted-filter}
 use Rattle.world_core.proofs.Recording.{GoesAt, StandsOn, zero_there}
 
 -- ---- found by a key among those of some keys

@@ -7,23 +7,24 @@ use Rattle.ckpt_types.specs.declared.attributes.CreationAttributes.{CreationAttr
 use Rattle.ckpt_types.specs.declared.identities.CallId.{CallId}
 use Rattle.node_msgs.specs.declared.next.RecordStep.{RecordStep}
 use Rattle.node_msgs.specs.declared.next.RecordStep.TheVariants as events
-use Rattle.world_core.specs.declared.drivers.Driver.{Driver}
-use Rattle.world_core.specs.declared.drivers.Driver.TheVariants as drivers
+use Rattle.ckpt_machine.specs.Drivers.{Driver}
+use Rattle.ckpt_machine.specs.Drivers as drivers
 use Rattle.cluster_record.specs.declared.calls.Making.{Making}
 use Rattle.cluster_record.specs.declared.entries.Entry.{Entry}
-use Rattle.world_core.specs.declared.replica.Replica.{Replica}
+use Rattle.ckpt_machine.specs.Replicas.{Replica}
 use Rattle.world_core.specs.declared.world.World.{World}
 use Rattle.cluster_record.specs.Places.{change_key}
 use Rattle.cluster_record.specs.Calls.{client_of}
-use Rattle.cluster_record.specs.RecordState.{RecordState, identity_of, entry_of, named, stays, referred, made_with, new_entry, created_as, opened, finished, undone, has_references, idle_from, released, released_all, unnamed, unlinked, retaining, is_call_of, departed}
-use Rattle.world_core.specs.Serving.{replica_in, opened_replica}
-use Rattle.world_core.specs.Driving.{event_change, event_after}
+use Rattle.cluster_record.specs.RecordState.{RecordState, identity_of, entry_of, named, stays, referred, made_with, new_entry, created_as, opened, finished, undone, has_references, idle_from, released, released_all, unnamed, unlinked, retaining, is_call_of, departed, swept}
+use Rattle.ckpt_machine.specs.Serving.{replica_in, opened_replica}
+use Rattle.ckpt_machine.specs.Driving.{event_change, event_after}
 use Rattle.cluster_record.specs.DueOpen.{making_ckpt}
 use Rattle.cluster_record.specs.LookUps.{at_ckpt, identity_in}
-use Rattle.world_core.specs.Machine.{Machine, CallState}
+use Rattle.ckpt_machine.specs.Machine.{Machine, CallState}
 use Rattle.cluster_record.specs.Identities.{AllUpTo, IdentitiesRise}
 use Rattle.world_core.specs.Holding.{HoldsOnlyWhatStands}
-use Rattle.world_core.specs.Shows.{History, Facts, IsEventReady, IsFinishable, machine_of, where_not_complete, shown_reservation}
+use Rattle.ckpt_machine.specs.Facts.{Facts, IsEventReady, IsFinishable}
+use Rattle.world_core.specs.Shows.{History, machine_of, where_not_complete, shown_reservation}
 use Rattle.cluster_record.proofs.IdentityLaws.{IsLeft, KeepsIdentity, entry_of-beyond, IdentitiesRise-filter, IdentitiesRise-map, IdentitiesRise-change_key, IdentitiesRise-push, filter_leaves}
 use Rattle.cluster_record.proofs.Places.{find_changed, find_pushed, not_changed}
 use Rattle.world_core.proofs.HoldingLaws.{none_gone, opening_there}
@@ -274,4 +275,11 @@ module _ (w : World) (h : History) (facts : Facts (machine_of w h)) (holds : Hol
   event_goes call s x step ready j r =
       let go = change_go call s x step ready in
       let N : RecordState = event_change call x step R in
+      goes_left R.up j (entry_of j R.entries) (entry_of j N.entries) (entry_of j (filter (stays N.moment) N.entries)) r (replica_in w.nodes j r) (go.0 j r) (filter_leaves (stays N.moment) N.entries go.1 j)
+
+  -- and where a making is undone in between
+  pub unmade_goes : (k j r : ℕ) → GoesAt R.up j (entry_of j R.entries) (entry_of j (swept (undone k R)).entries) r (replica_in w.nodes j r)
+  unmade_goes k j r =
+      let go = undone_go (Some k) in
+      let N : RecordState = undone k R in
       goes_left R.up j (entry_of j R.entries) (entry_of j N.entries) (entry_of j (filter (stays N.moment) N.entries)) r (replica_in w.nodes j r) (go.0 j r) (filter_leaves (stays N.moment) N.entries go.1 j)

@@ -7,8 +7,8 @@ use Rattle.ckpt_types.specs.declared.open_flags.OpenFlags.{OpenFlags}
 use Rattle.client_handles.specs.declared.handle_view.HandleView.{HandleView}
 use Rattle.world_core.specs.declared.world.World.{World}
 use Rattle.world_core.specs.TableState.{TableState, with_handle}
-use Rattle.world_core.specs.Steps.{with_handle_at}
-use Rattle.world_core.specs.Shows.{History, machine_of, handles_in, iterations_in, numbered, place_in, last_in}
+use Rattle.ckpt_machine.specs.Steps.{with_handle_at}
+use Rattle.world_core.specs.Shows.{History, machine_of, handles_in, iterations_in, numbered_or_none, place_in, last_in}
 use Rattle.cluster_record.proofs.Places.{tests_differ}
 use Rattle.world_core.proofs.TableFields.{its_table, table_at, field_same, field_put, nexts_same}
 
@@ -18,7 +18,7 @@ set_case xs place n p within = by_test (p == place) refl where
   by_test true e = ap (slice_index (slice_set xs place n)) (eqb-true p place e) ∙ get_or-set_same xs place n 0 within
   by_test false e = get_or-set_other xs place p n 0 (eqb-false p place e)
 
-numbered_case : (b : Bool) (n x : ℕ) → (n == 0) ≡ false → cond b (Some n) (numbered x) ≡ numbered (cond b n x)
+numbered_case : (b : Bool) (n x : ℕ) → (n == 0) ≡ false → cond b (Some n) (numbered_or_none x) ≡ numbered_or_none (cond b n x)
 numbered_case true n x e = sym (ap (λ b. cond b None (Some n)) e)
 numbered_case false n x e = refl
 
@@ -35,7 +35,7 @@ module _ (t : TableState) (id : ℕ) (flags : OpenFlags) (creation_flags place :
 
   place_case : (b : Bool) (o : Option TableState) (p : ℕ) → place < length t.client.places → (b ≡ true → o ≡ Some t) → cond (b && (p == place)) (Some hd.handle) (place_in o p) ≡ place_in (cond b (Some t') o) p
   place_case true o p within is =
-      ap (λ o. cond (p == place) (Some hd.handle) (place_in o p)) (is refl) ∙ numbered_case (p == place) hd.handle (slice_index t.client.places p) number_is ∙ ap numbered (sym (set_case t.client.places place hd.handle p within))
+      ap (λ o. cond (p == place) (Some hd.handle) (place_in o p)) (is refl) ∙ numbered_case (p == place) hd.handle (slice_index t.client.places p) number_is ∙ ap numbered_or_none (sym (set_case t.client.places place hd.handle p within))
   place_case false o p within is = refl
 
   module _ (w : World) (h : History) (c : ℕ) (table : slice_get w.tables c ≡ Some t) (within : place < length t.client.places) where

@@ -13,12 +13,13 @@ use Rattle.world_core.specs.declared.world.World.{World}
 use Rattle.cluster_record.specs.Calls.{number_of, left}
 use Rattle.world_core.specs.TableState.{TableState}
 use Rattle.cluster_record.specs.StepDone.{StepDone}
-use Rattle.world_core.specs.Driving.{driver_next, driver_taken}
+use Rattle.ckpt_machine.specs.Driving.{driver_next, driver_taken}
 use Rattle.world_core.specs.HandSteps.{hand_taken}
 use Rattle.world_core.specs.Happenings.{rooms_in, IsNext}
-use Rattle.world_core.specs.Machine.{Machine, CallState}
-use Rattle.world_core.specs.Steps.{due, driver_of, rooms_of}
-use Rattle.world_core.specs.Shows.{IsShown, History, Fits, FitsHand, Facts, room_for, machine_of, handles_in, hand_at, shown_hand}
+use Rattle.ckpt_machine.specs.Machine.{Machine, CallState}
+use Rattle.ckpt_machine.specs.Steps.{due, driver_of, rooms_of}
+use Rattle.ckpt_machine.specs.Facts.{Facts}
+use Rattle.world_core.specs.Shows.{IsShown, History, Fits, FitsHand, room_for, machine_of, handles_in, hand_at, shown_hand}
 
 -- the call with its history
 abbrev pub state_in : History → ℕ → InHand → CallState

@@ -5,11 +5,11 @@ use Rattle.std.proofs.lemmas.Bool.{and_parts}
 use Rattle.cluster_record.specs.declared.entries.Entry.{Entry}
 use Rattle.cluster_record.specs.Places.{list_or}
 use Rattle.cluster_record.specs.RecordState.{RecordState, entry_of, is_up}
-use Rattle.world_core.specs.declared.replica.Replica.{Replica}
+use Rattle.ckpt_machine.specs.Replicas.{Replica}
 use Rattle.world_core.specs.Holding.{replicas_on, IsReservation, IsHeld, HoldsOnlyWhatStands}
-use Rattle.world_core.specs.Serving.{replica_key, replica_in, opened_replica}
+use Rattle.ckpt_machine.specs.Serving.{replica_key, replica_in, opened_replica}
 use Rattle.cluster_record.proofs.Places.{get_set}
-use Rattle.world_core.proofs.OnceByKey.{counted, found_in, found_once}
+use Rattle.ckpt_machine.proofs.OnceByKey.{counted, found_in, found_once}
 
 -- ---- what a node finds of a checkpoint
 

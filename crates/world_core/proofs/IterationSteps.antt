@@ -22,6 +22,8 @@ use Rattle.node_msgs.specs.declared.requests.Request.{Request}
 use Rattle.node_msgs.specs.declared.requests.Request.TheVariants as requests
 use Rattle.node_msgs.specs.declared.next.Next.{Next}
 use Rattle.node_msgs.specs.declared.next.Next.TheVariants.{Serve}
+use Rattle.run_labels.specs.declared.details.Details.{Details}
+use Rattle.run_labels.specs.declared.details.Details.TheVariants as beside
 use Rattle.run_labels.specs.declared.words.OpWord.{OpWord}
 use Rattle.node_msgs.specs.declared.steps.Verb.TheVariants as verbs
 use Rattle.node_msgs.specs.declared.steps.StepReply.{StepReply}
@@ -36,30 +38,31 @@ use Rattle.section_iter.specs.declared.room.Room.{Room}
 use Rattle.client_handles.specs.ClientState.{handle_numbered, handle_at, iteration_at}
 use Rattle.client_handles.specs.declared.handle_view.HandleView.{HandleView}
 use Rattle.client_handles.proofs.HandleLaws.{handle_numbered-named}
-use Rattle.world_core.specs.declared.drivers.Driver.{Driver}
-use Rattle.world_core.specs.declared.drivers.Driver.TheVariants as drivers
+use Rattle.ckpt_machine.specs.Drivers.{Driver}
+use Rattle.ckpt_machine.specs.Drivers as drivers
 use Rattle.world_core.specs.declared.hands.InHand.{InHand}
-use Rattle.world_core.specs.declared.replica.Replica.{Replica}
+use Rattle.ckpt_machine.specs.Replicas.{Replica}
 use Rattle.world_core.specs.declared.world.World.{World}
 use Rattle.cluster_record.specs.Calls.{number_of, left}
 use Rattle.cluster_record.specs.Places.{put}
 use Rattle.world_core.specs.TableState.{TableState, with_started_iteration, kept_at, gone_on_with, gone_on}
-use Rattle.world_core.specs.Beginning.{handle_place, iteration_place, started_place, chosen_choice, IsIterOf, IsNextOf}
-use Rattle.world_core.specs.Serving.{record_seen, replica_in, reply_at, pieces_at, next_reply, next_reply_at, next_id, given_at, chosen_at}
+use Rattle.ckpt_machine.specs.Beginning.{handle_place, iteration_place, started_place, chosen_choice, IsIterOf, IsNextOf}
+use Rattle.ckpt_machine.specs.Serving.{record_seen, replica_in, reply_at, details_at, next_reply, next_reply_at, next_details, given_at, chosen_at}
 use Rattle.node_msgs.specs.Steps.{word_of}
 use Rattle.cluster_record.specs.StepDone.{StepDone, done_of}
-use Rattle.world_core.specs.Driving.{driver_next, driver_taken, driver_end}
+use Rattle.ckpt_machine.specs.Driving.{driver_next, driver_taken, driver_end}
 use Rattle.world_core.specs.HandSteps.{hand_taken, hand_end}
 use Rattle.world_core.specs.Happenings.{rooms_in, IsNext, IsStep}
-use Rattle.world_core.specs.Machine.{IterationTable, Machine, CallState}
-use Rattle.world_core.specs.Steps.{due, room_in, room_at, iteration_in, IsDue, IsDone, after, changed, stepped, step_of, driver_of, seen_at, ended_pieces, ids_of, ids_asked, kept_in, handle_by, handle_over, named_handle, with_started, with_iteration, start_done, with_kept_at, with_next, handle_of_number}
+use Rattle.ckpt_machine.specs.Machine.{IterationTable, Machine, CallState}
+use Rattle.ckpt_machine.specs.Steps.{due, room_in, room_at, iteration_in, IsDue, IsDone, after, changed, stepped, step_of, driver_of, seen_at, ended_details, ids_of, ids_asked, kept_in, handle_by, handle_over, asked_handle, with_started, with_iteration, start_done, with_kept_at, with_next, handle_of_number}
 use Rattle.cluster_record.specs.LookUps.{declared_in}
-use Rattle.world_core.specs.Shows.{Does, IsShown, IsActive, Fits, Facts, History, machine_of, handles_in, place_in, last_in, iterations_of, iterations_in, handle_in_place, room_for, hand_at}
+use Rattle.ckpt_machine.specs.Facts.{IsActive, Facts}
+use Rattle.world_core.specs.Shows.{Does, IsShown, Fits, History, machine_of, handles_in, place_in, last_in, iterations_of, iterations_in, handle_in_place, room_for, hand_at}
 use Rattle.world_core.proofs.Begin.{handle_same}
 use Rattle.world_core.proofs.Beginnings.{table_has_no_zero, at_table}
 use Rattle.world_core.proofs.Finding as finding
 use Rattle.world_core.proofs.Held.{state_in, in_hand_is, in_hand_at, actor_is, driver_is, iteration_is, due_is, next_for}
-use Rattle.world_core.proofs.LawMoves.{IsSomeAnd-at}
+use Rattle.ckpt_machine.proofs.OptionLemmas.{IsSomeAnd-at}
 use Rattle.world_core.proofs.LiveRooms.{rooms_set}
 use Rattle.world_core.proofs.TableFields.{field_same, field_put, nexts_same}
 use Rattle.world_core.proofs.Told.{with_step, told_is, told_fits}
@@ -142,7 +145,7 @@ active_end op d answer (drivers.Unlink name) is = absurd is
 active_end op d answer (drivers.Retain k duration) is = absurd is
 
 abbrev pub started_label : InHand → ℕ → ℕ → Label
-started_label hand k r = Stepped hand.call (word_of_op hand.op) verbs.Iter (Some k) (Some r) words.Ok (Some (outcomes.Done answers.Nothing)) None
+started_label hand k r = Stepped hand.call (word_of_op hand.op) verbs.Iter (Some k) (Some r) words.Ok (Some (outcomes.Done answers.Nothing)) beside.Nothing
 
 module _ (w : World) (h : History) (c r : ℕ) (asked : CallId) (k : ℕ) (choice : Choice) (hand : InHand) (facts : Facts (machine_of w h)) (fits : Fits w h) (held : hand_at w.hands c ≡ Some hand) (next : driver_next w.cluster (rooms_in w c) hand.driver ≡ Serve r (requests.Iterate asked k choice)) where
   abbrev m : Machine
@@ -171,16 +174,16 @@ module _ (w : World) (h : History) (c r : ℕ) (asked : CallId) (k : ℕ) (choic
   start_node = (finding.ready w h c r request hand other facts fits held next).0
 
   -- what the facts say of it
-  abbrev known : ((h.kept c).room ≡ room_at w.cluster (Some k)) × IsIterOf choice hand.op × IsSome (named_handle m (Client c) hand.op) × IsActive (driver_of s)
+  abbrev known : ((h.kept c).room ≡ room_at w.cluster (Some k)) × IsIterOf choice hand.op × IsSome (asked_handle m (Client c) hand.op) × IsActive (driver_of s)
   known = facts.starts (Client c) s r asked k choice (in_hand_is w h c hand held) due_here
 
   -- with the attributes of its entry, for which there is room
-  pub start_room : IsSomeAnd (replica_in w.nodes k r) (λ x. IsRoomFor x.store.attributes (h.kept c).room)
+  pub start_room : IsSomeAnd (replica_in w.nodes k r) (λ x. IsRoomFor x.attributes (h.kept c).room)
   start_room =
       let f = finding.found w h c r request hand other facts fits held next in
-      let room : room_declared f.replica.store.attributes ≡ (h.kept c).room = ap room_declared f.attributes ∙ sym (known.0 ∙ ap (λ o. room_in (declared_in o)) f.at) in
-      let fits : IsRoomFor f.replica.store.attributes (h.kept c).room = subst (IsRoomFor f.replica.store.attributes) room (room_for_declared f.replica.store.attributes) in
-      subst (λ (o : Option Replica). IsSomeAnd o (λ x. IsRoomFor x.store.attributes (h.kept c).room)) (sym f.is) fits
+      let room : room_declared f.replica.attributes ≡ (h.kept c).room = ap room_declared f.attributes ∙ sym (known.0 ∙ ap (λ o. room_in (declared_in o)) f.at) in
+      let fits : IsRoomFor f.replica.attributes (h.kept c).room = subst (IsRoomFor f.replica.attributes) room (room_for_declared f.replica.attributes) in
+      subst (λ (o : Option Replica). IsSomeAnd o (λ x. IsRoomFor x.attributes (h.kept c).room)) (sym f.is) fits
 
   pub start_parts : Starts choice hand.op
   start_parts = starts_so choice hand.op known.1
@@ -214,22 +217,22 @@ module _ (w : World) (h : History) (c r : ℕ) (asked : CallId) (k : ℕ) (choic
       in_hand = in_hand_at w h c hand held facts;
       call_is = refl;
       word = refl;
-      done = subst (λ (n : Next). IsDone m s n (record { verb = verbs.Iter; ckpt = Some k; node = Some r; reply = words.Ok; end = end; pieces = None })) (sym due_here) (record {
+      done = subst (λ (n : Next). IsDone m s n (record { verb = verbs.Iter; ckpt = Some k; node = Some r; reply = words.Ok; end = end; details = beside.Nothing })) (sym due_here) (record {
         answer = replies.Done answers.Nothing;
         may = sym (ap (reply_at request hand.op (record_seen w.cluster k)) there);
         verb = refl;
         ckpt = refl;
         node = refl;
         reply = refl;
-        pieces = sym (ap (pieces_at request hand.op w.cluster.moment) there);
+        details = sym (ap (details_at request hand.op (record_seen w.cluster k)) there);
         end = active_end hand.op done answers.Nothing (driver_of s) known.3;
       });
     }
 
     -- the handle that the call is about
-    named : named_handle m hand.call.actor hand.op ≡ Some hd
+    named : asked_handle m hand.call.actor hand.op ≡ Some hd
     named =
-        ap (λ (a : ActorName). named_handle m a hand.op) actor
+        ap (λ (a : ActorName). asked_handle m a hand.op) actor
         ∙ ap (λ p. handle_by m c p (iteration_place hand.op)) overs
         ∙ handle_same w h c t (Some over) (iteration_place hand.op) table none
         ∙ handle
@@ -279,9 +282,9 @@ module _ (w : World) (c r : ℕ) (asked : CallId) (k : ℕ) (choice : Choice) (h
   pub room_is : (its : Option KeptIds) → hand.iteration ≡ its → its ≡ Some (record { ids = []; room = (its_history.kept c).room })
   room_is its is = sym is ∙ iteration_is w its_history c hand held shown.shows.fits ∙ started.room (its_history.kept c).room
 
-  pub started_room : (it : KeptIds) → hand.iteration ≡ Some it → IsSomeAnd (replica_in w.nodes k r) (λ x. IsRoomFor x.store.attributes it.room)
+  pub started_room : (it : KeptIds) → hand.iteration ≡ Some it → IsSomeAnd (replica_in w.nodes k r) (λ x. IsRoomFor x.attributes it.room)
   started_room it is =
-      subst (λ (n : Room). IsSomeAnd (replica_in w.nodes k r) (λ x. IsRoomFor x.store.attributes n)) (ap (λ (x : KeptIds). x.room) (sym (same_Some it _ (room_is (Some it) is))))
+      subst (λ (n : Room). IsSomeAnd (replica_in w.nodes k r) (λ x. IsRoomFor x.attributes n)) (ap (λ (x : KeptIds). x.room) (sym (same_Some it _ (room_is (Some it) is))))
       (start_room w its_history c r asked k choice hand its_facts shown.shows.fits held its_next)
 
   -- its place stands for a handle
@@ -326,7 +329,7 @@ module _ (w : World) (c r : ℕ) (asked : CallId) (k : ℕ) (choice : Choice) (h
   pub start_is : (place over : ℕ) (hd : HandleView) (it : KeptIds) (now : ℤ) (ids : List (List ℕ)) (tables : List TableState) (hands : List (Option InHand)) (word : OpWord) →
       Some place ≡ started_place hand.op → Some over ≡ handle_place hand.op → hand.iteration ≡ Some it → now ≡ w.cluster.moment → ids ≡ chosen_at choice now (replica_in w.nodes k r) → Some hd ≡ handle_in_place (slice_get w.tables c) over →
       IsSomeAnd (slice_get w.tables c) (λ t. tables ≡ slice_set w.tables c (with_started_iteration place hd.handle (record it { ids = ids }) t)) → hands ≡ slice_set w.hands c None → word ≡ word_of_op hand.op →
-      IsStep c w (record w { tables = tables; hands = hands }) (Stepped hand.call word verbs.Iter (Some k) (Some r) words.Ok (Some (outcomes.Done answers.Nothing)) None)
+      IsStep c w (record w { tables = tables; hands = hands }) (Stepped hand.call word verbs.Iter (Some k) (Some r) words.Ok (Some (outcomes.Done answers.Nothing)) beside.Nothing)
   start_is place over hd it now ids tables hands word place_is over_is it_is now_is ids_are hd_is tables_are hands_are word_is =
       let (t, table, tables_is) = IsSomeAnd-at (slice_get w.tables c) _ tables_are in
       let handle : handle_at over t.client ≡ Some hd = ap (λ x. handle_in_place x over) (sym table) ∙ sym hd_is in
@@ -341,13 +344,13 @@ module _ (w : World) (c r : ℕ) (asked : CallId) (k : ℕ) (choice : Choice) (h
         node = Some r;
         reply = words.Ok;
         end = Some (outcomes.Done answers.Nothing);
-        pieces = None;
+        details = beside.Nothing;
         label_is = refl;
         next = hand;
         same_call = refl;
         same_op = refl;
         hands = hands_are;
-        does = subst (λ (y : List TableState × List (Option InHand) × OpWord). Does w (record w { tables = y.0; hands = y.1 }) (Stepped hand.call y.2 verbs.Iter (Some k) (Some r) words.Ok (Some (outcomes.Done answers.Nothing)) None))
+        does = subst (λ (y : List TableState × List (Option InHand) × OpWord). Does w (record w { tables = y.0; hands = y.1 }) (Stepped hand.call y.2 verbs.Iter (Some k) (Some r) words.Ok (Some (outcomes.Done answers.Nothing)) beside.Nothing))
             (λ i. (moved i, sym hands_are i, sym word_is i)) (started_does place over it t hd (sym place_is) (sym over_is) it_is table handle (table_has_no_zero w c t shown table));
       }
 
@@ -379,7 +382,7 @@ module _ (w : World) (h : History) (c r : ℕ) (asked : CallId) (k : ℕ) (hand 
   next_node = (finding.ready w h c r next_request hand no_reserve facts fits held next).0
 
   -- what the facts say of it: its operation, and that its iteration goes over a handle
-  abbrev goes : IsNextOf hand.op × IsSome (named_handle mn (Client c) hand.op)
+  abbrev goes : IsNextOf hand.op × IsSome (asked_handle mn (Client c) hand.op)
   goes = facts.goes_on (Client c) sn r asked k (in_hand_is w h c hand held) due_next
 
   pub next_parts : GoesOn hand.op
@@ -402,7 +405,7 @@ module _ (w : World) (h : History) (c r : ℕ) (asked : CallId) (k : ℕ) (hand 
     next_end = driver_end hand.op next_done_step reply (driver_taken next_done_step hand.driver)
 
     abbrev next_label : Label
-    next_label = Stepped hand.call (word_of_op hand.op) verbs.Next (Some k) (Some r) (word_of reply) next_end (ended_pieces next_end (next_id gives))
+    next_label = Stepped hand.call (word_of_op hand.op) verbs.Next (Some k) (Some r) (word_of reply) next_end (ended_details next_end (next_details gives))
 
     abbrev wn1 : World
     wn1 = record w { tables = slice_set w.tables c (gone_on place gives t) }
@@ -425,14 +428,14 @@ module _ (w : World) (h : History) (c r : ℕ) (asked : CallId) (k : ℕ) (hand 
       in_hand = in_hand_at w h c hand held facts;
       call_is = refl;
       word = refl;
-      done = subst (λ (n : Next). IsDone mn sn n (record { verb = verbs.Next; ckpt = Some k; node = Some r; reply = word_of reply; end = next_end; pieces = ended_pieces next_end (next_id gives) })) (sym due_next) (record {
+      done = subst (λ (n : Next). IsDone mn sn n (record { verb = verbs.Next; ckpt = Some k; node = Some r; reply = word_of reply; end = next_end; details = ended_details next_end (next_details gives) })) (sym due_next) (record {
         answer = reply;
         may = λ i. next_reply_at (sym ids_same i) w.cluster.moment (sym seen_next i);
         verb = refl;
         ckpt = refl;
         node = refl;
         reply = refl;
-        pieces = ap (λ g. ended_pieces next_end (next_id g)) (sym gives_same);
+        details = ap (λ g. ended_details next_end (next_details g)) (sym gives_same);
         end = ap (λ x. driver_end hand.op next_done_step reply (driver_taken next_done_step x)) (driver_is w h c hand held fits);
       });
     }
@@ -530,22 +533,22 @@ module _ (w : World) (c r : ℕ) (asked : CallId) (k : ℕ) (hand : InHand) (hel
   abbrev step_done : Reply → StepDone
   step_done reply = done_of w.cluster verbs.Next (Some k) (Some r) (word_of reply)
 
-  pub next_is : (place : ℕ) (now : ℤ) (tables : List TableState) (hands : List (Option InHand)) (word : OpWord) (said : StepReply) (reply : Reply) (end : Option Outcome) (told pieces : Option (List (List ℕ))) →
+  pub next_is : (place : ℕ) (now : ℤ) (tables : List TableState) (hands : List (Option InHand)) (word : OpWord) (said : StepReply) (reply : Reply) (end : Option Outcome) (told details : Details) →
       Some place ≡ iteration_place hand.op → now ≡ w.cluster.moment →
       IsSomeAnd (slice_get w.tables c) (λ t. reply ≡ next_reply_at (ids_of (kept_at place t)) now (replica_in w.nodes k r)) →
-      IsSomeAnd (slice_get w.tables c) (λ t. told ≡ next_id (given_at (ids_of (kept_at place t)) now (replica_in w.nodes k r))) →
+      IsSomeAnd (slice_get w.tables c) (λ t. told ≡ next_details (given_at (ids_of (kept_at place t)) now (replica_in w.nodes k r))) →
       IsSomeAnd (slice_get w.tables c) (λ t. tables ≡ slice_set w.tables c (gone_on place (given_at (ids_of (kept_at place t)) now (replica_in w.nodes k r)) t)) →
-      end ≡ hand_end (step_done reply) reply (hand_taken (step_done reply) hand) → hands ≡ slice_set w.hands c (left end (hand_taken (step_done reply) hand)) → word ≡ word_of_op hand.op → said ≡ word_of reply → pieces ≡ ended_pieces end told →
-      IsStep c w (record w { tables = tables; hands = hands }) (Stepped hand.call word verbs.Next (Some k) (Some r) said end pieces)
-  next_is place now tables hands word said reply end told pieces place_is now_is reply_is told_is tables_are end_is hands_are word_is said_is pieces_are =
+      end ≡ hand_end (step_done reply) reply (hand_taken (step_done reply) hand) → hands ≡ slice_set w.hands c (left end (hand_taken (step_done reply) hand)) → word ≡ word_of_op hand.op → said ≡ word_of reply → details ≡ ended_details end told →
+      IsStep c w (record w { tables = tables; hands = hands }) (Stepped hand.call word verbs.Next (Some k) (Some r) said end details)
+  next_is place now tables hands word said reply end told details place_is now_is reply_is told_is tables_are end_is hands_are word_is said_is details_are =
       let (t, table, tables_is) = IsSomeAnd-at (slice_get w.tables c) _ tables_are in
       let y = replica_in w.nodes k r in
       let ids = ids_of (kept_at place t) in
       let a : next_reply_at ids w.cluster.moment y ≡ reply = ap (λ n. next_reply_at ids n y) (sym now_is) ∙ sym (at_table (λ t. reply ≡ next_reply_at (ids_of (kept_at place t)) now y) (slice_get w.tables c) t table reply_is) in
       let e : driver_end hand.op (step_done (next_reply_at ids w.cluster.moment y)) (next_reply_at ids w.cluster.moment y) (driver_taken (step_done (next_reply_at ids w.cluster.moment y)) hand.driver) ≡ end
       = (λ i. driver_end hand.op (step_done (a i)) (a i) (driver_taken (step_done (a i)) hand.driver)) ∙ sym end_is in
-      let p : ended_pieces (driver_end hand.op (step_done (next_reply_at ids w.cluster.moment y)) (next_reply_at ids w.cluster.moment y) (driver_taken (step_done (next_reply_at ids w.cluster.moment y)) hand.driver)) (next_id (given_at ids w.cluster.moment y)) ≡ pieces
-      = (λ i. ended_pieces (e i) ((ap (λ n. next_id (given_at ids n y)) (sym now_is) ∙ sym (at_table (λ t. told ≡ next_id (given_at (ids_of (kept_at place t)) now y)) (slice_get w.tables c) t table told_is)) i)) ∙ sym pieces_are in
+      let p : ended_details (driver_end hand.op (step_done (next_reply_at ids w.cluster.moment y)) (next_reply_at ids w.cluster.moment y) (driver_taken (step_done (next_reply_at ids w.cluster.moment y)) hand.driver)) (next_details (given_at ids w.cluster.moment y)) ≡ details
+      = (λ i. ended_details (e i) ((ap (λ n. next_details (given_at ids n y)) (sym now_is) ∙ sym (at_table (λ t. told ≡ next_details (given_at (ids_of (kept_at place t)) now y)) (slice_get w.tables c) t table told_is)) i)) ∙ sym details_are in
       let b : slice_set w.tables c (gone_on place (given_at ids w.cluster.moment y) t) ≡ tables = ap (λ n. slice_set w.tables c (gone_on place (given_at ids n y) t)) (sym now_is) ∙ sym tables_is in
       let g : slice_set w.hands c (left (driver_end hand.op (step_done (next_reply_at ids w.cluster.moment y)) (next_reply_at ids w.cluster.moment y) (driver_taken (step_done (next_reply_at ids w.cluster.moment y)) hand.driver)) (hand_taken (step_done (next_reply_at ids w.cluster.moment y)) hand)) ≡ hands
       = (λ i. slice_set w.hands c (left (e i) (hand_taken (step_done (a i)) hand))) ∙ sym hands_are in
@@ -558,12 +561,12 @@ module _ (w : World) (c r : ℕ) (asked : CallId) (k : ℕ) (hand : InHand) (hel
         node = Some r;
         reply = said;
         end = end;
-        pieces = pieces;
+        details = details;
         label_is = refl;
         next = hand_taken (step_done reply) hand;
         same_call = refl;
         same_op = refl;
         hands = hands_are;
-        does = subst (λ (y : List TableState × List (Option InHand) × OpWord × StepReply × Option Outcome × Option (List (List ℕ))). Does w (record w { tables = y.0; hands = y.1 }) (Stepped hand.call y.2 verbs.Next (Some k) (Some r) y.3 y.4 y.5))
+        does = subst (λ (y : List TableState × List (Option InHand) × OpWord × StepReply × Option Outcome × Details). Does w (record w { tables = y.0; hands = y.1 }) (Stepped hand.call y.2 verbs.Next (Some k) (Some r) y.3 y.4 y.5))
             (λ i. (b i, g i, sym word_is i, (ap word_of a ∙ sym said_is) i, e i, p i)) (next_does place t (sym place_is) table);
       }

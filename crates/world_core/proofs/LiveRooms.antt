@@ -15,13 +15,13 @@ use Rattle.cluster_record.specs.DueOpen.{making_ckpt}
 use Rattle.cluster_record.specs.LookUps.{identity_in, at_ckpt}
 use Rattle.cluster_record.specs.Places.{find_key}
 use Rattle.cluster_record.specs.RecordState.{RecordState, client_key, named, is_live_client, created_as, opened, finished, undone, unlinked}
-use Rattle.world_core.specs.declared.drivers.Driver.{Driver}
-use Rattle.world_core.specs.declared.drivers.Driver.TheVariants as drivers
+use Rattle.ckpt_machine.specs.Drivers.{Driver}
+use Rattle.ckpt_machine.specs.Drivers as drivers
 use Rattle.world_core.specs.declared.world.World.{World}
-use Rattle.world_core.specs.Beginning.{opened_place, opened_for, closed_place}
-use Rattle.world_core.specs.Driving.{event_change, event_after}
+use Rattle.ckpt_machine.specs.Beginning.{opened_place, opened_for, closed_place}
+use Rattle.ckpt_machine.specs.Driving.{event_change, event_after}
 use Rattle.world_core.specs.LiveRooms.{room_is_taken, LiveHaveRoom}
-use Rattle.world_core.specs.Settling.{changed_at, at_client, given, closed_at, settled, looked}
+use Rattle.world_core.specs.Settling.{table_changed, at_client, tables_given, closed_at, settled, looked}
 use Rattle.world_core.specs.TableState.{TableState, with_closed, with_none, with_handle, begun_with}
 use Rattle.cluster_record.specs.LookUps.{creation_flags_of}
 use Rattle.cluster_record.specs.RecordState.{entry_of}
@@ -34,7 +34,7 @@ module _ (w : World) (R : RecordState) (c : ℕ) where
   pub rooms_set : (t t' : TableState) → slice_get w.tables c ≡ Some t → t.roomy ≡ t'.roomy → LiveHaveRoom R w.tables → LiveHaveRoom R (slice_set w.tables c t')
   rooms_set t t' table same rooms d live = sym (field_same w c t t' table room_is_taken same d) ∙ rooms d live
 
-  changed : (f : TableState → TableState) → ((t : TableState) → t.roomy ≡ (f t).roomy) → (o : Option TableState) → slice_get w.tables c ≡ o → LiveHaveRoom R w.tables → LiveHaveRoom R (changed_at c f w.tables o)
+  changed : (f : TableState → TableState) → ((t : TableState) → t.roomy ≡ (f t).roomy) → (o : Option TableState) → slice_get w.tables c ≡ o → LiveHaveRoom R w.tables → LiveHaveRoom R (table_changed c f w.tables o)
   changed f same None is rooms = rooms
   changed f same (Some t) is rooms = rooms_set t (f t) is (same t) rooms
 
@@ -45,7 +45,7 @@ module _ (w : World) (R : RecordState) (c : ℕ) where
   rooms_closed None rooms = rooms
   rooms_closed (Some place) rooms = rooms_at (with_closed place) (λ t. refl) rooms
 
-  rooms_given : (N : RecordState) (op : Op) (k place : Option ℕ) → LiveHaveRoom R w.tables → LiveHaveRoom R (given N c op k place w.tables)
+  rooms_given : (N : RecordState) (op : Op) (k place : Option ℕ) → LiveHaveRoom R w.tables → LiveHaveRoom R (tables_given N c op k place w.tables)
   rooms_given N op (Some k) (Some place) rooms = rooms_at (with_handle k (opened_for op) (creation_flags_of (entry_of k N.entries)) place) (λ t. refl) rooms
   rooms_given N op (Some k) None rooms = rooms
   rooms_given N op None place rooms = rooms

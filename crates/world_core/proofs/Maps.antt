@@ -10,16 +10,16 @@ use Rattle.node_msgs.specs.declared.requests.Request.{Request}
 use Rattle.node_msgs.specs.declared.requests.Request.TheVariants.{Commit}
 use Rattle.world_core.specs.declared.hands.InHand.{InHand}
 use Rattle.cluster_record.specs.declared.entries.Entry.{Entry}
-use Rattle.world_core.specs.declared.replica.Replica.{Replica}
-use Rattle.world_core.specs.declared.replica.Slot.{Slot}
+use Rattle.ckpt_machine.specs.Replicas.{Replica}
+use Rattle.ckpt_machine.specs.Replicas.{Slot}
 use Rattle.cluster_record.specs.Calls.{put_actor}
 use Rattle.cluster_record.specs.Places.{find_key, change_key, list_or, or_none, put, put2}
 use Rattle.cluster_record.specs.RecordState.{RecordState, entry_of, complete_of}
 use Rattle.node_msgs.specs.Requests.{ckpt_of}
-use Rattle.world_core.specs.Serving.{replica_key, replica_in, replica_after, committed, served}
+use Rattle.ckpt_machine.specs.Serving.{replica_key, replica_in, replica_after, committed, served}
 use Rattle.cluster_record.specs.StepDone.{StepDone}
-use Rattle.world_core.specs.Driving.{Kept}
-use Rattle.world_core.specs.Machine.{Effect}
+use Rattle.ckpt_machine.specs.Driving.{Kept}
+use Rattle.ckpt_machine.specs.Machine.{Effect}
 use Rattle.world_core.specs.Shows.{History, shown_replica, shown_reservation, shown_hand, where_complete, where_not_complete, complete_replica, reserved_in, hand_at, hand_of, FitsReplica, FitsHand}
 use Rattle.cluster_record.proofs.Places.{find_changed, get_set}
 

@@ -19,14 +19,16 @@ use Rattle.run_labels.specs.declared.labels.Label.TheVariants as labels
 use Rattle.world_core.specs.declared.hands.InHand.{InHand}
 use Rattle.world_core.specs.declared.world.Event.{Event}
 use Rattle.world_core.specs.declared.world.Event.TheVariants as happenings
-use Rattle.world_core.specs.declared.replica.Replica.{Replica}
+use Rattle.ckpt_machine.specs.Replicas.{Replica}
 use Rattle.world_core.specs.declared.world.World.{World}
 use Rattle.cluster_record.specs.RecordState.{RecordState, entry_of, stays, IsMomentFrom, moved}
-use Rattle.world_core.specs.Serving.{replica_in, given_at}
-use Rattle.world_core.specs.Beginning.{opened_place, closed_place, started_place, iteration_place, ended_place}
-use Rattle.world_core.specs.Machine.{Machine, ReplicaState, CallState}
-use Rattle.world_core.specs.Steps.{on_ok, on_done, at_some, handle_in, without_handle, with_closed, change_replica, with_handle_at, with_opened, event_done, changed, step_of, after, driver_of, with_iteration, with_next, with_ended, begun_call, named_handle, kept_in, ids_asked, seen_at}
-use Rattle.world_core.specs.Shows.{Does, Shows, Facts, History, machine_of}
+use Rattle.ckpt_machine.specs.Serving.{replica_in, given_at}
+use Rattle.ckpt_machine.specs.Beginning.{opened_place, closed_place, started_place, iteration_place, ended_place}
+use Rattle.ckpt_machine.specs.Machine.{Machine, ReplicaState, CallState}
+use Rattle.ckpt_machine.specs.Driving.{making_in}
+use Rattle.ckpt_machine.specs.Steps.{on_ok, on_look, without_making, at_some, handle_in, without_handle, without_closed, change_replica, with_handle_at, with_opened, event_done, changed, step_of, after, driver_of, with_iteration, with_next, with_ended, begun_call, asked_handle, kept_in, ids_asked, seen_at}
+use Rattle.ckpt_machine.specs.Facts.{Facts}
+use Rattle.world_core.specs.Shows.{Does, Shows, History, machine_of}
 use Rattle.world_core.specs.Freeing.{freed}
 use Rattle.world_core.specs.Happenings.{SetsMoment}
 use Rattle.world_core.specs.Runs.{Answers, AnswersBegin, AnswersStep, hand_of_actor, moment_of}
@@ -83,9 +85,14 @@ on_ok-moment : (m n : Machine) (reply : StepReply) → SameMoment m n → SameMo
 on_ok-moment m n words.Ok same = same
 on_ok-moment m n reply same = refl
 
-on_done-moment : (m n : Machine) (reply : StepReply) → SameMoment m n → SameMoment m (on_done reply m n)
-on_done-moment m n words.Done same = same
-on_done-moment m n reply same = refl
+on_look-moment : (m n o : Machine) (reply : StepReply) → SameMoment m n → SameMoment m o → SameMoment m (on_look reply m n o)
+on_look-moment m n o words.Done done refused = done
+on_look-moment m n o words.Refused done refused = refused
+on_look-moment m n o reply done refused = refl
+
+without_making-moment : (m : Machine) (k : Option ℕ) → SameMoment m (without_making m k)
+without_making-moment m None = refl
+without_making-moment m (Some k) = refl
 
 at_some-moment : (m : Machine) (o : Option ℕ) (change : ℕ → Machine) → ((n : ℕ) → SameMoment m (change n)) → SameMoment m (at_some o m change)
 at_some-moment m None change same = refl
@@ -118,7 +125,7 @@ without_handle-moment : (m : Machine) (c : ℕ) (h : Option HandleView) → Same
 without_handle-moment m c None = refl
 without_handle-moment m c (Some h) = refl
 
-with_closed-moment : (m : Machine) (s : CallState) → SameMoment m (with_closed s m)
+with_closed-moment : (m : Machine) (s : CallState) → SameMoment m (without_closed s m)
 with_closed-moment m s = without_handle-moment m (client_of s.call) (handle_in m (client_of s.call) (closed_place s.op))
 
 with_ended-moment : (m : Machine) (c : ℕ) (place : Option ℕ) → SameMoment m (with_ended c place m)
@@ -137,13 +144,13 @@ changed-moment m s verbs.Finish k r reply = on_ok-moment m _ reply (with_opened-
 changed-moment m s verbs.Undo k r reply = on_ok-moment m _ reply (event_done-moment m s _)
 changed-moment m s verbs.Stage k r reply = on_ok-moment m _ reply (at_some-moment m k _ (λ k. at_some-moment m r _ (λ r. change_replica-moment m k r (m.replicas k r) _)))
 changed-moment m s verbs.Commit k r reply = on_ok-moment m _ reply (at_some-moment m k _ (λ k. at_some-moment m r _ (λ r. change_replica-moment m k r (m.replicas k r) _)))
-changed-moment m s verbs.Iter k r reply = on_ok-moment m _ reply (at_some-moment m k _ (λ k. at_some-moment m r _ (λ r. with_iteration-moment m _ (named_handle m s.call.actor s.op) (started_place s.op) _)))
+changed-moment m s verbs.Iter k r reply = on_ok-moment m _ reply (at_some-moment m k _ (λ k. at_some-moment m r _ (λ r. with_iteration-moment m _ (asked_handle m s.call.actor s.op) (started_place s.op) _)))
 changed-moment m s verbs.Next k r reply = on_ok-moment m _ reply (at_some-moment m k _ (λ k. at_some-moment m r _ (λ r. with_next-moment m _ (iteration_place s.op) (kept_in (m.iterations (client_of s.call)) (iteration_place s.op)) (given_at (ids_asked m s) m.cluster.moment (seen_at m k r)))))
 changed-moment m s verbs.Leave k r reply = on_ok-moment m _ reply (event_done-moment m s _)
 changed-moment m s verbs.Close k r reply = on_ok-moment m _ reply (with_closed-moment (event_done m s _) s ∙ event_done-moment m s _)
 changed-moment m s verbs.Unlink k r reply = on_ok-moment m _ reply (event_done-moment m s _)
 changed-moment m s verbs.Retain k r reply = on_ok-moment m _ reply (event_done-moment m s _)
-changed-moment m s verbs.Look k r reply = on_done-moment m _ reply (with_closed-moment m s)
+changed-moment m s verbs.Look k r reply = on_look-moment m _ _ reply (with_closed-moment m s) (without_making-moment m (making_in (driver_of s)))
 changed-moment m s verb k r reply = refl
 
 step_of-moment : (m : Machine) (o : Option CallState) (verb : Verb) (k r : Option ℕ) (reply : StepReply) (end : Option Outcome) → SameMoment m (step_of m o verb k r reply end)
@@ -152,7 +159,7 @@ step_of-moment m (Some s) verb k r reply end = changed-moment m s verb k r reply
 
 -- THE LAW: in the state after a label the moment is the one that the label set, or the one before it
 pub after-moment : (m : Machine) (l : Label) → (after m l).cluster.moment ≡ moment_after l m.cluster.moment
-after-moment m (labels.Stepped call op verb k r reply end pieces) = step_of-moment m (m.in_hand call.actor) verb k r reply end
+after-moment m (labels.Stepped call op verb k r reply end details) = step_of-moment m (m.in_hand call.actor) verb k r reply end
 after-moment m (labels.Moved t) = refl
 after-moment m (labels.Began call op end) = with_ended-moment (begun_call m call op end) (number_of call.actor) (ended_place end op)
 after-moment m l = refl

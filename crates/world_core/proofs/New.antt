@@ -8,14 +8,12 @@ use Rattle.world_core.specs.declared.world.World.{World}
 use Rattle.cluster_record.specs.RecordState.{entry_of, is_live_client}
 use Rattle.world_core.specs.TableState.{TableState}
 use Rattle.world_core.specs.NewTable.{no_callbacks}
-use Rattle.world_core.specs.Serving.{replica_in}
-use Rattle.world_core.specs.Machine.{empty_cluster, no_iterations}
-use Rattle.world_core.specs.Steps.{room_in}
-use Rattle.world_core.specs.Shows.{History, Shows, Fits, FitsReplica, FitsHand, machine_of, complete_replica, handles_in, hand_of, last_in, next_of, numbered, place_in, reserved_in, shown_hand, shown_replica, where_complete, iterations_of, iterations_in}
-use Rattle.world_core.specs.Invariant.{Invariant}
+use Rattle.ckpt_machine.specs.Serving.{replica_in}
+use Rattle.ckpt_machine.specs.Machine.{empty_cluster, no_iterations}
+use Rattle.ckpt_machine.specs.Steps.{room_in}
+use Rattle.world_core.specs.Shows.{History, Shows, Fits, FitsReplica, FitsHand, machine_of, complete_replica, handles_in, hand_of, last_in, next_of, numbered_or_none, place_in, reserved_in, shown_hand, shown_replica, where_complete, iterations_of, iterations_in}
 use Rattle.world_core.specs.Runs.{IsNew, IsRunTo}
 use Rattle.world_core.proofs.HoldingLaws.{nothing_held}
-use Rattle.world_core.proofs.Law.{counts_empty}
 use Rattle.world_core.proofs.Openings.{slice_index-replicate}
 use Rattle.world_core.proofs.Recording.{zero_there}
 
@@ -33,7 +31,7 @@ no_handles (Some t) new = sym (ap (λ (s : ClientState). s.handles) (new t refl)
 
 no_place : (o : Option TableState) (p : ℕ) → ((t : TableState) → o ≡ Some t → t.client ≡ new_client no_callbacks) → None ≡ place_in o p
 no_place None p new = refl
-no_place (Some t) p new = sym (ap numbered (ap (λ (s : ClientState). slice_index s.places p) (new t refl) ∙ slice_index-replicate 100 p))
+no_place (Some t) p new = sym (ap numbered_or_none (ap (λ (s : ClientState). slice_index s.places p) (new t refl) ∙ slice_index-replicate 100 p))
 
 none_taken : (o : Option TableState) → ((t : TableState) → o ≡ Some t → t.client ≡ new_client no_callbacks) → 0 ≡ last_in o
 none_taken None new = refl
@@ -87,6 +85,6 @@ module _ (w : World) (new : IsNew w) where
   pub new_shows : Shows w empty_cluster
   new_shows = record { history = nothing; same = shows_nothing; fits = fits_nothing; holds = nothing_held w.cluster w.nodes new.nodes; rooms = λ c live. absurd (none_live c live) }
 
--- no label yet is a run to it, where the invariant holds of the empty cluster
-pub new_run : (w : World) → Invariant empty_cluster → IsNew w → IsRunTo w []
-new_run w invariant new = record { run = tt; shows = new_shows w new; invariant = invariant; counts = counts_empty }
+-- no label yet is a run to it
+pub new_run : (w : World) → IsNew w → IsRunTo w []
+new_run w new = record { run = tt; shows = new_shows w new }

@@ -10,17 +10,17 @@ use Rattle.node_msgs.specs.declared.requests.Request.{Request}
 use Rattle.node_msgs.specs.declared.requests.Request.TheVariants.{Reserve, Iterate, Next, Stage, Commit}
 use Rattle.node_msgs.specs.declared.steps.Verb.TheVariants as verbs
 use Rattle.cluster_record.specs.declared.entries.Entry.{Entry}
-use Rattle.world_core.specs.declared.replica.Replica.{Replica}
-use Rattle.world_core.specs.declared.replica.Slot.{Slot}
+use Rattle.ckpt_machine.specs.Replicas.{Replica}
+use Rattle.ckpt_machine.specs.Replicas.{Slot}
 use Rattle.cluster_record.specs.Places.{put2}
 use Rattle.cluster_record.specs.RecordState.{entry_of}
 use Rattle.node_msgs.specs.Requests.{ckpt_of}
-use Rattle.world_core.specs.Serving.{record_seen, update_of, reply_of, replica_after, stage_reply, stage_slot, committed, IsReadyFor, IsStaged}
+use Rattle.ckpt_machine.specs.Serving.{record_seen, update_of, reply_of, replica_after, stage_reply, stage_slot, committed, IsReadyFor, IsStaged}
 use Rattle.node_msgs.specs.Steps.{verb_of, word_of}
-use Rattle.world_core.specs.Machine.{Machine, Effect, Applied, ReplicaState, CallState}
-use Rattle.world_core.specs.Steps.{changed, change_replica, with_slot, with_committed, staged_moment}
+use Rattle.ckpt_machine.specs.Machine.{Machine, Effect, Applied, ReplicaState, CallState}
+use Rattle.ckpt_machine.specs.Steps.{changed, change_replica, with_slot, with_committed, staged_moment}
 use Rattle.world_core.specs.Shows.{shown_replica, FitsReplica}
-use Rattle.world_core.proofs.Calls.{IsOwn}
+use Rattle.ckpt_machine.proofs.Calls.{IsOwn}
 use Rattle.world_core.proofs.Maps.{put2_same}
 
 -- the request is served by the replica alone: it takes no storage, and no iteration travels beside it
@@ -60,10 +60,10 @@ module _ (M : Machine) (s : CallState) (k r : ℕ) (E : List Effect) (o : CallId
   stage_moves call t None (Err why) is own moment = stays (shown_replica E o (Some (record x { slot = None }))) is
   stage_moves call t None (Ok sections) is own moment =
       let f = with_slot s.call (update_of s.op) (staged_moment M k) in
-      let X : ReplicaState = record { sections = x.store.sections; effects = E; generation = x.generation; slot = None; marks = None } in
+      let X : ReplicaState = record { sections = x.sections; effects = E; generation = x.generation; slot = None; marks = None } in
       ap (λ y. change_replica M k r y f) is ∙ (λ i. with (Some (with_slot (sym own i) (update_of s.op) (moment refl i) X)))
 
-  commit_moves : (p : Option Slot) (e : Entry) (Q : Slot → Type 0) → entry_of k M.cluster.entries ≡ Some e → x.store.attributes ≡ e.attributes → M.replicas k r ≡ shown_replica E o (Some (record x { slot = p })) → IsSomeAnd p Q →
+  commit_moves : (p : Option Slot) (e : Entry) (Q : Slot → Type 0) → entry_of k M.cluster.entries ≡ Some e → x.attributes ≡ e.attributes → M.replicas k r ≡ shown_replica E o (Some (record x { slot = p })) → IsSomeAnd p Q →
       change_replica M k r (M.replicas k r) (with_committed (entry_of k M.cluster.entries)) ≡ with (shown_replica (effects_with p o E) o (Some (committed (record x { slot = p }) p)))
   commit_moves None e Q at same is staged = absurd staged
   commit_moves (Some slot) e Q at same is staged =
@@ -72,14 +72,14 @@ module _ (M : Machine) (s : CallState) (k r : ℕ) (E : List Effect) (o : CallId
       ∙ ap (λ a. change_replica M k r (shown_replica E o (Some (record x { slot = Some slot }))) (with_committed (Some (record e { attributes = a })))) (sym same)
 
 -- every row
-pub row_moves : (M : Machine) (s : CallState) (r : ℕ) (E : List Effect) (o : CallId) (x : Replica) (e : Entry) (request : Request) → IsPlain request → entry_of (ckpt_of request) M.cluster.entries ≡ Some e → x.store.attributes ≡ e.attributes →
+pub row_moves : (M : Machine) (s : CallState) (r : ℕ) (E : List Effect) (o : CallId) (x : Replica) (e : Entry) (request : Request) → IsPlain request → entry_of (ckpt_of request) M.cluster.entries ≡ Some e → x.attributes ≡ e.attributes →
     M.replicas (ckpt_of request) r ≡ shown_replica E o (Some x) → IsReadyFor request x → IsOwn s.call request → ((call : CallId) (k : ℕ) (t : ℤ) → request ≡ Stage call k t → x.slot ≡ None → staged_moment M k ≡ t) →
     changed M s (verb_of request) (Some (ckpt_of request)) (Some r) (word_of (reply_of request s.op (record_seen M.cluster (ckpt_of request)) x))
     ≡ record M { replicas = put2 M.replicas (ckpt_of request) r (shown_replica (effects_after request x o E) (origin_after request x o) (Some (replica_after request s.op x))) }
 row_moves M s r E o x e (Reserve k) plain at same is ready own moment = absurd (plain.reserves_none k refl)
 row_moves M s r E o x e (Iterate call k choice) plain at same is ready own moment = absurd (plain.starts_none call k choice refl)
 row_moves M s r E o x e (Next call k) plain at same is ready own moment = absurd (plain.goes_on_with_none call k refl)
-row_moves M s r E o x e (Stage call k t) plain at same is ready own moment = stage_moves M s k r E o x call t x.slot (outcome x.store.attributes (update_of s.op) t x.store.sections) is own (λ n. moment call k t refl n)
+row_moves M s r E o x e (Stage call k t) plain at same is ready own moment = stage_moves M s k r E o x call t x.slot (outcome x.attributes (update_of s.op) t x.sections) is own (λ n. moment call k t refl n)
 row_moves M s r E o x e (Commit call k) plain at same is ready own moment = commit_moves M s k r E o x x.slot e (IsStaged call x) at same is ready
 row_moves M s r E o x e request plain at same is ready own moment = stays M s (ckpt_of request) r E o x (shown_replica E o (Some x)) is
 
@@ -94,6 +94,6 @@ fits_stage k None E x p fits = fits
 fits_stage k (Some e) E x p fits = fits
 
 pub row_fits : (k : ℕ) (e : Option Entry) (E : List Effect) (o : CallId) (x : Replica) (request : Request) (op : Op) → FitsReplica k e E (Some x) → FitsReplica k e (effects_after request x o E) (Some (replica_after request op x))
-row_fits k e E o x (Stage call j t) op fits = fits_stage k e E x (stage_slot (outcome x.store.attributes (update_of op) t x.store.sections) (record { owner = call; update = update_of op; moment = t }) x.slot) fits
+row_fits k e E o x (Stage call j t) op fits = fits_stage k e E x (stage_slot (outcome x.attributes (update_of op) t x.sections) (record { owner = call; update = update_of op; moment = t }) x.slot) fits
 row_fits k e E o x (Commit call j) op fits = fits_commit k e E o x x.slot fits
 row_fits k e E o x request op fits = fits

@@ -1,5 +1,5 @@
 -- What a step of the record needs, where the record has room for it, makes it ready.
-use Rattle.std.proofs.Common.{◌≡◌, ℕ, ◌+◌, ◌-◌, ◌^◌, ◌<◌, length, true, false, cond, not, refl, ap, ◌∙◌}
+use Rattle.std.proofs.Common.{◌≡◌, ℕ, ◌+◌, ◌-◌, ◌^◌, ◌<◌, length, true, false, cond, not, refl, ap, subst, ◌∙◌}
 use Rattle.std.proofs.lemmas.Bool.{lt-leb}
 use Rattle.std.specs.Prelude.{Option, Some, None, IsSomeAnd, slice_index}
 use Rattle.ckpt_types.specs.declared.ais_error.AisError.TheVariants.{Exist}
@@ -9,12 +9,13 @@ use Rattle.ckpt_types.specs.declared.identities.CallId.{CallId}
 use Rattle.ckpt_types.specs.Limits.{checkpoints_max}
 use Rattle.node_msgs.specs.declared.next.RecordStep.{RecordStep}
 use Rattle.node_msgs.specs.declared.next.RecordStep.TheVariants as events
-use Rattle.world_core.specs.declared.drivers.Driver.{Driver}
-use Rattle.world_core.specs.declared.drivers.Driver.TheVariants as drivers
+use Rattle.ckpt_machine.specs.Drivers.{Driver}
+use Rattle.ckpt_machine.specs.Drivers as drivers
 use Rattle.cluster_record.specs.declared.entries.Entry.{Entry}
 use Rattle.cluster_record.specs.RecordState.{RecordState, entry_of, named}
 use Rattle.world_core.specs.RecordReady.{CanAsk, IsRecordReady}
 use Rattle.cluster_record.specs.declared.opening.OpenAnswer.TheVariants.{Opened, Made, Refused}
+use Rattle.ckpt_machine.specs.Driving.{event_refusal, refusal_in}
 use Rattle.cluster_record.specs.Opening.{answer_unless, answer_free, answer_named, open_answer}
 use Rattle.cluster_record.specs.Refusals.{plainly, all_taken}
 use Rattle.cluster_record.specs.Calls.{IsClient}
@@ -47,30 +48,36 @@ answer_made R ask few given free = ap (answer_named R ask.attrs) free ∙ by_att
   by_attributes None given = absurd given
   by_attributes (Some a) given = ap (λ b. cond b (Refused (all_taken checkpoints_max)) (Made (R.last_identity + 1))) (lt-leb checkpoints_max (length R.entries) few)
 
--- one that is made, and has the attributes asked for, is opened
-answer_opened : (R : RecordState) (ask : OpenAsk) (o : Option Entry) → named ask.name R.entries ≡ o → IsSomeAnd o (λ e. (e.making ≡ None) × (accepts ask.attrs e ≡ true)) → (k : ℕ) × (identity_in (named ask.name R.entries) ≡ Some k) × (open_answer R ask ≡ Opened k false)
-answer_opened R ask None found there = absurd there
-answer_opened R ask (Some e) found there = (
-  e.identity,
-  ap identity_in found,
-  ap (answer_named R ask.attrs) found ∙ ap (λ making. answer_unless making ask.attrs e) there.0 ∙ ap (λ b. cond (not b) (Refused (plainly Exist)) (Opened e.identity false)) there.1,
-)
+-- what the record does not refuse is made
+made_as : (e : Entry) (a : Option CreationAttributes) (making : Option CallId) → e.making ≡ making → refusal_in (answer_unless making a e) ≡ None → e.making ≡ None
+made_as e a None is granted = is
+made_as e a (Some call) is granted = absurd (cc granted)
 
--- a step is ready where its world has room for it
-pub record_ready : (call : CallId) (R : RecordState) (x : Driver) (step : RecordStep) → R.last_identity < 2 ^ 32 - 1 → FewReferences R → EventNeeds call R x step → IsRecordReady call R x step
-record_ready call R (drivers.Enter r) events.Enter identity few needs = needs
-record_ready call R (drivers.Open o) events.Create identity few needs = (can_ask call R o.ask identity few needs.3 needs.4, answer_made R o.ask needs.0 needs.1 needs.2)
-record_ready call R (drivers.Open o) events.Open identity few needs = (can_ask call R o.ask identity few needs.1 needs.2, answer_opened R o.ask (named o.ask.name R.entries) refl needs.0)
-record_ready call R (drivers.Open o) events.Finish identity few needs = needs.1
-record_ready call R (drivers.Open o) events.Undo identity few needs = needs.1
-record_ready call R drivers.Leave events.Leave identity few needs = tt
-record_ready call R (drivers.Close k) events.Close identity few needs = tt
-record_ready call R (drivers.Unlink name) events.Unlink identity few needs = needs
-record_ready call R (drivers.Retain k duration) events.Retain identity few needs = needs
-record_ready call R (drivers.Enter r) step identity few needs = absurd needs
-record_ready call R (drivers.Open o) step identity few needs = absurd needs
-record_ready call R drivers.Leave step identity few needs = absurd needs
-record_ready call R (drivers.Close k) step identity few needs = absurd needs
-record_ready call R (drivers.Unlink name) step identity few needs = absurd needs
-record_ready call R (drivers.Retain k duration) step identity few needs = absurd needs
-record_ready call R x step identity few needs = absurd needs
+-- one that is not refused, and has the attributes asked for where it is made, is opened
+answer_opened : (R : RecordState) (ask : OpenAsk) (o : Option Entry) → named ask.name R.entries ≡ o → refusal_in (open_answer R ask) ≡ None → IsSomeAnd o (λ e. e.making ≡ None → accepts ask.attrs e ≡ true) → (k : ℕ) × (identity_in (named ask.name R.entries) ≡ Some k) × (open_answer R ask ≡ Opened k false)
+answer_opened R ask None found granted there = absurd there
+answer_opened R ask (Some e) found granted there =
+    let made : e.making ≡ None = made_as e ask.attrs e.making refl (subst (λ o. refusal_in (answer_named R ask.attrs o) ≡ None) found granted) in (
+      e.identity,
+      ap identity_in found,
+      ap (answer_named R ask.attrs) found ∙ ap (λ making. answer_unless making ask.attrs e) made ∙ ap (λ b. cond (not b) (Refused (plainly Exist)) (Opened e.identity false)) (there made),
+    )
+
+-- a step that is not refused is ready where its world has room for it
+pub record_ready : (call : CallId) (R : RecordState) (x : Driver) (step : RecordStep) → event_refusal R step x ≡ None → R.last_identity < 2 ^ 32 - 1 → FewReferences R → EventNeeds call R x step → IsRecordReady call R x step
+record_ready call R (drivers.Enter r) events.Enter granted identity few needs = needs
+record_ready call R (drivers.Open o) events.Create granted identity few needs = (can_ask call R o.ask identity few needs.3 needs.4, answer_made R o.ask needs.0 needs.1 needs.2)
+record_ready call R (drivers.Open o) events.Open granted identity few needs = (can_ask call R o.ask identity few needs.1 needs.2, answer_opened R o.ask (named o.ask.name R.entries) refl granted needs.0)
+record_ready call R (drivers.Open o) events.Finish granted identity few needs = needs.1
+record_ready call R (drivers.Open o) events.Undo granted identity few needs = needs.1
+record_ready call R drivers.Leave events.Leave granted identity few needs = tt
+record_ready call R (drivers.Close k) events.Close granted identity few needs = tt
+record_ready call R (drivers.Unlink name) events.Unlink granted identity few needs = needs
+record_ready call R (drivers.Retain k duration) events.Retain granted identity few needs = needs
+record_ready call R (drivers.Enter r) step granted identity few needs = absurd needs
+record_ready call R (drivers.Open o) step granted identity few needs = absurd needs
+record_ready call R drivers.Leave step granted identity few needs = absurd needs
+record_ready call R (drivers.Close k) step granted identity few needs = absurd needs
+record_ready call R (drivers.Unlink name) step granted identity few needs = absurd needs
+record_ready call R (drivers.Retain k duration) step granted identity few needs = absurd needs
+record_ready call R x step granted identity few needs = absurd needs

@@ -3,12 +3,12 @@ use Rattle.std.proofs.Common.{◌≡◌, ◌⊎◌, inl, inr, ℕ, zero, suc, Bo
 use Rattle.std.specs.Prelude.{Option, Some, None, ◌==◌, slice_index, if◌then◌else◌}
 use Rattle.ckpt_types.specs.declared.identities.CallId.{CallId}
 use Rattle.cluster_record.specs.declared.entries.Entry.{Entry}
-use Rattle.world_core.specs.declared.replica.Replica.{Replica}
+use Rattle.ckpt_machine.specs.Replicas.{Replica}
 use Rattle.world_core.specs.declared.world.World.{World}
 use Rattle.cluster_record.specs.RecordState.{RecordState, entry_of, complete_of, no_nodes}
-use Rattle.world_core.specs.Serving.{replica_in, opened_replica}
-use Rattle.world_core.specs.Machine.{Effect}
-use Rattle.world_core.specs.Steps.{opened_state, replica_under, reservation_under, with_record}
+use Rattle.ckpt_machine.specs.Serving.{replica_in, opened_replica}
+use Rattle.ckpt_machine.specs.Machine.{Effect}
+use Rattle.ckpt_machine.specs.Steps.{opened_state, replica_under, reservation_under, with_record}
 use Rattle.world_core.specs.Shows.{History, Fits, FitsReplica, machine_of, shown_replica, shown_reservation, where_complete, where_not_complete}
 
 -- the node is complete as before, or newly with the replica that it has reserved

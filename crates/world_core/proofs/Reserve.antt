@@ -1,5 +1,5 @@
 -- A reservation: the node takes the storage of a replica, or is refused the memory.
-use Rattle.std.proofs.Common.{◌≡◌, ◌⊎◌, inl, inr, ℕ, ◌<◌, ◌≤◌, Bool, true, false, ℤ, List, ◌∷◌, length, refl, sym, ap, subst, ◌∙◌, cond}
+use Rattle.std.proofs.Common.{◌≡◌, ◌⊎◌, inl, inr, ℕ, ◌<◌, ◌≤◌, Bool, true, false, List, ◌∷◌, length, refl, sym, ap, subst, ◌∙◌, cond}
 use Rattle.std.specs.Prelude.{Option, Some, None, ◌==◌, ◌&&◌, IsSomeAnd, slice_get, slice_set, slice_index}
 use Rattle.std.proofs.lemmas.Bool.{eqb-true}
 use Rattle.std.proofs.lemmas.Option.{same_Some}
@@ -12,6 +12,7 @@ use Rattle.node_msgs.specs.declared.replies.Reply.{Reply}
 use Rattle.node_msgs.specs.declared.replies.Reply.TheVariants.{Done, NoMemory}
 use Rattle.node_msgs.specs.declared.next.Next.{Next}
 use Rattle.node_msgs.specs.declared.next.Next.TheVariants.{Serve}
+use Rattle.run_labels.specs.declared.details.Details.TheVariants as beside
 use Rattle.run_labels.specs.declared.words.OpWord.{OpWord}
 use Rattle.node_msgs.specs.declared.steps.Verb.TheVariants as verbs
 use Rattle.node_msgs.specs.declared.steps.StepReply.TheVariants as words
@@ -20,25 +21,27 @@ use Rattle.run_labels.specs.declared.labels.Label.TheVariants.{Stepped}
 use Rattle.run_labels.specs.OpWord.{word_of_op}
 use Rattle.world_core.specs.declared.hands.InHand.{InHand}
 use Rattle.cluster_record.specs.declared.entries.Entry.{Entry}
-use Rattle.world_core.specs.declared.replica.Replica.{Replica}
+use Rattle.ckpt_machine.specs.Replicas.{Replica}
 use Rattle.world_core.specs.declared.world.World.{World}
 use Rattle.cluster_record.specs.Calls.{put_actor, left}
 use Rattle.cluster_record.specs.Places.{find_key, put2, list_or}
 use Rattle.cluster_record.specs.RecordState.{RecordState, entry_of, complete_of}
 use Rattle.world_core.specs.Holding.{replicas_on, IsReservation, IsHeld, HoldsOnlyWhatStands}
-use Rattle.world_core.specs.Serving.{replica_key, replica_in, pieces_at, opened_replica, added, reserved_at}
+use Rattle.ckpt_machine.specs.Replicas.{RecordSeen}
+use Rattle.ckpt_machine.specs.Serving.{record_seen, replica_key, replica_in, details_at, opened_replica, with_reserved, reserved_at}
 use Rattle.node_msgs.specs.Steps.{word_of}
 use Rattle.cluster_record.specs.StepDone.{StepDone}
-use Rattle.world_core.specs.Driving.{driver_next, driver_taken, driver_end}
-use Rattle.world_core.specs.Machine.{Machine, CallState}
-use Rattle.world_core.specs.Steps.{ended_pieces, IsDue, IsDone, MayAnswer, after, step_of, seen_at}
+use Rattle.ckpt_machine.specs.Driving.{driver_next, driver_taken, driver_end}
+use Rattle.ckpt_machine.specs.Machine.{Machine, CallState}
+use Rattle.ckpt_machine.specs.Steps.{ended_details, IsDue, IsDone, MayAnswer, after, step_of, seen_at}
 use Rattle.world_core.specs.HandSteps.{hand_taken}
 use Rattle.world_core.specs.Happenings.{rooms_in}
-use Rattle.world_core.specs.Shows.{Does, IsShown, Fits, FitsReplica, Facts, IsReservable, History, machine_of, shown_replica, where_complete, complete_replica, where_not_complete, shown_reservation, reserved_in, hand_at}
+use Rattle.ckpt_machine.specs.Facts.{Facts, IsReservable}
+use Rattle.world_core.specs.Shows.{Does, IsShown, Fits, FitsReplica, History, machine_of, shown_replica, where_complete, complete_replica, where_not_complete, shown_reservation, reserved_in, hand_at}
 use Rattle.world_core.proofs.Held.{state_in, in_hand_is, in_hand_at, driver_is, actor_is, due_is, left_shown, left_fits, hand_fits}
 use Rattle.world_core.proofs.HoldingLaws.{held_at, holds_by_key, opening_there, once_set}
 use Rattle.world_core.proofs.Maps.{both_true, same_there, node_case, put_hand, fits_hand}
-use Rattle.world_core.proofs.OnceByKey.{counted, counted-push}
+use Rattle.ckpt_machine.proofs.OnceByKey.{counted, counted-push}
 use Rattle.cluster_record.proofs.Places.{find_pushed, get_set, there_is}
 use Rattle.world_core.proofs.Serve.{served_step}
 use Rattle.world_core.proofs.Told.{with_step, told_world, told_is, told_fits}
@@ -50,7 +53,7 @@ abbrev pub NoneButThis : Replica → Option Replica → Type 0
 NoneButThis new None = Unit {0}
 NoneButThis new (Some x) = x ≡ new
 
-find_added : (xs : List Replica) (new : Replica) (j : ℕ) (o : Option Replica) → find_key replica_key new.ckpt xs ≡ o → NoneButThis new o → find_key replica_key j (added o new xs) ≡ cond (j == new.ckpt) (Some new) (find_key replica_key j xs)
+find_added : (xs : List Replica) (new : Replica) (j : ℕ) (o : Option Replica) → find_key replica_key new.ckpt xs ≡ o → NoneButThis new o → find_key replica_key j (with_reserved o new xs) ≡ cond (j == new.ckpt) (Some new) (find_key replica_key j xs)
 find_added xs new j None e this = find_pushed replica_key new.ckpt xs new j refl e
 find_added xs new j (Some x) e this = sym (same_there (j == new.ckpt) (Some new) (find_key replica_key j xs) (λ t. ap (λ j. find_key replica_key j xs) (eqb-true j new.ckpt t) ∙ e ∙ ap Some this))
 
@@ -61,8 +64,8 @@ reserved_here nodes r new within this j q =
     let there = there_is nodes r within in
     let xs : List Replica = there.0 in
     let is : slice_get nodes r ≡ Some xs = there.1 in
-    let more = added (replica_in nodes new.ckpt r) new xs in
-    let set : reserved_at nodes r new ≡ slice_set nodes r more = ap (λ o. slice_set nodes r (added (replica_in nodes new.ckpt r) new (list_or o))) is in
+    let more = with_reserved (replica_in nodes new.ckpt r) new xs in
+    let set : reserved_at nodes r new ≡ slice_set nodes r more = ap (λ o. slice_set nodes r (with_reserved (replica_in nodes new.ckpt r) new (list_or o))) is in
     let got : slice_get (slice_set nodes r more) q ≡ cond (q == r) (Some more) (slice_get nodes q) = get_set nodes r more xs q is in
     ap (λ ns. replica_in ns j q) set ∙ ap (λ o. find_key replica_key j (list_or o)) got
     ∙ node_case (j == new.ckpt) (q == r) (Some new) (find_key replica_key j) xs more (slice_get nodes q)
@@ -119,7 +122,7 @@ module _ (R : RecordState) (nodes : List (List Replica)) (r : ℕ) (new : Replic
   held_case true q y o here all e = subst (λ (z : ℕ × Replica). IsHeld R z.0 z.1) (λ i. (sym (here refl) i, same_Some new y e i)) held_new
   held_case false q y o here all e = all y e
 
-  added_once : (xs : List Replica) (o : Option Replica) → find_key replica_key new.ckpt xs ≡ o → ((j : ℕ) → counted replica_key j xs ≤ 1) → (j : ℕ) → counted replica_key j (added o new xs) ≤ 1
+  added_once : (xs : List Replica) (o : Option Replica) → find_key replica_key new.ckpt xs ≡ o → ((j : ℕ) → counted replica_key j xs ≤ 1) → (j : ℕ) → counted replica_key j (with_reserved o new xs) ≤ 1
   added_once xs None free few = counted-push replica_key xs new free few
   added_once xs (Some x) found few = few
 
@@ -129,8 +132,8 @@ module _ (R : RecordState) (nodes : List (List Replica)) (r : ℕ) (new : Replic
       let xs : List Replica = there.0 in
       let is : slice_get nodes r ≡ Some xs = there.1 in
       let own : (j : ℕ) → counted replica_key j xs ≤ 1 = λ j. subst (λ (o : Option (List Replica)). counted replica_key j (list_or o) ≤ 1) is (holds.once r j) in
-      subst (λ (ys : List Replica). (q j : ℕ) → counted replica_key j (replicas_on (slice_set nodes r (added (replica_in nodes new.ckpt r) new ys)) q) ≤ 1) (sym (ap list_or is))
-      (once_set nodes r xs (added (replica_in nodes new.ckpt r) new xs) is (added_once xs (replica_in nodes new.ckpt r) (sym (ap (λ o. find_key replica_key new.ckpt (list_or o)) is)) own) holds.once)
+      subst (λ (ys : List Replica). (q j : ℕ) → counted replica_key j (replicas_on (slice_set nodes r (with_reserved (replica_in nodes new.ckpt r) new ys)) q) ≤ 1) (sym (ap list_or is))
+      (once_set nodes r xs (with_reserved (replica_in nodes new.ckpt r) new xs) is (added_once xs (replica_in nodes new.ckpt r) (sym (ap (λ o. find_key replica_key new.ckpt (list_or o)) is)) own) holds.once)
 
   pub holds_reserved : HoldsOnlyWhatStands R (reserved_at nodes r new)
   holds_reserved = holds_by_key R (reserved_at nodes r new)
@@ -139,11 +142,11 @@ module _ (R : RecordState) (nodes : List (List Replica)) (r : ℕ) (new : Replic
 
 -- ---- the step
 
-none_read : (k : ℕ) (op : Op) (now : ℤ) (y : Option Replica) → None ≡ pieces_at (Reserve k) op now y
-none_read k op now None = refl
-none_read k op now (Some x) = refl
+none_read : (k : ℕ) (op : Op) (sight : RecordSeen) (y : Option Replica) → beside.Nothing ≡ details_at (Reserve k) op sight y
+none_read k op sight None = refl
+none_read k op sight (Some x) = refl
 
-none_ended : (end : Option Outcome) → None ≡ ended_pieces end None
+none_ended : (end : Option Outcome) → beside.Nothing ≡ ended_details end beside.Nothing
 none_ended None = refl
 none_ended (Some end) = refl
 
@@ -151,7 +154,7 @@ abbrev end_of : World → ℕ → ℕ → InHand → Reply → Option Outcome
 end_of w r k hand reply = driver_end hand.op (served_step w (Reserve k) r reply) reply (driver_taken (served_step w (Reserve k) r reply) hand.driver)
 
 abbrev reserve_label : World → ℕ → ℕ → InHand → Reply → Label
-reserve_label w r k hand reply = Stepped hand.call (word_of_op hand.op) verbs.Reserve (Some k) (Some r) (word_of reply) (end_of w r k hand reply) None
+reserve_label w r k hand reply = Stepped hand.call (word_of_op hand.op) verbs.Reserve (Some k) (Some r) (word_of reply) (end_of w r k hand reply) beside.Nothing
 
 abbrev refused_world : World → ℕ → ℕ → ℕ → InHand → World
 refused_world w c r k hand = told_world w c hand (served_step w (Reserve k) r NoMemory) (end_of w r k hand NoMemory)
@@ -175,14 +178,14 @@ module _ (w : World) (h : History) (c r k : ℕ) (hand : InHand) (facts : Facts 
     in_hand = in_hand_at w h c hand held facts;
     call_is = refl;
     word = refl;
-    done = subst (λ (n : Next). IsDone m s n (record { verb = verbs.Reserve; ckpt = Some k; node = Some r; reply = word_of reply; end = end_of w r k hand reply; pieces = None })) (sym (due_is w h c hand held facts fits (Serve r (Reserve k)) next)) (record {
+    done = subst (λ (n : Next). IsDone m s n (record { verb = verbs.Reserve; ckpt = Some k; node = Some r; reply = word_of reply; end = end_of w r k hand reply; details = beside.Nothing })) (sym (due_is w h c hand held facts fits (Serve r (Reserve k)) next)) (record {
       answer = reply;
       may = may;
       verb = refl;
       ckpt = refl;
       node = refl;
       reply = refl;
-      pieces = none_ended (end_of w r k hand reply) ∙ ap (ended_pieces (end_of w r k hand reply)) (none_read k hand.op w.cluster.moment (seen_at m k r));
+      details = none_ended (end_of w r k hand reply) ∙ ap (ended_details (end_of w r k hand reply)) (none_read k hand.op (record_seen w.cluster k) (seen_at m k r));
       end = ap (λ x. driver_end hand.op (served_step w (Reserve k) r reply) reply (driver_taken (served_step w (Reserve k) r reply) x)) (driver_is w h c hand held fits);
     });
   }
@@ -271,18 +274,18 @@ module _ (w : World) (c r k : ℕ) (hand : InHand) (held : hand_at w.hands c ≡
   pub reserve_done : (e : Entry) (nodes : List (List Replica)) (hands : List (Option InHand)) (word : OpWord) (end : Option Outcome) → entry_of k w.cluster.entries ≡ Some e → r < length w.nodes →
       nodes ≡ reserved_at w.nodes r (opened_replica k e.attributes e.made) → end ≡ driver_end hand.op (served_step w (Reserve k) r (Done answers.Nothing)) (Done answers.Nothing) (driver_taken (served_step w (Reserve k) r (Done answers.Nothing)) hand.driver) →
       hands ≡ slice_set w.hands c (left end (hand_taken (served_step w (Reserve k) r (Done answers.Nothing)) hand)) → word ≡ word_of_op hand.op →
-      Does w (record w { nodes = nodes; hands = hands }) (Stepped hand.call word verbs.Reserve (Some k) (Some r) words.Ok end None)
+      Does w (record w { nodes = nodes; hands = hands }) (Stepped hand.call word verbs.Reserve (Some k) (Some r) words.Ok end beside.Nothing)
   reserve_done e nodes hands word end there within nodes_is end_is hands_is word_is =
       let g : slice_set w.hands c (left (end_of w r k hand (Done answers.Nothing)) (hand_taken (served_step w (Reserve k) r (Done answers.Nothing)) hand)) ≡ hands
       = ap (λ (e : Option Outcome). slice_set w.hands c (left e (hand_taken (served_step w (Reserve k) r (Done answers.Nothing)) hand))) (sym end_is) ∙ sym hands_is in
-      subst (λ (y : List (List Replica) × List (Option InHand) × OpWord × Option Outcome). Does w (record w { nodes = y.0; hands = y.1 }) (Stepped hand.call y.2 verbs.Reserve (Some k) (Some r) words.Ok y.3 None))
+      subst (λ (y : List (List Replica) × List (Option InHand) × OpWord × Option Outcome). Does w (record w { nodes = y.0; hands = y.1 }) (Stepped hand.call y.2 verbs.Reserve (Some k) (Some r) words.Ok y.3 beside.Nothing))
       (λ i. (sym nodes_is i, g i, sym word_is i, sym end_is i)) (reserve_does e there within)
 
   -- the node is refused the memory
   pub reserve_refused : (hands : List (Option InHand)) (word : OpWord) (end : Option Outcome) → end ≡ driver_end hand.op (served_step w (Reserve k) r NoMemory) NoMemory (driver_taken (served_step w (Reserve k) r NoMemory) hand.driver) →
-      hands ≡ slice_set w.hands c (left end (hand_taken (served_step w (Reserve k) r NoMemory) hand)) → word ≡ word_of_op hand.op → Does w (record w { hands = hands }) (Stepped hand.call word verbs.Reserve (Some k) (Some r) words.Memory end None)
+      hands ≡ slice_set w.hands c (left end (hand_taken (served_step w (Reserve k) r NoMemory) hand)) → word ≡ word_of_op hand.op → Does w (record w { hands = hands }) (Stepped hand.call word verbs.Reserve (Some k) (Some r) words.Memory end beside.Nothing)
   reserve_refused hands word end end_is hands_is word_is =
       let g : slice_set w.hands c (left (end_of w r k hand NoMemory) (hand_taken (served_step w (Reserve k) r NoMemory) hand)) ≡ hands
       = ap (λ (e : Option Outcome). slice_set w.hands c (left e (hand_taken (served_step w (Reserve k) r NoMemory) hand))) (sym end_is) ∙ sym hands_is in
-      subst (λ (y : List (Option InHand) × OpWord × Option Outcome). Does w (record w { hands = y.0 }) (Stepped hand.call y.1 verbs.Reserve (Some k) (Some r) words.Memory y.2 None))
+      subst (λ (y : List (Option InHand) × OpWord × Option Outcome). Does w (record w { hands = y.0 }) (Stepped hand.call y.1 verbs.Reserve (Some k) (Some r) words.Memory y.2 beside.Nothing))
       (λ i. (g i, sym word_is i, sym end_is i)) refused_does

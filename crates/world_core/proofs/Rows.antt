@@ -5,7 +5,7 @@ use Rattle.std.specs.Prelude.{◌+◌, ◌≤◌}
 use Rattle.std.specs.Option.{option_map}
 use Rattle.ckpt_types.specs.declared.ais_error.AisError.TheVariants as errors
 use Rattle.ckpt_types.specs.declared.answers.Answer.TheVariants as answers
-use Rattle.ckpt_types.specs.declared.answers.Cause.TheVariants.{Plain, Index, Count, Deadline}
+use Rattle.ckpt_types.specs.declared.answers.Cause.TheVariants.{Plain, Index, Holder, Count, Deadline}
 use Rattle.ckpt_types.specs.declared.answers.Outcome.{Outcome}
 use Rattle.ckpt_types.specs.declared.answers.Outcome.TheVariants.{Done, Refused}
 use Rattle.ckpt_types.specs.declared.attributes.CreationAttributes.{CreationAttributes}
@@ -26,6 +26,7 @@ use Rattle.node_msgs.specs.declared.requests.Request.TheVariants as requests
 use Rattle.node_msgs.specs.declared.steps.StepReply.TheVariants as words
 use Rattle.node_msgs.specs.declared.steps.Verb.{Verb}
 use Rattle.node_msgs.specs.declared.steps.Verb.TheVariants as verbs
+use Rattle.run_labels.specs.declared.details.Details.TheVariants as beside
 use Rattle.run_labels.specs.declared.labels.Label.{Label}
 use Rattle.run_labels.specs.declared.labels.Label.TheVariants as labels
 use Rattle.run_labels.specs.OpWord.{word_of_op}
@@ -35,20 +36,20 @@ use Rattle.cluster_record.specs.declared.entries.Entry.{Entry}
 use Rattle.cluster_record.specs.Places.{put}
 use Rattle.cluster_record.specs.StepDone.{StepDone}
 use Rattle.cluster_record.specs.RecordState.{RecordState, empty_record}
-use Rattle.world_core.specs.declared.replica.Replica.{Replica}
-use Rattle.world_core.specs.declared.drivers.Driver.{Driver}
-use Rattle.world_core.specs.Driving.{driver_end}
-use Rattle.world_core.specs.Guards.{Allowed, IsAllowedStep, Row, CommitOk}
+use Rattle.ckpt_machine.specs.Replicas.{Replica}
+use Rattle.ckpt_machine.specs.Drivers.{Driver}
+use Rattle.ckpt_machine.specs.Driving.{driver_end, event_refusal}
+use Rattle.ckpt_machine.specs.Guards.{Allowed, IsAllowedStep, Row, CommitOk}
 use Rattle.world_core.specs.Holding.{HoldsOnlyWhatStands}
-use Rattle.world_core.specs.Machine.{Machine, Applied, ReplicaState, CallState, empty_cluster}
+use Rattle.ckpt_machine.specs.Machine.{Machine, Applied, ReplicaState, CallState, empty_cluster}
 use Rattle.world_core.specs.NewTable.{no_callbacks}
-use Rattle.world_core.specs.Runs.{IsRun, last}
+use Rattle.ckpt_machine.specs.Runs.{IsRun, last}
 use Rattle.world_core.specs.declared.world.World.{World}
 use Rattle.world_core.specs.Shows.{Shows}
-use Rattle.world_core.specs.Serving.{record_seen, reply_at, replica_after, opened_replica}
-use Rattle.world_core.specs.Steps.{Told, due, kept_at, named_handle, seen_at}
+use Rattle.ckpt_machine.specs.Serving.{record_seen, reply_at, details_at, replica_after, opened_replica}
+use Rattle.ckpt_machine.specs.Steps.{Told, IsDue, after, driver_of, due, kept_at_beginning, asked_handle, seen_at}
 use Rattle.std.proofs.lemmas.Option.{same_Some}
-use Rattle.world_core.proofs.LawEnds.{is_up-none}
+use Rattle.ckpt_machine.proofs.NodeLists.{is_up-none}
 
 -- ---- the words of the examples
 
@@ -85,10 +86,10 @@ abbrev begins : ℕ → Op → Label
 begins n op = labels.Began (c0 n) op None
 
 abbrev steps : ℕ → Op → Verb → Option ℕ → Option ℕ → Label
-steps n op verb k r = labels.Stepped (c0 n) (word_of_op op) verb k r words.Ok None None
+steps n op verb k r = labels.Stepped (c0 n) (word_of_op op) verb k r words.Ok None beside.Nothing
 
 abbrev ends : ℕ → Op → Verb → Option ℕ → Option ℕ → Outcome → Label
-ends n op verb k r end = labels.Stepped (c0 n) (word_of_op op) verb k r words.Ok (Some end) None
+ends n op verb k r end = labels.Stepped (c0 n) (word_of_op op) verb k r words.Ok (Some end) beside.Nothing
 
 -- ---- a run, and no run
 
@@ -100,7 +101,7 @@ abbrev enters : Label
 enters = ends 1 starts verbs.Enter None (Some 0) (Done answers.Version)
 
 abbrev refused : Label
-refused = labels.Stepped (c0 2) (word_of_op (ops.Unlink ck)) verbs.Look None None words.Refused (Some (Refused errors.NotExist Plain)) None
+refused = labels.Stepped (c0 2) (word_of_op (ops.Unlink ck)) verbs.Look None None words.Refused (Some (Refused errors.NotExist Plain)) beside.Nothing
 
 abbrev five : List Label
 five = comes_up ∷ begins 1 starts ∷ enters ∷ begins 2 (ops.Unlink ck) ∷ refused ∷ []
@@ -110,7 +111,7 @@ abbrev in_hand : Machine → Option CallState
 in_hand m = m.in_hand (Client 0)
 
 abbrev begun : Machine → ℕ → Op → CallState
-begun m n op = record { call = c0 n; op = op; kept = kept_at m.cluster 0 (named_handle m (Client 0) op); steps = []; snapshot = None }
+begun m n op = record { call = c0 n; op = op; kept = kept_at_beginning m.cluster 0 (asked_handle m (Client 0) op); steps = []; snapshot = None }
 
 abbrev started : Machine
 started = last (comes_up ∷ begins 1 starts ∷ [])
@@ -121,18 +122,18 @@ asked = last (comes_up ∷ begins 1 starts ∷ enters ∷ begins 2 (ops.Unlink c
 pub five_labels_are_a_run : IsRun five
 five_labels_are_a_run = (
   (omega arith, omega arith, λ r. is_up-none r empty_record refl),
-  (refl, refl),
+  (omega arith, omega arith, refl),
   (
-    first_begins,
+    first_may_begin,
     first_begins,
     (
-      record { state = begun (last (comes_up ∷ [])) 1 starts; in_hand = refl; call_is = refl; word = refl; row = ((refl, (record { up = refl; not_live = refl; few = omega arith }, refl)), refl) },
-      record { state = begun (last (comes_up ∷ [])) 1 starts; in_hand = refl; call_is = refl; word = refl; done = record { verb = refl; ckpt = refl; node = refl; pieces = refl; answer = inl (refl, refl) } },
+      record { state = begun (last (comes_up ∷ [])) 1 starts; in_hand = refl; call_is = refl; word = refl; own = tt; row = ((refl, (record { up = refl; not_live = refl; few = omega arith }, refl)), refl) },
+      record { state = begun (last (comes_up ∷ [])) 1 starts; in_hand = refl; call_is = refl; word = refl; done = record { verb = refl; ckpt = refl; node = refl; details = refl; answer = inl (refl, refl) } },
       (
-        then_begins,
+        then_may_begin,
         then_begins,
         (
-          record { state = begun (last (comes_up ∷ begins 1 starts ∷ enters ∷ [])) 2 (ops.Unlink ck); in_hand = refl; call_is = refl; word = refl; row = (refl, refl, refl, refl) },
+          record { state = begun (last (comes_up ∷ begins 1 starts ∷ enters ∷ [])) 2 (ops.Unlink ck); in_hand = refl; call_is = refl; word = refl; own = tt; row = (refl, refl, (refl, tt), refl) },
           record { state = begun (last (comes_up ∷ begins 1 starts ∷ enters ∷ [])) 2 (ops.Unlink ck); in_hand = refl; call_is = refl; word = refl; done = refl },
           tt,
         ),
@@ -140,11 +141,17 @@ five_labels_are_a_run = (
     ),
   ),
 ) where
-  first_begins : Allowed (last (comes_up ∷ [])) (begins 1 starts)
+  first_begins : IsDue (last (comes_up ∷ [])) (begins 1 starts)
   first_begins = record { client = omega arith; built = (omega arith, record { opens = refl; syncs = refl }); number = refl; none_in_hand = refl; may = (refl, refl); answer = inl refl }
 
-  then_begins : Allowed (last (comes_up ∷ begins 1 starts ∷ enters ∷ [])) (begins 2 (ops.Unlink ck))
+  first_may_begin : Allowed (last (comes_up ∷ [])) (begins 1 starts)
+  first_may_begin = record { client = omega arith; built = (omega arith, record { opens = refl; syncs = refl }); number = refl; none_in_hand = refl; may = (refl, refl); row = (record { version = refl; handle = refl; flags = refl; arguments = refl; access = refl }, refl) }
+
+  then_begins : IsDue (last (comes_up ∷ begins 1 starts ∷ enters ∷ [])) (begins 2 (ops.Unlink ck))
   then_begins = record { client = omega arith; built = tt; number = refl; none_in_hand = refl; may = tt; answer = inl refl }
+
+  then_may_begin : Allowed (last (comes_up ∷ begins 1 starts ∷ enters ∷ [])) (begins 2 (ops.Unlink ck))
+  then_may_begin = record { client = omega arith; built = tt; number = refl; none_in_hand = refl; may = tt; row = (record { version = refl; handle = refl; flags = refl; arguments = refl; access = refl }, refl) }
 
 -- with its step in front of its beginning
 pub a_step_before_its_call_is_no_run : IsRun (comes_up ∷ enters ∷ begins 1 starts ∷ begins 2 (ops.Unlink ck) ∷ refused ∷ []) → ⊥
@@ -173,12 +180,12 @@ empty_replica = record { sections = section [] ∷ []; effects = []; generation 
 
 -- what a step of c0 on n0, at checkpoint 1, tells that ends its call
 abbrev told : Verb → Told
-told verb = record { verb = verb; ckpt = Some 1; node = Some 0; reply = words.Ok; end = Some (Done answers.Nothing); pieces = None }
+told verb = record { verb = verb; ckpt = Some 1; node = Some 0; reply = words.Ok; end = Some (Done answers.Nothing); details = beside.Nothing }
 
 pub made_with_its_one_section : opened.replicas 1 0 ≡ Some empty_replica
 made_with_its_one_section = refl
 
-pub opened_at_its_place : named_handle opened (Client 0) (ops.Close 0) ≡ Some (record { id = 1; flags = record { read = true; write = true; create = true }; creation_flags = wr_all_replicas; handle = 1 })
+pub opened_at_its_place : asked_handle opened (Client 0) (ops.Close 0) ≡ Some (record { id = 1; flags = record { read = true; write = true; create = true }; creation_flags = wr_all_replicas; handle = 1 })
 opened_at_its_place = refl
 
 abbrev log_staged : List Label
@@ -215,7 +222,7 @@ its_row m s word t here allowed = subst (λ s. Row m s t.verb t) (sym (same_Some
 -- a commit before its stage: there is no slot
 pub a_commit_before_its_stage_is_not_allowed : Allowed before_stage (ends 3 (writes 0 (codes "abc")) verbs.Commit (Some 1) (Some 0) (Done answers.Nothing)) → ⊥
 a_commit_before_its_stage_is_not_allowed allowed =
-    let row : CommitOk before_stage (c0 3) (updates.Write (into [] 0 (codes "abc") ∷ [])) 1 0 (Some (Done answers.Nothing)) None empty_replica = its_row before_stage writing (word_of_op writing.op) (told verbs.Commit) refl allowed in
+    let row : CommitOk before_stage (c0 3) (updates.Write (into [] 0 (codes "abc") ∷ [])) 1 0 (Some (Done answers.Nothing)) beside.Nothing empty_replica = its_row before_stage writing (word_of_op writing.op) (told verbs.Commit) refl allowed in
     let none : None ≡ Some row.slot = row.staged in
     cc none
 
@@ -230,8 +237,8 @@ an_answer_with_its_stage_is_not_allowed allowed =
 abbrev retained : Machine
 retained = last (log_opened ++ log_written ++ begins 4 (ops.Retain 0 (pos 5)) ∷ ends 4 (ops.Retain 0 (pos 5)) verbs.Retain (Some 1) None (Done answers.Nothing) ∷ [])
 
-pub status_after_both : reply_at (requests.Status 1) (ops.Status 0) (record_seen retained.cluster 1) (seen_at retained 1 0)
-    ≡ replies.Done (answers.Status (record { attributes = record (sized 16 1) { retention_duration = pos 5 }; number_of_sections = 1; memory_used = 3 }))
+pub status_after_both : details_at (requests.Status 1) (ops.Status 0) (record_seen retained.cluster 1) (seen_at retained 1 0)
+    ≡ beside.Status (record { attributes = record (sized 16 1) { retention_duration = pos 5 }; number_of_sections = 1; memory_used = 3 })
 status_after_both = refl
 
 -- ---- an unlink and the last close: `unlink c0 'ck`, `close c0 h0`
@@ -257,7 +264,7 @@ with_its_replica = refl
 pub and_its_handle : gone.handles 0 ≡ []
 and_its_handle = refl
 
-pub its_place_stands_for_none : named_handle gone (Client 0) (ops.Close 0) ≡ None
+pub its_place_stands_for_none : asked_handle gone (Client 0) (ops.Close 0) ≡ None
 its_place_stands_for_none = refl
 
 -- and so a node that kept the replica would show no state
@@ -328,7 +335,7 @@ abbrev named_section : List ℕ → List ℕ → Section
 named_section id bytes = record { id = id; bytes = bytes; expiration = end_of_time; state = Valid; last_update = pos 0 }
 
 abbrev a_and_b : Replica
-a_and_b = record { ckpt = 1; store = record { attributes = sized 16 2; sections = named_section (codes "a") (codes "aa") ∷ named_section (codes "b") (codes "bb") ∷ [] }; count = 2; generation = 1; slot = None }
+a_and_b = record { ckpt = 1; attributes = sized 16 2; sections = named_section (codes "a") (codes "aa") ∷ named_section (codes "b") (codes "bb") ∷ []; count = 2; generation = 1; slot = None }
 
 abbrev three : Op
 three = ops.Write 0 (updates.Write (into (codes "a") 0 (codes "X") ∷ into (codes "b") 0 (codes "Y") ∷ into (codes "c") 0 (codes "Z") ∷ []))
@@ -341,3 +348,104 @@ it_stays_as_it_was = refl
 
 pub the_call_tells_the_index : (d : StepDone) (x : Driver) → driver_end three d (replies.Refused errors.NotExist 2) x ≡ Some (Refused errors.NotExist (Index 2))
 the_call_tells_the_index d x = refl
+
+-- ---- two calls in hand: c0 makes 'ck for 3 nanoseconds at most, and c1 opens it
+
+abbrev c1 : ℕ → CallId
+c1 n = record { actor = Client 1; number = n }
+
+abbrev for_3 : Op
+for_3 = ops.Open 0 ck (checkpoint_read + checkpoint_write + checkpoint_create) (pos 3) (Some (sized 16 1))
+
+abbrev log_making : List Label
+log_making = comes_up ∷ begins 1 starts ∷ enters ∷ labels.Began (c1 1) starts None ∷ labels.Stepped (c1 1) (word_of_op starts) verbs.Enter None (Some 0) words.Ok (Some (Done answers.Version)) beside.Nothing ∷ begins 2 for_3 ∷ steps 2 for_3 verbs.Create (Some 1) None ∷ []
+
+abbrev in_the_making : Machine
+in_the_making = last log_making
+
+-- c1's call, begun then or later
+abbrev c1_begins : Machine → Op → CallState
+c1_begins m op = record { call = c1 2; op = op; kept = kept_at_beginning m.cluster 1 (asked_handle m (Client 1) op); steps = []; snapshot = None }
+
+pub of_what_is_in_the_making_the_record_is_asked : due in_the_making (c1_begins in_the_making (opens 0 ck)) ≡ Event events.Open
+of_what_is_in_the_making_the_record_is_asked = refl
+
+pub the_record_refuses_with_the_maker : event_refusal in_the_making.cluster events.Open (driver_of (c1_begins in_the_making (opens 0 ck))) ≡ Some (Refused errors.TryAgain (Holder (c0 2)))
+the_record_refuses_with_the_maker = refl
+
+-- that comes before the attributes and the limits, and behind the deadline
+pub with_other_attributes_too : (due in_the_making (c1_begins in_the_making (makes 0 ck (sized 15 1))) ≡ Event events.Open) × (event_refusal in_the_making.cluster events.Open (driver_of (c1_begins in_the_making (makes 0 ck (sized 15 1)))) ≡ Some (Refused errors.TryAgain (Holder (c0 2))))
+with_other_attributes_too = (refl, refl)
+
+pub with_32_handles_too : due (record in_the_making { handles = put in_the_making.handles 1 (replicate 32 a_handle) }) (c1_begins in_the_making (opens 0 ck)) ≡ Event events.Open
+with_32_handles_too = refl
+
+pub timeout_comes_before_try_again : due in_the_making (c1_begins in_the_making (ops.Open 0 ck checkpoint_read (pos 0) None)) ≡ End (Refused errors.Timeout (Deadline (pos 0) (pos 0)))
+timeout_comes_before_try_again = refl
+
+abbrev both_in_hand : Machine
+both_in_hand = last (log_making ++ labels.Began (c1 2) (opens 0 ck) None ∷ [])
+
+abbrev held_open : Label
+held_open = labels.Stepped (c1 2) (word_of_op (opens 0 ck)) verbs.Open (Some 1) None words.Refused (Some (Refused errors.TryAgain (Holder (c0 2)))) beside.Nothing
+
+pub an_open_that_meets_a_making_is_due : IsDue both_in_hand held_open
+an_open_that_meets_a_making_is_due = record { state = c1_begins in_the_making (opens 0 ck); in_hand = refl; call_is = refl; word = refl; done = record { verb = refl; ckpt = refl; node = refl; details = refl; answer = (refl, refl) } }
+
+pub it_is_allowed : Allowed both_in_hand held_open
+it_is_allowed = record { state = c1_begins in_the_making (opens 0 ck); in_hand = refl; call_is = refl; word = refl; own = tt; row = ((c0 2, record { there = (refl, refl); in_time = refl; live = refl; another = refl; answer = refl }), refl) }
+
+-- it does not hold it once the checkpoint is made
+pub what_is_made_is_not_held : Allowed (last (log_opened ++ begins 3 (opens 1 ck) ∷ [])) (labels.Stepped (c0 3) (word_of_op (opens 1 ck)) verbs.Open (Some 1) None words.Refused (Some (Refused errors.TryAgain (Holder (c0 2)))) beside.Nothing) → ⊥
+what_is_made_is_not_held allowed =
+    let m = last (log_opened ++ begins 3 (opens 1 ck) ∷ []) in
+    let held = (its_row m (begun opened 3 (opens 1 ck)) (word_of_op (opens 1 ck)) (record { verb = verbs.Open; ckpt = Some 1; node = None; reply = words.Refused; end = Some (Refused errors.TryAgain (Holder (c0 2))); details = beside.Nothing }) refl allowed).0 in
+    let none : None ≡ Some held.0 = held.1.there.1 in
+    cc none
+
+pub the_making_stays : ((after both_in_hand held_open).cluster ≡ both_in_hand.cluster) × ((after both_in_hand held_open).in_hand (Client 0) ≡ both_in_hand.in_hand (Client 0)) × ((after both_in_hand held_open).in_hand (Client 1) ≡ None)
+the_making_stays = (refl, refl, refl)
+
+-- ---- a making whose deadline is reached by a moment that is set in between
+
+abbrev log_reserved : List Label
+log_reserved = log_making ++ steps 2 for_3 verbs.Reserve (Some 1) (Some 0) ∷ []
+
+abbrev state_of : Machine → Option CallState → CallState
+state_of m None = begun m 2 for_3
+state_of m (Some s) = s
+
+abbrev maker_in : Machine → CallState
+maker_in m = state_of m (in_hand m)
+
+abbrev at : ℕ → Machine
+at t = last (log_reserved ++ labels.Moved (pos t) ∷ [])
+
+pub before_its_deadline_it_is_finished : due (at 2) (maker_in (at 2)) ≡ Event events.Finish
+before_its_deadline_it_is_finished = refl
+
+pub at_its_deadline_it_ends : due (at 3) (maker_in (at 3)) ≡ End (Refused errors.Timeout (Deadline (pos 3) (pos 3)))
+at_its_deadline_it_ends = refl
+
+-- one that was refused memory is undone before its deadline, and ends with TIMEOUT from it on
+abbrev refused_at : ℕ → Machine
+refused_at t = last (log_making ++ labels.Stepped (c0 2) (word_of_op for_3) verbs.Reserve (Some 1) (Some 0) words.Memory None beside.Nothing ∷ labels.Moved (pos t) ∷ [])
+
+pub timeout_comes_before_the_undoing : (due (refused_at 2) (maker_in (refused_at 2)) ≡ Event events.Undo) × (due (refused_at 3) (maker_in (refused_at 3)) ≡ End (Refused errors.Timeout (Deadline (pos 3) (pos 3))))
+timeout_comes_before_the_undoing = (refl, refl)
+
+abbrev too_late : Label
+too_late = labels.Stepped (c0 2) (word_of_op for_3) verbs.Look None None words.Refused (Some (Refused errors.Timeout (Deadline (pos 3) (pos 5)))) beside.Nothing
+
+pub a_late_making_is_refused : IsDue (at 5) too_late × Allowed (at 5) too_late
+a_late_making_is_refused = (
+  record { state = maker_in (at 5); in_hand = refl; call_is = refl; word = refl; done = refl },
+  record { state = maker_in (at 5); in_hand = refl; call_is = refl; word = refl; own = tt; row = (refl, refl, ((tt, refl, refl, refl), refl), refl) },
+)
+
+-- in that step its entry goes with its name, and what was reserved for it
+pub it_was_reserved : (at 5).reserved 1 0 ≡ Some 1
+it_was_reserved = refl
+
+pub and_is_undone : ((after (at 5) too_late).cluster ≡ record (at 5).cluster { entries = [] }) × ((after (at 5) too_late).reserved 1 0 ≡ None) × ((after (at 5) too_late).in_hand (Client 0) ≡ None)
+and_is_undone = (refl, refl, refl)

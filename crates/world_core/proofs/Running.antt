@@ -6,47 +6,54 @@ use Rattle.std.proofs.lemmas.Option.{same_Some}
 use Rattle.ckpt_types.specs.declared.answers.Outcome.{Outcome}
 use Rattle.ckpt_types.specs.declared.identities.ActorName.TheVariants.{Client}
 use Rattle.ckpt_types.specs.declared.identities.CallId.{CallId}
+use Rattle.run_labels.specs.declared.details.Details.{Details}
 use Rattle.run_labels.specs.declared.words.OpWord.{OpWord}
 use Rattle.node_msgs.specs.declared.steps.Verb.{Verb}
 use Rattle.node_msgs.specs.declared.steps.StepReply.{StepReply}
 use Rattle.run_labels.specs.declared.labels.Label.{Label}
 use Rattle.run_labels.specs.declared.labels.Label.TheVariants.{Stepped}
-use Rattle.world_core.specs.declared.drivers.Driver.{Driver}
-use Rattle.world_core.specs.declared.drivers.Driver.TheVariants as drivers
+use Rattle.ckpt_machine.specs.Drivers.{Driver}
+use Rattle.ckpt_machine.specs.Drivers as drivers
 use Rattle.world_core.specs.declared.hands.InHand.{InHand}
 use Rattle.cluster_record.specs.declared.calls.Making.{Making}
 use Rattle.cluster_record.specs.declared.entries.Entry.{Entry}
 use Rattle.world_core.specs.declared.world.World.{World}
 use Rattle.cluster_record.specs.Calls.{same_actor, left}
 use Rattle.cluster_record.specs.RecordState.{RecordState, entry_of, complete_of}
-use Rattle.world_core.specs.Driving.{driver_taken}
+use Rattle.ckpt_machine.specs.Driving.{driver_taken}
 use Rattle.cluster_record.specs.StepDone.{done_of}
-use Rattle.world_core.specs.Machine.{Machine, Staged, ReplicaState, CallState}
-use Rattle.world_core.specs.Steps.{driver_of, changed, step_of, after}
-use Rattle.world_core.specs.Shows.{Does, Shows, FitsReplica, Facts, IsShown, IsRoomy, machine_of, shown_replica, hand_at}
-use Rattle.world_core.specs.Invariant.{Working, IsGoodState, Alone, InvariantWith, Invariant}
-use Rattle.world_core.specs.Runs.{Counts, IsNew, IsRunTo, last}
-use Rattle.world_core.specs.StepsLeft.{lacking, having, making_left, steps_left, hand_left, left_of}
+use Rattle.ckpt_machine.specs.Machine.{Machine, Staged, ReplicaState, CallState}
+use Rattle.ckpt_machine.specs.Steps.{driver_of, changed, step_of, after}
+use Rattle.ckpt_machine.specs.Facts.{Facts}
+use Rattle.world_core.specs.Shows.{Does, Shows, FitsReplica, IsShown, HasNumbersLeft, machine_of, shown_replica, hand_at}
+use Rattle.ckpt_machine.specs.Invariant.{InvariantIn, Invariant, IsGoodIn}
+use Rattle.ckpt_machine.specs.Shape.{Shape}
+use Rattle.ckpt_machine.specs.Runs.{Counts, last}
+use Rattle.world_core.specs.Runs.{IsNew, IsRunTo}
+use Rattle.ckpt_machine.specs.Left.{lacking, having, making_left, steps_left, update_left}
+use Rattle.cluster_record.specs.declared.calls.UpdatePhase.{UpdatePhase}
+use Rattle.cluster_record.specs.declared.calls.UpdatePhase.TheVariants.{Staging, Committing}
+use Rattle.world_core.specs.StepsLeft.{hand_left, left_of}
 use Rattle.world_core.proofs.Held.{state_in, in_hand_is, in_hand_at, driver_is, actor_is}
-use Rattle.world_core.proofs.Law.{invariant_empty, step_nearer}
-use Rattle.world_core.proofs.LawFacts.{facts}
-use Rattle.world_core.proofs.LawRuns.{last-push, run_goes_on}
+use Rattle.ckpt_machine.proofs.Nearer.{step_nearer}
+use Rattle.ckpt_machine.proofs.Facts.{facts}
+use Rattle.ckpt_machine.proofs.Runs.{last-push}
+use Rattle.ckpt_machine.proofs.RunLaws.{run_has, run_goes_on}
 use Rattle.world_core.proofs.New as new_world
 
 -- the world after a log shows the state after it
 pub shown : (w : World) (log : List Label) → IsRunTo w log → IsShown w
-shown w log to = record { state = last log; shows = to.shows; facts = facts (last log) to.invariant }
+shown w log to = record { state = last log; shows = to.shows; facts = facts (last log) (run_has log to.run).0 }
 
 -- a step that does its label adds it to the run
-pub goes_on : (w w' : World) (log : List Label) (l : Label) → IsRunTo w log → Alone (last log) l → Does w w' l → IsRunTo w' (log ++ l ∷ [])
-goes_on w w' log l to alone does =
-    let known = facts (last log) to.invariant in
-    let more = run_goes_on log l to.run to.invariant to.counts alone (does.due_is (last log) to.shows known) in
-    record { run = more.0; shows = subst (Shows w') (sym (last-push log l)) (does.shows (last log) to.shows known); invariant = more.1; counts = more.2 }
+pub goes_on : (w w' : World) (log : List Label) (l : Label) → IsRunTo w log → Does w w' l → IsRunTo w' (log ++ l ∷ [])
+goes_on w w' log l to does =
+    let known = facts (last log) (run_has log to.run).0 in
+    record { run = run_goes_on log l to.run (does.due_is (last log) to.shows known); shows = subst (Shows w') (sym (last-push log l)) (does.shows (last log) to.shows known) }
 
 -- no label yet is a run to a new world
 pub new_run : (w : World) → IsNew w → IsRunTo w []
-new_run w new = new_world.new_run w invariant_empty new
+new_run w new = new_world.new_run w new
 
 -- ---- a step brings its call nearer to its end
 
@@ -58,11 +65,15 @@ making_left-from_one : (R : RecordState) (making : Option Making) → 1 ≤ maki
 making_left-from_one R None = omega arith
 making_left-from_one R (Some making) = elim making.refused as (λ b. 1 ≤ cond b 1 (lacking R.up making.reserved + 1)) [ true ↦ omega arith | false ↦ from_one (lacking R.up making.reserved) ]
 
+update_left-from_one : (complete owned : List ℕ) (phase : UpdatePhase) → 1 ≤ update_left complete owned phase
+update_left-from_one complete owned Staging = from_one _
+update_left-from_one complete owned Committing = from_one _
+
 -- at least one step is left of a call in hand
 pub steps_left-from_one : (R : RecordState) (d : Driver) → 1 ≤ steps_left R d
 steps_left-from_one R (drivers.Enter r) = omega arith
 steps_left-from_one R (drivers.Open o) = making_left-from_one R o.making
-steps_left-from_one R (drivers.Update u) = from_one _
+steps_left-from_one R (drivers.Update u) = update_left-from_one (complete_of (entry_of u.ckpt R.entries)) u.owned u.phase
 steps_left-from_one R (drivers.Active a) = omega arith
 steps_left-from_one R drivers.Leave = omega arith
 steps_left-from_one R (drivers.Close k) = omega arith
@@ -75,20 +86,20 @@ step_of-in_hand : (m : Machine) (s : CallState) (c : ℕ) (verb : Verb) (k r : O
 step_of-in_hand m s c verb k r reply is = ap (λ b. cond b (Some (record s { steps = done_of (step_of m (Some s) verb k r reply None).cluster verb k r reply ∷ s.steps })) ((changed m s verb k r reply).in_hand (Client c))) (ap (same_actor (Client c)) is ∙ eq-eqb c c refl)
 
 -- after a step fewer steps are left of its call, and none where it has ended
-pub nearer : (w w' : World) (log : List Label) (c : ℕ) (hand next : InHand) (op : OpWord) (verb : Verb) (k r : Option ℕ) (reply : StepReply) (end : Option Outcome) (pieces : Option (List (List ℕ)))
-    → IsRunTo w log → hand_at w.hands c ≡ Some hand → Does w w' (Stepped hand.call op verb k r reply end pieces) → hand_at w'.hands c ≡ left end next → left_of w' (Client c) < left_of w (Client c)
-nearer w w' log c hand next op verb k r reply (Some o) pieces to held does then =
+pub nearer : (w w' : World) (log : List Label) (c : ℕ) (hand next : InHand) (op : OpWord) (verb : Verb) (k r : Option ℕ) (reply : StepReply) (end : Option Outcome) (details : Details)
+    → IsRunTo w log → hand_at w.hands c ≡ Some hand → Does w w' (Stepped hand.call op verb k r reply end details) → hand_at w'.hands c ≡ left end next → left_of w' (Client c) < left_of w (Client c)
+nearer w w' log c hand next op verb k r reply (Some o) details to held does then =
     subst (λ p. hand_left w'.cluster p < left_of w (Client c)) (sym then) (subst (λ p. 0 < hand_left w.cluster p) (sym held) (let some = steps_left-from_one w.cluster hand.driver in omega (arith, some)))
-nearer w w' log c hand next op verb k r reply None pieces to held does then =
+nearer w w' log c hand next op verb k r reply None details to held does then =
     let m = last log in
     let h = to.shows.history in
     let s = state_in h c hand in
-    let known = facts m to.invariant in
+    let known = facts m (run_has log to.run).0 in
     let its = subst Facts to.shows.same known in
     let here : m.in_hand hand.call.actor ≡ Some s = ap (λ (m : Machine). m.in_hand hand.call.actor) to.shows.same ∙ in_hand_at w h c hand held its in
     let due = does.due_is m to.shows known in
     let new = does.shows m to.shows known in
-    let m' = after m (Stepped hand.call op verb k r reply None pieces) in
+    let m' = after m (Stepped hand.call op verb k r reply None details) in
     let goes : m'.in_hand (Client c) ≡ Some (record s { steps = done_of m'.cluster verb k r reply ∷ s.steps })
     = subst (λ o. let n = step_of m o verb k r reply None in n.in_hand (Client c) ≡ Some (record s { steps = done_of n.cluster verb k r reply ∷ s.steps })) (sym here) (step_of-in_hand m s c verb k r reply (actor_is w h c hand held its)) in
     let driver : next.driver ≡ driver_taken (done_of m'.cluster verb k r reply) (driver_of s)
@@ -98,7 +109,7 @@ nearer w w' log c hand next op verb k r reply None pieces to held does then =
     = ap (steps_left m'.cluster) (sym driver) ∙ ap (λ (m : Machine). steps_left m.cluster next.driver) new.same ∙ ap (hand_left w'.cluster) (sym then) in
     let before : steps_left m.cluster (driver_of s) ≡ left_of w (Client c)
     = ap (steps_left m.cluster) (sym (driver_is w h c hand held to.shows.fits)) ∙ ap (λ (m : Machine). steps_left m.cluster hand.driver) to.shows.same ∙ ap (hand_left w.cluster) (sym held) in
-    subst (λ n. n < left_of w (Client c)) now (subst (λ n. steps_left m'.cluster (driver_taken (done_of m'.cluster verb k r reply) (driver_of s)) < n) before (step_nearer m hand.call op verb k r reply pieces s to.invariant due here))
+    subst (λ n. n < left_of w (Client c)) now (subst (λ n. steps_left m'.cluster (driver_taken (done_of m'.cluster verb k r reply) (driver_of s)) < n) before (step_nearer m hand.call op verb k r reply details s (run_has log to.run).0 due here))
 
 -- ---- few steps are left of a call
 
@@ -120,16 +131,16 @@ lacking_having (n ∷ nodes) (o ∷ own) =
     omega (arith, few)
 
 -- there are eight nodes
-up_length : (hand : Option Working) (m : Machine) → InvariantWith hand m → length m.cluster.up ≡ 8
-up_length hand m inv = elim inv.up [ inl none ↦ ap length none.0 | inr first ↦ ap length first ]
+up_length : (shapes : ℕ → Shape) (m : Machine) → InvariantIn shapes m → length m.cluster.up ≡ 8
+up_length shapes m inv = ap length inv.up.1 ∙ refl
 
-complete_length : (maker : Option CallId) (staged : Option Staged) (e : Entry) (x : Option ReplicaState) → IsGoodState maker staged e x → length e.complete ≡ 8
-complete_length None staged e x good = ap length good.complete
-complete_length (Some call) staged e x good = ap length good.complete
+complete_length : (m : Machine) (k : ℕ) (sh : Shape) (e : Entry) (making : Option CallId) → IsGoodIn m k sh e making → length e.complete ≡ 8
+complete_length m k sh e None good = good.nodes
+complete_length m k sh e (Some call) good = ap length good.0.complete
 
-complete_of-length : (hand : Option Working) (m : Machine) (k : ℕ) → InvariantWith hand m → (o : Option Entry) → entry_of k m.cluster.entries ≡ o → length (complete_of o) ≡ 8
-complete_of-length hand m k inv None is = refl
-complete_of-length hand m k inv (Some e) is = complete_length _ _ e (m.replicas k 0) (inv.entries k e is).state
+complete_of-length : (shapes : ℕ → Shape) (m : Machine) (k : ℕ) → InvariantIn shapes m → (o : Option Entry) → entry_of k m.cluster.entries ≡ o → length (complete_of o) ≡ 8
+complete_of-length shapes m k inv None is = refl
+complete_of-length shapes m k inv (Some e) is = complete_length m k (shapes k) e e.making (inv.entries k e is)
 
 -- so few steps are left
 making_left-few : (R : RecordState) (making : Option Making) → length R.up ≡ 8 → making_left R making ≤ 20
@@ -139,13 +150,20 @@ making_left-few R (Some making) up = elim making.refused as (λ b. cond b 1 (lac
   | false ↦ let few = lacking_having R.up making.reserved in omega (arith, few, up)
 ]
 
-update_few : (x y n : ℕ) → x + y ≤ n → n ≡ 8 → 2 * x + y + 1 ≤ 20
-update_few x y n few eight = omega (arith, few, eight)
+staging_few : (x y n : ℕ) → x + y ≤ n → n ≡ 8 → 2 * x + y + 1 ≤ 20
+staging_few x y n few eight = omega (arith, few, eight)
+
+committing_few : (x y n : ℕ) → x + y ≤ n → n ≡ 8 → y + 1 ≤ 20
+committing_few x y n few eight = omega (arith, few, eight)
+
+update_few : (complete owned : List ℕ) (phase : UpdatePhase) → length complete ≡ 8 → update_left complete owned phase ≤ 20
+update_few complete owned Staging eight = staging_few (lacking complete owned) (having complete owned) (length complete) (lacking_having complete owned) eight
+update_few complete owned Committing eight = committing_few (lacking complete owned) (having complete owned) (length complete) (lacking_having complete owned) eight
 
 steps_left-few : (R : RecordState) (d : Driver) → length R.up ≡ 8 → ((k : ℕ) → length (complete_of (entry_of k R.entries)) ≡ 8) → steps_left R d ≤ 20
 steps_left-few R (drivers.Enter r) up complete = omega arith
 steps_left-few R (drivers.Open o) up complete = making_left-few R o.making up
-steps_left-few R (drivers.Update u) up complete = update_few _ _ (length (complete_of (entry_of u.ckpt R.entries))) (lacking_having (complete_of (entry_of u.ckpt R.entries)) u.owned) (complete u.ckpt)
+steps_left-few R (drivers.Update u) up complete = update_few (complete_of (entry_of u.ckpt R.entries)) u.owned u.phase (complete u.ckpt)
 steps_left-few R (drivers.Active a) up complete = omega arith
 steps_left-few R drivers.Leave up complete = omega arith
 steps_left-few R (drivers.Close k) up complete = omega arith
@@ -159,16 +177,16 @@ hand_left-few R (Some hand) up complete = steps_left-few R hand.driver up comple
 -- after any run few steps are left of a client's call
 pub few_left : (w : World) (log : List Label) (c : ℕ) → IsRunTo w log → left_of w (Client c) ≤ 20
 few_left w log c to =
-    let inv = subst Invariant to.shows.same to.invariant in
-    hand_left-few w.cluster (hand_at w.hands c) (up_length inv.hand (machine_of w to.shows.history) inv.holds) (λ k. complete_of-length inv.hand (machine_of w to.shows.history) k inv.holds (entry_of k w.cluster.entries) refl)
+    let inv = subst Invariant to.shows.same (run_has log to.run).0 in
+    hand_left-few w.cluster (hand_at w.hands c) (up_length inv.shapes (machine_of w to.shows.history) inv.holds) (λ k. complete_of-length inv.shapes (machine_of w to.shows.history) k inv.holds (entry_of k w.cluster.entries) refl)
 
 -- ---- no count is at its end
 
 -- after few labels
-pub roomy : (w : World) (log : List Label) → IsRunTo w log → length log < 2 ^ 32 - 2 → IsRoomy w
+pub roomy : (w : World) (log : List Label) → IsRunTo w log → length log < 2 ^ 32 - 2 → HasNumbersLeft w
 roomy w log to few =
     let h = to.shows.history in
-    let counts : Counts (machine_of w h) (length log) = subst (λ (m : Machine). Counts m (length log)) to.shows.same to.counts in
+    let counts : Counts (machine_of w h) (length log) = subst (λ (m : Machine). Counts m (length log)) to.shows.same (run_has log to.run).1 in
     record {
       next = λ c. let n = counts.next (Client c) in omega (arith, n, few);
       handles = λ c. let n = counts.last_handles c in omega (arith, n, few);

@@ -12,6 +12,7 @@ use Rattle.node_msgs.specs.declared.requests.Request.TheVariants as requests
 use Rattle.node_msgs.specs.declared.replies.Reply.{Reply}
 use Rattle.node_msgs.specs.declared.next.Next.{Next}
 use Rattle.node_msgs.specs.declared.next.Next.TheVariants.{Serve}
+use Rattle.run_labels.specs.declared.details.Details.{Details}
 use Rattle.run_labels.specs.declared.words.OpWord.{OpWord}
 use Rattle.node_msgs.specs.declared.steps.Verb.{Verb}
 use Rattle.node_msgs.specs.declared.steps.StepReply.{StepReply}
@@ -19,8 +20,8 @@ use Rattle.run_labels.specs.declared.labels.Label.{Label}
 use Rattle.run_labels.specs.declared.labels.Label.TheVariants.{Stepped}
 use Rattle.run_labels.specs.OpWord.{word_of_op}
 use Rattle.world_core.specs.declared.hands.InHand.{InHand}
-use Rattle.world_core.specs.declared.replica.RecordSeen.{RecordSeen}
-use Rattle.world_core.specs.declared.replica.Replica.{Replica}
+use Rattle.ckpt_machine.specs.Replicas.{RecordSeen}
+use Rattle.ckpt_machine.specs.Replicas.{Replica}
 use Rattle.world_core.specs.declared.world.World.{World}
 use Rattle.cluster_record.specs.Calls.{put_actor, left}
 use Rattle.cluster_record.specs.declared.entries.Entry.{Entry}
@@ -28,20 +29,21 @@ use Rattle.cluster_record.specs.Places.{find_key, change_key, list_or, put, put2
 use Rattle.cluster_record.specs.RecordState.{RecordState, entry_of, complete_of}
 use Rattle.node_msgs.specs.Requests.{ckpt_of}
 use Rattle.world_core.specs.Holding.{replicas_on, IsReservation, IsHeld, HoldsOnlyWhatStands}
-use Rattle.world_core.specs.Serving.{record_seen, replica_key, replica_in, reply_at, pieces_at, replica_after, served, IsReadyFor, IsReadyAt}
+use Rattle.ckpt_machine.specs.Serving.{record_seen, replica_key, replica_in, reply_at, details_at, replica_after, served, IsReadyFor, IsReadyAt}
 use Rattle.node_msgs.specs.Steps.{verb_of, word_of}
 use Rattle.cluster_record.specs.StepDone.{StepDone, done_of}
-use Rattle.world_core.specs.Driving.{driver_next, driver_taken, driver_end}
-use Rattle.world_core.specs.Machine.{Machine, Effect, ReplicaState, CallState}
-use Rattle.world_core.specs.Steps.{ended_pieces, pieces_due, IsDue, IsDone, MayAnswer, after, changed, stepped, step_of, seen_at, staged_moment}
+use Rattle.ckpt_machine.specs.Driving.{driver_next, driver_taken, driver_end}
+use Rattle.ckpt_machine.specs.Machine.{Machine, Effect, ReplicaState, CallState}
+use Rattle.ckpt_machine.specs.Steps.{ended_details, details_due, IsDue, IsDone, MayAnswer, after, changed, stepped, step_of, seen_at, staged_moment}
 use Rattle.world_core.specs.HandSteps.{hand_taken}
 use Rattle.world_core.specs.Happenings.{rooms_in}
-use Rattle.world_core.specs.Shows.{Does, IsShown, IsRoomy, Fits, Facts, IsServable, IsFree, History, machine_of, shown_replica, shown_slot, complete_replica, hand_at}
-use Rattle.world_core.proofs.Calls.{IsOwn, own_request}
+use Rattle.ckpt_machine.specs.Facts.{Facts, IsServable, HasNoSlot}
+use Rattle.world_core.specs.Shows.{Does, IsShown, HasNumbersLeft, Fits, History, machine_of, shown_replica, shown_slot, complete_replica, hand_at}
+use Rattle.ckpt_machine.proofs.Calls.{IsOwn, own_request}
 use Rattle.world_core.proofs.Held.{state_in, in_hand_is, in_hand_at, driver_is, actor_is, due_is, left_shown, left_fits, hand_fits}
 use Rattle.world_core.proofs.HoldingLaws.{held_at, holds_by_key, standing, once_set}
 use Rattle.world_core.proofs.Maps.{both_true, slice_there, after_key, served_at, complete_at, put_replica, fits_replica, reserved_same, put_hand, fits_hand}
-use Rattle.world_core.proofs.OnceByKey.{counted, counted-change_key}
+use Rattle.ckpt_machine.proofs.OnceByKey.{counted, counted-change_key}
 use Rattle.world_core.proofs.PlainRequests.{IsPlain, effects_after, origin_after, row_moves, row_fits}
 use Rattle.world_core.proofs.Finding.{There}
 use Rattle.world_core.proofs.Finding as finding
@@ -52,10 +54,10 @@ may_answer m s r (Reserve k) answer plain h = absurd (plain.reserves_none k refl
 may_answer m s r (requests.Next call k) answer plain h = absurd (plain.goes_on_with_none call k refl)
 may_answer m s r request answer plain h = h
 
--- with its pieces
-pieces_plain : (m : Machine) (s : CallState) (r : ℕ) (request : Request) → IsPlain request → pieces_due m s request r ≡ pieces_at request s.op m.cluster.moment (seen_at m (ckpt_of request) r)
-pieces_plain m s r (requests.Next call k) plain = absurd (plain.goes_on_with_none call k refl)
-pieces_plain m s r request plain = refl
+-- with its details
+details_plain : (m : Machine) (s : CallState) (r : ℕ) (request : Request) → IsPlain request → details_due m s request r ≡ details_at request s.op (record_seen m.cluster (ckpt_of request)) (seen_at m (ckpt_of request) r)
+details_plain m s r (requests.Next call k) plain = absurd (plain.goes_on_with_none call k refl)
+details_plain m s r request plain = refl
 
 -- ---- what the nodes hold
 
@@ -100,14 +102,14 @@ served_step w request r reply = done_of w.cluster (verb_of request) (Some (ckpt_
 abbrev reply_in : World → ℕ → Request → InHand → Reply
 reply_in w r request hand = reply_at request hand.op (record_seen w.cluster (ckpt_of request)) (replica_in w.nodes (ckpt_of request) r)
 
-abbrev pieces_in : World → ℕ → Request → InHand → Option (List (List ℕ))
-pieces_in w r request hand = pieces_at request hand.op w.cluster.moment (replica_in w.nodes (ckpt_of request) r)
+abbrev details_in : World → ℕ → Request → InHand → Details
+details_in w r request hand = details_at request hand.op (record_seen w.cluster (ckpt_of request)) (replica_in w.nodes (ckpt_of request) r)
 
 abbrev end_with : World → ℕ → Request → InHand → Reply → Option Outcome
 end_with w r request hand reply = driver_end hand.op (served_step w request r reply) reply (driver_taken (served_step w request r reply) hand.driver)
 
 abbrev serve_label : World → ℕ → Request → InHand → Label
-serve_label w r request hand = let reply = reply_in w r request hand in Stepped hand.call (word_of_op hand.op) (verb_of request) (Some (ckpt_of request)) (Some r) (word_of reply) (end_with w r request hand reply) (ended_pieces (end_with w r request hand reply) (pieces_in w r request hand))
+serve_label w r request hand = let reply = reply_in w r request hand in Stepped hand.call (word_of_op hand.op) (verb_of request) (Some (ckpt_of request)) (Some r) (word_of reply) (end_with w r request hand reply) (ended_details (end_with w r request hand reply) (details_in w r request hand))
 
 abbrev serve_world : World → ℕ → ℕ → Request → InHand → World
 serve_world w c r request hand = let reply = reply_in w r request hand in record w { nodes = served w.nodes r request hand.op; hands = slice_set w.hands c (left (end_with w r request hand reply) (hand_taken (served_step w request r reply) hand)) }
@@ -155,7 +157,7 @@ module _ (w : World) (h : History) (c r : ℕ) (request : Request) (hand : InHan
   moment : (call : CallId) (j : ℕ) (t : ℤ) → request ≡ Stage call j t → x.slot ≡ None → staged_moment m j ≡ t
   moment call j t is free =
       facts.moments (Client c) s r call j t (in_hand_is w h c hand held) (due_is w h c hand held facts fits (Serve r request) next ∙ ap (Serve r) is)
-      (subst (λ (q : Request). IsSomeAnd (m.replicas (ckpt_of q) r) IsFree) is (subst (λ (y : Option ReplicaState). IsSomeAnd y IsFree) (sym shown) (ap (shown_slot o) free)))
+      (subst (λ (q : Request). IsSomeAnd (m.replicas (ckpt_of q) r) HasNoSlot) is (subst (λ (y : Option ReplicaState). IsSomeAnd y HasNoSlot) (sym shown) (ap (shown_slot o) free)))
 
   abbrev reply : Reply
   reply = reply_in w r request hand
@@ -181,14 +183,14 @@ module _ (w : World) (h : History) (c r : ℕ) (request : Request) (hand : InHan
     in_hand = in_hand_at w h c hand held facts;
     call_is = refl;
     word = refl;
-    done = subst (λ (n : Next). IsDone m s n (record { verb = verb_of request; ckpt = Some k; node = Some r; reply = word_of reply; end = end; pieces = ended_pieces end (pieces_in w r request hand) })) (sym (due_is w h c hand held facts fits (Serve r request) next)) (record {
+    done = subst (λ (n : Next). IsDone m s n (record { verb = verb_of request; ckpt = Some k; node = Some r; reply = word_of reply; end = end; details = ended_details end (details_in w r request hand) })) (sym (due_is w h c hand held facts fits (Serve r request) next)) (record {
       answer = reply;
       may = may_answer m s r request reply plain (ap (reply_at request hand.op (record_seen w.cluster (ckpt_of request))) (sym seen_is));
       verb = refl;
       ckpt = refl;
       node = refl;
       reply = refl;
-      pieces = ap (ended_pieces end) (ap (pieces_at request hand.op w.cluster.moment) (sym seen_is) ∙ sym (pieces_plain m s r request plain));
+      details = ap (ended_details end) (ap (details_at request hand.op (record_seen w.cluster (ckpt_of request))) (sym seen_is) ∙ sym (details_plain m s r request plain));
       end = ap (λ x. driver_end hand.op done reply (driver_taken done x)) (driver_is w h c hand held fits);
     });
   }
@@ -248,23 +250,23 @@ module _ (w : World) (c r : ℕ) (request : Request) (hand : InHand) (plain : Is
   serve_node shown = (ready w shown.shows.history c r request hand plain (subst Facts shown.shows.same shown.facts) shown.shows.fits held next).0
 
   -- and its replica is ready for the request
-  pub serve_ready : IsShown w → IsRoomy w → IsReadyAt request (replica_in w.nodes (ckpt_of request) r)
+  pub serve_ready : IsShown w → HasNumbersLeft w → IsReadyAt request (replica_in w.nodes (ckpt_of request) r)
   serve_ready shown room =
       let f = found w shown.shows.history c r request hand plain (subst Facts shown.shows.same shown.facts) shown.shows.fits held next in
       ready_at (replica_in w.nodes (ckpt_of request) r) f.replica f.is f.holds (room.updates (ckpt_of request) r f.replica (ap (λ b. cond b None (replica_in w.nodes (ckpt_of request) r)) f.complete ∙ f.is))
 
   -- the node serves the request, with the parts of the new world and of the label as the code names them
-  pub serve_done : (op : Op) (sight : RecordSeen) (nodes : List (List Replica)) (hands : List (Option InHand)) (word : OpWord) (verb : Verb) (k : ℕ) (said : StepReply) (reply : Reply) (end : Option Outcome) (pieces : Option (List (List ℕ))) →
-      op ≡ hand.op → sight ≡ record_seen w.cluster (ckpt_of request) → reply ≡ reply_at request op sight (replica_in w.nodes (ckpt_of request) r) → pieces ≡ ended_pieces end (pieces_at request op sight.moment (replica_in w.nodes (ckpt_of request) r)) → nodes ≡ served w.nodes r request op →
+  pub serve_done : (op : Op) (sight : RecordSeen) (nodes : List (List Replica)) (hands : List (Option InHand)) (word : OpWord) (verb : Verb) (k : ℕ) (said : StepReply) (reply : Reply) (end : Option Outcome) (details : Details) →
+      op ≡ hand.op → sight ≡ record_seen w.cluster (ckpt_of request) → reply ≡ reply_at request op sight (replica_in w.nodes (ckpt_of request) r) → details ≡ ended_details end (details_at request op sight (replica_in w.nodes (ckpt_of request) r)) → nodes ≡ served w.nodes r request op →
       end ≡ driver_end hand.op (served_step w request r reply) reply (driver_taken (served_step w request r reply) hand.driver) → hands ≡ slice_set w.hands c (left end (hand_taken (served_step w request r reply) hand)) →
-      word ≡ word_of_op hand.op → verb ≡ verb_of request → k ≡ ckpt_of request → said ≡ word_of reply → Does w (record w { nodes = nodes; hands = hands }) (Stepped hand.call word verb (Some k) (Some r) said end pieces)
-  serve_done op sight nodes hands word verb k said reply end pieces op_is sight_is reply_is pieces_is nodes_is end_is hands_is word_is verb_is k_is said_is =
+      word ≡ word_of_op hand.op → verb ≡ verb_of request → k ≡ ckpt_of request → said ≡ word_of reply → Does w (record w { nodes = nodes; hands = hands }) (Stepped hand.call word verb (Some k) (Some r) said end details)
+  serve_done op sight nodes hands word verb k said reply end details op_is sight_is reply_is details_is nodes_is end_is hands_is word_is verb_is k_is said_is =
       let y = replica_in w.nodes (ckpt_of request) r in
       let a : reply_in w r request hand ≡ reply = (λ i. reply_at request (sym op_is i) (sym sight_is i) y) ∙ sym reply_is in
       let n : served w.nodes r request hand.op ≡ nodes = ap (served w.nodes r request) (sym op_is) ∙ sym nodes_is in
       let e : end_with w r request hand (reply_in w r request hand) ≡ end = ap (end_with w r request hand) a ∙ sym end_is in
-      let p : ended_pieces (end_with w r request hand (reply_in w r request hand)) (pieces_in w r request hand) ≡ pieces = (λ i. ended_pieces (e i) (pieces_at request (sym op_is i) ((sym sight_is i).moment) y)) ∙ sym pieces_is in
+      let p : ended_details (end_with w r request hand (reply_in w r request hand)) (details_in w r request hand) ≡ details = (λ i. ended_details (e i) (details_at request (sym op_is i) (sym sight_is i) y)) ∙ sym details_is in
       let g : slice_set w.hands c (left (end_with w r request hand (reply_in w r request hand)) (hand_taken (served_step w request r (reply_in w r request hand)) hand)) ≡ hands
       = (λ i. slice_set w.hands c (left (e i) (hand_taken (served_step w request r (a i)) hand))) ∙ sym hands_is in
-      subst (λ (y : List (List Replica) × List (Option InHand) × OpWord × Verb × ℕ × StepReply × Option Outcome × Option (List (List ℕ))). Does w (record w { nodes = y.0; hands = y.1 }) (Stepped hand.call y.2 y.3 (Some y.4) (Some r) y.5 y.6 y.7))
+      subst (λ (y : List (List Replica) × List (Option InHand) × OpWord × Verb × ℕ × StepReply × Option Outcome × Details). Does w (record w { nodes = y.0; hands = y.1 }) (Stepped hand.call y.2 y.3 (Some y.4) (Some r) y.5 y.6 y.7))
       (λ i. (n i, g i, sym word_is i, sym verb_is i, sym k_is i, (ap word_of a ∙ sym said_is) i, e i, p i)) serve_does

@@ -4,22 +4,22 @@ use Rattle.std.proofs.lemmas.Bool.{eq-eqb}
 use Rattle.std.specs.Prelude.{nat_lt, slice_get, slice_set}
 use Rattle.node_msgs.specs.declared.next.Next.{Next}
 use Rattle.run_labels.specs.declared.labels.Label.{Label}
-use Rattle.world_core.specs.declared.drivers.Rooms.{Rooms}
+use Rattle.ckpt_machine.specs.Drivers.{Rooms}
 use Rattle.world_core.specs.declared.world.World.{World}
-use Rattle.world_core.specs.Driving.{driver_next}
+use Rattle.ckpt_machine.specs.Driving.{driver_next}
 use Rattle.world_core.specs.Happenings.{IsNext, IsStep, rooms_in}
 use Rattle.world_core.specs.LiveRooms.{room_is_taken}
-use Rattle.world_core.specs.Machine.{Machine}
-use Rattle.world_core.specs.Shows.{Shows, IsShown, IsRoomy, History, machine_of, next_in, handles_in, place_in, last_in, iterations_in}
+use Rattle.ckpt_machine.specs.Machine.{Machine}
+use Rattle.world_core.specs.Shows.{Shows, IsShown, HasNumbersLeft, History, machine_of, next_in, handles_in, place_in, last_in, iterations_in}
 use Rattle.world_core.specs.TableState.{TableState, with_room}
-use Rattle.world_core.proofs.LawMoves.{IsSomeAnd-at}
+use Rattle.ckpt_machine.proofs.OptionLemmas.{IsSomeAnd-at}
 use Rattle.world_core.proofs.TableFields.{field_same, nexts_same, table_at}
 
 -- what is known of the world is known of it with the room, and a step of it then is a step of the world
 pub record Keeps (w : World) (c : ℕ) (taken : World) : Type 0 where
   pub shown : IsShown w → IsShown taken
   pub next : (n : Next) → IsNext w c n → IsNext taken c n
-  pub roomy : IsRoomy w → IsRoomy taken
+  pub roomy : HasNumbersLeft w → HasNumbersLeft taken
   pub has_room : room_is_taken (slice_get taken.tables c) ≡ true
   pub step : (new : World) (label : Label) → IsStep c taken new label → IsStep c w new label
 
@@ -82,7 +82,7 @@ module _ (w : World) (c : ℕ) (t : TableState) (table : slice_get w.tables c �
       node = step.node;
       reply = step.reply;
       end = step.end;
-      pieces = step.pieces;
+      details = step.details;
       label_is = step.label_is;
       next = step.next;
       same_call = step.same_call;

@@ -8,7 +8,7 @@ use Rattle.world_core.specs.declared.world.World.{World}
 use Rattle.cluster_record.specs.Calls.{put_actor, left}
 use Rattle.cluster_record.specs.Places.{put}
 use Rattle.cluster_record.specs.StepDone.{StepDone}
-use Rattle.world_core.specs.Machine.{Machine}
+use Rattle.ckpt_machine.specs.Machine.{Machine}
 use Rattle.world_core.specs.HandSteps.{hand_taken}
 use Rattle.world_core.specs.Shows.{Fits, History, machine_of, hand_at}
 use Rattle.world_core.proofs.Held.{state_in, left_shown, left_fits, hand_fits}

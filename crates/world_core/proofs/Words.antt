@@ -1,8 +1,9 @@
 -- The labels that answer without a call: the words in place of a call, and the first nodes coming up.
-use Rattle.std.proofs.Common.{◌≡◌, ℕ, Bool, true, false, [], refl, sym, ap, subst, ◌∙◌}
+use Rattle.std.proofs.Common.{◌≡◌, ℕ, ◌<◌, Bool, true, false, [], refl, sym, ap, subst, ◌∙◌, arith}
 use Rattle.std.specs.Prelude.{◌≢◌, Option, Some, None}
 use Rattle.ckpt_types.specs.declared.identities.ActorName.TheVariants.{Client}
 use Rattle.ckpt_types.specs.declared.identities.Who.TheVariants.{Actor}
+use Rattle.ckpt_types.specs.Limits.{nodes_max}
 use Rattle.run_labels.specs.declared.words.OpWord.{OpWord}
 use Rattle.run_labels.specs.declared.words.OpWord.TheVariants as opwords
 use Rattle.run_labels.specs.declared.words.LineWord.{LineWord}
@@ -14,8 +15,8 @@ use Rattle.world_core.specs.declared.hands.InHand.{InHand}
 use Rattle.cluster_record.specs.declared.entries.Entry.{Entry}
 use Rattle.world_core.specs.declared.world.World.{World}
 use Rattle.cluster_record.specs.RecordState.{RecordState, entry_of, is_live_client, is_up, brought_up, empty_record}
-use Rattle.world_core.specs.Machine.{Machine}
-use Rattle.world_core.specs.Steps.{IsSaid, after}
+use Rattle.ckpt_machine.specs.Machine.{Machine}
+use Rattle.ckpt_machine.specs.Steps.{IsSaid, after}
 use Rattle.world_core.specs.Shows.{Does, History, machine_of, hand_at, shown_hand, where_not_complete, reserved_in}
 use Rattle.world_core.specs.Runs.{IsRunTo, step_word}
 use Rattle.world_core.proofs.HoldingLaws.{held_by_none}
@@ -43,9 +44,9 @@ pub live_done : (w : World) (c : ℕ) (op : OpWord) → op ≡ opwords.Client �
 live_done w c op is free live = subst (λ (op : OpWord). Does w w (Word (Actor (Client c)) (linewords.Op op) Live)) (sym is) (word_done w c (linewords.Op opwords.Client) Live (λ h. (none_in_hand w h c free, live)))
 
 -- an Initialize on a node that is not up
-pub down_done : (w : World) (c r : ℕ) (op : OpWord) → op ≡ opwords.Client → hand_at w.hands c ≡ None → is_live_client c w.cluster ≡ false → is_up r w.cluster ≡ false → Does w w (Word (Actor (Client c)) (linewords.Op op) Down)
-down_done w c r op is free live up =
-    subst (λ (op : OpWord). Does w w (Word (Actor (Client c)) (linewords.Op op) Down)) (sym is) (word_done w c (linewords.Op opwords.Client) Down (λ h. (none_in_hand w h c free, live, (r, up))))
+pub down_done : (w : World) (c r : ℕ) (op : OpWord) → op ≡ opwords.Client → hand_at w.hands c ≡ None → is_live_client c w.cluster ≡ false → r < nodes_max → is_up r w.cluster ≡ false → Does w w (Word (Actor (Client c)) (linewords.Op op) Down)
+down_done w c r op is free live below up =
+    subst (λ (op : OpWord). Does w w (Word (Actor (Client c)) (linewords.Op op) Down)) (sym is) (word_done w c (linewords.Op opwords.Client) Down (λ h. (none_in_hand w h c free, live, (r, below, up))))
 
 -- a `step` or `finish` line of a client that has no call in hand
 pub idle_done : (w : World) (c : ℕ) (finish : Bool) (word : LineWord) → word ≡ step_word finish → hand_at w.hands c ≡ None → Does w w (Word (Actor (Client c)) word Idle)
@@ -67,7 +68,7 @@ none_under (Some e) r x y is = absurd (cc is)
 -- the first node comes up in a cluster in which nothing has happened
 pub nodes_done : (w : World) (n : ℕ) (R : RecordState) → n ≡ 1 → w.cluster ≡ empty_record → R ≡ brought_up n w.cluster → Does w (record w { cluster = R }) (Nodes n)
 nodes_done w n R one empty R_is = subst (λ (R : RecordState). Does w (record w { cluster = R }) (Nodes n)) (sym R_is) (record {
-  due_is = λ m s f. (one, ap (λ (m : Machine). m.cluster.up) s.same ∙ ap (λ (R : RecordState). R.up) empty);
+  due_is = λ m s f. (omega (arith, one), omega (arith, one), ap (λ (m : Machine). m.cluster.up) s.same ∙ ap (λ (R : RecordState). R.up) empty);
   shows = λ m s f. record {
     history = s.history;
     same = ap (λ m. after m (Nodes n)) s.same ∙ (λ i. record (machine_of (record w { cluster = brought_up n w.cluster }) s.history) { reserved = λ k r. same k r i });

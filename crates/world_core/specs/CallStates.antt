@@ -1,4 +1,9 @@
 -- What each driver keeps, as its fields have it.
+use Rattle.ckpt_machine.specs.Drivers.{Driver, Rooms}
+use Rattle.ckpt_machine.specs.Drivers as drivers
+use Rattle.world_core.specs.declared.drivers.DriverKind.{DriverKind}
+use Rattle.world_core.specs.declared.drivers.DriverKind.TheVariants as kinds
+use Rattle.world_core.specs.declared.drivers.Rooms.TheInside as roomy
 use Rattle.ckpt_types.specs.declared.calls.OpenAsk.{OpenAsk}
 use Rattle.cluster_record.specs.DueActive.{ActiveState}
 use Rattle.cluster_record.specs.DueOpen.{OpenState}
@@ -19,3 +24,20 @@ open_state o = record { call = o.call; ask = o.ask; deadline = o.deadline; makin
 
 abbrev pub active_state : asking.Inside → ActiveState
 active_state a = record { call = a.call; ckpt = a.ckpt; kind = a.kind }
+
+-- what drives a call, by its kind
+abbrev pub driver_in : DriverKind → Driver
+driver_in (kinds.Enter r) = drivers.Enter r
+driver_in (kinds.Open o) = drivers.Open o
+driver_in (kinds.Update u) = drivers.Update u
+driver_in (kinds.Active a) = drivers.Active a
+driver_in kinds.Leave = drivers.Leave
+driver_in (kinds.Close k) = drivers.Close k
+driver_in (kinds.Unlink name) = drivers.Unlink name
+driver_in (kinds.Retain k duration) = drivers.Retain k duration
+
+abbrev pub rooms_shown : roomy.Inside → Rooms
+rooms_shown r = record { handles = r.handles; iterations = r.iterations }
+
+abbrev pub rooms_from : Rooms → roomy.Inside
+rooms_from r = record { handles = r.handles; iterations = r.iterations }

@@ -2,7 +2,7 @@
 use Rattle.std.specs.Prelude.{List, Bool, map, filter, is_some}
 use Rattle.cluster_record.specs.declared.entries.Entry.{Entry}
 use Rattle.cluster_record.specs.RecordState.{entry_of}
-use Rattle.world_core.specs.declared.replica.Replica.{Replica}
+use Rattle.ckpt_machine.specs.Replicas.{Replica}
 
 -- its checkpoint has an entry
 abbrev pub is_there : List Entry → Replica → Bool

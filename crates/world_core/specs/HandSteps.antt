@@ -4,7 +4,7 @@ use Rattle.ckpt_types.specs.declared.answers.Outcome.{Outcome}
 use Rattle.node_msgs.specs.declared.replies.Reply.{Reply}
 use Rattle.world_core.specs.declared.hands.InHand.{InHand}
 use Rattle.cluster_record.specs.StepDone.{StepDone}
-use Rattle.world_core.specs.Driving.{driver_taken, driver_end}
+use Rattle.ckpt_machine.specs.Driving.{driver_taken, driver_end}
 
 abbrev pub hand_taken : StepDone → InHand → InHand
 hand_taken d h = record h { driver = driver_taken d h.driver }

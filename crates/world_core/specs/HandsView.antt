@@ -12,6 +12,6 @@ abbrev pub hands_of : Inside → List (Option InHand)
 hands_of hands = hands_in hands.list.items
 
 -- there is room for the calls of all clients
-pub record HaveRoom (hands : Inside) : Type 0 where
+pub record HandsHaveRoom (hands : Inside) : Type 0 where
   pub few : length hands.list.items ≤ client_numbers
   pub taken : client_numbers ≤ vec_capacity hands.list

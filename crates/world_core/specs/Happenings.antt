@@ -1,5 +1,5 @@
 -- What an event does to the world, with the label that answers it.
-use Rattle.std.specs.Prelude.{◌≡◌, ◌⊎◌, ℕ, ◌<◌, List, [], ◌∷◌, ◌++◌, length, Option, Some, None, Bool, nat_lt, ℤ, slice_get, slice_set}
+use Rattle.std.specs.Prelude.{◌≡◌, ◌⊎◌, ℕ, ◌<◌, [], ◌∷◌, ◌++◌, length, Option, Some, None, Bool, nat_lt, ℤ, slice_get, slice_set}
 use Rattle.ckpt_types.specs.declared.answers.Outcome.{Outcome}
 use Rattle.ckpt_types.specs.declared.identities.ActorName.TheVariants.{Client}
 use Rattle.ckpt_types.specs.declared.identities.CallId.{CallId}
@@ -8,21 +8,22 @@ use Rattle.ckpt_types.specs.declared.operation.Op.{Op}
 use Rattle.ckpt_types.specs.Limits.{iterations_max, handles_max, client_numbers}
 use Rattle.node_msgs.specs.declared.next.Next.{Next}
 use Rattle.run_labels.specs.Kept.{Kept}
+use Rattle.run_labels.specs.declared.details.Details.{Details}
 use Rattle.run_labels.specs.declared.labels.Label.{Label}
 use Rattle.run_labels.specs.declared.labels.Label.TheVariants as labels
 use Rattle.node_msgs.specs.declared.steps.StepReply.{StepReply}
 use Rattle.run_labels.specs.declared.words.OpWord.{OpWord}
 use Rattle.node_msgs.specs.declared.steps.Verb.{Verb}
 use Rattle.client_handles.specs.declared.handle_view.HandleView.{HandleView}
-use Rattle.world_core.specs.declared.drivers.Rooms.{Rooms}
+use Rattle.ckpt_machine.specs.Drivers.{Rooms}
 use Rattle.world_core.specs.declared.hands.InHand.{InHand}
 use Rattle.world_core.specs.declared.world.Event.{Event}
 use Rattle.world_core.specs.declared.world.Event.TheVariants as happenings
 use Rattle.world_core.specs.declared.world.World.{World}
 use Rattle.cluster_record.specs.Calls.{left}
 use Rattle.cluster_record.specs.RecordState.{empty_record, IsMomentFrom}
-use Rattle.world_core.specs.Driving.{driver_next}
-use Rattle.world_core.specs.Beginning.{IsBuilt}
+use Rattle.ckpt_machine.specs.Driving.{driver_next}
+use Rattle.ckpt_machine.specs.Beginning.{IsBuilt}
 use Rattle.world_core.specs.Shows.{Does, handles_in, iterations_in, handle_in_place, handle_over_place, hand_at}
 use Rattle.world_core.specs.Runs.{AnswersBegin, IsIdleWord}
 
@@ -61,8 +62,8 @@ pub record IsStep (c : ℕ) (old new : World) (label : Label) : Type 0 where
   pub node : Option ℕ
   pub reply : StepReply
   pub end : Option Outcome
-  pub pieces : Option (List (List ℕ))
-  pub label_is : label ≡ labels.Stepped hand.call op verb ckpt node reply end pieces
+  pub details : Details
+  pub label_is : label ≡ labels.Stepped hand.call op verb ckpt node reply end details
   pub next : InHand
   pub same_call : next.call ≡ hand.call
   pub same_op : next.op ≡ hand.op

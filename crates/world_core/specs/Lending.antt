@@ -1,5 +1,5 @@
 -- What a call lends to a request, and what it gets back.
-use Rattle.std.specs.Prelude.{◌≡◌, ℕ, ◌≤◌, List, [], length, sum_by, Option, Some, None}
+use Rattle.std.specs.Prelude.{◌≡◌, ℕ, ◌≤◌, List, [], length, sum_by, Option, Some, None, IsSome}
 use Rattle.ckpt_types.specs.declared.answers.Answer.TheVariants as answers
 use Rattle.ckpt_types.specs.declared.operation.Op.{Op}
 use Rattle.ckpt_types.specs.declared.update.NewId.{NewId}
@@ -7,14 +7,18 @@ use Rattle.ckpt_types.specs.declared.update.NewId.TheVariants.{Given, Generated}
 use Rattle.ckpt_types.specs.declared.update.ReadElement.{ReadElement}
 use Rattle.ckpt_types.specs.declared.update.Update.{Update}
 use Rattle.ckpt_types.specs.declared.update.Update.TheVariants as updates
+use Rattle.ckpt_types.specs.declared.sections.CheckpointDescriptor.{CheckpointDescriptor}
+use Rattle.ckpt_types.specs.declared.sections.SectionDescriptor.{SectionDescriptor}
 use Rattle.ckpt_types.specs.Buffer.{Buffer}
 use Rattle.ckpt_types.specs.Limits.{generated_id_bytes}
 use Rattle.node_msgs.specs.declared.requests.Request.{Request}
 use Rattle.node_msgs.specs.declared.requests.Request.TheVariants as requests
 use Rattle.node_msgs.specs.declared.replies.Reply.{Reply}
 use Rattle.node_msgs.specs.declared.replies.Reply.TheVariants as replies
+use Rattle.run_labels.specs.declared.details.Details.{Details}
+use Rattle.run_labels.specs.declared.details.Details.TheVariants as beside
 use Rattle.world_core.specs.declared.nodes.Lent.{Lent}
-use Rattle.world_core.specs.Serving.{update_of, elements_of}
+use Rattle.ckpt_machine.specs.Serving.{update_of, elements_of}
 
 -- how many bytes the elements of a read ask for at most
 abbrev pub bytes_asked : List ReadElement → ℕ
@@ -42,16 +46,26 @@ abbrev pub IsLentFor : Update → Buffer → Type 0
 IsLentFor (updates.Create new expiration bytes) read = IsLentId new read
 IsLentFor update read = Unit {0}
 
--- a stage is lent the operation's update, a commit room for what it tells, and a read its elements and a buffer
+-- a stage is lent the operation's update, a commit room for what it tells, a read its elements and a buffer, and a status a place for it
 abbrev pub IsLent : Request → Op → Lent → Type 0
 IsLent (requests.Stage call k t) op lent = lent.update ≡ Some (update_of op)
 IsLent (requests.Commit call k) op lent = IsLentFor (update_of op) lent.read
 IsLent (requests.Read k) op lent = IsLentRead (elements_of op) lent
+IsLent (requests.Status k) op lent = IsSome lent.status
 IsLent request op lent = Unit {0}
 
--- the pieces that came with a reply
-abbrev pub pieces_told : Reply → List (List ℕ) → Option (List (List ℕ))
-pieces_told (replies.Done answers.Pieces) pieces = Some pieces
-pieces_told (replies.Done answers.Created) pieces = Some pieces
-pieces_told (replies.Done (answers.Section facts)) pieces = Some pieces
-pieces_told reply pieces = None
+abbrev pub status_told : Option CheckpointDescriptor → Details
+status_told None = beside.Nothing
+status_told (Some status) = beside.Status status
+
+-- what is told beside the answer of a reply, from what was lent
+abbrev pub details_told : Reply → Lent → Details
+details_told (replies.Done answers.Pieces) lent = beside.Pieces lent.read.pieces
+details_told (replies.Done answers.Created) lent = beside.Pieces lent.read.pieces
+details_told (replies.Done answers.Status) lent = status_told lent.status
+details_told reply lent = beside.Nothing
+
+-- and where an iteration goes on
+abbrev pub section_told : Reply → SectionDescriptor → Details
+section_told (replies.Done answers.Section) section = beside.Section section
+section_told reply section = beside.Nothing

@@ -1,9 +1,14 @@
 -- What a step of a call asks of the record.
-use Rattle.std.specs.Prelude.{◌≡◌, ℕ, ◌+◌, ◌-◌, ◌^◌, ◌<◌, length, Some, None, IsSome, IsSomeAnd, false, pos, ◌≤ℤ◌}
+use Rattle.std.specs.Prelude.{◌≡◌, ℕ, ◌+◌, ◌-◌, ◌^◌, ◌<◌, length, Option, Some, None, IsSome, IsSomeAnd, IsTrue, false, pos, ◌≤ℤ◌}
+use Rattle.ckpt_types.specs.declared.answers.Outcome.{Outcome}
+use Rattle.ckpt_types.specs.declared.answers.Outcome.TheVariants.{NoMemory}
 use Rattle.node_msgs.specs.declared.next.RecordStep.{RecordStep}
 use Rattle.node_msgs.specs.declared.next.RecordStep.TheVariants as events
-use Rattle.world_core.specs.declared.drivers.Driver.{Driver}
-use Rattle.world_core.specs.declared.drivers.Driver.TheVariants as drivers
+use Rattle.node_msgs.specs.declared.steps.StepReply.{StepReply}
+use Rattle.node_msgs.specs.declared.steps.StepReply.TheVariants as words
+use Rattle.ckpt_machine.specs.Driving.{takes_memory}
+use Rattle.ckpt_machine.specs.Drivers.{Driver}
+use Rattle.ckpt_machine.specs.Drivers as drivers
 use Rattle.cluster_record.specs.DueOpen.{OpenState}
 use Rattle.ckpt_types.specs.declared.calls.OpenAsk.{OpenAsk}
 use Rattle.ckpt_types.specs.declared.identities.CallId.{CallId}
@@ -38,6 +43,12 @@ IsOpenReady call R o events.Open = CanAsk call R o.ask × ((k : ℕ) × (identit
 IsOpenReady call R o events.Finish = IsMakingOf R o.ask.client (making_ckpt o.making)
 IsOpenReady call R o events.Undo = IsMakingOf R o.ask.client (making_ckpt o.making)
 IsOpenReady call R o step = Unit {0}
+
+-- a step is refused so: by the record, or the memory that it takes
+abbrev pub IsRefusedWith : Option Outcome → RecordStep → StepReply → Outcome → Type 0
+IsRefusedWith (Some why) step words.Refused end = end ≡ why
+IsRefusedWith None step words.Memory end = IsTrue (takes_memory step) × (end ≡ NoMemory)
+IsRefusedWith refusal step reply end = ⊥
 
 -- a step of a call that drives so
 abbrev pub IsRecordReady : CallId → RecordState → Driver → RecordStep → Type 0

@@ -5,10 +5,10 @@ use Rattle.node_msgs.specs.declared.replies.Reply.{Reply}
 use Rattle.node_msgs.specs.declared.replies.Reply.TheVariants as replies
 use Rattle.world_core.specs.declared.world.World.{World}
 use Rattle.cluster_record.specs.RecordState.{entry_of}
-use Rattle.world_core.specs.Serving.{opened_replica, reserved_at}
+use Rattle.ckpt_machine.specs.Serving.{opened_replica, reserved_at}
 
 -- the node has the checkpoint's replica, as it was made, or is refused the memory
-abbrev pub IsReserved : ℕ → ℕ → World → World → Reply → Type 0
-IsReserved r k old new (replies.Done answers.Nothing) = IsSomeAnd (entry_of k old.cluster.entries) (λ e. new ≡ record old { nodes = reserved_at old.nodes r (opened_replica k e.attributes e.made) })
-IsReserved r k old new replies.NoMemory = new ≡ old
-IsReserved r k old new reply = ⊥
+abbrev pub IsReservedAt : ℕ → ℕ → World → World → Reply → Type 0
+IsReservedAt r k old new (replies.Done answers.Nothing) = IsSomeAnd (entry_of k old.cluster.entries) (λ e. new ≡ record old { nodes = reserved_at old.nodes r (opened_replica k e.attributes e.made) })
+IsReservedAt r k old new replies.NoMemory = new ≡ old
+IsReservedAt r k old new reply = ⊥

@@ -1,5 +1,5 @@
 -- Runs of the machine that the world shows.
-use Rattle.std.specs.Prelude.{◌≡◌, ◌≢◌, ℕ, ◌+◌, ◌-◌, ◌<◌, ◌≤◌, ◌^◌, List, [], ◌∷◌, ◌++◌, length, replicate, Option, Some, None, Bool, true, false, ℤ, slice_get, slice_index}
+use Rattle.std.specs.Prelude.{◌≡◌, ◌≢◌, ℕ, ◌-◌, ◌<◌, ◌^◌, List, [], ◌∷◌, ◌++◌, length, replicate, Option, Some, None, Bool, true, false, ℤ, slice_get}
 use Rattle.ckpt_types.specs.declared.answers.Outcome.{Outcome}
 use Rattle.ckpt_types.specs.declared.identities.ActorName.{ActorName}
 use Rattle.ckpt_types.specs.declared.identities.ActorName.TheVariants.{Client}
@@ -18,49 +18,15 @@ use Rattle.run_labels.specs.declared.words.Said.TheVariants.{Down}
 use Rattle.run_labels.specs.OpWord.{word_of_op}
 use Rattle.client_handles.specs.ClientState.{new_client}
 use Rattle.world_core.specs.declared.hands.InHand.{InHand}
-use Rattle.cluster_record.specs.declared.entries.Entry.{Entry}
 use Rattle.world_core.specs.declared.world.Event.{Event}
 use Rattle.world_core.specs.declared.world.Event.TheVariants as happenings
 use Rattle.world_core.specs.declared.world.World.{World}
-use Rattle.cluster_record.specs.RecordState.{entry_of, empty_record, is_up, IsMomentFrom}
+use Rattle.cluster_record.specs.RecordState.{empty_record, is_up, IsMomentFrom}
 use Rattle.world_core.specs.TableState.{TableState}
 use Rattle.world_core.specs.NewTable.{no_callbacks}
-use Rattle.world_core.specs.Beginning.{IsBuilt}
-use Rattle.world_core.specs.Machine.{Machine, ReplicaState, empty_cluster}
-use Rattle.world_core.specs.Steps.{IsDue, after}
+use Rattle.ckpt_machine.specs.Beginning.{IsBuilt}
 use Rattle.world_core.specs.Shows.{Shows, hand_at, next_in}
-use Rattle.world_core.specs.Guards.{Allowed}
-use Rattle.world_core.specs.Invariant.{Invariant}
-
--- ---- runs
-
--- the state after a list of labels
-abbrev pub last_from : Machine → List Label → Machine
-last_from m [] = m
-last_from m (l ∷ ls) = last_from (after m l) ls
-
-abbrev pub last : List Label → Machine
-last log = last_from empty_cluster log
-
--- each label is allowed where it comes, and is the due one
-abbrev pub IsRunFrom : Machine → List Label → Type 0
-IsRunFrom m [] = Unit {0}
-IsRunFrom m (l ∷ ls) = Allowed m l × IsDue m l × IsRunFrom (after m l) ls
-
--- the log is a run of the checkpoint machine from the empty cluster
-abbrev pub IsRun : List Label → Type 0
-IsRun log = IsRunFrom empty_cluster log
-
--- ---- counts
-
--- what counts up is no more than so many
-pub record Counts (m : Machine) (n : ℕ) : Type 0 where
-  pub next : (a : ActorName) → m.next a ≤ n + 1
-  pub last_handles : (c : ℕ) → m.last_handles c ≤ n
-  pub last_iterations : (c : ℕ) → (m.iterations c).last ≤ n
-  pub effects : (k r : ℕ) (x : ReplicaState) → m.replicas k r ≡ Some x → length x.effects ≤ n
-  pub identity : m.cluster.last_identity ≤ n
-  pub references : (k : ℕ) (e : Entry) (c : ℕ) → entry_of k m.cluster.entries ≡ Some e → slice_index e.references c ≤ n
+use Rattle.ckpt_machine.specs.Runs.{last, IsRun}
 
 -- ---- the world after a log
 
@@ -68,8 +34,6 @@ pub record Counts (m : Machine) (n : ℕ) : Type 0 where
 pub record IsRunTo (w : World) (log : List Label) : Type 0 where
   pub run : IsRun log
   pub shows : Shows w (last log)
-  pub invariant : Invariant (last log)
-  pub counts : Counts (last log) (length log)
 
 -- the world as it begins
 pub record IsNew (w : World) : Type 0 where
@@ -81,24 +45,25 @@ pub record IsNew (w : World) : Type 0 where
 
 -- ---- events
 
--- the events that a line of a script can give, as far as they are built: one node, and one call at a time
-abbrev pub NoneButOf : World → ActorName → Type 0
-NoneButOf w (Client c) = (c < client_numbers) × ((d : ℕ) → d ≢ c → hand_at w.hands d ≡ None)
-NoneButOf w a = ⊥
+-- a client that a script may name
+abbrev pub IsScriptClient : ActorName → Type 0
+IsScriptClient (Client c) = c < client_numbers
+IsScriptClient a = ⊥
 
-abbrev pub OneActor : World → Who → Type 0
-OneActor w (whos.Actor a) = NoneButOf w a
-OneActor w who = ⊥
+abbrev pub IsStepped : Who → Type 0
+IsStepped (whos.Actor a) = IsScriptClient a
+IsStepped who = ⊥
 
 -- no client has a call in hand
 abbrev pub NoneInHand : World → Type 0
 NoneInHand w = (d : ℕ) → hand_at w.hands d ≡ None
 
+-- the events that may come, as far as they are built: one node, and clients whose calls begin and are stepped in any order
 abbrev pub Comes : World → List Label → Event → Type 0
 Comes w log (happenings.Nodes n) = (n ≡ 1) × (log ≡ [])
-Comes w log (happenings.Begin a op) = NoneButOf w a × IsBuilt op
-Comes w log (happenings.Step who finish) = OneActor w who
-Comes w log (happenings.At t) = NoneInHand w × IsMomentFrom w.cluster.moment t
+Comes w log (happenings.Begin a op) = IsScriptClient a × IsBuilt op
+Comes w log (happenings.Step who finish) = IsStepped who
+Comes w log (happenings.At t) = IsMomentFrom w.cluster.moment t
 
 -- a call is in hand after a label just where the label did not end it
 abbrev pub GoesOn : CallId → Op → Option Outcome → Option InHand → Type 0
@@ -125,7 +90,7 @@ AnswersBegin a op old new label = ⊥
 
 -- the label that answers a step of the call in hand: its next step
 abbrev pub IsStepOf : ActorName → Option InHand → World → World → Label → Type 0
-IsStepOf a (Some h) old new (labels.Stepped call op verb k r reply end pieces) = (call ≡ h.call) × GoesOnAt new h.call h.op end a
+IsStepOf a (Some h) old new (labels.Stepped call op verb k r reply end details) = (call ≡ h.call) × GoesOnAt new h.call h.op end a
 IsStepOf a hand old new label = ⊥
 
 abbrev pub step_word : Bool → LineWord

@@ -12,8 +12,8 @@ abbrev pub client_in : Option (Box ClientState) → ClientState
 client_in None = new_client no_callbacks
 client_in (Some client) = client.value
 
-abbrev pub table_of : Inside → TableState
-table_of t = record { next = t.next; roomy = is_some t.client; client = client_in t.client }
+abbrev pub table_shown : Inside → TableState
+table_shown t = record { next = t.next; roomy = is_some t.client; client = client_in t.client }
 
 abbrev pub HasClient : Inside → Type 0
 HasClient t = IsAtRest (client_in t.client)

@@ -1,10 +1,10 @@
 ghost use Rattle.std.specs.Prelude.{◌≡◌, IfOk, OnOk, OnErr, IsTrue};
 ghost use Rattle.cluster_record.specs.Opening.{open_answer, after_open};
 ghost use Rattle.world_core.specs.RecordReady.{CanAsk, IsGranted, IsOpenReady, IsRecordReady};
-ghost use Rattle.world_core.specs.Driving.{event_change, event_after, takes_memory};
-ghost use Rattle.world_core.specs.declared.drivers.Driver.TheVariants.{Open};
+ghost use Rattle.ckpt_machine.specs.Driving.{event_change, event_after, takes_memory};
+ghost use Rattle.ckpt_machine.specs.Drivers.{Open};
 
-use crate::drivers::Driver;
+use crate::drivers::{Driver, DriverKind};
 use crate::open_call::{OpenCall, SharedAsk};
 use ckpt_types::CallId;
 use cluster_record::{OpenAnswer, Record, number_of};
@@ -39,30 +39,30 @@ fn change(
     ensures err { OnErr result (cluster.new ≡ cluster.old) }
     ensures memory { OnErr result (IsTrue (takes_memory step)) }
 {
-    match driver {
-        Driver::Enter(node) => {
+    match &driver.kind {
+        DriverKind::Enter(node) => {
             let Ok(()) = cluster.enter(call, *node) else {
                 unreachable!()
             };
             Ok(())
         }
-        Driver::Open(open_call) => change_by_open(cluster, call, open_call, step),
-        Driver::Update(_) | Driver::Active(_) => Ok(()),
-        Driver::Leave => {
+        DriverKind::Open(open_call) => change_by_open(cluster, call, open_call, step),
+        DriverKind::Update(_) | DriverKind::Active(_) => Ok(()),
+        DriverKind::Leave => {
             cluster.leave(number_of(&call.actor));
             Ok(())
         }
-        Driver::Close(ckpt) => {
+        DriverKind::Close(ckpt) => {
             cluster.close(number_of(&call.actor), *ckpt);
             Ok(())
         }
-        Driver::Unlink(name) => {
+        DriverKind::Unlink(name) => {
             let Ok(()) = cluster.unlink(name) else {
                 unreachable!()
             };
             Ok(())
         }
-        Driver::Retain(ckpt, duration) => {
+        DriverKind::Retain(ckpt, duration) => {
             let Ok(()) = cluster.retain(*ckpt, *duration) else {
                 unreachable!()
             };

@@ -1,8 +1,8 @@
 ghost use Rattle.std.specs.Prelude.{◌≡◌, None, false, not, if◌then◌else◌, pos, int_lt};
 ghost use Rattle.ckpt_types.specs.declared.ais_error.AisError.TheVariants as errors;
 ghost use Rattle.ckpt_types.specs.Attributes.{has_flag, has_bad_open_flags, is_malformed};
-ghost use Rattle.world_core.specs.Beginning.{refused, if_live, version_is_bad, name_is_bad, attributes_are_bad, open_begin, vector_is_bad, update_is_bad, on_handle, may_write, may_read, may_always, choice_is_bad, choice_of, end_iteration, update_begin, begin_end, handle_place, closed_place, iteration_place, started_place, ended_place, takes_room, opened_place, no_flags, opened_for};
-ghost use Rattle.world_core.specs.Steps.{ckpt_of_handle};
+ghost use Rattle.ckpt_machine.specs.Beginning.{refused, if_live, version_is_bad, name_is_bad, attributes_are_bad, open_begin, vector_is_bad, update_is_bad, on_handle, may_write, may_read, may_always, choice_is_bad, choice_of, end_iteration, update_begin, begin_end, handle_place, closed_place, iteration_place, started_place, ended_place, takes_room, opened_place, no_flags, opened_for};
+ghost use Rattle.ckpt_machine.specs.Steps.{ckpt_of_handle};
 
 use ckpt_types::{
     AisError, Answer, Bytes, CHECKPOINT_CREATE, Cause, Choice, CkptId, CreationAttributes,

@@ -6,9 +6,9 @@ ghost use Rattle.run_labels.specs.declared.words.LineWord.TheVariants as linewor
 ghost use Rattle.run_labels.specs.declared.labels.Label.TheVariants as labels;
 ghost use Rattle.section_iter.specs.Room.{room_declared};
 ghost use Rattle.cluster_record.specs.RecordState.{empty_record};
-ghost use Rattle.world_core.specs.Beginning.{IsBuilt, handle_place, iteration_place};
-ghost use Rattle.world_core.specs.Steps.{MayBegin, IsBeginEnd, room_at, ckpt_of_handle};
-ghost use Rattle.world_core.specs.Shows.{IsShown, IsRoomy, hand_at, room_for};
+ghost use Rattle.ckpt_machine.specs.Beginning.{IsBuilt, handle_place, iteration_place};
+ghost use Rattle.ckpt_machine.specs.Steps.{MayBegin, IsBeginEnd, room_at, ckpt_of_handle};
+ghost use Rattle.world_core.specs.Shows.{IsShown, HasNumbersLeft, hand_at, room_for};
 ghost use Rattle.world_core.specs.Happenings.{Adds, BringsUp, Begins, handle_named};
 
 use crate::beginning::{
@@ -25,7 +25,7 @@ use section_iter::Iteration;
 use std::alloc::{AllocError, Global};
 
 /// What is declared where no checkpoint is.
-const DECLARES_NOTHING: CreationAttributes = CreationAttributes {
+pub(crate) const DECLARES_NOTHING: CreationAttributes = CreationAttributes {
     creation_flags: 0,
     checkpoint_size: 0,
     retention_duration: 0,
@@ -58,7 +58,7 @@ impl World {
         requires client { c < client_numbers }
         requires built { IsBuilt op }
         requires shown { IsShown self.old }
-        requires roomy { IsRoomy self.old }
+        requires roomy { HasNumbersLeft self.old }
         requires spare { 1 ≤ log.old.spare }
         ensures ok { OnOk result (Adds log.old log.new (Begins c op self.old self.new)) }
         ensures err { OnErr result ((self.new ≡ self.old) × (log.new.labels ≡ log.old.labels)) }
@@ -92,7 +92,7 @@ impl World {
         requires none { hand_at self.old.hands c ≡ None }
         requires may { MayBegin self.old.cluster c op }
         requires shown { IsShown self.old }
-        requires roomy { IsRoomy self.old }
+        requires roomy { HasNumbersLeft self.old }
         requires spare { 1 ≤ log.old.spare }
         ensures ok { OnOk result (Adds log.old log.new (Begins c op self.old self.new)) }
         ensures err { OnErr result ((self.new ≡ self.old) × (log.new.labels ≡ log.old.labels)) }

@@ -2,16 +2,17 @@ ghost use Rattle.std.specs.Prelude.{◌≡◌, ◌-◌, ◌^◌, ◌<◌, Some, 
 ghost use Rattle.ckpt_types.specs.Limits.{nodes_max};
 ghost use Rattle.node_msgs.specs.Requests.{ckpt_of};
 ghost use Rattle.node_msgs.specs.Steps.{verb_of, word_of, event_verb};
-ghost use Rattle.world_core.specs.Driving.{driver_next, driver_taken, driver_end, driver_start, on_kept, update_start, active_start, done_end, event_ckpt, event_node, event_end, opened_end, takes_memory, refused_cause};
+ghost use Rattle.ckpt_machine.specs.Driving.{driver_next, driver_taken, driver_end, driver_start, on_kept, update_start, active_start, done_end, event_ckpt, event_node, event_end, event_refusal, making_in, opened_end, refusal_in, takes_memory, refused_cause};
 ghost use Rattle.cluster_record.specs.StepDone.{done_of};
 ghost use Rattle.cluster_record.specs.DueOpen.{making_ckpt};
 ghost use Rattle.cluster_record.specs.Calls.{client_of};
 ghost use Rattle.cluster_record.specs.LookUps.{node_of_client};
 ghost use Rattle.cluster_record.specs.Places.{find_key};
 ghost use Rattle.cluster_record.specs.RecordState.{client_key};
-ghost use Rattle.world_core.specs.Steps.{kept_at};
+ghost use Rattle.ckpt_machine.specs.Steps.{kept_at_beginning};
+ghost use Rattle.world_core.specs.CallStates.{driver_in};
 ghost use Rattle.node_msgs.specs.declared.steps.StepReply.TheVariants as words;
-ghost use Rattle.world_core.specs.declared.drivers.Driver.TheVariants.{Close, Retain};
+ghost use Rattle.ckpt_machine.specs.Drivers.{Close, Retain};
 
 use crate::beginning::{choice_of, ckpt_of_handle};
 use crate::one_step::{close_next, retain_next, unlink_next};
@@ -22,9 +23,10 @@ use ckpt_types::{
     AisError, Answer, Bytes, CLIENTS_MAX, CallId, Cause, CkptId, NodeId, Op, Outcome,
 };
 use client_handles::HandleView;
-use cluster_record::{ActiveKind, Record, number_of};
+use cluster_record::{ActiveKind, OpenAnswer, Record, number_of};
 use node_msgs::{Next, RecordStep, Reply, Request, StepReply};
 use std::alloc::AllocError;
+use std::marker::Model;
 
 /// What the tables of a client have a free place for.
 #[derive(Clone, Copy, Debug)]
@@ -35,9 +37,38 @@ pub struct Rooms {
     pub iterations: bool,
 }
 
+impl Model for Rooms {
+    ghost use Rattle.ckpt_machine.specs.Drivers.{Rooms};
+
+    ghost Value = { Rooms };
+
+    ghost use Rattle.world_core.specs.CallStates.{rooms_shown, rooms_from};
+
+    ghost view = { rooms_shown };
+
+    ghost inverse = { rooms_from };
+}
+
 /// What drives a call that is in hand.
 #[derive(Debug, Drop)]
-pub enum Driver {
+pub struct Driver {
+    /// By the kind of its operation.
+    pub kind: DriverKind,
+}
+
+impl Model for Driver {
+    ghost use Rattle.ckpt_machine.specs.Drivers.{Driver};
+
+    ghost Value = { Driver };
+
+    ghost use Rattle.world_core.specs.CallStates.{driver_in};
+
+    ghost view = { λ driver. driver_in driver.kind };
+}
+
+/// What drives the calls of each kind of operation.
+#[derive(Debug, Drop)]
+pub enum DriverKind {
     /// A client becomes live on the node.
     Enter(NodeId),
     /// An open.
@@ -57,6 +88,12 @@ pub enum Driver {
 }
 
 impl Driver {
+    fn by(kind: DriverKind) -> Driver
+        ensures { result ≡ driver_in kind }
+    {
+        Driver { kind }
+    }
+
     /// The driver of a call that begins now, on this handle if it names one that is there. An open copies its name.
     pub fn start(
         call: CallId,
@@ -64,10 +101,10 @@ impl Driver {
         handle: &Option<HandleView>,
         cluster: &Record,
     ) -> Result<Driver, AllocError>
-        ensures { IfOk result (λ driver. driver ≡ driver_start call op.now (kept_at cluster.now (client_of call) handle.now)) }
+        ensures { IfOk result (λ driver. driver ≡ driver_start call op.now (kept_at_beginning cluster.now (client_of call) handle.now)) }
     {
         match op {
-            Op::Client(r, _, _) => Ok(Driver::Enter(*r)),
+            Op::Client(r, _, _) => Ok(Driver::by(DriverKind::Enter(*r))),
             Op::Open(_, name, _, timeout, attributes) => {
                 let client = number_of(&call.actor);
                 let ask = SharedAsk {
@@ -77,7 +114,7 @@ impl Driver {
                     node: node_of(cluster, client),
                 };
                 let deadline = cluster.moment_after(*timeout);
-                Ok(Driver::Open(OpenCall::begin(call, ask, Some(deadline))))
+                Ok(Driver::by(DriverKind::Open(OpenCall::begin(call, ask, Some(deadline)))))
             }
             Op::Create(_, _)
             | Op::Delete(_, _)
@@ -94,9 +131,19 @@ impl Driver {
             Op::Next(_) => Ok(active_start(call, ActiveKind::Next, ckpt_of_handle(handle))),
             Op::Close(_) => Ok(close_start(ckpt_of_handle(handle))),
             Op::Retain(_, duration) => Ok(retain_start(*duration, ckpt_of_handle(handle))),
-            Op::Unlink(name) => Ok(Driver::Unlink(name.clone()?)),
-            Op::Finalize => Ok(Driver::Leave),
-            _ => Ok(Driver::Enter(0)),
+            Op::Unlink(name) => Ok(Driver::by(DriverKind::Unlink(name.clone()?))),
+            Op::Finalize => Ok(Driver::by(DriverKind::Leave)),
+            _ => Ok(Driver::by(DriverKind::Enter(0))),
+        }
+    }
+
+    /// The checkpoint that the call is making, if it is.
+    pub fn making(&self) -> Option<CkptId>
+        ensures { result ≡ making_in self.now }
+    {
+        match &self.kind {
+            DriverKind::Open(open_call) => open_call.making(),
+            _ => None,
         }
     }
 
@@ -104,8 +151,8 @@ impl Driver {
     pub fn next(&self, cluster: &Record, rooms: Rooms) -> Next
         ensures { result ≡ driver_next cluster.now rooms self.now }
     {
-        match self {
-            Driver::Enter(_) => {
+        match &self.kind {
+            DriverKind::Enter(_) => {
                 if cluster.clients_len() >= CLIENTS_MAX {
                     Next::End(Outcome::Refused(
                         AisError::NoResources,
@@ -115,13 +162,13 @@ impl Driver {
                     Next::Event(RecordStep::Enter)
                 }
             }
-            Driver::Open(open_call) => open_call.next(cluster, rooms.handles),
-            Driver::Update(update) => update.next(cluster),
-            Driver::Active(active) => active.next(cluster, rooms.iterations),
-            Driver::Leave => Next::Event(RecordStep::Leave),
-            Driver::Close(ckpt) => close_next(cluster, *ckpt),
-            Driver::Unlink(name) => unlink_next(cluster, name),
-            Driver::Retain(ckpt, _) => retain_next(cluster, *ckpt),
+            DriverKind::Open(open_call) => open_call.next(cluster, rooms.handles),
+            DriverKind::Update(update) => update.next(cluster),
+            DriverKind::Active(active) => active.next(cluster, rooms.iterations),
+            DriverKind::Leave => Next::Event(RecordStep::Leave),
+            DriverKind::Close(ckpt) => close_next(cluster, *ckpt),
+            DriverKind::Unlink(name) => unlink_next(cluster, name),
+            DriverKind::Retain(ckpt, _) => retain_next(cluster, *ckpt),
         }
     }
 
@@ -146,9 +193,9 @@ impl Driver {
         requires { r < nodes_max }
         ensures { self.new ≡ driver_taken (done_of cluster.now (verb_of request.now) (Some (ckpt_of request.now)) (Some r) word) self.old }
     {
-        match self {
-            Driver::Open(open_call) => open_call.take(cluster, r, request, word),
-            Driver::Update(update) => update.take(cluster, r, request, word),
+        match &mut self.kind {
+            DriverKind::Open(open_call) => open_call.take(cluster, r, request, word),
+            DriverKind::Update(update) => update.take(cluster, r, request, word),
             _ => {}
         }
     }
@@ -189,9 +236,9 @@ impl Driver {
     ) -> Option<Outcome>
         ensures { result ≡ done_end (done_of cluster.now (verb_of request.now) (Some (ckpt_of request.now)) (Some r) words.Ok) answer.now self.now }
     {
-        match self {
-            Driver::Update(update) => update.end(cluster, r, request, answer),
-            Driver::Active(_) => Some(Outcome::Done(*answer)),
+        match &self.kind {
+            DriverKind::Update(update) => update.end(cluster, r, request, answer),
+            DriverKind::Active(_) => Some(Outcome::Done(*answer)),
             _ => None,
         }
     }
@@ -207,7 +254,7 @@ impl Driver {
     )
         ensures { self.new ≡ driver_taken (done_of cluster.now (event_verb step.now) ckpt node word) self.old }
     {
-        if let Driver::Open(open_call) = self {
+        if let DriverKind::Open(open_call) = &mut self.kind {
             open_call.told(cluster, step, ckpt, node, word);
         }
     }
@@ -237,8 +284,8 @@ fn update_start(call: CallId, ckpt: Option<CkptId>) -> Driver
     ensures { result ≡ update_start call ckpt }
 {
     match ckpt {
-        None => Driver::Enter(0),
-        Some(ckpt) => Driver::Update(UpdateCall::begin(call, ckpt)),
+        None => Driver::by(DriverKind::Enter(0)),
+        Some(ckpt) => Driver::by(DriverKind::Update(UpdateCall::begin(call, ckpt))),
     }
 }
 
@@ -246,8 +293,8 @@ fn active_start(call: CallId, kind: ActiveKind, ckpt: Option<CkptId>) -> Driver
     ensures { result ≡ active_start call kind ckpt }
 {
     match ckpt {
-        None => Driver::Enter(0),
-        Some(ckpt) => Driver::Active(ActiveCall::begin(call, ckpt, kind)),
+        None => Driver::by(DriverKind::Enter(0)),
+        Some(ckpt) => Driver::by(DriverKind::Active(ActiveCall::begin(call, ckpt, kind))),
     }
 }
 
@@ -255,8 +302,8 @@ fn close_start(ckpt: Option<CkptId>) -> Driver
     ensures { result ≡ on_kept ckpt (λ k. Close k) }
 {
     match ckpt {
-        None => Driver::Enter(0),
-        Some(ckpt) => Driver::Close(ckpt),
+        None => Driver::by(DriverKind::Enter(0)),
+        Some(ckpt) => Driver::by(DriverKind::Close(ckpt)),
     }
 }
 
@@ -264,8 +311,8 @@ fn retain_start(duration: i64, ckpt: Option<CkptId>) -> Driver
     ensures { result ≡ on_kept ckpt (λ k. Retain k duration) }
 {
     match ckpt {
-        None => Driver::Enter(0),
-        Some(ckpt) => Driver::Retain(ckpt, duration),
+        None => Driver::by(DriverKind::Enter(0)),
+        Some(ckpt) => Driver::by(DriverKind::Retain(ckpt, duration)),
     }
 }
 
@@ -274,13 +321,13 @@ pub fn event_ckpt(cluster: &Record, driver: &Driver, step: &RecordStep) -> Optio
     requires { cluster.now.last_identity < 2 ^ 32 - 1 }
     ensures { result ≡ event_ckpt cluster.now driver.now step.now }
 {
-    match (driver, step) {
-        (Driver::Open(_), RecordStep::Create) => Some(cluster.last_identity() + 1),
-        (Driver::Open(open_call), RecordStep::Open) => cluster.find(open_call.name()),
-        (Driver::Open(open_call), RecordStep::Finish | RecordStep::Undo) => open_call.making(),
-        (Driver::Unlink(name), RecordStep::Unlink) => cluster.find(name),
-        (Driver::Close(ckpt), RecordStep::Close) => Some(*ckpt),
-        (Driver::Retain(ckpt, _), RecordStep::Retain) => Some(*ckpt),
+    match (&driver.kind, step) {
+        (DriverKind::Open(_), RecordStep::Create) => Some(cluster.last_identity() + 1),
+        (DriverKind::Open(open_call), RecordStep::Open) => cluster.find(open_call.name()),
+        (DriverKind::Open(open_call), RecordStep::Finish | RecordStep::Undo) => open_call.making(),
+        (DriverKind::Unlink(name), RecordStep::Unlink) => cluster.find(name),
+        (DriverKind::Close(ckpt), RecordStep::Close) => Some(*ckpt),
+        (DriverKind::Retain(ckpt, _), RecordStep::Retain) => Some(*ckpt),
         _ => None,
     }
 }
@@ -289,8 +336,8 @@ pub fn event_ckpt(cluster: &Record, driver: &Driver, step: &RecordStep) -> Optio
 pub fn event_node(driver: &Driver, step: &RecordStep) -> Option<NodeId>
     ensures { result ≡ event_node driver.now step.now }
 {
-    match (driver, step) {
-        (Driver::Enter(r), RecordStep::Enter) => Some(*r),
+    match (&driver.kind, step) {
+        (DriverKind::Enter(r), RecordStep::Enter) => Some(*r),
         _ => None,
     }
 }
@@ -316,6 +363,26 @@ fn opened_end(ckpt: Option<CkptId>) -> Option<Outcome>
     match ckpt {
         None => None,
         Some(ckpt) => Some(Outcome::Done(Answer::Opened(ckpt))),
+    }
+}
+
+/// How a call ends by a step that the record refuses: an open of what another call is making.
+pub fn event_refusal(cluster: &Record, driver: &Driver, step: &RecordStep) -> Option<Outcome>
+    requires { cluster.now.last_identity < 2 ^ 32 - 1 }
+    ensures { result ≡ event_refusal cluster.now step.now driver.now }
+{
+    match (step, &driver.kind) {
+        (RecordStep::Open, DriverKind::Open(open_call)) => refusal_in(open_call.answer(cluster)),
+        _ => None,
+    }
+}
+
+fn refusal_in(answer: OpenAnswer) -> Option<Outcome>
+    ensures { result ≡ refusal_in answer }
+{
+    match answer {
+        OpenAnswer::Refused(why) => Some(Outcome::Refused(why.error, why.cause)),
+        _ => None,
     }
 }
 

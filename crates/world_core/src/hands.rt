@@ -1,8 +1,8 @@
-ghost use Rattle.std.specs.Prelude.{◌≡◌, ◌≢◌, ◌<◌, ◌≤◌, [], length, replicate, Some, None, is_some, IfOk, IfSome, MatchOption, slice_set, vec_capacity};
+ghost use Rattle.std.specs.Prelude.{◌≡◌, ◌≢◌, ◌<◌, ◌≤◌, [], length, replicate, Some, None, is_some, IfOk, IfSome, IsSome, MatchOption, OnOk, slice_set, vec_capacity};
 ghost use Rattle.run_labels.specs.OpWord.{word_of_op};
 ghost use Rattle.cluster_record.specs.Calls.{left};
 ghost use Rattle.node_msgs.specs.Requests.{ckpt_of};
-ghost use Rattle.world_core.specs.Serving.{update_of, elements_of};
+ghost use Rattle.ckpt_machine.specs.Serving.{update_of, elements_of};
 ghost use Rattle.world_core.specs.Lending.{bytes_asked, IsLentRead, IsLentFor, IsLent};
 ghost use Rattle.ckpt_types.specs.declared.update.Update.TheVariants as updates;
 ghost use Rattle.ckpt_types.specs.Limits.{client_numbers, nodes_max};
@@ -13,11 +13,12 @@ ghost use Rattle.world_core.specs.HandsView.{hands_in};
 ghost use Rattle.world_core.specs.Shows.{hand_at};
 ghost use Rattle.world_core.specs.declared.hands.InHand.{InHand};
 
+use crate::begins::DECLARES_NOTHING;
 use crate::drivers::Driver;
 use crate::nodes::Lent;
 use ckpt_types::{
-    CLIENT_NUMBERS, CallId, CkptId, GENERATED_ID_BYTES, NewId, NodeId, Op, Outcome, ReadBuf,
-    ReadElement, ReadVector, SharedReads, SharedUpdate, Update,
+    Apart, CLIENT_NUMBERS, CallId, CheckpointDescriptor, CkptId, GENERATED_ID_BYTES, NewId, NodeId,
+    Op, Outcome, ReadBuf, ReadElement, ReadVector, SharedReads, SharedUpdate, Update,
 };
 use cluster_record::Record;
 use node_msgs::{RecordStep, Reply, Request, StepReply};
@@ -25,6 +26,13 @@ use run_labels::OpWord;
 use section_iter::Iteration;
 use std::alloc::{AllocError, Global};
 use std::marker::Model;
+
+/// What a place for a status has before the status is told.
+const NO_STATUS: CheckpointDescriptor = CheckpointDescriptor {
+    attributes: DECLARES_NOTHING,
+    number_of_sections: 0,
+    memory_used: 0,
+};
 
 /// A call that is begun and not ended.
 #[derive(Drop)]
@@ -52,11 +60,11 @@ impl Model for Hands {
 
     ghost Value = { List (Option InHand) };
 
-    ghost use Rattle.world_core.specs.HandsView.{hands_of, HaveRoom};
+    ghost use Rattle.world_core.specs.HandsView.{hands_of, HandsHaveRoom};
 
     ghost view = { hands_of };
 
-    ghost invariant = { HaveRoom };
+    ghost invariant = { HandsHaveRoom };
 }
 
 impl InHand {
@@ -67,16 +75,18 @@ impl InHand {
         OpWord::of(&self.op)
     }
 
-    /// What travels beside a request of the call: a share of its update, a buffer with room for the identifier of
-    /// a new section, or a share of its elements with a buffer that has room for what they may give.
-    pub fn lend(&self, alloc: Global, request: &Request) -> Result<Lent, AllocError>
-        ensures { IfOk result (λ lent. IsLent request.now self.now.op lent) }
+    /// Lends what travels beside a request of the call: a share of its update, a buffer with room for the
+    /// identifier of a new section, a share of its elements with a buffer that has room for what they may give, or
+    /// a place for a status.
+    pub fn lend(&self, alloc: Global, request: &Request, lent: &mut Lent) -> Result<(), AllocError>
+        ensures { OnOk result (IsLent request.now self.now.op lent.new) }
     {
         match request {
-            Request::Stage(_, _, _) => lend_update(alloc, &self.op),
-            Request::Commit(_, _) => lend_identifier(alloc, &self.op),
-            Request::Read(_) => lend_read(alloc, &self.op),
-            _ => lend_nothing(alloc),
+            Request::Stage(_, _, _) => lend_update(alloc, &self.op, lent),
+            Request::Commit(_, _) => lend_identifier(alloc, &self.op, lent),
+            Request::Read(_) => lend_read(alloc, &self.op, lent),
+            Request::Status(_) => lend_status(alloc, lent),
+            _ => Ok(()),
         }
     }
 
@@ -200,9 +210,10 @@ impl Hands {
         let _kept = self.list.as_slice();
     }
 
-    /// A client's call is in hand from now on.
+    /// A client's call is in hand from now on, where it had none.
     pub fn begin(&mut self, c: u8, hand: InHand)
-        requires { c < client_numbers }
+        requires client { c < client_numbers }
+        requires none { hand_at self.old c ≡ None }
         ensures new { self.new ≡ slice_set self.old c (Some hand) }
         ensures within { c < length self.old }
     {
@@ -338,53 +349,59 @@ fn clear_at(list: &mut Vec<Option<InHand>>, c: usize)
 }
 
 fn begin_at(list: &mut Vec<Option<InHand>>, c: usize, hand: InHand)
-    requires { c < length list.old.items }
+    requires there { c < length list.old.items }
+    requires none { hand_at list.old.items c ≡ None }
     ensures new { list.new.items ≡ slice_set list.old.items c (Some hand) }
     ensures capacity { vec_capacity list.new ≡ vec_capacity list.old }
 {
+    // Nothing is there that has to be let go.
+    if has(list.as_slice(), c) {
+        unreachable!()
+    }
     list[c] = Some(hand);
 }
 
-fn lend_nothing(alloc: Global) -> Result<Lent, AllocError> {
-    Ok(Lent {
-        read: ReadBuf::reserve(alloc, 0, 0)?,
-        vector: None,
-        update: None,
-    })
+impl Lent {
+    /// Nothing is lent.
+    pub fn nothing(alloc: Global) -> Result<Lent, AllocError> {
+        Ok(Lent {
+            read: ReadBuf::reserve(alloc, 0, 0)?,
+            vector: None,
+            update: None,
+            status: None,
+        })
+    }
 }
 
-fn lend_update(alloc: Global, op: &Op) -> Result<Lent, AllocError>
-    ensures { IfOk result (λ lent. lent.update ≡ Some (update_of op.now)) }
+fn lend_update(alloc: Global, op: &Op, lent: &mut Lent) -> Result<(), AllocError>
+    ensures { OnOk result (lent.new.update ≡ Some (update_of op.now)) }
 {
-    Ok(Lent {
-        read: ReadBuf::reserve(alloc, 0, 0)?,
-        vector: None,
-        update: Some(share_update(alloc, op)?),
-    })
+    lent.update = Some(share_update(alloc, op)?);
+    Ok(())
 }
 
-fn lend_identifier(alloc: Global, op: &Op) -> Result<Lent, AllocError>
-    ensures { IfOk result (λ lent. IsLentFor (update_of op.now) lent.read) }
+fn lend_identifier(alloc: Global, op: &Op, lent: &mut Lent) -> Result<(), AllocError>
+    ensures { OnOk result (IsLentFor (update_of op.now) lent.new.read) }
 {
     let Some(update) = update_in(op) else {
-        return lend_nothing(alloc);
+        return Ok(());
     };
-    Ok(Lent {
-        read: reserve_id(alloc, update)?,
-        vector: None,
-        update: None,
-    })
+    reserve_id(alloc, update, &mut lent.read)
 }
 
-fn reserve_id(alloc: Global, update: &Update) -> Result<ReadBuf, AllocError>
-    ensures { IfOk result (IsLentFor update.now) }
+fn reserve_id(alloc: Global, update: &Update, read: &mut ReadBuf) -> Result<(), AllocError>
+    ensures { OnOk result (IsLentFor update.now read.new) }
 {
     match update {
-        Update::Create(NewId::Given(id), _, _) => ReadBuf::reserve(alloc, 1, id.as_slice().len()),
+        Update::Create(NewId::Given(id), _, _) => {
+            *read = ReadBuf::reserve(alloc, 1, id.as_slice().len())?;
+            Ok(())
+        }
         Update::Create(NewId::Generated, _, _) => {
-            ReadBuf::reserve(alloc, 1, GENERATED_ID_BYTES as usize)
-        },
-        _ => ReadBuf::reserve(alloc, 0, 0),
+            *read = ReadBuf::reserve(alloc, 1, GENERATED_ID_BYTES as usize)?;
+            Ok(())
+        }
+        _ => Ok(()),
     }
 }
 
@@ -402,16 +419,20 @@ pub fn update_in(op: &Op) -> Option<&Update>
     }
 }
 
-fn lend_read(alloc: Global, op: &Op) -> Result<Lent, AllocError>
-    ensures { IfOk result (IsLentRead (elements_of op.now)) }
+fn lend_read(alloc: Global, op: &Op, lent: &mut Lent) -> Result<(), AllocError>
+    ensures { OnOk result (IsLentRead (elements_of op.now) lent.new) }
 {
     let vector = share_elements(alloc, op)?;
-    let read = reserve_for(alloc, vector.value().as_slice())?;
-    Ok(Lent {
-        read,
-        vector: Some(vector),
-        update: None,
-    })
+    lent.read = reserve_for(alloc, vector.value().as_slice())?;
+    lent.vector = Some(vector);
+    Ok(())
+}
+
+fn lend_status(alloc: Global, lent: &mut Lent) -> Result<(), AllocError>
+    ensures { OnOk result (IsSome lent.new.status) }
+{
+    lent.status = Some(Apart::new(alloc, NO_STATUS)?);
+    Ok(())
 }
 
 fn reserve_for(alloc: Global, elements: &[ReadElement]) -> Result<ReadBuf, AllocError>

@@ -2,16 +2,19 @@ ghost use Rattle.std.specs.Prelude.{◌≡◌, ◌<◌, ◌≤◌, OnOk, OnErr};
 ghost use Rattle.ckpt_types.specs.Limits.{client_numbers};
 ghost use Rattle.node_msgs.specs.declared.next.Next.TheVariants as nexts;
 ghost use Rattle.node_msgs.specs.declared.requests.Request.TheVariants as requests;
-ghost use Rattle.world_core.specs.Shows.{IsShown, IsRoomy};
+ghost use Rattle.world_core.specs.Shows.{IsShown, HasNumbersLeft};
 ghost use Rattle.world_core.specs.Happenings.{Adds, IsNext, IsStep};
 
 use crate::beginning::{handle_place, iteration_place, started_place};
 use crate::hands::InHand;
-use crate::nodes::told_pieces;
+use crate::nodes::told_section;
 use crate::world::World;
-use ckpt_types::{Answer, CallId, Choice, CkptId, NodeId, Outcome, ReadBuf, SECTION_ID_MAX};
+use ckpt_types::{
+    Answer, Apart, CallId, Choice, CkptId, NodeId, Outcome, SectionDescriptor, SectionId,
+    SectionState,
+};
 use node_msgs::{Request, StepReply, Verb};
-use run_labels::{Label, OpWord, RunLog};
+use run_labels::{Details, Label, OpWord, RunLog};
 use std::alloc::{AllocError, Global};
 
 impl World {
@@ -28,7 +31,7 @@ impl World {
         requires next { IsNext self.old c (nexts.Serve r (requests.Iterate asked ckpt choice)) }
         requires client { c < client_numbers }
         requires shown { IsShown self.old }
-        requires roomy { IsRoomy self.old }
+        requires roomy { HasNumbersLeft self.old }
         requires spare { 1 ≤ log.old.spare }
         ensures { Adds log.old log.new (IsStep c self.old self.new) }
     {
@@ -65,11 +68,11 @@ impl World {
             node: Some(r),
             reply: StepReply::Ok,
             end: Some(Outcome::Done(Answer::Nothing)),
-            pieces: None,
+            details: Details::Nothing,
         });
     }
 
-    /// The call of a client goes on with an iteration. Want of memory for the identifier that its label tells
+    /// The call of a client goes on with an iteration. Want of memory for what its label tells of a section
     /// leaves the world as it was.
     pub(crate) fn next_step(
         &mut self,
@@ -96,13 +99,13 @@ impl World {
         let Some(place) = iteration_place(&hand.op) else {
             unreachable!()
         };
-        let mut read = ReadBuf::reserve(alloc, 1, SECTION_ID_MAX)?;
+        let mut section = Apart::new(alloc, no_section())?;
         let now = self.cluster.now();
         let reply = self
             .tables
-            .go_on(c, place, &self.nodes, r, ckpt, now, &mut read);
+            .go_on(c, place, &self.nodes, r, ckpt, now, &mut section);
         let end = self.hands.take(c, &self.cluster, r, &request, &reply);
-        let pieces = told_pieces(&end, &reply, read);
+        let details = told_section(&end, &reply, section);
         log.push(Label::Stepped {
             call,
             op,
@@ -111,8 +114,19 @@ impl World {
             node: Some(r),
             reply: reply.word(),
             end,
-            pieces,
+            details,
         });
         Ok(())
+    }
+}
+
+// A place for what is told of a section.
+fn no_section() -> SectionDescriptor {
+    SectionDescriptor {
+        id: SectionId::default(),
+        expiration: 0,
+        size: 0,
+        state: SectionState::Valid,
+        last_update: 0,
     }
 }

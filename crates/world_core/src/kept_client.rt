@@ -1,15 +1,15 @@
 ghost use Rattle.std.specs.Prelude.{◌≡◌, ◌+◌, ◌-◌, ◌^◌, ◌<◌, ◌≤◌, [], true, IfOk, IsSome, length};
-ghost use Rattle.ckpt_types.specs.Limits.{section_id_max, places_max, nodes_max};
+ghost use Rattle.ckpt_types.specs.Limits.{places_max, nodes_max};
 ghost use Rattle.client_handles.specs.ClientState.{ClientState, handle_numbered, has_handle_room, has_iteration_room, iteration_at, new_client, added, bound, dropped, emptied, ended, taken};
 ghost use Rattle.world_core.specs.AtRest.{IsAtRest};
-ghost use Rattle.world_core.specs.Lending.{pieces_told};
+ghost use Rattle.world_core.specs.Lending.{section_told};
 ghost use Rattle.world_core.specs.NewTable.{no_callbacks};
-ghost use Rattle.world_core.specs.Serving.{replica_in, given_at, next_id, next_reply_at};
-ghost use Rattle.world_core.specs.Steps.{ids_of};
+ghost use Rattle.ckpt_machine.specs.Serving.{replica_in, given_at, next_details, next_reply_at};
+ghost use Rattle.ckpt_machine.specs.Steps.{ids_of};
 ghost use Rattle.world_core.specs.TableState.{kept_of, gone_on_of};
 
 use crate::nodes::Nodes;
-use ckpt_types::{CallbackSet, CkptId, Moment, NodeId, OpenFlags, ReadBuf};
+use ckpt_types::{Apart, CallbackSet, CkptId, Moment, NodeId, OpenFlags, SectionDescriptor};
 use client_handles::Client;
 use node_msgs::Reply;
 use section_iter::Iteration;
@@ -49,18 +49,15 @@ pub(crate) fn go_on(
     r: NodeId,
     ckpt: CkptId,
     now: Moment,
-    out: &mut ReadBuf,
+    out: &mut Apart<SectionDescriptor>,
 ) -> Reply
     requires kept { IsAtRest client.old }
     requires place { place < places_max }
     requires node { r < nodes_max }
     requires there { IsSome (iteration_at place client.old) }
-    requires empty { out.old.pieces ≡ [] }
-    requires places { 1 ≤ out.old.spare_pieces }
-    requires bytes { section_id_max ≤ out.old.spare_bytes }
     ensures kept { IsAtRest client.new }
     ensures reply { result ≡ next_reply_at (ids_of (kept_of place client.old)) now (replica_in nodes.now ckpt r) }
-    ensures pieces { pieces_told result out.new.pieces ≡ next_id (given_at (ids_of (kept_of place client.old)) now (replica_in nodes.now ckpt r)) }
+    ensures details { section_told result out.new ≡ next_details (given_at (ids_of (kept_of place client.old)) now (replica_in nodes.now ckpt r)) }
     ensures new { client.new ≡ gone_on_of place (given_at (ids_of (kept_of place client.old)) now (replica_in nodes.now ckpt r)) client.old }
 {
     let Ok(mut iteration) = client.lend_iteration(place) else {

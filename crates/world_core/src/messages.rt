@@ -1,5 +1,5 @@
 ghost use Rattle.std.specs.Prelude.{◌≡◌};
-ghost use Rattle.world_core.specs.Steps.{look_word};
+ghost use Rattle.ckpt_machine.specs.Steps.{look_word};
 
 use ckpt_types::Outcome;
 use node_msgs::StepReply;

@@ -2,21 +2,22 @@ ghost use Rattle.std.specs.Prelude.{◌≡◌, ◌<◌, ◌≤◌, [], ◌++◌,
 ghost use Rattle.section_iter.specs.Next.{kept_after};
 ghost use Rattle.section_iter.specs.Room.{IsRoomFor};
 ghost use Rattle.ckpt_types.specs.Attributes.{is_malformed};
-ghost use Rattle.ckpt_types.specs.Limits.{section_id_max, nodes_max};
+ghost use Rattle.ckpt_types.specs.Limits.{nodes_max};
 ghost use Rattle.cluster_record.specs.Places.{find_key, change_key, place_key};
 ghost use Rattle.node_msgs.specs.Requests.{ckpt_of};
-ghost use Rattle.world_core.specs.Serving.{record_seen, replica_key, replica_after, replica_in, reply_at, pieces_at, served, IsReadyAt, opened_replica, added, reserved_at, chosen_at, given_at, next_id, next_reply_at};
+ghost use Rattle.ckpt_machine.specs.Serving.{record_seen, replica_key, replica_after, replica_in, reply_at, details_at, served, IsReadyAt, opened_replica, with_reserved, reserved_at, chosen_at, given_at, next_details, next_reply_at};
 ghost use Rattle.world_core.specs.Freeing.{is_there, freed};
-ghost use Rattle.world_core.specs.Lending.{IsLent, pieces_told};
-ghost use Rattle.world_core.specs.Steps.{ended_pieces};
+ghost use Rattle.world_core.specs.Lending.{IsLent, details_told, status_told, section_told};
+ghost use Rattle.ckpt_machine.specs.Steps.{ended_details};
 
 use crate::replica::Replica;
 use ckpt_types::{
-    Answer, Choice, CkptId, CreationAttributes, Moment, NODES_MAX, NodeId, Op, Outcome, Pieces,
-    ReadBuf, SharedReads, SharedUpdate,
+    Answer, Apart, CheckpointDescriptor, Choice, CkptId, CreationAttributes, Moment, NODES_MAX,
+    NodeId, Op, Outcome, Pieces, ReadBuf, SectionDescriptor, SharedReads, SharedUpdate,
 };
 use cluster_record::Record;
 use node_msgs::{Reply, Request};
+use run_labels::Details;
 use section_iter::Iteration;
 use section_store::Store;
 use std::alloc::{AllocError, Global};
@@ -31,6 +32,8 @@ pub struct Lent {
     pub vector: Option<SharedReads>,
     /// A share of an update.
     pub update: Option<SharedUpdate>,
+    /// Where a status is told.
+    pub status: Option<Apart<CheckpointDescriptor>>,
 }
 
 /// The replicas on a node.
@@ -41,7 +44,7 @@ pub struct Node {
 
 impl Model for Node {
     ghost use Rattle.std.specs.Prelude.{List};
-    ghost use Rattle.world_core.specs.declared.replica.Replica.{Replica};
+    ghost use Rattle.ckpt_machine.specs.Replicas.{Replica};
 
     ghost Value = { List Replica };
 
@@ -57,7 +60,7 @@ pub struct Nodes {
 impl Model for Nodes {
     ghost use Rattle.std.specs.Prelude.{List, length, ◌≡◌};
     ghost use Rattle.ckpt_types.specs.Limits.{nodes_max};
-    ghost use Rattle.world_core.specs.declared.replica.Replica.{Replica};
+    ghost use Rattle.ckpt_machine.specs.Replicas.{Replica};
 
     ghost Value = { List (List Replica) };
 
@@ -91,7 +94,7 @@ impl Nodes {
         requires lent { IsLent request.now op.now lent.old }
         ensures reply { result ≡ reply_at request.now op.now (record_seen cluster.now (ckpt_of request.now)) (replica_in self.old (ckpt_of request.now) r) }
         ensures new { self.new ≡ served self.old r request.now op.now }
-        ensures pieces { pieces_told result lent.new.read.pieces ≡ pieces_at request.now op.now cluster.now.moment (replica_in self.old (ckpt_of request.now) r) }
+        ensures details { details_told result lent.new ≡ details_at request.now op.now (record_seen cluster.now (ckpt_of request.now)) (replica_in self.old (ckpt_of request.now) r) }
     {
         serve_node(self.list.as_mut_slice(), r, request, op, cluster, lent)
     }
@@ -107,7 +110,7 @@ impl Nodes {
         now: Moment,
     )
         requires node { r < nodes_max }
-        requires room { IsSomeAnd (replica_in self.now ckpt r) (λ x. IsRoomFor x.store.attributes iteration.old.room) }
+        requires room { IsSomeAnd (replica_in self.now ckpt r) (λ x. IsRoomFor x.attributes iteration.old.room) }
         ensures { iteration.new ≡ record iteration.old { ids = chosen_at choice now (replica_in self.now ckpt r) } }
     {
         let Some(replica) = self.list[r as usize].find(ckpt) else {
@@ -116,22 +119,19 @@ impl Nodes {
         replica.start(iteration, choice, now);
     }
 
-    /// The next section that the replica of a node gives to an iteration; its identifier is put into the empty
-    /// buffer. It takes no memory.
+    /// The next section that the replica of a node gives to an iteration, which is told in the place for it. It
+    /// takes no memory.
     pub fn next(
         &self,
         r: NodeId,
         ckpt: CkptId,
         iteration: &mut Iteration,
         now: Moment,
-        out: &mut ReadBuf,
+        out: &mut Apart<SectionDescriptor>,
     ) -> Reply
         requires node { r < nodes_max }
-        requires empty { out.old.pieces ≡ [] }
-        requires places { 1 ≤ out.old.spare_pieces }
-        requires bytes { section_id_max ≤ out.old.spare_bytes }
         ensures reply { result ≡ next_reply_at iteration.old.ids now (replica_in self.now ckpt r) }
-        ensures pieces { pieces_told result out.new.pieces ≡ next_id (given_at iteration.old.ids now (replica_in self.now ckpt r)) }
+        ensures details { section_told result out.new ≡ next_details (given_at iteration.old.ids now (replica_in self.now ckpt r)) }
         ensures new { iteration.new ≡ kept_after iteration.old (given_at iteration.old.ids now (replica_in self.now ckpt r)) }
     {
         match self.list[r as usize].find(ckpt) {
@@ -180,7 +180,7 @@ impl Node {
         requires lent { IsLent request.now op.now lent.old }
         ensures reply { result ≡ reply_at request.now op.now (record_seen cluster.now (ckpt_of request.now)) (find_key replica_key (ckpt_of request.now) self.old) }
         ensures new { self.new ≡ change_key replica_key (ckpt_of request.now) (replica_after request.now op.now) self.old }
-        ensures pieces { pieces_told result lent.new.read.pieces ≡ pieces_at request.now op.now cluster.now.moment (find_key replica_key (ckpt_of request.now) self.old) }
+        ensures details { details_told result lent.new ≡ details_at request.now op.now (record_seen cluster.now (ckpt_of request.now)) (find_key replica_key (ckpt_of request.now) self.old) }
     {
         serve_at(self.replicas.as_mut_slice(), request, op, cluster, lent)
     }
@@ -193,7 +193,7 @@ impl Node {
         made: Moment,
     ) -> Result<(), AllocError>
         requires { is_malformed attributes.now ≡ false }
-        ensures ok { OnOk result (self.new ≡ added (find_key replica_key ckpt self.old) (opened_replica ckpt attributes.now made) self.old) }
+        ensures ok { OnOk result (self.new ≡ with_reserved (find_key replica_key ckpt self.old) (opened_replica ckpt attributes.now made) self.old) }
         ensures err { OnErr result (self.new ≡ self.old) }
     {
         reserve_in(&mut self.replicas, alloc, ckpt, attributes, made)
@@ -207,16 +207,40 @@ impl Node {
     }
 }
 
-/// The pieces of the label of a step that ended its call or did not, where these came with the reply. It takes no
+/// What the label of a step tells beside its end, where it ended its call: what came with the reply. It takes no
 /// memory.
-pub fn told_pieces(end: &Option<Outcome>, reply: &Reply, read: ReadBuf) -> Option<Pieces>
-    ensures { result ≡ ended_pieces end.now (pieces_told reply.now read.pieces) }
+pub fn told_details(end: &Option<Outcome>, reply: &Reply, lent: Lent) -> Details
+    ensures { result ≡ ended_details end.now (details_told reply.now lent) }
 {
     match (end, reply) {
-        (Some(_), Reply::Done(Answer::Pieces | Answer::Created | Answer::Section(_))) => {
-            Some(Pieces::from_buf(read))
+        (Some(_), Reply::Done(Answer::Pieces | Answer::Created)) => {
+            Details::Pieces(Pieces::from_buf(lent.read))
         }
-        _ => None,
+        (Some(_), Reply::Done(Answer::Status)) => told_status(lent.status),
+        _ => Details::Nothing,
+    }
+}
+
+fn told_status(status: Option<Apart<CheckpointDescriptor>>) -> Details
+    ensures { result ≡ status_told status }
+{
+    match status {
+        None => Details::Nothing,
+        Some(status) => Details::Status(status),
+    }
+}
+
+/// What the label of a step tells beside its end, where an iteration gave this section. It takes no memory.
+pub fn told_section(
+    end: &Option<Outcome>,
+    reply: &Reply,
+    section: Apart<SectionDescriptor>,
+) -> Details
+    ensures { result ≡ ended_details end.now (section_told reply.now section) }
+{
+    match (end, reply) {
+        (Some(_), Reply::Done(Answer::Section)) => Details::Section(section),
+        _ => Details::Nothing,
     }
 }
 
@@ -237,7 +261,8 @@ fn place_of(replicas: &[Replica], ckpt: CkptId) -> Option<usize>
     ensures within { IfSome result (λ i. i < length replicas.now) }
 {
     for i in 0..replicas.len() {
-        if replicas[i].ckpt == ckpt {
+        let replica = &replicas[i];
+        if replica.ckpt == ckpt {
             return Some(i);
         }
     }
@@ -266,7 +291,7 @@ fn serve_at(
     requires lent { IsLent request.now op.now lent.old }
     ensures reply { result ≡ reply_at request.now op.now (record_seen cluster.now (ckpt_of request.now)) (find_key replica_key (ckpt_of request.now) replicas.old) }
     ensures new { replicas.new ≡ change_key replica_key (ckpt_of request.now) (replica_after request.now op.now) replicas.old }
-    ensures pieces { pieces_told result lent.new.read.pieces ≡ pieces_at request.now op.now cluster.now.moment (find_key replica_key (ckpt_of request.now) replicas.old) }
+    ensures details { details_told result lent.new ≡ details_at request.now op.now (record_seen cluster.now (ckpt_of request.now)) (find_key replica_key (ckpt_of request.now) replicas.old) }
 {
     let Some(i) = place_of(replicas, request.ckpt()) else {
         return Reply::NoReplica;
@@ -288,7 +313,7 @@ fn serve_node(
     requires lent { IsLent request.now op.now lent.old }
     ensures reply { result ≡ reply_at request.now op.now (record_seen cluster.now (ckpt_of request.now)) (replica_in nodes.old (ckpt_of request.now) r) }
     ensures new { nodes.new ≡ served nodes.old r request.now op.now }
-    ensures pieces { pieces_told result lent.new.read.pieces ≡ pieces_at request.now op.now cluster.now.moment (replica_in nodes.old (ckpt_of request.now) r) }
+    ensures details { details_told result lent.new ≡ details_at request.now op.now (record_seen cluster.now (ckpt_of request.now)) (replica_in nodes.old (ckpt_of request.now) r) }
 {
     let node = &mut nodes[r as usize];
     node.serve(request, op, cluster, lent)
@@ -302,7 +327,7 @@ fn reserve_in(
     made: Moment,
 ) -> Result<(), AllocError>
     requires { is_malformed attributes.now ≡ false }
-    ensures ok { OnOk result (replicas.new.items ≡ added (find_key replica_key ckpt replicas.old.items) (opened_replica ckpt attributes.now made) replicas.old.items) }
+    ensures ok { OnOk result (replicas.new.items ≡ with_reserved (find_key replica_key ckpt replicas.old.items) (opened_replica ckpt attributes.now made) replicas.old.items) }
     ensures err { OnErr result (replicas.new.items ≡ replicas.old.items) }
 {
     if place_of(replicas.as_slice(), ckpt).is_some() {

@@ -1,16 +1,17 @@
-ghost use Rattle.std.specs.Prelude.{◌≡◌, ◌<◌, Some, None, IfOk};
+ghost use Rattle.std.specs.Prelude.{◌≡◌, ◌-◌, ◌^◌, ◌<◌, Some, None, IfOk};
 ghost use Rattle.ckpt_types.specs.Limits.{nodes_max};
 ghost use Rattle.cluster_record.specs.RecordState.{named};
 ghost use Rattle.node_msgs.specs.Requests.{ckpt_of};
 ghost use Rattle.node_msgs.specs.Steps.{verb_of, event_verb};
 ghost use Rattle.cluster_record.specs.DueOpen.{open_begun, making_ckpt, in_time, create_next, entry_next, on_free_name, on_named, on_making, made_of, create_taken, open_next, open_taken};
+ghost use Rattle.cluster_record.specs.Opening.{open_answer};
 ghost use Rattle.cluster_record.specs.StepDone.{done_of};
 
 use ckpt_types::{
     AisError, Bytes, CHECKPOINTS_MAX, CallId, Cause, CkptId, CreationAttributes, HANDLES_MAX,
     Moment, NODES_MAX, NodeId, OpenAsk, Outcome, SharedAttributes, SharedName,
 };
-use cluster_record::{Entry, Making, Record, accepts, first_lacking};
+use cluster_record::{Entry, Making, OpenAnswer, Record, accepts, first_lacking};
 use moment_rules::reached;
 use node_msgs::{Next, RecordStep, Request, StepReply};
 use std::alloc::AllocError;
@@ -125,13 +126,21 @@ impl OpenCall {
         }
     }
 
+    /// What the record answers to it.
+    pub fn answer(&self, cluster: &Record) -> OpenAnswer
+        requires { cluster.now.last_identity < 2 ^ 32 - 1 }
+        ensures { result ≡ open_answer cluster.now self.now.ask }
+    {
+        cluster.open_answer(self.ask.name(), self.ask.attributes())
+    }
+
     /// What it does next; `room` tells whether the client has a free place for a handle.
     pub fn next(&self, cluster: &Record, room: bool) -> Next
         ensures { result ≡ open_next cluster.now room self.now }
     {
         match &self.making {
             None => self.named_next(cluster, room),
-            Some(making) => making_next(making, cluster),
+            Some(making) => in_time(self.deadline, cluster.now(), making_next(making, cluster)),
         }
     }
 
@@ -185,7 +194,7 @@ impl OpenCall {
     }
 }
 
-// The next step of a making.
+// The next step of a making before its deadline.
 fn making_next(making: &Making, cluster: &Record) -> Next
     ensures { result ≡ on_making cluster.now making.now }
 {
@@ -256,7 +265,9 @@ fn create_next(cluster: &Record, room: bool) -> Next
 fn entry_next(room: bool, attributes: &Option<CreationAttributes>, entry: &Entry) -> Next
     ensures { result ≡ entry_next room attributes.now entry.now }
 {
-    if !accepts(entry, attributes) {
+    if entry.making.is_some() {
+        Next::Event(RecordStep::Open)
+    } else if !accepts(entry, attributes) {
         Next::End(Outcome::Refused(AisError::Exist, Cause::Plain))
     } else if !room {
         Next::End(Outcome::Refused(AisError::NoResources, Cause::Count(HANDLES_MAX as u32)))

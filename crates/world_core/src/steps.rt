@@ -1,4 +1,4 @@
-ghost use Rattle.std.specs.Prelude.{◌≡◌, ◌≢◌, ◌⊎◌, ℕ, ◌<◌, ◌≤◌, Some, true, IfSome, IsSomeAnd, IsTrue, OnOk, OnErr, length, slice_get};
+ghost use Rattle.std.specs.Prelude.{◌≡◌, ◌≢◌, ◌⊎◌, ℕ, ◌<◌, ◌≤◌, Some, None, true, IfSome, IsSomeAnd, OnOk, OnErr, length, slice_get};
 ghost use Rattle.ckpt_types.specs.declared.identities.ActorName.TheVariants.{Client};
 ghost use Rattle.ckpt_types.specs.declared.identities.Who.TheVariants as whos;
 ghost use Rattle.node_msgs.specs.declared.next.Next.TheVariants as nexts;
@@ -7,15 +7,18 @@ ghost use Rattle.node_msgs.specs.declared.requests.Request.{Request};
 ghost use Rattle.node_msgs.specs.declared.requests.Request.TheVariants as requests;
 ghost use Rattle.run_labels.specs.declared.labels.Label.TheVariants as labels;
 ghost use Rattle.run_labels.specs.declared.words.Said.TheVariants.{Idle};
-ghost use Rattle.world_core.specs.Settling.{given, closed_at, settled, looked, CanGive, CanSettle, HasPlaces};
+ghost use Rattle.world_core.specs.Settling.{tables_given, closed_at, settled, looked, without_making_of, CanGive, CanSettle, HasPlaces};
 ghost use Rattle.cluster_record.specs.LookUps.{creation_flags_of};
 ghost use Rattle.cluster_record.specs.RecordState.{entry_of};
-ghost use Rattle.world_core.specs.Beginning.{opened_place, closed_place};
-ghost use Rattle.world_core.specs.Driving.{takes_memory};
+ghost use Rattle.ckpt_machine.specs.Beginning.{opened_place, closed_place};
+ghost use Rattle.ckpt_machine.specs.Driving.{event_refusal};
+ghost use Rattle.world_core.specs.RecordReady.{IsRefusedWith};
+ghost use Rattle.world_core.specs.declared.hands.InHand.{InHand};
 ghost use Rattle.world_core.specs.LiveRooms.{room_is_taken};
-ghost use Rattle.world_core.specs.Reserving.{IsReserved};
+ghost use Rattle.world_core.specs.Reserving.{IsReservedAt};
 ghost use Rattle.world_core.specs.Runs.{step_word};
-ghost use Rattle.world_core.specs.Shows.{IsShown, IsRoomy, IsReservable};
+ghost use Rattle.ckpt_machine.specs.Facts.{IsReservable};
+ghost use Rattle.world_core.specs.Shows.{IsShown, HasNumbersLeft, hand_at};
 ghost use Rattle.world_core.specs.Happenings.{Adds, rooms_in, IsNext, IsStep, IsIdle};
 ghost use Rattle.ckpt_types.specs.declared.identities.CallId.{CallId};
 ghost use Rattle.ckpt_types.specs.declared.sections.Choice.{Choice};
@@ -23,15 +26,15 @@ ghost use Rattle.ckpt_types.specs.Limits.{client_numbers, nodes_max, places_max}
 
 use crate::applying::apply;
 use crate::beginning::{closed_place, opened_for, opened_place};
-use crate::drivers::{Rooms, event_ckpt, event_end, event_node};
+use crate::drivers::{Rooms, event_ckpt, event_end, event_node, event_refusal};
 use crate::messages::look_word;
-use crate::nodes::told_pieces;
+use crate::nodes::{Lent, told_details};
 use crate::tables::Tables;
 use crate::world::World;
 use ckpt_types::{ActorName, Answer, CkptId, NodeId, Op, Outcome, Who};
 use cluster_record::Record;
 use node_msgs::{Next, RecordStep, Reply, Request, StepReply, Verb};
-use run_labels::{Label, LineWord, RunLog, Said};
+use run_labels::{Details, Label, LineWord, RunLog, Said};
 use std::alloc::{AllocError, Global};
 
 impl World {
@@ -46,7 +49,7 @@ impl World {
     ) -> Result<(), AllocError>
         requires client { c < client_numbers }
         requires shown { IsShown self.old }
-        requires roomy { IsRoomy self.old }
+        requires roomy { HasNumbersLeft self.old }
         requires spare { 1 ≤ log.old.spare }
         ensures ok { OnOk result (Adds log.old log.new (λ label. IsStep c self.old self.new label ⊎ IsIdle c finish self.old self.new label)) }
         ensures err { OnErr result ((self.new ≡ self.old) × (log.new.labels ≡ log.old.labels)) }
@@ -73,7 +76,7 @@ impl World {
                 Ok(())
             }
             Next::Event(step) => {
-                self.record_step(c, step, log);
+                self.event_step(c, step, log);
                 Ok(())
             }
             Next::End(end) => {
@@ -126,7 +129,7 @@ impl World {
             node: Some(r),
             reply: reply.word(),
             end,
-            pieces: None,
+            details: Details::Nothing,
         });
         Ok(())
     }
@@ -146,7 +149,7 @@ impl World {
         requires goes_on_with_none { (call : CallId) (k : ℕ) → request.now ≢ requests.Next call k }
         requires client { c < client_numbers }
         requires shown { IsShown self.old }
-        requires roomy { IsRoomy self.old }
+        requires roomy { HasNumbersLeft self.old }
         requires spare { 1 ≤ log.old.spare }
         ensures ok { OnOk result (Adds log.old log.new (IsStep c self.old self.new)) }
         ensures err { OnErr result ((self.new ≡ self.old) × (log.new.labels ≡ log.old.labels)) }
@@ -156,12 +159,13 @@ impl World {
         };
         let call = hand.call;
         let op = hand.word();
-        let mut lent = hand.lend(alloc, request)?;
+        let mut lent = Lent::nothing(alloc)?;
+        hand.lend(alloc, request, &mut lent)?;
         let reply = self
             .nodes
             .serve(r, request, &hand.op, &self.cluster, &mut lent);
         let end = self.hands.take(c, &self.cluster, r, request, &reply);
-        let pieces = told_pieces(&end, &reply, lent.read);
+        let details = told_details(&end, &reply, lent);
         log.push(Label::Stepped {
             call,
             op,
@@ -170,7 +174,7 @@ impl World {
             node: Some(r),
             reply: reply.word(),
             end,
-            pieces,
+            details,
         });
         Ok(())
     }
@@ -180,23 +184,64 @@ impl World {
         requires next { IsNext self.old c (nexts.Event events.Enter) }
         requires client { c < client_numbers }
         requires shown { IsShown self.old }
-        requires roomy { IsRoomy self.old }
+        requires roomy { HasNumbersLeft self.old }
         requires spare { 1 ≤ log.old.spare }
         ensures { Adds log.old log.new (IsStep c self.old self.new) }
     {
         match self.tables.take_room(alloc, c) {
             Ok(()) => self.record_step(c, RecordStep::Enter, log),
-            Err(AllocError) => self.refuse_step(c, RecordStep::Enter, log),
+            Err(AllocError) => self.refuse_step(
+                c,
+                RecordStep::Enter,
+                StepReply::Memory,
+                Outcome::NoMemory,
+                log,
+            ),
         }
     }
 
-    // A step of the record is refused its memory, and the call ends.
-    fn refuse_step(&mut self, c: u8, step: RecordStep, log: &mut RunLog)
+    // A step of the record, which it may refuse.
+    fn event_step(&mut self, c: u8, step: RecordStep, log: &mut RunLog)
         requires next { IsNext self.old c (nexts.Event step) }
-        requires takes { IsTrue (takes_memory step) }
+        requires not_enter { step ≢ events.Enter }
         requires client { c < client_numbers }
         requires shown { IsShown self.old }
-        requires roomy { IsRoomy self.old }
+        requires roomy { HasNumbersLeft self.old }
+        requires spare { 1 ≤ log.old.spare }
+        ensures { Adds log.old log.new (IsStep c self.old self.new) }
+    {
+        match self.refusal(c, &step) {
+            Some(end) => self.refuse_step(c, step, StepReply::Refused, end, log),
+            None => self.record_step(c, step, log),
+        }
+    }
+
+    // How the client's call ends by the step, where the record refuses it.
+    fn refusal(&self, c: u8, step: &RecordStep) -> Option<Outcome>
+        requires next { IsNext self.now c (nexts.Event step.now) }
+        requires roomy { HasNumbersLeft self.now }
+        ensures { (hand : InHand) → hand_at self.now.hands c ≡ Some hand → result ≡ event_refusal self.now.cluster step.now hand.driver }
+    {
+        let Some(hand) = self.hands.find(c) else {
+            unreachable!()
+        };
+        event_refusal(&self.cluster, &hand.driver, step)
+    }
+
+    // A step is refused by the record, or the memory that it takes, and the call ends.
+    fn refuse_step(
+        &mut self,
+        c: u8,
+        step: RecordStep,
+        reply: StepReply,
+        end: Outcome,
+        log: &mut RunLog,
+    )
+        requires next { IsNext self.old c (nexts.Event step) }
+        requires refused { (hand : InHand) → hand_at self.old.hands c ≡ Some hand → IsRefusedWith (event_refusal self.old.cluster step hand.driver) step reply end }
+        requires client { c < client_numbers }
+        requires shown { IsShown self.old }
+        requires roomy { HasNumbersLeft self.old }
         requires spare { 1 ≤ log.old.spare }
         ensures { Adds log.old log.new (IsStep c self.old self.new) }
     {
@@ -214,20 +259,21 @@ impl World {
             verb: step.verb(),
             ckpt,
             node,
-            reply: StepReply::Memory,
-            end: Some(Outcome::NoMemory),
-            pieces: None,
+            reply,
+            end: Some(end),
+            details: Details::Nothing,
         });
     }
 
-    // The call takes a step of the record; where its memory is refused, the call ends. A client that becomes live
-    // has its room.
+    // The call takes a step that the record does not refuse; where its memory is refused, the call ends. A client
+    // that becomes live has its room.
     fn record_step(&mut self, c: u8, step: RecordStep, log: &mut RunLog)
         requires next { IsNext self.old c (nexts.Event step) }
+        requires granted { (hand : InHand) → hand_at self.old.hands c ≡ Some hand → event_refusal self.old.cluster step hand.driver ≡ None }
         requires has_room { step ≡ events.Enter → room_is_taken (slice_get self.old.tables c) ≡ true }
         requires client { c < client_numbers }
         requires shown { IsShown self.old }
-        requires roomy { IsRoomy self.old }
+        requires roomy { HasNumbersLeft self.old }
         requires spare { 1 ≤ log.old.spare }
         ensures { Adds log.old log.new (IsStep c self.old self.new) }
     {
@@ -240,7 +286,7 @@ impl World {
         let node = event_node(&hand.driver, &step);
         let verb = step.verb();
         if apply(&mut self.cluster, call, &hand.driver, step).is_err() {
-            self.refuse_step(c, step, log);
+            self.refuse_step(c, step, StepReply::Memory, Outcome::NoMemory, log);
             return;
         }
         settle(&mut self.tables, &self.cluster, c, &hand.op, &step, ckpt);
@@ -256,11 +302,11 @@ impl World {
             node,
             reply: StepReply::Ok,
             end,
-            pieces: None,
+            details: Details::Nothing,
         });
     }
 
-    // The record alone decides how the call ends.
+    // The record alone decides how the call ends; what it is making is undone.
     fn look_step(&mut self, c: u8, end: Outcome, log: &mut RunLog)
         requires next { IsNext self.old c (nexts.End end) }
         requires client { c < client_numbers }
@@ -274,8 +320,10 @@ impl World {
         let call = hand.call;
         let op = hand.word();
         let reply = look_word(&end);
+        let making = hand.driver.making();
         settle_look(&mut self.tables, c, &hand.op, &end);
         self.hands.clear(c);
+        self.unmake(making);
         log.push(Label::Stepped {
             call,
             op,
@@ -284,15 +332,26 @@ impl World {
             node: None,
             reply,
             end: Some(end),
-            pieces: None,
+            details: Details::Nothing,
         });
+    }
+
+    // What a call is making is undone, if it is making something; what is over goes too, and its replicas.
+    fn unmake(&mut self, making: Option<CkptId>)
+        ensures { self.new ≡ without_making_of making self.old }
+    {
+        if let Some(ckpt) = making {
+            self.cluster.undo_create(ckpt);
+            self.cluster.sweep();
+            self.nodes.free_gone(&self.cluster);
+        }
     }
 
     // A node takes the storage of a replica of the checkpoint, which is in the making.
     fn reserve(&mut self, alloc: Global, r: NodeId, ckpt: CkptId) -> Reply
         requires node { r < nodes_max }
         requires ready { IsSomeAnd (entry_of ckpt self.old.cluster.entries) (IsReservable self.old.cluster r) }
-        ensures reserved { IsReserved r ckpt self.old self.new result }
+        ensures reserved { IsReservedAt r ckpt self.old self.new result }
         ensures there { r < length self.old.nodes }
     {
         let Some(entry) = self.cluster.entry(ckpt) else {
@@ -366,7 +425,7 @@ fn close(tables: &mut Tables, c: u8, place: Option<u8>)
 fn give(tables: &mut Tables, cluster: &Record, c: u8, op: &Op, ckpt: Option<CkptId>)
     requires client { c < client_numbers }
     requires can { CanGive c op.now ckpt tables.old }
-    ensures new { tables.new ≡ given cluster.now c op.now ckpt (opened_place op.now) tables.old }
+    ensures new { tables.new ≡ tables_given cluster.now c op.now ckpt (opened_place op.now) tables.old }
     ensures places { IsSomeAnd (slice_get tables.old c) (λ t. length t.client.places ≡ places_max) }
 {
     let (Some(ckpt), Some(place)) = (ckpt, opened_place(op)) else {

@@ -1,9 +1,9 @@
 ghost use Rattle.std.specs.Prelude.{◌≡◌, ◌-◌, ◌^◌, ◌<◌, ◌≤◌, [], true, IfOk, IfSome, IsSome, IsSomeAnd, OnErr, OnOk, length, nat_lt, slice_get, slice_set, replicate};
-ghost use Rattle.ckpt_types.specs.Limits.{section_id_max, iterations_max, handles_max, places_max, nodes_max, client_numbers};
+ghost use Rattle.ckpt_types.specs.Limits.{iterations_max, handles_max, places_max, nodes_max, client_numbers};
 ghost use Rattle.client_handles.specs.ClientState.{handle_at, handle_numbered, has_handle_room, has_iteration_room, iteration_at};
-ghost use Rattle.world_core.specs.Serving.{replica_in, given_at, next_id, next_reply_at};
-ghost use Rattle.world_core.specs.Lending.{pieces_told};
-ghost use Rattle.world_core.specs.Steps.{handle_over, ids_of};
+ghost use Rattle.ckpt_machine.specs.Serving.{replica_in, given_at, next_details, next_reply_at};
+ghost use Rattle.world_core.specs.Lending.{section_told};
+ghost use Rattle.ckpt_machine.specs.Steps.{handle_over, ids_of};
 ghost use Rattle.world_core.specs.TableState.{with_room, with_handle, with_started_iteration, without_begun, gone_on, kept_at, begun_with, with_closed, with_none};
 ghost use Rattle.world_core.specs.NewTable.{new_table};
 ghost use Rattle.world_core.specs.LiveRooms.{room_is_taken};
@@ -11,7 +11,7 @@ ghost use Rattle.world_core.specs.Shows.{next_in, handles_in, iterations_in, las
 
 use crate::kept_client::{add, close, end, go_on, leave, new_client, start};
 use crate::nodes::Nodes;
-use ckpt_types::{CLIENT_NUMBERS, CkptId, Moment, NodeId, OpenFlags, ReadBuf};
+use ckpt_types::{Apart, CLIENT_NUMBERS, CkptId, Moment, NodeId, OpenFlags, SectionDescriptor};
 use client_handles::{Client, HandleView};
 use node_msgs::Reply;
 use section_iter::Iteration;
@@ -32,9 +32,9 @@ impl Model for Table {
 
     ghost Value = { TableState };
 
-    ghost use Rattle.world_core.specs.TableView.{table_of, HasClient};
+    ghost use Rattle.world_core.specs.TableView.{table_shown, HasClient};
 
-    ghost view = { table_of };
+    ghost view = { table_shown };
 
     ghost invariant = { HasClient };
 }
@@ -145,16 +145,13 @@ impl Table {
         r: NodeId,
         ckpt: CkptId,
         now: Moment,
-        out: &mut ReadBuf,
+        out: &mut Apart<SectionDescriptor>,
     ) -> Reply
         requires place { place < places_max }
         requires node { r < nodes_max }
         requires there { IsSome (iteration_at place self.old.client) }
-        requires empty { out.old.pieces ≡ [] }
-        requires places { 1 ≤ out.old.spare_pieces }
-        requires bytes { section_id_max ≤ out.old.spare_bytes }
         ensures reply { result ≡ next_reply_at (ids_of (kept_at place self.old)) now (replica_in nodes.now ckpt r) }
-        ensures pieces { pieces_told result out.new.pieces ≡ next_id (given_at (ids_of (kept_at place self.old)) now (replica_in nodes.now ckpt r)) }
+        ensures details { section_told result out.new ≡ next_details (given_at (ids_of (kept_at place self.old)) now (replica_in nodes.now ckpt r)) }
         ensures new { self.new ≡ gone_on place (given_at (ids_of (kept_at place self.old)) now (replica_in nodes.now ckpt r)) self.old }
     {
         let Some(client) = &mut self.client else {
@@ -307,17 +304,14 @@ impl Tables {
         r: NodeId,
         ckpt: CkptId,
         now: Moment,
-        out: &mut ReadBuf,
+        out: &mut Apart<SectionDescriptor>,
     ) -> Reply
         requires client { c < client_numbers }
         requires place { place < places_max }
         requires node { r < nodes_max }
         requires there { IsSomeAnd (slice_get self.old c) (λ table. IsSome (iteration_at place table.client)) }
-        requires empty { out.old.pieces ≡ [] }
-        requires places { 1 ≤ out.old.spare_pieces }
-        requires bytes { section_id_max ≤ out.old.spare_bytes }
         ensures reply { IsSomeAnd (slice_get self.old c) (λ table. result ≡ next_reply_at (ids_of (kept_at place table)) now (replica_in nodes.now ckpt r)) }
-        ensures pieces { IsSomeAnd (slice_get self.old c) (λ table. pieces_told result out.new.pieces ≡ next_id (given_at (ids_of (kept_at place table)) now (replica_in nodes.now ckpt r))) }
+        ensures details { IsSomeAnd (slice_get self.old c) (λ table. section_told result out.new ≡ next_details (given_at (ids_of (kept_at place table)) now (replica_in nodes.now ckpt r))) }
         ensures new { IsSomeAnd (slice_get self.old c) (λ table. self.new ≡ slice_set self.old c (gone_on place (given_at (ids_of (kept_at place table)) now (replica_in nodes.now ckpt r)) table)) }
     {
         go_on_at(
@@ -431,17 +425,14 @@ fn go_on_at(
     r: NodeId,
     ckpt: CkptId,
     now: Moment,
-    out: &mut ReadBuf,
+    out: &mut Apart<SectionDescriptor>,
 ) -> Reply
     requires client { c < length tables.old }
     requires place { place < places_max }
     requires node { r < nodes_max }
     requires there { IsSomeAnd (slice_get tables.old c) (λ table. IsSome (iteration_at place table.client)) }
-    requires empty { out.old.pieces ≡ [] }
-    requires places { 1 ≤ out.old.spare_pieces }
-    requires bytes { section_id_max ≤ out.old.spare_bytes }
     ensures reply { IsSomeAnd (slice_get tables.old c) (λ table. result ≡ next_reply_at (ids_of (kept_at place table)) now (replica_in nodes.now ckpt r)) }
-    ensures pieces { IsSomeAnd (slice_get tables.old c) (λ table. pieces_told result out.new.pieces ≡ next_id (given_at (ids_of (kept_at place table)) now (replica_in nodes.now ckpt r))) }
+    ensures details { IsSomeAnd (slice_get tables.old c) (λ table. section_told result out.new ≡ next_details (given_at (ids_of (kept_at place table)) now (replica_in nodes.now ckpt r))) }
     ensures new { IsSomeAnd (slice_get tables.old c) (λ table. tables.new ≡ slice_set tables.old c (gone_on place (given_at (ids_of (kept_at place table)) now (replica_in nodes.now ckpt r)) table)) }
 {
     let table = &mut tables[c];

@@ -1,9 +1,9 @@
 ghost use Rattle.std.specs.Prelude.{◌≡◌, ◌≤◌, IfOk, OnOk, OnErr, is_some};
-ghost use Rattle.world_core.specs.Shows.{IsShown, IsRoomy};
+ghost use Rattle.world_core.specs.Shows.{IsShown, HasNumbersLeft};
 ghost use Rattle.world_core.specs.Parts.{record_in, call_in_hand};
 ghost use Rattle.world_core.specs.Happenings.{Adds, ComesNow, IsAnswered};
 ghost use Rattle.world_core.specs.Runs.{IsNew, IsRunTo, MayHappen, Happens};
-ghost use Rattle.world_core.specs.Refusals.{RefusalLeaves};
+ghost use Rattle.ckpt_machine.specs.Refusals.{RefusalLeaves};
 ghost use Rattle.world_core.specs.StepsLeft.{ComesNearer};
 
 use crate::hands::Hands;
@@ -77,7 +77,8 @@ impl World {
         ensures run { IsRunTo self.new log.new.labels }
         ensures happens { OnOk result (Happens event self.old self.new log.old.labels log.new.labels) }
 
-        // A call that is refused leaves sections, names and handles as they were.
+        // A call that is refused, or is refused its own memory, leaves all as it was but a making of its own, which is
+        // undone; it owns nothing then, and no replica has an effect of it.
         ensures refused { OnOk result (RefusalLeaves log.old.labels log.new.labels) }
         ensures err { OnErr result ((self.new ≡ self.old) × (log.new.labels ≡ log.old.labels)) }
 
@@ -95,7 +96,7 @@ impl World {
     fn happen(&mut self, alloc: Global, event: Event, log: &mut RunLog) -> Result<(), AllocError>
         requires comes { ComesNow self.old event }
         requires shown { IsShown self.old }
-        requires roomy { IsRoomy self.old }
+        requires roomy { HasNumbersLeft self.old }
         requires spare { 1 ≤ log.old.spare }
         ensures ok { OnOk result (Adds log.old log.new (IsAnswered event self.old self.new)) }
         ensures err { OnErr result ((self.new ≡ self.old) × (log.new.labels ≡ log.old.labels)) }

@@ -2,7 +2,8 @@ use Rattle.std.proofs.Common.{◌+◌, List, ◌++◌, length, drop, sym, ap, su
 use Rattle.std.proofs.lemmas.List.{drop_all}
 use Rattle.run_labels.specs.declared.labels.Label.{Label}
 use Rattle.cluster_record.specs.RecordState.{RecordState}
-use Rattle.world_core.specs.Runs.{IsRunTo, last}
+use Rattle.ckpt_machine.specs.Runs.{last}
+use Rattle.world_core.specs.Runs.{IsRunTo}
 use Rattle.session_run.specs.Follows.{FollowsFrom, Follows}
 use Rattle.session_run.proofs.Following.{follows_line, follows_end, drop_item}
 use Rattle.world_core.proofs.Running.{new_run}

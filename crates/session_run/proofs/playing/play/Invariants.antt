@@ -1,6 +1,7 @@
 use Rattle.std.proofs.Common.{◌≡◌, ◌*◌, ◌≤◌, List, [], ◌++◌, length, drop, pos}
 use Rattle.run_labels.specs.declared.labels.Label.{Label}
-use Rattle.world_core.specs.Runs.{IsRunTo, NoneInHand, last}
+use Rattle.ckpt_machine.specs.Runs.{last}
+use Rattle.world_core.specs.Runs.{IsRunTo, NoneInHand}
 use Rattle.session_run.specs.Follows.{FollowsFrom, Follows}
 use Rattle.session_run.specs.Growing.{one_node_labels, AreLeft}
 use Rattle.session_run.proofs.playing.play.Given as goal

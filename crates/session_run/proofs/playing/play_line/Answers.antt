@@ -4,7 +4,7 @@ use Rattle.std.specs.Int.RustNames.{FitsSigned}
 use Rattle.run_labels.specs.declared.labels.Label.{Label}
 use Rattle.run_labels.specs.declared.labels.Label.TheVariants as labels
 use Rattle.script_lang.specs.declared.lines.Line.{Line}
-use Rattle.world_core.specs.Runs.{last}
+use Rattle.ckpt_machine.specs.Runs.{last}
 use Rattle.session_run.specs.Follows.{AnswersLine}
 use Rattle.session_run.specs.Growing.{GrowsTowards}
 use Rattle.session_run.proofs.Following.{OnOk-map}

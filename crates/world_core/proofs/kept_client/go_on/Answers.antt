@@ -6,8 +6,8 @@ use Rattle.client_handles.specs.ClientState.{ClientState, kept_iteration, lent, 
 use Rattle.client_handles.proofs.ClientLaws.{IsValid-lent, IsValid-returned}
 use Rattle.client_handles.proofs.IterationLaws.{IsLent-lent}
 use Rattle.client_handles.proofs.LentLaws.{IsNotLent-none, NoneLent-returned_lent}
-use Rattle.world_core.specs.Serving.{given_at, replica_in}
-use Rattle.world_core.specs.Steps.{ids_of}
+use Rattle.ckpt_machine.specs.Serving.{given_at, replica_in}
+use Rattle.ckpt_machine.specs.Steps.{ids_of}
 use Rattle.world_core.specs.TableState.{kept_of, gone_on_of}
 use Rattle.world_core.proofs.GoingOn.{kept_iteration-there, kept_of-told, gone_on-told}
 use Rattle.world_core.proofs.kept_client.go_on.Goals as goal

@@ -1,6 +1,6 @@
 use Rattle.std.proofs.Common.{◌≡◌, drop}
 use Rattle.cluster_record.specs.Places.{find_key}
-use Rattle.world_core.specs.Serving.{replica_key}
+use Rattle.ckpt_machine.specs.Serving.{replica_key}
 use Rattle.world_core.proofs.nodes.find_at.Given as goal
 
 abbrev pub invariant-loop-replica : goal.invariant-loop-replica

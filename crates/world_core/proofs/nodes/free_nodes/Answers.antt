@@ -1,7 +1,7 @@
 use Rattle.std.proofs.Common.{◌+◌, ◌<◌, ◌≤◌, List, length, filter, sym, ap, ◌∙◌, arith}
 use Rattle.std.specs.Prelude.{slice_set}
 use Rattle.cluster_record.proofs.EachChanged.{changed_from, changed_from-start, changed_from-next, changed_from-end}
-use Rattle.world_core.specs.declared.replica.Replica.{Replica}
+use Rattle.ckpt_machine.specs.Replicas.{Replica}
 use Rattle.world_core.specs.Freeing.{is_there}
 use Rattle.world_core.proofs.nodes.free_nodes.Goals as goal
 

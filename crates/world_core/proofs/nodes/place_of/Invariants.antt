@@ -1,6 +1,6 @@
 use Rattle.std.proofs.Common.{◌≡◌, drop}
 use Rattle.cluster_record.specs.Places.{place_from}
-use Rattle.world_core.specs.Serving.{replica_key}
+use Rattle.ckpt_machine.specs.Serving.{replica_key}
 use Rattle.world_core.proofs.nodes.place_of.Given as goal
 
 abbrev pub invariant-loop-i : goal.invariant-loop-i

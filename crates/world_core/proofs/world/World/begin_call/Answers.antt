@@ -4,10 +4,10 @@ use Rattle.ckpt_types.specs.declared.answers.Outcome.{Outcome}
 use Rattle.ckpt_types.specs.declared.identities.ActorName.TheVariants.{Client}
 use Rattle.ckpt_types.specs.declared.identities.CallId.{CallId}
 use Rattle.world_core.specs.declared.hands.InHand.{InHand}
-use Rattle.world_core.specs.Beginning.{handle_place, iteration_place}
-use Rattle.world_core.specs.Driving.{driver_start}
+use Rattle.ckpt_machine.specs.Beginning.{handle_place, iteration_place}
+use Rattle.ckpt_machine.specs.Driving.{driver_start}
 use Rattle.world_core.specs.Shows.{next_in}
-use Rattle.world_core.specs.Steps.{IsBeginEnd, room_at, ckpt_of_handle, kept_at}
+use Rattle.ckpt_machine.specs.Steps.{IsBeginEnd, room_at, ckpt_of_handle, kept_at_beginning}
 use Rattle.world_core.specs.TableState.{begun_with}
 use Rattle.world_core.proofs.Begin.{begin_done}
 use Rattle.world_core.proofs.Beginnings.{table_has_no_zero, handle_named_is, at_table, ended_hands, none_where_false}
@@ -20,7 +20,7 @@ returns-then-is_some-clause-ok c =
     let call : CallId = record { actor = Client c.args.c; number = c.number.result } in
     let handle = c.named_handle-handle.result in
     let end = c.take_room-end.result.0 in
-    let driver = driver_start call c.args.op (kept_at w.cluster c.args.c handle) in
+    let driver = driver_start call c.args.op (kept_at_beginning w.cluster c.args.c handle) in
     let hand : InHand = record { call = call; op = c.args.op; driver = driver; iteration = c.take_room-end.result.1 } in
     let hands = ended_hands w.hands c.args.c end hand c.covers.ensures c.requires.none (sym c.is_some.ensures ∙ c.if-is_some.true) in
     record {

@@ -1,3 +1,4 @@
+use Rattle.std.proofs.Common.{refl}
 use Rattle.node_msgs.specs.declared.next.Next.TheVariants.{Event}
 use Rattle.node_msgs.specs.declared.next.RecordStep.TheVariants.{Enter}
 use Rattle.world_core.proofs.TakenRoom.{keeps_taken}
@@ -14,6 +15,12 @@ record_step-requires-clause-shown c = (keeps_taken c.args.self.now c.args.c c.ta
 
 pub record_step-requires-clause-roomy : goal.record_step-requires-clause-roomy
 record_step-requires-clause-roomy c = (keeps_taken c.args.self.now c.args.c c.take_room.new.self c.in-Ok.ensures.taken).roomy c.requires.roomy
+
+pub record_step-requires-clause-granted : goal.record_step-requires-clause-granted
+record_step-requires-clause-granted c hand held = refl
+
+pub refuse_step-requires-clause-refused : goal.refuse_step-requires-clause-refused
+refuse_step-requires-clause-refused c hand held = (refl, refl)
 
 pub returns-in-Ok : goal.returns-in-Ok
 returns-in-Ok c =

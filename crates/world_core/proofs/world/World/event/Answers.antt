@@ -1,6 +1,6 @@
 use Rattle.std.proofs.Common.{ap, ◌∙◌, ◌++◌, ◌∷◌, []}
 use Rattle.world_core.proofs.Events.{run_with, happens_with, nearer_with}
-use Rattle.world_core.proofs.Refusing.{run_leaves}
+use Rattle.ckpt_machine.proofs.RefusedRuns.{run_leaves}
 use Rattle.world_core.proofs.Running.{shown, roomy}
 use Rattle.world_core.proofs.world.World.event.Goals as goal
 

@@ -3,7 +3,7 @@ use Rattle.std.specs.Prelude.{◌<◌, Option, IsSomeAnd, slice_get, slice_set}
 use Rattle.std.proofs.lemmas.Int.{to_z-of_z}
 use Rattle.std.proofs.lemmas.Option.{same_Some}
 use Rattle.client_handles.specs.declared.handle_view.HandleView.{HandleView}
-use Rattle.world_core.specs.Serving.{chosen_at, replica_in}
+use Rattle.ckpt_machine.specs.Serving.{chosen_at, replica_in}
 use Rattle.world_core.specs.Shows.{handle_in_place}
 use Rattle.world_core.specs.TableState.{with_started_iteration}
 use Rattle.world_core.proofs.IterationSteps.{started, started_node, started_room, handle_there, handle_opened, start_is}

@@ -41,6 +41,6 @@ returns-clause-ok c =
       label = _;
       labels = c.push.ensures.labels;
       is = next_is c.args.self.now c.args.c c.args.r c.args.asked c.args.ckpt hand held c.requires.next c.requires.shown
-          c.in-Some-iteration_place.place now c.go_on-reply.new.self c.take-end.new.self c.word-op.result c.word.result c.go_on-reply.result c.take-end.result _ c.told_pieces-pieces.result
-          (sym c.in-Some-iteration_place.is ∙ c.iteration_place.ensures) now_is c.go_on-reply.ensures.reply c.go_on-reply.ensures.pieces c.go_on-reply.ensures.new (c.take-end.ensures.end hand held) (c.take-end.ensures.new hand held) c.word-op.ensures c.word.ensures c.told_pieces-pieces.ensures;
+          c.in-Some-iteration_place.place now c.go_on-reply.new.self c.take-end.new.self c.word-op.result c.word.result c.go_on-reply.result c.take-end.result _ c.told_section-details.result
+          (sym c.in-Some-iteration_place.is ∙ c.iteration_place.ensures) now_is c.go_on-reply.ensures.reply c.go_on-reply.ensures.details c.go_on-reply.ensures.new (c.take-end.ensures.end hand held) (c.take-end.ensures.new hand held) c.word-op.ensures c.word.ensures c.told_section-details.ensures;
     }

@@ -1,11 +1,16 @@
-use Rattle.std.proofs.Common.{◌≡◌, ℕ, Some, sym, subst, ◌∙◌}
-use Rattle.std.specs.Prelude.{Option}
+use Rattle.std.proofs.Common.{◌≡◌, ℕ, Some, refl, sym, ap, subst, ◌∙◌}
+use Rattle.std.specs.Prelude.{Option, IsTrue}
+use Rattle.ckpt_types.specs.declared.answers.Outcome.{Outcome}
+use Rattle.ckpt_types.specs.declared.answers.Outcome.TheVariants.{NoMemory}
+use Rattle.node_msgs.specs.declared.steps.StepReply.TheVariants.{Memory}
+use Rattle.world_core.specs.RecordReady.{IsRefusedWith}
 use Rattle.node_msgs.specs.declared.next.Next.TheVariants.{Event}
-use Rattle.world_core.specs.Driving.{event_after}
+use Rattle.ckpt_machine.specs.Driving.{event_after, event_refusal, takes_memory}
+use Rattle.cluster_record.specs.RecordState.{RecordState}
 use Rattle.world_core.specs.Settling.{CanSettle}
 use Rattle.world_core.specs.Shows.{hand_at}
 use Rattle.world_core.proofs.Held.{next_for}
-use Rattle.world_core.proofs.RecordSteps.{can_settle, is_ready, when_ok, event_step}
+use Rattle.world_core.proofs.RecordSteps.{can_settle, is_ready, when_ok, when_err, event_step}
 use Rattle.world_core.proofs.world.World.record_step.Goals as goal
 
 pub apply-requires : goal.apply-requires
@@ -13,7 +18,7 @@ apply-requires c =
     let w = c.args.self.now in
     let hand = c.in-Some.hand.now in
     let held : hand_at w.hands c.args.c ≡ Some hand = c.in-Some.ensures in
-    is_ready w c.args.c c.args.step hand held (next_for w c.args.c (Event c.args.step) hand held c.requires.next) c.requires.shown c.requires.roomy
+    is_ready w c.args.c c.args.step hand held (next_for w c.args.c (Event c.args.step) hand held c.requires.next) c.requires.shown (c.requires.granted hand held) c.requires.roomy
 
 pub settle-requires-clause-can : goal.settle-requires-clause-can
 settle-requires-clause-can c =
@@ -21,7 +26,15 @@ settle-requires-clause-can c =
     let hand = c.in-Some.hand.now in
     let held : hand_at w.hands c.args.c ≡ Some hand = c.in-Some.ensures in
     let next = next_for w c.args.c (Event c.args.step) hand held c.requires.next in
-    subst (λ (k : Option ℕ). CanSettle c.args.c hand.op c.args.step k w.tables) (sym c.event_ckpt-ckpt.ensures) (can_settle w c.args.c c.args.step hand held next c.requires.shown c.requires.roomy)
+    subst (λ (k : Option ℕ). CanSettle c.args.c hand.op c.args.step k w.tables) (sym c.event_ckpt-ckpt.ensures) (can_settle w c.args.c c.args.step hand held next c.requires.shown (c.requires.granted hand held) c.requires.roomy)
+
+pub refuse_step-requires-clause-refused : goal.refuse_step-requires-clause-refused
+refuse_step-requires-clause-refused c hand held =
+    let w = c.args.self.now in
+    let err = sym c.is_err.ensures.value ∙ c.if-is_err.true in
+    let same : c.apply.new.cluster ≡ w.cluster = when_err (c.apply.new.cluster ≡ w.cluster) c.apply.result err c.apply.ensures.err in
+    let takes : IsTrue (takes_memory c.args.step) = when_err (IsTrue (takes_memory c.args.step)) c.apply.result err c.apply.ensures.memory in
+    subst (λ (o : Option Outcome). IsRefusedWith o c.args.step Memory NoMemory) (sym (ap (λ (R : RecordState). event_refusal R c.args.step hand.driver) same ∙ c.requires.granted hand held)) (takes, refl)
 
 pub returns : goal.returns
 returns c =
@@ -35,5 +48,5 @@ returns c =
       label = _;
       labels = c.push.ensures.labels;
       is = event_step w c.args.c c.args.step hand held next c.requires.shown c.apply.new.cluster c.free_gone.new.self c.settle.new.tables c.told.new.self c.word-op.result c.verb-verb.result c.event_ckpt-ckpt.result c.event_node-node.result c.event_end-end.result
-          c.requires.roomy c.settle.ensures.places c.requires.has_room record_is c.event_ckpt-ckpt.ensures c.event_node-node.ensures c.event_end-end.ensures c.settle.ensures.new c.told.ensures c.free_gone.ensures c.word-op.ensures c.verb-verb.ensures;
+          (c.requires.granted hand held) c.requires.roomy c.settle.ensures.places c.requires.has_room record_is c.event_ckpt-ckpt.ensures c.event_node-node.ensures c.event_end-end.ensures c.settle.ensures.new c.told.ensures c.free_gone.ensures c.word-op.ensures c.verb-verb.ensures;
     }

@@ -14,6 +14,6 @@ returns c =
     record {
       label = _;
       labels = c.push.ensures.labels;
-      is = refused_step w c.args.c c.args.step hand held next c.requires.shown c.clear.new.self c.word-op.result c.verb.result c.event_ckpt-ckpt.result c.event_node-node.result c.requires.takes c.clear.ensures c.event_ckpt-ckpt.ensures
+      is = refused_step w c.args.c c.args.step hand held next c.requires.shown c.clear.new.self c.word-op.result c.verb.result c.event_ckpt-ckpt.result c.event_node-node.result c.args.reply c.args.end (c.requires.refused hand held) c.clear.ensures c.event_ckpt-ckpt.ensures
           c.event_node-node.ensures c.word-op.ensures c.verb.ensures;
     }

@@ -1,0 +1,95 @@
+-- A due request is of the call itself: a law of the definitions.
+use Rattle.cluster_record.specs.declared.calls.ActiveKind.{ActiveKind}
+use Rattle.cluster_record.specs.declared.calls.ActiveKind.TheVariants as kinds
+use Rattle.ckpt_machine.specs.Drivers.{Rooms}
+use Rattle.std.proofs.Common.{◌≡◌, ℕ, List, [], ◌∷◌, refl, subst, ◌∙◌}
+use Rattle.std.specs.Prelude.{Option, Some, None}
+use Rattle.ckpt_types.specs.declared.identities.CallId.{CallId}
+use Rattle.ckpt_types.specs.declared.operation.Op.{Op}
+use Rattle.ckpt_types.specs.declared.operation.Op.TheVariants as ops
+use Rattle.node_msgs.specs.declared.requests.Request.{Request}
+use Rattle.node_msgs.specs.declared.requests.Request.TheVariants.{Stage, Commit}
+use Rattle.node_msgs.specs.declared.next.Next.{Next}
+use Rattle.node_msgs.specs.declared.next.Next.TheVariants.{Serve, Event, End}
+use Rattle.node_msgs.specs.declared.steps.Verb.{Verb}
+use Rattle.node_msgs.specs.declared.steps.Verb.TheVariants as verbs
+use Rattle.node_msgs.specs.declared.steps.StepReply.{StepReply}
+use Rattle.node_msgs.specs.declared.steps.StepReply.TheVariants as words
+use Rattle.ckpt_machine.specs.Drivers.{Driver}
+use Rattle.ckpt_machine.specs.Drivers as drivers
+use Rattle.cluster_record.specs.DueUpdate.{UpdateState}
+use Rattle.cluster_record.specs.RecordState.{RecordState}
+use Rattle.cluster_record.specs.StepDone.{StepDone}
+use Rattle.ckpt_machine.specs.Driving.{Kept, on_kept, driver_start, driver_state, driver_taken, driver_next}
+use Rattle.cluster_record.specs.DueUpdate.{update_taken_by}
+use Rattle.cluster_record.specs.DueActive.{request_by}
+use Rattle.ckpt_machine.specs.Machine.{CallState}
+use Rattle.ckpt_machine.specs.Steps.{driver_of}
+use Rattle.ckpt_machine.proofs.NextOf.{OfAsked, next_of}
+
+-- a request that a call makes in its own name
+abbrev pub IsOwn : CallId → Request → Type 0
+IsOwn c (Stage call k t) = call ≡ c
+IsOwn c (Commit call k) = call ≡ c
+IsOwn c request = Unit {0}
+
+-- what is next is asked in the call's own name
+abbrev Asks : CallId → Next → Type 0
+Asks c (Serve r request) = IsOwn c request
+Asks c (Event step) = Unit {0}
+Asks c (End o) = Unit {0}
+
+-- a driver of an update is the call's
+abbrev Of : CallId → Driver → Type 0
+Of c (drivers.Update u) = u.call ≡ c
+Of c driver = Unit {0}
+
+taken_call : (d : StepDone) (u : UpdateState) (verb : Verb) (reply : StepReply) → (update_taken_by (record d { reply = reply }) u verb).call ≡ u.call
+taken_call d u verbs.Stage words.Ok = refl
+taken_call d u verbs.Stage reply = refl
+taken_call d u verbs.Commit words.Ok = refl
+taken_call d u verbs.Commit reply = refl
+taken_call d u verb reply = refl
+
+of_kept : (c : CallId) (o : Option ℕ) (start : ℕ → Driver) → ((k : ℕ) → Of c (start k)) → Of c (on_kept o start)
+of_kept c None start h = tt
+of_kept c (Some k) start h = h k
+
+of_start : (call : CallId) (op : Op) (kept : Kept) → Of call (driver_start call op kept)
+of_start call (ops.Create place update) kept = of_kept call kept.ckpt _ (λ k. refl)
+of_start call (ops.Delete place update) kept = of_kept call kept.ckpt _ (λ k. refl)
+of_start call (ops.Expire place update) kept = of_kept call kept.ckpt _ (λ k. refl)
+of_start call (ops.Write place update) kept = of_kept call kept.ckpt _ (λ k. refl)
+of_start call (ops.Over place update) kept = of_kept call kept.ckpt _ (λ k. refl)
+of_start call (ops.Read place elements) kept = of_kept call kept.ckpt _ (λ k. tt)
+of_start call (ops.Status place) kept = of_kept call kept.ckpt _ (λ k. tt)
+of_start call (ops.Iter iteration place chosen time) kept = of_kept call kept.ckpt _ (λ k. tt)
+of_start call (ops.Next iteration) kept = of_kept call kept.ckpt _ (λ k. tt)
+of_start call (ops.Close place) kept = of_kept call kept.ckpt _ (λ k. tt)
+of_start call (ops.Retain place duration) kept = of_kept call kept.ckpt _ (λ k. tt)
+of_start call op kept = tt
+
+of_taken : (call : CallId) (d : StepDone) (x : Driver) → Of call x → Of call (driver_taken d x)
+of_taken call d (drivers.Update u) h = taken_call d u d.verb d.reply ∙ h
+of_taken call d x h = tt
+
+of_steps : (call : CallId) (op : Op) (kept : Kept) (steps : List StepDone) → Of call (driver_state call op kept steps)
+of_steps call op kept [] = of_start call op kept
+of_steps call op kept (d ∷ steps) = of_taken call d (driver_state call op kept steps) (of_steps call op kept steps)
+
+own_kind : (c call : CallId) (k : ℕ) (kind : ActiveKind) → IsOwn c (request_by call k kind)
+own_kind c call k kinds.Apply = tt
+own_kind c call k (kinds.Weak n) = tt
+own_kind c call k kinds.Read = tt
+own_kind c call k kinds.Status = tt
+own_kind c call k (kinds.Iterate choice) = tt
+own_kind c call k kinds.Next = tt
+
+own_asked : (c : CallId) (x : Driver) → Of c x → OfAsked (Asks c) x
+own_asked c (drivers.Update u) is = (λ r t. is, λ r. is)
+own_asked c (drivers.Active a) is = λ r. own_kind c a.call a.ckpt a.kind
+own_asked c x is = tt
+
+-- what a call asks a node, it asks as itself
+pub own_request : (R : RecordState) (room : Rooms) (s : CallState) (r : ℕ) (request : Request) → driver_next R room (driver_of s) ≡ Serve r request → IsOwn s.call request
+own_request R room s r request e = subst (Asks s.call) e (next_of (Asks s.call) (λ o. tt) (λ step. tt) (λ r k. tt) R room (driver_of s) (own_asked s.call (driver_of s) (of_steps s.call s.op s.kept s.steps)))

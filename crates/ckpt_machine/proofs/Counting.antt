@@ -1,0 +1,417 @@
+-- Each label counts up by at most one.
+use Rattle.std.proofs.Common.{◌≡◌, ◌⊎◌, ℕ, zero, suc, ◌+◌, ◌-◌, ◌≤◌, inl, inr, List, [], ◌∷◌, ◌++◌, filter, length, Option, Some, None, Bool, true, false, cond, not, ◌==◌, ◌&&◌, ℤ, refl, sym, ap, subst, arith}
+use Rattle.std.specs.Prelude.{slice_index, slice_set}
+use Rattle.std.proofs.lemmas.List.{length_push}
+use Rattle.std.proofs.lemmas.Option.{same_Some}
+use Rattle.ckpt_types.specs.declared.answers.Outcome.{Outcome}
+use Rattle.ckpt_types.specs.declared.identities.ActorName.{ActorName}
+use Rattle.ckpt_types.specs.declared.identities.CallId.{CallId}
+use Rattle.ckpt_types.specs.declared.attributes.CreationAttributes.{CreationAttributes}
+use Rattle.ckpt_types.specs.declared.operation.Op.{Op}
+use Rattle.ckpt_types.specs.Reads.{NextGiven}
+use Rattle.section_iter.specs.KeptIds.{KeptIds}
+use Rattle.client_handles.specs.declared.handle_view.HandleView.{HandleView}
+use Rattle.node_msgs.specs.declared.next.RecordStep.{RecordStep}
+use Rattle.node_msgs.specs.declared.next.RecordStep.TheVariants as events
+use Rattle.node_msgs.specs.declared.steps.Verb.{Verb}
+use Rattle.node_msgs.specs.declared.steps.Verb.TheVariants as verbs
+use Rattle.node_msgs.specs.declared.steps.StepReply.{StepReply}
+use Rattle.node_msgs.specs.declared.steps.StepReply.TheVariants as words
+use Rattle.run_labels.specs.declared.labels.Label.TheVariants as labels
+use Rattle.cluster_record.specs.declared.entries.Entry.{Entry}
+use Rattle.cluster_record.specs.Calls.{same_actor, number_of, client_of}
+use Rattle.cluster_record.specs.DueOpen.{OpenState, open_event}
+use Rattle.cluster_record.specs.Identities.{IdentitiesRise, AllUpTo}
+use Rattle.cluster_record.specs.LookUps.{at_ckpt}
+use Rattle.cluster_record.specs.Places.{change_key, put, put2}
+use Rattle.cluster_record.specs.RecordState.{RecordState, entry_of, identity_of, has_references, stays, swept, created_as, new_entry, referred, made_with, released, released_all, unnamed, retaining, is_call_of, departed, moved, undone, complete_of}
+use Rattle.cluster_record.proofs.IdentityLaws.{KeepsIdentity, IdentitiesRise-change_key, IdentitiesRise-filter, IdentitiesRise-map, IdentitiesRise-push}
+use Rattle.ckpt_machine.specs.Beginning.{ended_place, opened_place, started_place, iteration_place, closed_place}
+use Rattle.ckpt_machine.specs.Drivers.{Driver}
+use Rattle.ckpt_machine.specs.Drivers as drivers
+use Rattle.ckpt_machine.specs.Driving.{making_in, event_ckpt, event_change, event_after}
+use Rattle.ckpt_machine.specs.Machine.{IterationTable, Machine, ReplicaState, Staged, CallState, empty_cluster}
+use Rattle.ckpt_machine.specs.Laws.{CountsUp}
+use Rattle.ckpt_machine.specs.Runs.{Counts}
+use Rattle.ckpt_machine.specs.Steps.{driver_of, with_record, with_opened, with_handle_at, with_iteration, with_next, with_ended, without_iteration, without_handle, without_handles, change_replica, with_committed, committed_slot, effect_of, begun, begun_call, changed, step_of, event_done, on_ok, on_look, without_making, at_some, new_handle, handle_in, replica_under, opened_state}
+use Rattle.ckpt_machine.proofs.References.{released-identity, released_all-identity}
+use Rattle.ckpt_machine.proofs.Entries.{ComesOf, ComesOf-filter, ComesOf-change_key, ComesOf-map}
+use Rattle.ckpt_machine.proofs.NodeLists.{slice_index-replicate}
+
+-- ---- what counts up
+
+-- one reference more
+pub slice_index-one_more : (counts : List ℕ) (c d n : ℕ) → ((d : ℕ) → slice_index counts d ≤ n) → slice_index (slice_set counts c (slice_index counts c + 1)) d ≤ n + 1
+slice_index-one_more [] c d n few = omega arith
+slice_index-one_more (x ∷ xs) zero zero n few = let h : x ≤ n = few 0 in omega (arith, h)
+slice_index-one_more (x ∷ xs) zero (suc d) n few = omega (arith, few (suc d))
+slice_index-one_more (x ∷ xs) (suc c) zero n few = let h : x ≤ n = few 0 in omega (arith, h)
+slice_index-one_more (x ∷ xs) (suc c) (suc d) n few = slice_index-one_more xs c d n (λ d. few (suc d))
+
+-- what counts up counts no more where only the calls in hand changed
+pub Counts-hands : (m : Machine) (f : ActorName → Option CallState) (n : ℕ) → Counts m n → Counts (record m { in_hand = f }) (n + 1)
+Counts-hands m f n counts = record {
+  next = λ a. omega (arith, counts.next a);
+  last_handles = λ c. omega (arith, counts.last_handles c);
+  last_iterations = λ c. omega (arith, counts.last_iterations c);
+  effects = λ k r x is. omega (arith, counts.effects k r x is);
+  identity = omega arith;
+  references = λ k e c is. omega (arith, counts.references k e c is);
+}
+
+-- a replica after a step of the record was there, or has no effects
+pub replica_under-Some : (o : Option Entry) (before r : ℕ) (old : Option ReplicaState) (x : ReplicaState) → replica_under o before r old ≡ Some x → (old ≡ Some x) ⊎ (x.effects ≡ [])
+replica_under-Some None before r old x e = absurd (cc e)
+replica_under-Some (Some f) before r old x e =
+    elim (slice_index f.complete r == 0) as (λ b. cond b None (cond (before == 0) (Some (opened_state f)) old) ≡ Some x → (old ≡ Some x) ⊎ (x.effects ≡ [])) [
+      | true ↦ λ none. absurd (cc none)
+      | false ↦ λ some. elim (before == 0) as (λ b. cond b (Some (opened_state f)) old ≡ Some x → (old ≡ Some x) ⊎ (x.effects ≡ [])) [
+        | true ↦ λ new. inr (ap (λ (y : ReplicaState). y.effects) (sym (same_Some (opened_state f) x new)))
+        | false ↦ λ same. inl same
+      ] some
+    ] e
+
+-- after a step of the record
+pub Counts-record : (m : Machine) (R : RecordState) (n : ℕ) → Counts m n → R.last_identity ≤ n + 1 → ((k : ℕ) (e : Entry) (c : ℕ) → entry_of k R.entries ≡ Some e → slice_index e.references c ≤ n + 1) → Counts (with_record m R) (n + 1)
+Counts-record m R n counts identity references = record {
+  next = λ a. omega (arith, counts.next a);
+  last_handles = λ c. omega (arith, counts.last_handles c);
+  last_iterations = λ c. omega (arith, counts.last_iterations c);
+  effects = λ k r x is. elim (replica_under-Some (entry_of k R.entries) (slice_index (complete_of (entry_of k m.cluster.entries)) r) r (m.replicas k r) x is) [
+    | inl was ↦ omega (arith, counts.effects k r x was)
+    | inr none ↦ omega (arith, ap length none)
+  ];
+  identity = identity;
+  references = references;
+}
+
+-- the numbers of the handles last taken, after one more is
+pub last_handles-put : (m : Machine) (c n : ℕ) → Counts m n → (d : ℕ) → put m.last_handles c (m.last_handles c + 1) d ≤ n + 1
+last_handles-put m c n counts d = elim (d == c) as (λ b. cond b (m.last_handles c + 1) (m.last_handles d) ≤ n + 1) [ true ↦ omega (arith, counts.last_handles c) | false ↦ omega (arith, counts.last_handles d) ]
+
+-- one replica changed counts at most one effect more
+pub Counts-replica : (m : Machine) (k r : ℕ) (x : ReplicaState) (n : ℕ) → Counts m n → length x.effects ≤ n + 1 → Counts (record m { replicas = put2 m.replicas k r (Some x) }) (n + 1)
+Counts-replica m k r x n counts few = record {
+  next = λ a. omega (arith, counts.next a);
+  last_handles = λ c. omega (arith, counts.last_handles c);
+  last_iterations = λ c. omega (arith, counts.last_iterations c);
+  effects = λ j q y is. elim ((j == k) && (q == r)) as (λ b. cond b (Some x) (m.replicas j q) ≡ Some y → length y.effects ≤ n + 1) [
+    | true ↦ λ here. subst (λ (z : ReplicaState). length z.effects ≤ n + 1) (same_Some x y here) few
+    | false ↦ λ there. omega (arith, counts.effects j q y there)
+  ] is;
+  identity = omega arith;
+  references = λ j e c is. omega (arith, counts.references j e c is);
+}
+
+-- without a handle, or with none
+fewer_count : (m : Machine) (c : ℕ) (handles : List HandleView) (table : IterationTable) (n : ℕ) → table.last ≡ (m.iterations c).last → Counts m n → Counts (record m { handles = put m.handles c handles; iterations = put m.iterations c table }) n
+fewer_count m c handles table n same counts = record {
+  next = counts.next;
+  last_handles = counts.last_handles;
+  last_iterations = λ d. elim (d == c) as (λ b. (cond b table (m.iterations d)).last ≤ n) [ true ↦ subst (λ (i : ℕ). i ≤ n) (sym same) (counts.last_iterations c) | false ↦ counts.last_iterations d ];
+  effects = counts.effects;
+  identity = counts.identity;
+  references = counts.references;
+}
+
+Counts-without_handle : (m : Machine) (c : ℕ) (o : Option HandleView) (n : ℕ) → Counts m n → Counts (without_handle m c o) n
+Counts-without_handle m c None n counts = counts
+Counts-without_handle m c (Some h) n counts = fewer_count m c _ _ n refl counts
+
+Counts-with_none : (m : Machine) (c n : ℕ) → Counts m n → Counts (without_handles c m) n
+Counts-with_none m c n counts = fewer_count m c _ _ n refl counts
+
+-- nothing counts in the empty cluster
+pub counts_empty : Counts empty_cluster 0
+counts_empty = record {
+  next = λ a. omega arith;
+  last_handles = λ c. omega arith;
+  last_iterations = λ c. omega arith;
+  effects = λ k r x is. absurd (cc is);
+  identity = omega arith;
+  references = λ k e c is. absurd (cc is);
+}
+
+-- ---- references
+
+-- each entry has at most so many of each client
+abbrev Few : ℕ → List Entry → Type 0
+Few n entries = (k : ℕ) (e : Entry) (c : ℕ) → entry_of k entries ≡ Some e → slice_index e.references c ≤ n
+
+-- at most one more of each client
+abbrev OneMore : Entry → Entry → Type 0
+OneMore e f = (n : ℕ) → ((c : ℕ) → slice_index e.references c ≤ n) → (c : ℕ) → slice_index f.references c ≤ n + 1
+
+OneMore-same : (e : Entry) → OneMore e e
+OneMore-same e n few c = let a = few c in omega (arith, a)
+
+-- fewer of each client
+OneMore-fewer : (e f : Entry) → ((c : ℕ) → slice_index f.references c ≤ slice_index e.references c) → OneMore e f
+OneMore-fewer e f fewer n few c = let a = few c in let b = fewer c in omega (arith, a, b)
+
+Few-of : (n : ℕ) (old new : List Entry) → ComesOf OneMore old new → Few n old → Few (n + 1) new
+Few-of n old new comes few k f c found =
+    let (e, was, more) = comes k f found in
+    more n (λ d. few k e d was) c
+
+Few-filter : (n : ℕ) (p : Entry → Bool) (entries : List Entry) → IdentitiesRise entries → Few n entries → Few n (filter p entries)
+Few-filter n p entries rises few k f c found =
+    let (e, was, same) = ComesOf-filter (λ e f. e ≡ f) (λ e. refl) p entries rises k f found in
+    subst (λ (x : Entry). slice_index x.references c ≤ n) same (few k e c was)
+
+-- one at a client replaced by no more
+slice_index-less : (counts : List ℕ) (c d n : ℕ) → n ≤ slice_index counts c → slice_index (slice_set counts c n) d ≤ slice_index counts d
+slice_index-less [] c d n less = omega arith
+slice_index-less (x ∷ xs) zero zero n less = less
+slice_index-less (x ∷ xs) zero (suc d) n less = omega arith
+slice_index-less (x ∷ xs) (suc c) zero n less = omega arith
+slice_index-less (x ∷ xs) (suc c) (suc d) n less = slice_index-less xs c d n less
+
+-- where a client has no reference nothing goes, and a last close is no reference
+left_fewer : (e : Entry) (t : ℤ) (references : List ℕ) → ((d : ℕ) → slice_index references d ≤ slice_index e.references d) → (none left : Bool)
+    → OneMore e (cond none e (cond left (record e { references = references }) (record e { references = references; idle = t })))
+left_fewer e t references fewer true left = OneMore-same e
+left_fewer e t references fewer false true = OneMore-fewer e (record e { references = references }) fewer
+left_fewer e t references fewer false false = OneMore-fewer e (record e { references = references; idle = t }) fewer
+
+OneMore-released : (c : ℕ) (t : ℤ) (e : Entry) → OneMore e (released c t e)
+OneMore-released c t e = left_fewer e t (slice_set e.references c (slice_index e.references c - 1)) (λ d. slice_index-less e.references c d (slice_index e.references c - 1) (omega arith)) (slice_index e.references c == 0) (has_references (record e { references = slice_set e.references c (slice_index e.references c - 1) }))
+
+OneMore-released_all : (c : ℕ) (t : ℤ) (e : Entry) → OneMore e (released_all c t e)
+OneMore-released_all c t e = left_fewer e t (slice_set e.references c 0) (λ d. slice_index-less e.references c d 0 (omega arith)) (slice_index e.references c == 0) (has_references (record e { references = slice_set e.references c 0 }))
+
+OneMore-referred : (c : ℕ) (e : Entry) → OneMore e (referred c e)
+OneMore-referred c e n few d = slice_index-one_more e.references c d n few
+
+OneMore-made : (up : List ℕ) (c : ℕ) (e : Entry) → OneMore e (made_with up c e)
+OneMore-made up c e n few d = slice_index-one_more e.references c d n few
+
+-- ---- the record
+
+-- at most one identity more is given, and at most one reference more of each client
+record CountsOn (R S : RecordState) : Type 0 where
+  rises : IdentitiesRise S.entries
+  last : S.last_identity ≤ R.last_identity + 1
+  few : (n : ℕ) → Few n R.entries → Few (n + 1) S.entries
+
+CountsOn-swept : (R S : RecordState) → CountsOn R S → CountsOn R (swept S)
+CountsOn-swept R S on = record { rises = IdentitiesRise-filter (stays S.moment) S.entries on.rises; last = on.last; few = λ n few. Few-filter (n + 1) (stays S.moment) S.entries on.rises (on.few n few) }
+
+module _ (R : RecordState) (rises : IdentitiesRise R.entries) (up_to : AllUpTo R.last_identity R.entries) where
+  same_on : CountsOn R R
+  same_on = record { rises = rises; last = omega arith; few = λ n few k e c found. let a = few k e c found in omega (arith, a) }
+
+  changed_on : (k : ℕ) (f : Entry → Entry) → KeepsIdentity f → ((e : Entry) → OneMore e (f e)) → CountsOn R (record R { entries = change_key identity_of k f R.entries })
+  changed_on k f keeps more = record {
+    rises = IdentitiesRise-change_key f keeps k R.entries rises;
+    last = omega arith;
+    few = λ n few. Few-of n R.entries (change_key identity_of k f R.entries) (ComesOf-change_key OneMore OneMore-same f keeps more k R.entries) few;
+  }
+
+  filter_on : (p : Entry → Bool) → CountsOn R (record R { entries = filter p R.entries })
+  filter_on p = record {
+    rises = IdentitiesRise-filter p R.entries rises;
+    last = omega arith;
+    few = λ n few k e c found. let a = Few-filter n p R.entries rises few k e c found in omega (arith, a);
+  }
+
+  departed_on : (c : ℕ) → CountsOn R (departed c R)
+  departed_on c = record {
+    rises = IdentitiesRise-map (released_all c R.moment) (released_all-identity c R.moment) (filter others R.entries) (IdentitiesRise-filter others R.entries rises);
+    last = omega arith;
+    few = λ n few. Few-of n (filter others R.entries) (departed c R).entries (ComesOf-map OneMore (released_all c R.moment) (released_all-identity c R.moment) (OneMore-released_all c R.moment) (filter others R.entries)) (Few-filter n others R.entries rises few);
+  }
+    where
+      others : Entry → Bool
+      others e = not (is_call_of c e.making)
+
+  -- an entry that is found was there, or is the new one
+  found_push : (k : ℕ) (es : List Entry) (new e : Entry) → entry_of k (es ++ new ∷ []) ≡ Some e → (entry_of k es ≡ Some e) ⊎ (new ≡ e)
+  found_push k [] new e found = elim (new.identity == k) as (λ b. cond b (Some new) None ≡ Some e → (entry_of k [] ≡ Some e) ⊎ (new ≡ e)) [ true ↦ λ here. inr (same_Some new e here) | false ↦ λ none. absurd (cc none) ] found
+  found_push k (x ∷ xs) new e found = elim (x.identity == k) as (λ b. cond b (Some x) (entry_of k (xs ++ new ∷ [])) ≡ Some e → (cond b (Some x) (entry_of k xs) ≡ Some e) ⊎ (new ≡ e)) [
+    | true ↦ λ here. inl here
+    | false ↦ λ there. found_push k xs new e there
+  ] found
+
+  created_on : (call : CallId) (name : List ℕ) (a : Option CreationAttributes) → CountsOn R (created_as call name a R)
+  created_on call name None = same_on
+  created_on call name (Some a) = record {
+    rises = IdentitiesRise-push R.last_identity R.entries (new_entry call name a R) rises up_to (omega arith);
+    last = omega arith;
+    few = λ n few k e c found. elim (found_push k R.entries (new_entry call name a R) e found) [
+      | inl was ↦ (let a = few k e c was in omega (arith, a))
+      | inr new ↦ subst (λ (x : Entry). slice_index x.references c ≤ n + 1) new (let none : slice_index (new_entry call name a R).references c ≡ 0 = slice_index-replicate 100 c in omega (arith, none))
+    ];
+  }
+
+  at_ckpt_on : (k : Option ℕ) (change : ℕ → RecordState) → ((k : ℕ) → CountsOn R (change k)) → CountsOn R (at_ckpt k R change)
+  at_ckpt_on None change on = same_on
+  at_ckpt_on (Some k) change on = on k
+
+  open_on : (call : CallId) (o : OpenState) (k : Option ℕ) (step : RecordStep) → CountsOn R (open_event call o k step R)
+  open_on call o k events.Create = created_on call o.ask.name o.ask.attrs
+  open_on call o k events.Open = at_ckpt_on k _ (λ k. changed_on k (referred o.ask.client) (λ e. refl) (OneMore-referred o.ask.client))
+  open_on call o k events.Finish = at_ckpt_on k _ (λ k. changed_on k (made_with R.up o.ask.client) (λ e. refl) (OneMore-made R.up o.ask.client))
+  open_on call o k events.Undo = at_ckpt_on k _ (λ k. filter_on (λ e. not (e.identity == k)))
+  open_on call o k step = same_on
+
+  change_on : (call : CallId) (d : Driver) (step : RecordStep) → CountsOn R (event_change call d step R)
+  change_on call (drivers.Enter r) step = record { rises = rises; last = omega arith; few = same_on.few }
+  change_on call (drivers.Open o) step = open_on call o (event_ckpt R (drivers.Open o) step) step
+  change_on call (drivers.Update u) step = same_on
+  change_on call (drivers.Active a) step = same_on
+  change_on call drivers.Leave step = departed_on (client_of call)
+  change_on call (drivers.Close k) step = changed_on k (released (client_of call) R.moment) (released-identity (client_of call) R.moment) (OneMore-released (client_of call) R.moment)
+  change_on call (drivers.Unlink name) step = at_ckpt_on _ _ (λ k. changed_on k unnamed (λ e. refl) (λ e. OneMore-fewer e (unnamed e) (λ c. omega arith)))
+  change_on call (drivers.Retain k duration) step = changed_on k (retaining duration) (λ e. refl) (λ e. OneMore-fewer e (retaining duration e) (λ c. omega arith))
+
+-- ---- the machine
+
+-- other calls in hand
+Counts-in_hand : (m : Machine) (f : ActorName → Option CallState) (n : ℕ) → Counts m n → Counts (record m { in_hand = f }) n
+Counts-in_hand m f n counts = record { next = counts.next; last_handles = counts.last_handles; last_iterations = counts.last_iterations; effects = counts.effects; identity = counts.identity; references = counts.references }
+
+module _ (m : Machine) (n : ℕ) (counts : Counts m n) where
+  more : Counts m (n + 1)
+  more = record {
+    next = λ a. omega (arith, counts.next a);
+    last_handles = λ c. omega (arith, counts.last_handles c);
+    last_iterations = λ c. omega (arith, counts.last_iterations c);
+    effects = λ k r x is. omega (arith, counts.effects k r x is);
+    identity = omega arith;
+    references = λ k e c is. omega (arith, counts.references k e c is);
+  }
+
+  on_record : (R : RecordState) → CountsOn m.cluster R → Counts (with_record m R) (n + 1)
+  on_record R on = Counts-record m R n counts (let a = on.last in let b = counts.identity in omega (arith, a, b)) (on.few n counts.references)
+
+  on_event : IdentitiesRise m.cluster.entries → AllUpTo m.cluster.last_identity m.cluster.entries → (s : CallState) (step : RecordStep) → Counts (event_done m s step) (n + 1)
+  on_event rises up_to s step = on_record (event_after s.call (driver_of s) step m.cluster) (CountsOn-swept m.cluster (event_change s.call (driver_of s) step m.cluster) (change_on m.cluster rises up_to s.call (driver_of s) step))
+
+  -- a handle more
+  opened_at : (R : RecordState) (c : ℕ) (h : HandleView) → h.handle ≡ m.last_handles c + 1 → (place : Option ℕ) → Counts (with_record m R) (n + 1) → Counts (with_handle_at (with_record m R) c h place) (n + 1)
+  opened_at R c h next None on = on
+  opened_at R c h next (Some place) on = record {
+    next = on.next;
+    last_handles = subst (λ (x : ℕ). (d : ℕ) → put m.last_handles c x d ≤ n + 1) (sym next) (last_handles-put m c n counts);
+    last_iterations = on.last_iterations;
+    effects = on.effects;
+    identity = on.identity;
+    references = on.references;
+  }
+
+  opened_on : (s : CallState) (R : RecordState) (k : Option ℕ) → Counts (with_record m R) (n + 1) → Counts (with_opened s k (with_record m R)) (n + 1)
+  opened_on s R None on = on
+  opened_on s R (Some k) on = opened_at R (client_of s.call) (new_handle R (m.last_handles (client_of s.call)) s.op k) refl (opened_place s.op) on
+
+  -- one replica changed
+  replica_on : (k r : ℕ) (o : Option ReplicaState) → m.replicas k r ≡ o → (change : ReplicaState → ReplicaState) → ((x : ReplicaState) → length (change x).effects ≤ length x.effects + 1) → Counts (change_replica m k r o change) (n + 1)
+  replica_on k r None there change few = more
+  replica_on k r (Some x) there change few = Counts-replica m k r (change x) n counts (let a = few x in let b = counts.effects k r x there in omega (arith, a, b))
+
+  -- an iteration more
+  iterations_on : (c : ℕ) (table : IterationTable) → table.last ≤ n + 1 → Counts (record m { iterations = put m.iterations c table }) (n + 1)
+  iterations_on c table few = record {
+    next = more.next;
+    last_handles = more.last_handles;
+    last_iterations = λ d. elim (d == c) as (λ b. (cond b table (m.iterations d)).last ≤ n + 1) [ true ↦ few | false ↦ more.last_iterations d ];
+    effects = more.effects;
+    identity = more.identity;
+    references = more.references;
+  }
+
+  started_on : (c : ℕ) (h : Option HandleView) (place : Option ℕ) (kept : KeptIds) → Counts (with_iteration m c h place kept) (n + 1)
+  started_on c (Some h) (Some place) kept = iterations_on c _ (let a = counts.last_iterations c in omega (arith, a))
+  started_on c (Some h) None kept = more
+  started_on c None place kept = more
+
+  next_on : (c : ℕ) (place : Option ℕ) (kept : Option KeptIds) (next : Option NextGiven) → Counts (with_next m c place kept next) (n + 1)
+  next_on c (Some place) (Some kept) (Some next) = iterations_on c _ (let a = counts.last_iterations c in omega (arith, a))
+  next_on c (Some place) (Some kept) None = more
+  next_on c (Some place) None next = more
+  next_on c None kept next = more
+
+  -- what is done on OK alone, and at a checkpoint and a node that are named
+  ok_on : (reply : StepReply) (after_it : Machine) → Counts after_it (n + 1) → Counts (on_ok reply m after_it) (n + 1)
+  ok_on words.Ok after_it on = on
+  ok_on reply after_it on = more
+
+  -- what a look changes, by its reply
+  looked_on : (reply : StepReply) (done refused : Machine) → Counts done (n + 1) → Counts refused (n + 1) → Counts (on_look reply m done refused) (n + 1)
+  looked_on words.Done done refused on_done on_refused = on_done
+  looked_on words.Refused done refused on_done on_refused = on_refused
+  looked_on reply done refused on_done on_refused = more
+
+  undone_on : IdentitiesRise m.cluster.entries → AllUpTo m.cluster.last_identity m.cluster.entries → (k : Option ℕ) → Counts (without_making m k) (n + 1)
+  undone_on rises up_to None = more
+  undone_on rises up_to (Some k) = on_record (swept (undone k m.cluster)) (CountsOn-swept m.cluster (undone k m.cluster) (filter_on m.cluster rises up_to (λ e. not (e.identity == k))))
+
+  some_on : (k : Option ℕ) (change : ℕ → Machine) → ((k : ℕ) → Counts (change k) (n + 1)) → Counts (at_some k m change) (n + 1)
+  some_on None change on = more
+  some_on (Some k) change on = on k
+
+  both_on : (k r : Option ℕ) (change : ℕ → ℕ → Machine) → ((k r : ℕ) → Counts (change k r) (n + 1)) → Counts (at_some k m (λ k. at_some r m (change k))) (n + 1)
+  both_on k r change on = some_on k _ (λ k. some_on r (change k) (on k))
+
+-- a commit takes one effect more
+committed_few : (e : Option Entry) (x : ReplicaState) → length (with_committed e x).effects ≤ length x.effects + 1
+committed_few None x = omega arith
+committed_few (Some e) x = by_slot x.slot
+  where
+    by_slot : (o : Option Staged) → length (committed_slot e.attributes x o).effects ≤ length x.effects + 1
+    by_slot None = omega arith
+    by_slot (Some slot) = let a = length_push x.effects (effect_of slot) in omega (arith, a)
+
+-- a step counts up by at most one
+changed_counts : (m : Machine) (n : ℕ) → IdentitiesRise m.cluster.entries → AllUpTo m.cluster.last_identity m.cluster.entries → Counts m n → (s : CallState) (verb : Verb) (k r : Option ℕ) (reply : StepReply) → Counts (changed m s verb k r reply) (n + 1)
+changed_counts m n rises up_to counts s verbs.Enter k r reply = ok_on m n counts reply _ (on_event m n counts rises up_to s events.Enter)
+changed_counts m n rises up_to counts s verbs.Open k r reply = ok_on m n counts reply _ (opened_on m n counts s _ k (on_event m n counts rises up_to s events.Open))
+changed_counts m n rises up_to counts s verbs.Create k r reply = ok_on m n counts reply _ (on_event m n counts rises up_to s events.Create)
+changed_counts m n rises up_to counts s verbs.Reserve k r reply = ok_on m n counts reply _ (both_on m n counts k r _ (λ k r. let c = more m n counts in record { next = c.next; last_handles = c.last_handles; last_iterations = c.last_iterations; effects = c.effects; identity = c.identity; references = c.references }))
+changed_counts m n rises up_to counts s verbs.Finish k r reply = ok_on m n counts reply _ (opened_on m n counts s _ k (on_event m n counts rises up_to s events.Finish))
+changed_counts m n rises up_to counts s verbs.Undo k r reply = ok_on m n counts reply _ (on_event m n counts rises up_to s events.Undo)
+changed_counts m n rises up_to counts s verbs.Stage k r reply = ok_on m n counts reply _ (both_on m n counts k r _ (λ k r. replica_on m n counts k r (m.replicas k r) refl _ (λ x. omega arith)))
+changed_counts m n rises up_to counts s verbs.Commit k r reply = ok_on m n counts reply _ (both_on m n counts k r _ (λ k r. replica_on m n counts k r (m.replicas k r) refl _ (committed_few (entry_of k m.cluster.entries))))
+changed_counts m n rises up_to counts s verbs.Iter k r reply = ok_on m n counts reply _ (both_on m n counts k r _ (λ k r. started_on m n counts (client_of s.call) _ (started_place s.op) _))
+changed_counts m n rises up_to counts s verbs.Next k r reply = ok_on m n counts reply _ (both_on m n counts k r _ (λ k r. next_on m n counts (client_of s.call) (iteration_place s.op) _ _))
+changed_counts m n rises up_to counts s verbs.Leave k r reply = ok_on m n counts reply _ (Counts-with_none (event_done m s events.Leave) (client_of s.call) (n + 1) (on_event m n counts rises up_to s events.Leave))
+changed_counts m n rises up_to counts s verbs.Close k r reply = ok_on m n counts reply _ (Counts-without_handle (event_done m s events.Close) (client_of s.call) (handle_in m (client_of s.call) (closed_place s.op)) (n + 1) (on_event m n counts rises up_to s events.Close))
+changed_counts m n rises up_to counts s verbs.Unlink k r reply = ok_on m n counts reply _ (on_event m n counts rises up_to s events.Unlink)
+changed_counts m n rises up_to counts s verbs.Retain k r reply = ok_on m n counts reply _ (on_event m n counts rises up_to s events.Retain)
+changed_counts m n rises up_to counts s verbs.Look k r reply =
+    looked_on m n counts reply _ _ (Counts-without_handle m (client_of s.call) (handle_in m (client_of s.call) (closed_place s.op)) (n + 1) (more m n counts)) (undone_on m n counts rises up_to (making_in (driver_of s)))
+changed_counts m n rises up_to counts s verb k r reply = more m n counts
+
+-- a beginning counts one number on
+ended_counts : (m : Machine) (c n : ℕ) (place : Option ℕ) → Counts m n → Counts (with_ended c place m) n
+ended_counts m c n None counts = counts
+ended_counts m c n (Some place) counts = record {
+  next = counts.next;
+  last_handles = counts.last_handles;
+  last_iterations = λ d. elim (d == c) as (λ b. (cond b (without_iteration place (m.iterations c)) (m.iterations d)).last ≤ n) [ true ↦ counts.last_iterations c | false ↦ counts.last_iterations d ];
+  effects = counts.effects;
+  identity = counts.identity;
+  references = counts.references;
+}
+
+begun_counts : (m : Machine) (call : CallId) (op : Op) (end : Option Outcome) (n : ℕ) → Counts m n → Counts (begun m call op end) (n + 1)
+begun_counts m call op end n counts = ended_counts (begun_call m call op end) (number_of call.actor) (n + 1) (ended_place end op) (record {
+  next = λ a. elim (same_actor a call.actor) as (λ b. cond b (m.next call.actor + 1) (m.next a) ≤ n + 1 + 1) [ true ↦ omega (arith, counts.next call.actor) | false ↦ omega (arith, counts.next a) ];
+  last_handles = λ c. omega (arith, counts.last_handles c);
+  last_iterations = λ c. omega (arith, counts.last_iterations c);
+  effects = λ k r x is. omega (arith, counts.effects k r x is);
+  identity = omega arith;
+  references = λ k e c is. omega (arith, counts.references k e c is);
+})
+
+-- ---- any label
+
+pub counts_up : CountsUp
+counts_up m (labels.Began call op end) n inv is few = begun_counts m call op end n few
+counts_up m (labels.Stepped call op verb k r reply end details) n inv is few =
+    subst (λ o. Counts (step_of m o verb k r reply end) (n + 1)) (sym is.in_hand)
+    (Counts-in_hand (changed m is.state verb k r reply) _ (n + 1) (changed_counts m n inv.holds.rises inv.holds.up_to few is.state verb k r reply))
+counts_up m (labels.Word who word said) n inv is few = more m n few
+counts_up m (labels.Nodes nodes) n inv is few = let c = more m n few in record { next = c.next; last_handles = c.last_handles; last_iterations = c.last_iterations; effects = c.effects; identity = c.identity; references = c.references }
+counts_up m (labels.Moved t) n inv is few = on_record m n few (moved t m.cluster) (record { rises = IdentitiesRise-filter (stays t) m.cluster.entries inv.holds.rises; last = omega arith; few = λ n few k e c found. let a = Few-filter n (stays t) m.cluster.entries inv.holds.rises few k e c found in omega (arith, a) })
+counts_up m l n inv is few = absurd is

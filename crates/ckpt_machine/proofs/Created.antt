@@ -1,0 +1,200 @@
+-- A checkpoint is created: one entry more, in the making by a call that made nothing before; what holds of every other call and of every other checkpoint stays.
+use Rattle.std.proofs.Common.{◌≡◌, ℕ, ◌+◌, ◌≤◌, inl, inr, List, Option, Some, None, Bool, true, false, cond, ◌==◌, refl, sym, ap, subst, ◌∙◌, arith}
+use Rattle.std.specs.Prelude.{IsSomeAnd, IfSome, slice_index}
+use Rattle.section_iter.specs.Room.{room_declared}
+use Rattle.std.proofs.lemmas.Bool.{eqb-true, eq-eqb}
+use Rattle.std.proofs.lemmas.List.{length-replicate}
+use Rattle.std.proofs.lemmas.Option.{same_Some}
+use Rattle.ckpt_types.specs.declared.attributes.CreationAttributes.{CreationAttributes}
+use Rattle.ckpt_types.specs.declared.identities.CallId.{CallId}
+use Rattle.ckpt_types.specs.Attributes.{is_malformed}
+use Rattle.cluster_record.specs.declared.calls.Making.{Making}
+use Rattle.cluster_record.specs.declared.entries.Entry.{Entry}
+use Rattle.cluster_record.specs.DueOpen.{OpenState}
+use Rattle.cluster_record.specs.Calls.{put_actor}
+use Rattle.cluster_record.specs.RecordState.{RecordState, entry_of, identity_of, complete_of, new_entry, created_as}
+use Rattle.cluster_record.proofs.IdentityLaws.{entry_of-beyond, AllUpTo-push, IdentitiesRise-push}
+use Rattle.ckpt_machine.specs.Drivers.{Driver}
+use Rattle.ckpt_machine.specs.Drivers as drivers
+use Rattle.ckpt_machine.specs.Entries.{WasMade}
+use Rattle.ckpt_machine.specs.InHand.{IsMakingIn, IsInPlace, IsInHand}
+use Rattle.ckpt_machine.specs.Invariant.{IsMaker, IsGoodIn, InvariantIn}
+use Rattle.ckpt_machine.specs.Machine.{Machine, CallState}
+use Rattle.ckpt_machine.specs.Steps.{driver_of, with_record, replica_under, reservation_under, opened_state}
+use Rattle.ckpt_machine.specs.Shape.{Shape, IsCompleteOn, IsShaped, IsOwner}
+use Rattle.ckpt_machine.proofs.NodeLists.{slice_index-replicate}
+use Rattle.ckpt_machine.proofs.EntryLists.{entry_of-given, find_key-push, AllStay-push}
+use Rattle.ckpt_machine.proofs.OptionLemmas.{IsSomeAnd-at, IsSomeAnd-from}
+use Rattle.ckpt_machine.proofs.ReplicaSteps.{put_actor-cases, put_actor-here, put_actor-other}
+use Rattle.ckpt_machine.proofs.PlainCalls.{is_plain, owner_apart, maker_apart}
+
+module _ (m : Machine) (shapes : ℕ → Shape) (inv : InvariantIn shapes m) (s : CallState) (held : m.in_hand s.call.actor ≡ Some s) (plain : is_plain (driver_of s) ≡ true) (name : List ℕ) (a : CreationAttributes) (good : is_malformed a ≡ false)
+    (w : CallState) (call_is : w.call ≡ s.call) (v : OpenState) (driver_is : driver_of w ≡ drivers.Open v) (making : Making) (makes : v.making ≡ Some making) (ckpt : making.ckpt ≡ m.cluster.last_identity + 1) where
+  -- the next identity
+  abbrev next : ℕ
+  next = m.cluster.last_identity + 1
+
+  -- the entry that is new
+  abbrev new : Entry
+  new = new_entry s.call name a m.cluster
+
+  -- the record with it
+  abbrev R : RecordState
+  R = created_as s.call name (Some a) m.cluster
+
+  -- the state with this left of the call
+  abbrev then_machine : Machine
+  then_machine = record (with_record m R) { in_hand = put_actor m.in_hand s.call.actor (Some w) }
+
+  -- ---- entries
+
+  -- no entry has the next identity
+  none_before : entry_of next m.cluster.entries ≡ None
+  none_before = entry_of-beyond m.cluster.last_identity next m.cluster.entries inv.up_to (omega arith)
+
+  -- what is found
+  entry_is : (j : ℕ) → entry_of j R.entries ≡ cond (j == next) (Some new) (entry_of j m.cluster.entries)
+  entry_is j = find_key-push identity_of j m.cluster.entries new none_before
+
+  -- under the next identity it is the new one
+  pub entry_new : entry_of next R.entries ≡ Some new
+  entry_new = entry_is next ∙ ap (λ b. cond b (Some new) (entry_of next m.cluster.entries)) (eq-eqb next next refl)
+
+  -- and under another one what was found before
+  entry_other : (j : ℕ) → (j == next) ≡ false → entry_of j R.entries ≡ entry_of j m.cluster.entries
+  entry_other j other = entry_is j ∙ ap (λ b. cond b (Some new) (entry_of j m.cluster.entries)) other
+
+  -- an identity that was given is another
+  given_apart : (j : ℕ) → j ≤ m.cluster.last_identity → (j == next) ≡ false
+  given_apart j given = by_test (j == next) refl
+    where
+      by_test : (b : Bool) → (j == next) ≡ b → (j == next) ≡ false
+      by_test false other = other
+      by_test true same = let at : j ≡ next = eqb-true j next same in absurd (omega (arith, given, at))
+
+  -- what is found was given
+  was_there : (j : ℕ) (e : Entry) → entry_of j m.cluster.entries ≡ Some e → (j == next) ≡ false
+  was_there j e found = given_apart j (entry_of-given m.cluster.last_identity j m.cluster.entries e inv.up_to found)
+
+  -- what was made was made still
+  WasMade-then : (j : ℕ) → WasMade m.cluster j → WasMade R j
+  WasMade-then j was = record {
+    given = let given : j ≤ m.cluster.last_identity = was.given in omega (arith, given);
+    made = subst (λ o. IfSome o (λ (x : Entry). x.making ≡ None)) (sym (entry_other j (given_apart j was.given))) was.made;
+  }
+
+  -- ---- checkpoints
+
+  -- a slot has its owner still
+  IsOwner-then : (j : ℕ) (sh : Shape) (d : CallId) → IsOwner m j sh d → IsOwner then_machine j sh d
+  IsOwner-then j sh d own = record { state = own.state; in_hand = put_actor-other m.in_hand s.call.actor (Some w) d.actor (owner_apart m shapes inv s held plain j sh d own) ∙ own.in_hand; call_is = own.call_is; driver = own.driver; driver_is = own.driver_is; ckpt = own.ckpt; phase = own.phase }
+
+  -- a checkpoint in the making has its maker still
+  IsMaker-then : (j : ℕ) (d : CallId) → IsMaker m j d → IsMaker then_machine j d
+  IsMaker-then j d own = record { state = own.state; in_hand = put_actor-other m.in_hand s.call.actor (Some w) d.actor (maker_apart m shapes inv s held plain j d own) ∙ own.in_hand; call_is = own.call_is; driver = own.driver; driver_is = own.driver_is; making = own.making; making_is = own.making_is; ckpt = own.ckpt }
+
+  -- the call is the maker of the new one
+  maker_new : IsMaker then_machine next s.call
+  maker_new = record { state = w; in_hand = put_actor-here m.in_hand s.call.actor (Some w); call_is = call_is; driver = v; driver_is = driver_is; making = making; making_is = makes; ckpt = ckpt }
+
+  -- a replica on a complete node stays
+  replica_other : (j r : ℕ) (e : Entry) → entry_of j m.cluster.entries ≡ Some e → IsCompleteOn e r → then_machine.replicas j r ≡ m.replicas j r
+  replica_other j r e found there =
+      ap (λ o. replica_under o (slice_index (complete_of (entry_of j m.cluster.entries)) r) r (m.replicas j r)) (entry_other j (was_there j e found) ∙ found)
+      ∙ ap (λ o. replica_under (Some e) (slice_index (complete_of o) r) r (m.replicas j r)) found
+      ∙ (λ i. cond (there i) None (cond (there i) (Some (opened_state e)) (m.replicas j r)))
+
+  -- a checkpoint that was there is as it was
+  IsGoodIn-then : (j : ℕ) (sh : Shape) (e : Entry) (maker : Option CallId) → entry_of j m.cluster.entries ≡ Some e → IsGoodIn m j sh e maker → IsGoodIn then_machine j sh e maker
+  IsGoodIn-then j sh e None found was = record {
+    nodes = was.nodes;
+    some = was.some;
+    active = was.active;
+    replicas = λ r there. subst (λ o. IsSomeAnd o (IsShaped sh (sh.owners r))) (sym (replica_other j r e found there)) (was.replicas r there);
+    fits = was.fits;
+    complete = was.complete;
+    lowest = was.lowest;
+    owned = λ r d owns. IsOwner-then j sh d (was.owned r d owns);
+  }
+  IsGoodIn-then j sh e (Some d) found was = (was.0, IsMaker-then j d was.1)
+
+  -- the new one is as it was created
+  good_new : (sh : Shape) → IsGoodIn then_machine next sh new (Some s.call)
+  good_new sh = (record { complete = refl; generation = refl; well_formed = good; clients = length-replicate {A = ℕ} 100 0 }, maker_new)
+
+  -- ---- where the calls of others are
+
+  module _ (z : CallState) where
+    -- a call makes what it made
+    making_then : (x : Making) → IsMakingIn m z x → IsMakingIn then_machine z x
+    making_then x at =
+        let (e, found, by) = IsSomeAnd-at (entry_of x.ckpt m.cluster.entries) (λ e. e.making ≡ Some z.call) at.there in
+        let still : entry_of x.ckpt R.entries ≡ Some e = entry_other x.ckpt (was_there x.ckpt e found) ∙ found in
+        let was : IsGoodIn m x.ckpt (shapes x.ckpt) e (Some z.call) = subst (IsGoodIn m x.ckpt (shapes x.ckpt) e) by (inv.entries x.ckpt e found) in
+        record {
+          there = IsSomeAnd-from (entry_of x.ckpt R.entries) (λ e. e.making ≡ Some z.call) e still by;
+          nodes = at.nodes;
+          reserved = λ r had.
+              ap (λ o. reservation_under o r (m.reserved x.ckpt r)) still
+              ∙ ap (λ b. cond b (m.reserved x.ckpt r) None) (ap (λ nodes. slice_index nodes r == 0) was.0.complete ∙ ap (λ n. n == 0) (slice_index-replicate 8 r))
+              ∙ at.reserved r had;
+        }
+
+    -- where it makes something
+    IfSome-making : (x : Option Making) → IfSome x (IsMakingIn m z) → IfSome x (IsMakingIn then_machine z)
+    IfSome-making None at = tt
+    IfSome-making (Some x) at = making_then x at
+
+    -- a call is where it was
+    IsIn-then : (d : Driver) → IsInPlace m shapes z d → IsInPlace then_machine shapes z d
+    IsIn-then (drivers.Enter r) at = record { op = at.op; client = at.client; up = at.up; not_live = at.not_live }
+    IsIn-then (drivers.Open x) at = record { caller = at.caller; client = at.client; within = at.within; node = at.node; built = at.built; asks = at.asks; named = at.named; asked = at.asked; deadline = at.deadline; making = IfSome-making x.making at.making; given = at.given; room = at.room }
+    IsIn-then (drivers.Update u) at =
+        let apart = given_apart u.ckpt at.made.given in
+        record {
+          call = at.call;
+          update = at.update;
+          kept = at.kept;
+          made = WasMade-then u.ckpt at.made;
+          nodes = at.nodes;
+          owns = λ e there. at.owns e (sym (entry_other u.ckpt apart) ∙ there);
+          some = λ e there. at.some e (sym (entry_other u.ckpt apart) ∙ there);
+        }
+    IsIn-then (drivers.Active x) at = record {
+      call = at.call;
+      kind = at.kind;
+      made = WasMade-then x.ckpt at.made;
+      kept = at.kept;
+      room = subst (λ o. IfSome o (λ (e : Entry). z.kept.room ≡ room_declared e.attributes)) (sym (entry_other x.ckpt (given_apart x.ckpt at.made.given))) at.room;
+      handle = at.handle;
+    }
+    IsIn-then drivers.Leave at = record { op = at.op; live = at.live }
+    IsIn-then (drivers.Close k) at = record { op = at.op; kept = at.kept; handle = at.handle }
+    IsIn-then (drivers.Unlink name) at = at
+    IsIn-then (drivers.Retain k duration) at = record { op = at.op; from_zero = at.from_zero; kept = at.kept; made = WasMade-then k at.made }
+
+  -- ---- the whole
+
+  -- the invariant holds after it, where it holds of the call
+  pub created_keeps : IsInHand then_machine shapes s.call.actor w → InvariantIn shapes then_machine
+  created_keeps own = record {
+    up = inv.up;
+    none_live = inv.none_live;
+    rises = IdentitiesRise-push m.cluster.last_identity m.cluster.entries new inv.rises inv.up_to (omega arith);
+    up_to = AllUpTo-push m.cluster.last_identity m.cluster.entries new inv.up_to refl;
+    swept = AllStay-push m.cluster.moment m.cluster.entries new inv.swept refl;
+    entries = λ j e found. by_test j e found (j == next) refl;
+    handles = λ d h among. let was = inv.handles d h among in (was.0, WasMade-then h.id was.1);
+    clients = inv.clients;
+    hands = λ b z there. elim (put_actor-cases m.in_hand s.call.actor (Some w) b z there) [
+      | inl here ↦ subst (λ c. IsInHand then_machine shapes c z) (sym here.0) (subst (IsInHand then_machine shapes s.call.actor) (same_Some w z here.1) own)
+      | inr other ↦ (let was = inv.hands b z other.1 in record { actor = was.actor; client = was.client; number = was.number; live = was.live; here = IsIn-then z (driver_of z) was.here })
+    ];
+  }
+    where
+      by_test : (j : ℕ) (e : Entry) → entry_of j R.entries ≡ Some e → (b : Bool) → (j == next) ≡ b → IsGoodIn then_machine j (shapes j) e e.making
+      by_test j e found false other = let was : entry_of j m.cluster.entries ≡ Some e = sym (entry_other j other) ∙ found in IsGoodIn-then j (shapes j) e e.making was (inv.entries j e was)
+      by_test j e found true same =
+          let at_next : next ≡ j = sym (eqb-true j next same) in
+          let e_is : new ≡ e = same_Some new e (sym entry_new ∙ ap (λ n. entry_of n R.entries) at_next ∙ found) in
+          subst (λ (x : Entry). IsGoodIn then_machine j (shapes j) x x.making) e_is (subst (λ n. IsGoodIn then_machine n (shapes n) new (Some s.call)) at_next (good_new (shapes next)))

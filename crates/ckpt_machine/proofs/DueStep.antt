@@ -1,0 +1,31 @@
+-- What is to be shown of a due step.
+use Rattle.std.proofs.Common.{◌≡◌, ◌<◌, Some, None}
+use Rattle.ckpt_machine.specs.Drivers.{Driver}
+use Rattle.cluster_record.specs.StepDone.{done_of}
+use Rattle.ckpt_machine.specs.Driving.{driver_taken}
+use Rattle.ckpt_machine.specs.Machine.{Machine, CallState}
+use Rattle.ckpt_machine.specs.Steps.{Told, step_of}
+use Rattle.ckpt_machine.specs.Guards.{Row}
+use Rattle.ckpt_machine.specs.Left.{steps_left}
+use Rattle.std.proofs.Common.{◌≡◌, ◌<◌, Some, None}
+use Rattle.cluster_record.specs.StepDone.{done_of}
+use Rattle.ckpt_machine.specs.Driving.{driver_taken}
+use Rattle.ckpt_machine.specs.Steps.{Told}
+use Rattle.ckpt_machine.specs.Guards.{Row}
+use Rattle.ckpt_machine.specs.Left.{steps_left}
+use Rattle.ckpt_machine.specs.Invariant.{Invariant}
+
+-- the state after a step of a call
+abbrev pub after_step : Machine → CallState → Told → Machine
+after_step m s t = step_of m (Some s) t.verb t.ckpt t.node t.reply t.end
+
+-- a due step of the call is allowed, and the invariant holds after it
+pub record Moves (m : Machine) (s : CallState) (t : Told) : Type 0 where
+  pub row : Row m s t.verb t
+  pub holds : Invariant (after_step m s t)
+
+-- and where it goes on, it brings the call nearer to its end
+pub record Goes (m : Machine) (s : CallState) (d : Driver) (t : Told) : Type 0 where
+  pub row : Row m s t.verb t
+  pub holds : Invariant (after_step m s t)
+  pub nearer : t.end ≡ None → steps_left (after_step m s t).cluster (driver_taken (done_of (after_step m s t).cluster t.verb t.ckpt t.node t.reply) d) < steps_left m.cluster d

@@ -1,0 +1,245 @@
+-- A making is finished on all nodes that are up: the checkpoint is made there, and the calls of others are where they were.
+use Rattle.std.proofs.Common.{◌≡◌, ◌≢◌, ℕ, inl, inr, [], length, Option, Some, None, Bool, true, false, cond, ◌==◌, refl, sym, ap, subst, ◌∙◌}
+use Rattle.std.specs.Prelude.{IsSome, IsSomeAnd, IfSome, slice_index}
+use Rattle.section_iter.specs.Room.{room_declared}
+use Rattle.std.proofs.lemmas.Bool.{eqb-true, eq-eqb}
+use Rattle.std.proofs.lemmas.Option.{same_Some}
+use Rattle.ckpt_types.specs.declared.identities.CallId.{CallId}
+use Rattle.ckpt_types.specs.declared.update.Update.TheVariants as updates
+use Rattle.ckpt_types.specs.Sections.{opening}
+use Rattle.cluster_record.specs.declared.calls.Making.{Making}
+use Rattle.cluster_record.specs.declared.entries.Entry.{Entry}
+use Rattle.cluster_record.specs.DueOpen.{OpenState}
+use Rattle.cluster_record.specs.Calls.{same_actor, put_actor}
+use Rattle.cluster_record.specs.Places.{put, change_key}
+use Rattle.cluster_record.specs.RecordState.{RecordState, entry_of, identity_of, complete_of, first_complete, made_with, finished}
+use Rattle.cluster_record.proofs.IdentityLaws.{IdentitiesRise-change_key, AllUpTo-change_key}
+use Rattle.ckpt_machine.specs.Drivers.{Driver}
+use Rattle.ckpt_machine.specs.Drivers as drivers
+use Rattle.ckpt_machine.specs.Entries.{AllStay, WasMade}
+use Rattle.ckpt_machine.specs.InHand.{IsMakingIn, IsInPlace}
+use Rattle.ckpt_machine.specs.Invariant.{IsMaker, IsGoodIn, InvariantIn}
+use Rattle.ckpt_machine.specs.Machine.{Machine, CallState}
+use Rattle.ckpt_machine.specs.Steps.{driver_of, with_record, replica_under, reservation_under, opened_state}
+use Rattle.ckpt_machine.specs.Shape.{Shape, IsCompleteOn, IsShaped, is_owner, IsOwner, IsSpread}
+use Rattle.ckpt_machine.proofs.ReplicaSteps.{put_actor-cases, put_actor-other}
+use Rattle.ckpt_machine.proofs.OptionLemmas.{IsSomeAnd-at, IsSomeAnd-from}
+use Rattle.ckpt_machine.proofs.Actors.{same_actor-refl, same_actor-true}
+use Rattle.ckpt_machine.proofs.EntryLists.{find_key-change_key}
+use Rattle.ckpt_machine.proofs.NodeLists.{slice_index-replicate}
+
+module _ (m : Machine) (shapes : ℕ → Shape) (inv : InvariantIn shapes m) (s : CallState) (o : OpenState) (making : Making) (held : m.in_hand s.call.actor ≡ Some s) (is : driver_of s ≡ drivers.Open o) (makes : o.making ≡ Some making)
+    (c : ℕ) (e : Entry) (found : entry_of making.ckpt m.cluster.entries ≡ Some e) (by : e.making ≡ Some s.call) (some : IsSome (first_complete 0 m.cluster.up)) (stays : AllStay m.cluster.moment (change_key identity_of making.ckpt (made_with m.cluster.up c) m.cluster.entries)) where
+  abbrev k : ℕ
+  k = making.ckpt
+
+  abbrev R : RecordState
+  R = finished making.ckpt c m.cluster
+
+  abbrev f : Entry
+  f = made_with m.cluster.up c e
+
+  abbrev then_machine : Machine
+  then_machine = record (with_record m R) { in_hand = put_actor m.in_hand s.call.actor None }
+
+  -- ---- entries
+
+  entry_is : (j : ℕ) → entry_of j R.entries ≡ cond (j == making.ckpt) (Some f) (entry_of j m.cluster.entries)
+  entry_is j = find_key-change_key identity_of making.ckpt j (made_with m.cluster.up c) (λ x. refl) m.cluster.entries e found
+
+  entry_other : (j : ℕ) → (j == making.ckpt) ≡ false → entry_of j R.entries ≡ entry_of j m.cluster.entries
+  entry_other j other = entry_is j ∙ ap (λ b. cond b (Some f) (entry_of j m.cluster.entries)) other
+
+  entry_here : entry_of making.ckpt R.entries ≡ Some f
+  entry_here = entry_is making.ckpt ∙ ap (λ b. cond b (Some f) (entry_of making.ckpt m.cluster.entries)) (eq-eqb making.ckpt making.ckpt refl)
+
+  -- it was in the making: nothing that was made is it
+  not_made : (j : ℕ) → WasMade m.cluster j → (j == making.ckpt) ≡ false
+  not_made j was = by_test (j == making.ckpt) refl
+    where
+      by_test : (b : Bool) → (j == making.ckpt) ≡ b → (j == making.ckpt) ≡ false
+      by_test false other = other
+      by_test true same =
+          let here : entry_of j m.cluster.entries ≡ Some e = ap (λ n. entry_of n m.cluster.entries) (eqb-true j making.ckpt same) ∙ found in
+          let none : e.making ≡ None = subst (λ o. IfSome o (λ (x : Entry). x.making ≡ None)) here was.made in
+          absurd (let w : None ≡ Some s.call = sym none ∙ by in cc w)
+
+  WasMade-then : (j : ℕ) → WasMade m.cluster j → WasMade R j
+  WasMade-then j was = record { given = was.given; made = subst (λ o. IfSome o (λ (x : Entry). x.making ≡ None)) (sym (entry_other j (not_made j was))) was.made }
+
+  -- ---- calls of others
+
+  other_actor : (d : CallId) (z : CallState) → m.in_hand d.actor ≡ Some z → z.call ≡ d → d ≢ s.call → same_actor d.actor s.call.actor ≡ false
+  other_actor d z there call_is other = by_test (same_actor d.actor s.call.actor) refl
+    where
+      by_test : (b : Bool) → same_actor d.actor s.call.actor ≡ b → same_actor d.actor s.call.actor ≡ false
+      by_test false is_not = is_not
+      by_test true same =
+          let state : z ≡ s = same_Some z s (sym there ∙ ap m.in_hand (same_actor-true d.actor s.call.actor same) ∙ held) in
+          absurd (other (sym call_is ∙ ap (λ (x : CallState). x.call) state))
+
+  -- an update is no open
+  owner_other : (j : ℕ) (sh : Shape) (d : CallId) → IsOwner m j sh d → d ≢ s.call
+  owner_other j sh d own same =
+      let state : own.state ≡ s = same_Some own.state s (sym own.in_hand ∙ ap (λ (x : CallId). m.in_hand x.actor) same ∙ held) in
+      let apart : drivers.Update own.driver ≡ drivers.Open o = sym own.driver_is ∙ ap driver_of state ∙ is in
+      cc apart
+
+  IsOwner-then : (j : ℕ) (sh : Shape) (d : CallId) → IsOwner m j sh d → IsOwner then_machine j sh d
+  IsOwner-then j sh d own = record { state = own.state; in_hand = put_actor-other m.in_hand s.call.actor None d.actor (other_actor d own.state own.in_hand own.call_is (owner_other j sh d own)) ∙ own.in_hand; call_is = own.call_is; driver = own.driver; driver_is = own.driver_is; ckpt = own.ckpt; phase = own.phase }
+
+  -- who makes another checkpoint is another call
+  maker_other : (j : ℕ) (d : CallId) → (j == making.ckpt) ≡ false → IsMaker m j d → d ≢ s.call
+  maker_other j d apart own same =
+      let state : own.state ≡ s = same_Some own.state s (sym own.in_hand ∙ ap (λ (x : CallId). m.in_hand x.actor) same ∙ held) in
+      let drivers_same : drivers.Open own.driver ≡ drivers.Open o = sym own.driver_is ∙ ap driver_of state ∙ is in
+      let driver : own.driver ≡ o = cc drivers_same in
+      let both : Some own.making ≡ Some making = sym own.making_is ∙ ap (λ (x : OpenState). x.making) driver ∙ makes in
+      let ckpt : j ≡ making.ckpt = sym own.ckpt ∙ ap (λ (x : Making). x.ckpt) (same_Some own.making making both) in
+      (let w : true ≡ false = sym (eq-eqb j making.ckpt ckpt) ∙ apart in cc w)
+
+  IsMaker-then : (j : ℕ) (d : CallId) → (j == making.ckpt) ≡ false → IsMaker m j d → IsMaker then_machine j d
+  IsMaker-then j d apart own = record { state = own.state; in_hand = put_actor-other m.in_hand s.call.actor None d.actor (other_actor d own.state own.in_hand own.call_is (maker_other j d apart own)) ∙ own.in_hand; call_is = own.call_is; driver = own.driver; driver_is = own.driver_is; making = own.making; making_is = own.making_is; ckpt = own.ckpt }
+
+  -- ---- other checkpoints
+
+  replica_other : (j r : ℕ) (g : Entry) → (j == making.ckpt) ≡ false → entry_of j m.cluster.entries ≡ Some g → IsCompleteOn g r → then_machine.replicas j r ≡ m.replicas j r
+  replica_other j r g other was there =
+      ap (λ o. replica_under o (slice_index (complete_of (entry_of j m.cluster.entries)) r) r (m.replicas j r)) (entry_other j other ∙ was)
+      ∙ ap (λ o. replica_under (Some g) (slice_index (complete_of o) r) r (m.replicas j r)) was
+      ∙ (λ i. cond (there i) None (cond (there i) (Some (opened_state g)) (m.replicas j r)))
+
+  IsGoodIn-then : (j : ℕ) (sh : Shape) (g : Entry) (maker : Option CallId) → (j == making.ckpt) ≡ false → entry_of j m.cluster.entries ≡ Some g → IsGoodIn m j sh g maker → IsGoodIn then_machine j sh g maker
+  IsGoodIn-then j sh g None other was good = record {
+    nodes = good.nodes;
+    some = good.some;
+    active = good.active;
+    replicas = λ r there. subst (λ o. IsSomeAnd o (IsShaped sh (sh.owners r))) (sym (replica_other j r g other was there)) (good.replicas r there);
+    fits = good.fits;
+    complete = good.complete;
+    lowest = good.lowest;
+    owned = λ r d owns. IsOwner-then j sh d (good.owned r d owns);
+  }
+  IsGoodIn-then j sh g (Some d) other was good = (good.0, IsMaker-then j d other good.1)
+
+  -- ---- the checkpoint that is made
+
+  pub opened_shape : Shape
+  opened_shape = record { owners = λ r. None; origin = s.call; update = updates.Nothing; moment = m.cluster.moment; sections = opening e.attributes e.made; effects = []; outcome = []; done = false }
+
+  none_before : (r : ℕ) → (slice_index e.complete r == 0) ≡ true
+  none_before r =
+      let good : IsGoodIn m making.ckpt (shapes making.ckpt) e (Some s.call) = subst (IsGoodIn m making.ckpt (shapes making.ckpt) e) by (inv.entries making.ckpt e found) in
+      ap (λ nodes. slice_index nodes r == 0) good.0.complete ∙ ap (λ n. n == 0) (slice_index-replicate 8 r)
+
+  replica_here : (r : ℕ) → IsCompleteOn f r → then_machine.replicas making.ckpt r ≡ Some (opened_state f)
+  replica_here r there =
+      ap (λ o. replica_under o (slice_index (complete_of (entry_of making.ckpt m.cluster.entries)) r) r (m.replicas making.ckpt r)) entry_here
+      ∙ ap (λ o. replica_under (Some f) (slice_index (complete_of o) r) r (m.replicas making.ckpt r)) found
+      ∙ (λ i. cond (there i) None (cond (none_before r i) (Some (opened_state f)) (m.replicas making.ckpt r)))
+
+  spread_here : IsSpread then_machine making.ckpt opened_shape f
+  unfolding opened_shape
+  spread_here = record {
+    nodes = ap length inv.up.1;
+    some = some;
+    active = refl;
+    replicas = λ r there. IsSomeAnd-from (then_machine.replicas making.ckpt r) (IsShaped opened_shape None) (opened_state f) (replica_here r there) (record { slot = refl; sections = refl; effects = refl });
+    fits = λ r d none. absurd (cc none);
+    complete = λ r d none. absurd (cc none);
+    lowest = λ q r d below there none. absurd (cc none);
+    owned = λ r d none. absurd (cc none);
+  }
+
+  -- ---- where the calls of others are
+
+  module _ (z : CallState) (other : z.call ≢ s.call) where
+    making_then : (w : Making) → IsMakingIn m z w → IsMakingIn then_machine z w
+    making_then w at =
+        let (g, was, made_by) = IsSomeAnd-at (entry_of w.ckpt m.cluster.entries) (λ e. e.making ≡ Some z.call) at.there in
+        let apart = not_this g was made_by in
+        let good : IsGoodIn m w.ckpt (shapes w.ckpt) g (Some z.call) = subst (IsGoodIn m w.ckpt (shapes w.ckpt) g) made_by (inv.entries w.ckpt g was) in
+        record {
+          there = subst (λ o. IsSomeAnd o (λ (x : Entry). x.making ≡ Some z.call)) (sym (entry_other w.ckpt apart)) at.there;
+          nodes = at.nodes;
+          reserved = λ r had.
+              ap (λ o. reservation_under o r (m.reserved w.ckpt r)) (entry_other w.ckpt apart ∙ was)
+              ∙ ap (λ b. cond b (m.reserved w.ckpt r) None) (ap (λ nodes. slice_index nodes r == 0) good.0.complete ∙ ap (λ n. n == 0) (slice_index-replicate 8 r))
+              ∙ at.reserved r had;
+        }
+      where
+        not_this : (g : Entry) → entry_of w.ckpt m.cluster.entries ≡ Some g → g.making ≡ Some z.call → (w.ckpt == making.ckpt) ≡ false
+        not_this g was made_by = by_test (w.ckpt == making.ckpt) refl
+          where
+            by_test : (b : Bool) → (w.ckpt == making.ckpt) ≡ b → (w.ckpt == making.ckpt) ≡ false
+            by_test false apart = apart
+            by_test true same =
+                let g_is : g ≡ e = same_Some g e (sym was ∙ ap (λ n. entry_of n m.cluster.entries) (eqb-true w.ckpt making.ckpt same) ∙ found) in
+                let calls : Some z.call ≡ Some s.call = sym made_by ∙ ap (λ (x : Entry). x.making) g_is ∙ by in
+                absurd (other (same_Some z.call s.call calls))
+
+    IfSome-making : (w : Option Making) → IfSome w (IsMakingIn m z) → IfSome w (IsMakingIn then_machine z)
+    IfSome-making None at = tt
+    IfSome-making (Some w) at = making_then w at
+
+    IsIn-then : (d : Driver) → IsInPlace m shapes z d → IsInPlace then_machine (put shapes making.ckpt opened_shape) z d
+    IsIn-then (drivers.Enter r) at = record { op = at.op; client = at.client; up = at.up; not_live = at.not_live }
+    IsIn-then (drivers.Open v) at = record { caller = at.caller; client = at.client; within = at.within; node = at.node; built = at.built; asks = at.asks; named = at.named; asked = at.asked; deadline = at.deadline; making = IfSome-making v.making at.making; given = at.given; room = at.room }
+    IsIn-then (drivers.Update u) at =
+        let apart = not_made u.ckpt at.made in
+        record {
+          call = at.call;
+          update = at.update;
+          kept = at.kept;
+          made = WasMade-then u.ckpt at.made;
+          nodes = at.nodes;
+          owns = λ g there r full. at.owns g (sym (entry_other u.ckpt apart) ∙ there) r full ∙ ap (λ (sh : Shape). is_owner z.call (sh.owners r)) (sym (ap (λ b. cond b opened_shape (shapes u.ckpt)) apart));
+          some = λ g there. at.some g (sym (entry_other u.ckpt apart) ∙ there);
+        }
+    IsIn-then (drivers.Active v) at = record {
+      call = at.call;
+      kind = at.kind;
+      made = WasMade-then v.ckpt at.made;
+      kept = at.kept;
+      room = subst (λ o. IfSome o (λ (x : Entry). z.kept.room ≡ room_declared x.attributes)) (sym (entry_other v.ckpt (not_made v.ckpt at.made))) at.room;
+      handle = at.handle;
+    }
+    IsIn-then drivers.Leave at = record { op = at.op; live = at.live }
+    IsIn-then (drivers.Close j) at = record { op = at.op; kept = at.kept; handle = at.handle }
+    IsIn-then (drivers.Unlink name) at = at
+    IsIn-then (drivers.Retain j duration) at = record { op = at.op; from_zero = at.from_zero; kept = at.kept; made = WasMade-then j at.made }
+
+  -- ---- the whole
+
+  -- the invariant holds after it
+  pub finish_keeps : InvariantIn (put shapes making.ckpt opened_shape) then_machine
+  finish_keeps = record {
+    up = inv.up;
+    none_live = inv.none_live;
+    rises = IdentitiesRise-change_key (made_with m.cluster.up c) (λ x. refl) making.ckpt m.cluster.entries inv.rises;
+    up_to = AllUpTo-change_key (made_with m.cluster.up c) (λ x. refl) m.cluster.last_identity making.ckpt m.cluster.entries inv.up_to;
+    swept = stays;
+    entries = λ j g there. by_test j g there (j == making.ckpt) refl;
+    handles = λ d h among. let was = inv.handles d h among in (was.0, WasMade-then h.id was.1);
+    clients = inv.clients;
+    hands = λ a z there. elim (put_actor-cases m.in_hand s.call.actor None a z there) [
+      | inl here ↦ absurd (let w : None ≡ Some z = here.1 in cc w)
+      | inr other ↦ (let was = inv.hands a z other.1 in record {
+        actor = was.actor;
+        client = was.client;
+        number = was.number;
+        live = was.live;
+        here = IsIn-then z (λ same. (let w : true ≡ false = sym (same_actor-refl s.call.actor) ∙ ap (λ b. same_actor b s.call.actor) (ap (λ (x : CallId). x.actor) (sym same) ∙ was.actor) ∙ other.0 in cc w)) (driver_of z) was.here;
+      })
+    ];
+  }
+    where
+      by_test : (j : ℕ) (g : Entry) → entry_of j R.entries ≡ Some g → (b : Bool) → (j == making.ckpt) ≡ b → IsGoodIn then_machine j (put shapes making.ckpt opened_shape j) g g.making
+      by_test j g there false other =
+          subst (λ sh. IsGoodIn then_machine j sh g g.making) (sym (ap (λ b. cond b opened_shape (shapes j)) other))
+          (let was : entry_of j m.cluster.entries ≡ Some g = sym (entry_other j other) ∙ there in IsGoodIn-then j (shapes j) g g.making other was (inv.entries j g was))
+      by_test j g there true same =
+          let at_k : making.ckpt ≡ j = sym (eqb-true j making.ckpt same) in
+          let g_is : f ≡ g = same_Some f g (sym entry_here ∙ ap (λ n. entry_of n R.entries) at_k ∙ there) in
+          subst (λ sh. IsGoodIn then_machine j sh g g.making) (sym (ap (λ b. cond b opened_shape (shapes j)) same))
+          (subst (λ (x : Entry). IsGoodIn then_machine j opened_shape x x.making) g_is (subst (λ n. IsSpread then_machine n opened_shape f) at_k spread_here))

@@ -1,0 +1,330 @@
+-- What a step leaves of replicas and their effects: a replica is where its node is complete, none has marks, and no checkpoint is held; effects are those that were, or of the call that commits.
+use Rattle.std.proofs.Common.{◌≡◌, ◌⊎◌, ℕ, ◌-◌, inl, inr, List, [], ◌∷◌, ◌++◌, filter, All, Option, Some, None, Bool, true, false, cond, not, ◌==◌, ◌&&◌, ℤ, refl, sym, ap, subst, ◌∙◌}
+use Rattle.std.specs.Prelude.{IsSomeAnd, slice_index, slice_set}
+use Rattle.std.proofs.lemmas.Bool.{eqb-true, and_parts}
+use Rattle.std.proofs.lemmas.Option.{same_Some}
+use Rattle.std.proofs.lemmas.List.Elements.{All-filter, All-map, All-push, All-weaker}
+use Rattle.ckpt_types.specs.declared.attributes.CreationAttributes.{CreationAttributes}
+use Rattle.ckpt_types.specs.declared.identities.ActorName.{ActorName}
+use Rattle.ckpt_types.specs.declared.identities.CallId.{CallId}
+use Rattle.ckpt_types.specs.Reads.{NextGiven}
+use Rattle.section_iter.specs.KeptIds.{KeptIds}
+use Rattle.client_handles.specs.declared.handle_view.HandleView.{HandleView}
+use Rattle.node_msgs.specs.declared.next.RecordStep.{RecordStep}
+use Rattle.node_msgs.specs.declared.next.RecordStep.TheVariants as events
+use Rattle.node_msgs.specs.declared.steps.Verb.{Verb}
+use Rattle.node_msgs.specs.declared.steps.Verb.TheVariants as verbs
+use Rattle.node_msgs.specs.declared.steps.StepReply.{StepReply}
+use Rattle.node_msgs.specs.declared.steps.StepReply.TheVariants as words
+use Rattle.cluster_record.specs.declared.entries.Entry.{Entry}
+use Rattle.cluster_record.specs.Calls.{client_of}
+use Rattle.cluster_record.specs.DueOpen.{OpenState, open_event}
+use Rattle.cluster_record.specs.LookUps.{at_ckpt}
+use Rattle.cluster_record.specs.Places.{change_key, put2}
+use Rattle.cluster_record.specs.RecordState.{RecordState, entry_of, identity_of, complete_of, has_references, stays, swept, created_as, new_entry, referred, made_with, released, released_all, unnamed, retaining, is_call_of, departed, undone}
+use Rattle.cluster_record.proofs.KeptLaws.{All-change_key}
+use Rattle.ckpt_machine.specs.Beginning.{opened_place, started_place, iteration_place, closed_place}
+use Rattle.ckpt_machine.specs.Drivers.{Driver}
+use Rattle.ckpt_machine.specs.Drivers as drivers
+use Rattle.ckpt_machine.specs.Driving.{making_in, event_ckpt, event_change, event_after}
+use Rattle.ckpt_machine.specs.Machine.{Machine, Effect, ReplicaState, Staged, CallState}
+use Rattle.ckpt_machine.specs.Owned.{IsEffectOf, HasEffect}
+use Rattle.ckpt_machine.specs.Shape.{IsCompleteOn}
+use Rattle.ckpt_machine.specs.Steps.{driver_of, with_record, with_opened, with_handle_at, with_iteration, with_next, without_handle, change_replica, with_committed, committed_slot, effect_of, changed, event_done, on_ok, on_look, without_making, at_some, new_handle, handle_in, replica_under, reservation_under, opened_state}
+
+-- ---- what is so in every state of a run
+
+abbrev pub IsFree : Entry → Type 0
+IsFree e = e.hold ≡ None
+
+-- the node is not complete
+abbrev pub IsIncomplete : Entry → ℕ → Type 0
+IsIncomplete e r = (slice_index e.complete r == 0) ≡ true
+
+-- a node has a replica where it is complete, and none with marks; it has reserved none where it is complete, or that is gone; no checkpoint is held
+pub record IsBareIn (R : RecordState) (replicas : ℕ → ℕ → Option ReplicaState) (reserved : ℕ → ℕ → Option ℕ) : Type 0 where
+  pub complete : (k r : ℕ) (x : ReplicaState) → replicas k r ≡ Some x → IsSomeAnd (entry_of k R.entries) (λ e. IsCompleteOn e r)
+  pub unmarked : (k r : ℕ) (x : ReplicaState) → replicas k r ≡ Some x → x.marks ≡ None
+  pub reserves : (k r n : ℕ) → reserved k r ≡ Some n → IsSomeAnd (entry_of k R.entries) (λ e. IsIncomplete e r)
+  pub free : All IsFree R.entries
+
+abbrev pub IsBare : Machine → Type 0
+IsBare m = IsBareIn m.cluster m.replicas m.reserved
+
+-- a node's replica of a checkpoint has an effect of the call
+pub record Has (m : Machine) (k r : ℕ) (call : CallId) : Type 0 where
+  pub replica : ReplicaState
+  pub there : m.replicas k r ≡ Some replica
+  pub effect : HasEffect call replica.effects
+
+-- what comes of m: bare, with the same calls, and with no effects but those that m has and those that are new
+pub record FollowsIn (m : Machine) (IsNew : ℕ → CallId → Type 0) (R : RecordState) (replicas : ℕ → ℕ → Option ReplicaState) (reserved : ℕ → ℕ → Option ℕ) (numbers : ActorName → ℕ) (hands : ActorName → Option CallState) : Type 0 where
+  pub bare : IsBareIn R replicas reserved
+  pub next : (a : ActorName) → numbers a ≡ m.next a
+  pub in_hand : (a : ActorName) → hands a ≡ m.in_hand a
+  pub effects : (k r : ℕ) (x : ReplicaState) (d : CallId) → replicas k r ≡ Some x → HasEffect d x.effects → Has m k r d ⊎ IsNew k d
+
+abbrev pub Follows : Machine → (ℕ → CallId → Type 0) → Machine → Type 0
+Follows m IsNew n = FollowsIn m IsNew n.cluster n.replicas n.reserved n.next n.in_hand
+
+-- ---- one replica
+
+-- a replica after a step of the record is of a complete node, and was there or is new
+under : (o : Option Entry) (before r : ℕ) (old : Option ReplicaState) (x : ReplicaState) → replica_under o before r old ≡ Some x → IsSomeAnd o (λ e. IsCompleteOn e r) × ((old ≡ Some x) ⊎ ((x.effects ≡ []) × (x.marks ≡ None)))
+under None before r old x is = absurd (cc is)
+under (Some e) before r old x is =
+    elim (slice_index e.complete r == 0) as (λ b. (slice_index e.complete r == 0) ≡ b → cond b None (cond (before == 0) (Some (opened_state e)) old) ≡ Some x → ((slice_index e.complete r == 0) ≡ false) × ((old ≡ Some x) ⊎ ((x.effects ≡ []) × (x.marks ≡ None)))) [
+      | true ↦ λ none gone. absurd (cc gone)
+      | false ↦ λ some there. (
+        some,
+        elim (before == 0) as (λ b. cond b (Some (opened_state e)) old ≡ Some x → (old ≡ Some x) ⊎ ((x.effects ≡ []) × (x.marks ≡ None))) [
+          | true ↦ λ new. (let same : opened_state e ≡ x = same_Some (opened_state e) x new in inr (ap (λ (y : ReplicaState). y.effects) (sym same), ap (λ (y : ReplicaState). y.marks) (sym same)))
+          | false ↦ λ same. inl same
+        ] there,
+      )
+    ] refl is
+
+-- a reservation after a step of the record is of a node that is not complete
+reserved_under : (o : Option Entry) (r : ℕ) (old : Option ℕ) (n : ℕ) → reservation_under o r old ≡ Some n → IsSomeAnd o (λ e. IsIncomplete e r)
+reserved_under None r old n is = absurd (cc is)
+reserved_under (Some e) r old n is = elim (slice_index e.complete r == 0) as (λ b. cond b old None ≡ Some n → b ≡ true) [ true ↦ λ is. refl | false ↦ λ none. absurd (cc none) ] is
+
+-- one effect more is the new one, or was there
+effect_more : (d : CallId) (xs : List Effect) (new : Effect) → HasEffect d (xs ++ new ∷ []) → HasEffect d xs ⊎ IsEffectOf d new
+effect_more d [] new (inl is) = inr is
+effect_more d [] new (inr none) = absurd none
+effect_more d (x ∷ xs) new (inl is) = inl (inl is)
+effect_more d (x ∷ xs) new (inr more) = elim (effect_more d xs new more) [ inl was ↦ inl (inr was) | inr is ↦ inr is ]
+
+-- a commit leaves no marks where none were
+committed_marks : (o : Option Entry) (x : ReplicaState) → (with_committed o x).marks ≡ x.marks
+committed_marks None x = refl
+committed_marks (Some e) x = by_slot x.slot
+  where
+    by_slot : (slot : Option Staged) → (committed_slot e.attributes x slot).marks ≡ x.marks
+    by_slot None = refl
+    by_slot (Some slot) = refl
+
+-- and takes the effect of what was staged
+committed_effects : (o : Option Entry) (x : ReplicaState) (d : CallId) → HasEffect d (with_committed o x).effects → HasEffect d x.effects ⊎ ((slot : Staged) × (x.slot ≡ Some slot) × (slot.origin ≡ d))
+committed_effects None x d has = inl has
+committed_effects (Some e) x d has = by_slot x.slot refl has
+  where
+    by_slot : (o : Option Staged) → x.slot ≡ o → HasEffect d (committed_slot e.attributes x o).effects → HasEffect d x.effects ⊎ ((slot : Staged) × (x.slot ≡ Some slot) × (slot.origin ≡ d))
+    by_slot None is has = inl has
+    by_slot (Some slot) is has = elim (effect_more d x.effects (effect_of slot) has) [ inl was ↦ inl was | inr new ↦ inr (slot, is, new) ]
+
+-- ---- the entries
+
+-- where one is changed, and its hold is not
+changed_free : (k : ℕ) (f : Entry → Entry) (es : List Entry) → ((e : Entry) → (f e).hold ≡ e.hold) → All IsFree es → All IsFree (change_key identity_of k f es)
+changed_free k f es keeps all = All-change_key IsFree identity_of k f es all (λ e found free. keeps e ∙ free)
+
+-- whether any references are left or not
+left_hold : (e : Entry) (t : ℤ) (references : List ℕ) (none left : Bool) → (cond none e (cond left (record e { references = references }) (record e { references = references; idle = t }))).hold ≡ e.hold
+left_hold e t references true left = refl
+left_hold e t references false true = refl
+left_hold e t references false false = refl
+
+released_hold : (c : ℕ) (t : ℤ) (e : Entry) → (released c t e).hold ≡ e.hold
+released_hold c t e = left_hold e t (slice_set e.references c (slice_index e.references c - 1)) (slice_index e.references c == 0) (has_references (record e { references = slice_set e.references c (slice_index e.references c - 1) }))
+
+released_all_hold : (c : ℕ) (t : ℤ) (e : Entry) → (released_all c t e).hold ≡ e.hold
+released_all_hold c t e = left_hold e t (slice_set e.references c 0) (slice_index e.references c == 0) (has_references (record e { references = slice_set e.references c 0 }))
+
+module _ (R : RecordState) (free : All IsFree R.entries) where
+  created_free : (call : CallId) (name : List ℕ) (a : Option CreationAttributes) → All IsFree (created_as call name a R).entries
+  created_free call name None = free
+  created_free call name (Some a) = All-push IsFree R.entries (new_entry call name a R) free refl
+
+  at_ckpt_free : (k : Option ℕ) (change : ℕ → RecordState) → ((k : ℕ) → All IsFree (change k).entries) → All IsFree (at_ckpt k R change).entries
+  at_ckpt_free None change each = free
+  at_ckpt_free (Some k) change each = each k
+
+  open_free : (call : CallId) (o : OpenState) (k : Option ℕ) (step : RecordStep) → All IsFree (open_event call o k step R).entries
+  open_free call o k events.Create = created_free call o.ask.name o.ask.attrs
+  open_free call o k events.Open = at_ckpt_free k _ (λ k. changed_free k (referred o.ask.client) R.entries (λ e. refl) free)
+  open_free call o k events.Finish = at_ckpt_free k _ (λ k. changed_free k (made_with R.up o.ask.client) R.entries (λ e. refl) free)
+  open_free call o k events.Undo = at_ckpt_free k _ (λ k. All-filter (λ e. not (e.identity == k)) IsFree R.entries free)
+  open_free call o k step = free
+
+  departed_free : (c : ℕ) → All IsFree (departed c R).entries
+  departed_free c =
+      All-map IsFree (released_all c R.moment) (filter others R.entries)
+      (All-weaker IsFree (λ e. IsFree (released_all c R.moment e)) (λ e free. released_all_hold c R.moment e ∙ free) (filter others R.entries) (All-filter others IsFree R.entries free))
+    where
+      others : Entry → Bool
+      others e = not (is_call_of c e.making)
+
+  change_free : (call : CallId) (d : Driver) (step : RecordStep) → All IsFree (event_change call d step R).entries
+  change_free call (drivers.Enter r) step = free
+  change_free call (drivers.Open o) step = open_free call o (event_ckpt R (drivers.Open o) step) step
+  change_free call (drivers.Update u) step = free
+  change_free call (drivers.Active a) step = free
+  change_free call drivers.Leave step = departed_free (client_of call)
+  change_free call (drivers.Close k) step = changed_free k (released (client_of call) R.moment) R.entries (released_hold (client_of call) R.moment) free
+  change_free call (drivers.Unlink name) step = at_ckpt_free _ _ (λ k. changed_free k unnamed R.entries (λ e. refl) free)
+  change_free call (drivers.Retain k duration) step = changed_free k (retaining duration) R.entries (λ e. refl) free
+
+-- ---- the machine
+
+module _ (m : Machine) (bare : IsBare m) (IsNew : ℕ → CallId → Type 0) where
+  same_follows : Follows m IsNew m
+  same_follows = record { bare = bare; next = λ a. refl; in_hand = λ a. refl; effects = λ k r x d there has. inl (record { replica = x; there = there; effect = has }) }
+
+  -- a step of the record
+  pub record_follows : (R : RecordState) → All IsFree R.entries → Follows m IsNew (with_record m R)
+  record_follows R free = record {
+    bare = record {
+      complete = λ k r x is. (came k r x is).0;
+      unmarked = λ k r x is. elim (came k r x is).1 [ inl was ↦ bare.unmarked k r x was | inr new ↦ new.1 ];
+      reserves = λ k r n is. reserved_under (entry_of k R.entries) r (m.reserved k r) n is;
+      free = free;
+    };
+    next = λ a. refl;
+    in_hand = λ a. refl;
+    effects = λ k r x d is has. elim (came k r x is).1 [
+      | inl was ↦ inl (record { replica = x; there = was; effect = has })
+      | inr new ↦ absurd (subst (HasEffect d) new.0 has)
+    ];
+  }
+    where
+      came : (k r : ℕ) (x : ReplicaState) → (with_record m R).replicas k r ≡ Some x → IsSomeAnd (entry_of k R.entries) (λ e. IsCompleteOn e r) × ((m.replicas k r ≡ Some x) ⊎ ((x.effects ≡ []) × (x.marks ≡ None)))
+      came k r x is = under (entry_of k R.entries) (slice_index (complete_of (entry_of k m.cluster.entries)) r) r (m.replicas k r) x is
+
+  event_follows : (s : CallState) (step : RecordStep) → Follows m IsNew (event_done m s step)
+  event_follows s step = record_follows (event_after s.call (driver_of s) step m.cluster) (All-filter (stays (event_change s.call (driver_of s) step m.cluster).moment) IsFree (event_change s.call (driver_of s) step m.cluster).entries (change_free m.cluster bare.free s.call (driver_of s) step))
+
+  undone_follows : (k : Option ℕ) → Follows m IsNew (without_making m k)
+  undone_follows None = same_follows
+  undone_follows (Some k) = record_follows (swept (undone k m.cluster)) (All-filter (stays m.cluster.moment) IsFree (undone k m.cluster).entries (All-filter (λ e. not (e.identity == k)) IsFree m.cluster.entries bare.free))
+
+  -- one replica changed
+  pub replica_follows : (k r : ℕ) (x y : ReplicaState) → m.replicas k r ≡ Some x → y.marks ≡ x.marks → ((d : CallId) → HasEffect d y.effects → HasEffect d x.effects ⊎ IsNew k d) → Follows m IsNew (record m { replicas = put2 m.replicas k r (Some y) })
+  replica_follows k r x y there marks more = record {
+    bare = record {
+      complete = λ j q z is. by_place j q z (λ j q z. IsSomeAnd (entry_of j m.cluster.entries) (λ e. IsCompleteOn e q)) (bare.complete k r x there) (bare.complete j q z) is;
+      unmarked = λ j q z is. by_place j q z (λ j q z. z.marks ≡ None) (marks ∙ bare.unmarked k r x there) (bare.unmarked j q z) is;
+      reserves = bare.reserves;
+      free = bare.free;
+    };
+    next = λ a. refl;
+    in_hand = λ a. refl;
+    effects = λ j q z d is. by_place j q z (λ j q z. HasEffect d z.effects → Has m j q d ⊎ IsNew j d)
+        (λ has. elim (more d has) [ inl was ↦ inl (record { replica = x; there = there; effect = was }) | inr new ↦ inr new ])
+        (λ was has. inl (record { replica = z; there = was; effect = has })) is;
+  }
+    where
+      by_place : (j q : ℕ) (z : ReplicaState) (P : ℕ → ℕ → ReplicaState → Type 0) → P k r y → (m.replicas j q ≡ Some z → P j q z) → put2 m.replicas k r (Some y) j q ≡ Some z → P j q z
+      by_place j q z P here other is = elim ((j == k) && (q == r)) as (λ b. ((j == k) && (q == r)) ≡ b → cond b (Some y) (m.replicas j q) ≡ Some z → P j q z) [
+        | true ↦ λ at some.
+            let (ckpt, node) = and_parts (j == k) (q == r) at in
+            let k_is : k ≡ j = sym (eqb-true j k ckpt) in
+            let r_is : r ≡ q = sym (eqb-true q r node) in
+            subst (λ q. P j q z) r_is (subst (λ j. P j r z) k_is (subst (P k r) (same_Some y z some) here))
+        | false ↦ λ at some. other some
+      ] refl is
+
+  changed_replica : (k r : ℕ) (o : Option ReplicaState) → m.replicas k r ≡ o → (change : ReplicaState → ReplicaState) → ((x : ReplicaState) → (change x).marks ≡ x.marks) → ((x : ReplicaState) (d : CallId) → m.replicas k r ≡ Some x → HasEffect d (change x).effects → HasEffect d x.effects ⊎ IsNew k d) → Follows m IsNew (change_replica m k r o change)
+  changed_replica k r None there change marks more = same_follows
+  changed_replica k r (Some x) there change marks more = replica_follows k r x (change x) there (marks x) (λ d. more x d there)
+
+  -- what is done on OK alone, and at a checkpoint and a node that are named
+  ok_follows : (reply : StepReply) (n : Machine) → Follows m IsNew n → Follows m IsNew (on_ok reply m n)
+  ok_follows words.Ok n follows = follows
+  ok_follows reply n follows = same_follows
+
+  look_follows : (reply : StepReply) (done refused : Machine) → Follows m IsNew done → Follows m IsNew refused → Follows m IsNew (on_look reply m done refused)
+  look_follows words.Done done refused after_done after_refused = after_done
+  look_follows words.Refused done refused after_done after_refused = after_refused
+  look_follows reply done refused after_done after_refused = same_follows
+
+  both_follow : (k r : Option ℕ) (change : ℕ → ℕ → Machine) → ((k r : ℕ) → Follows m IsNew (change k r)) → Follows m IsNew (at_some k m (λ k. at_some r m (change k)))
+  both_follow None r change each = same_follows
+  both_follow (Some k) None change each = same_follows
+  both_follow (Some k) (Some r) change each = each k r
+
+  -- a client's tables
+  handle_follows : (n : Machine) (c : ℕ) (h : HandleView) (place : Option ℕ) → Follows m IsNew n → Follows m IsNew (with_handle_at n c h place)
+  handle_follows n c h None follows = follows
+  handle_follows n c h (Some place) follows = follows
+
+  opened_follows : (n : Machine) (s : CallState) (k : Option ℕ) → Follows m IsNew n → Follows m IsNew (with_opened s k n)
+  opened_follows n s None follows = follows
+  opened_follows n s (Some k) follows = handle_follows n (client_of s.call) (new_handle n.cluster (n.last_handles (client_of s.call)) s.op k) (opened_place s.op) follows
+
+  closed_follows : (n : Machine) (c : ℕ) (h : Option HandleView) → Follows m IsNew n → Follows m IsNew (without_handle n c h)
+  closed_follows n c None follows = follows
+  closed_follows n c (Some h) follows = follows
+
+  started_follows : (c : ℕ) (h : Option HandleView) (place : Option ℕ) (kept : KeptIds) → Follows m IsNew (with_iteration m c h place kept)
+  started_follows c (Some h) (Some place) kept = same_follows
+  started_follows c (Some h) None kept = same_follows
+  started_follows c None place kept = same_follows
+
+  next_follows : (c : ℕ) (place : Option ℕ) (kept : Option KeptIds) (next : Option NextGiven) → Follows m IsNew (with_next m c place kept next)
+  next_follows c (Some place) (Some kept) (Some next) = same_follows
+  next_follows c (Some place) (Some kept) None = same_follows
+  next_follows c (Some place) None next = same_follows
+  next_follows c None kept next = same_follows
+
+  -- a reservation
+  reserve_follows : (k r n : ℕ) → IsSomeAnd (entry_of k m.cluster.entries) (λ e. IsIncomplete e r) → Follows m IsNew (record m { reserved = put2 m.reserved k r (Some n) })
+  reserve_follows k r n there = record {
+    bare = record { complete = bare.complete; unmarked = bare.unmarked; reserves = reserves; free = bare.free };
+    next = λ a. refl;
+    in_hand = λ a. refl;
+    effects = λ j q x d is has. inl (record { replica = x; there = is; effect = has });
+  }
+    where
+      reserves : (j q i : ℕ) → put2 m.reserved k r (Some n) j q ≡ Some i → IsSomeAnd (entry_of j m.cluster.entries) (λ e. IsIncomplete e q)
+      reserves j q i is = elim ((j == k) && (q == r)) as (λ b. ((j == k) && (q == r)) ≡ b → cond b (Some n) (m.reserved j q) ≡ Some i → IsSomeAnd (entry_of j m.cluster.entries) (λ e. IsIncomplete e q)) [
+        | true ↦ λ at some.
+            let (ckpt, node) = and_parts (j == k) (q == r) at in
+            let k_is : k ≡ j = sym (eqb-true j k ckpt) in
+            let r_is : r ≡ q = sym (eqb-true q r node) in
+            subst (λ q. IsSomeAnd (entry_of j m.cluster.entries) (λ e. IsIncomplete e q)) r_is (subst (λ j. IsSomeAnd (entry_of j m.cluster.entries) (λ e. IsIncomplete e r)) k_is there)
+        | false ↦ λ at some. bare.reserves j q i some
+      ] refl is
+
+  -- what a step needs of its row: a node that reserves is not complete, and the new effects of a commit are of the origins of what is staged there
+  abbrev pub StepNeeds : Verb → Option ℕ → Option ℕ → StepReply → Type 0
+  StepNeeds verbs.Reserve (Some k) (Some r) words.Ok = IsSomeAnd (entry_of k m.cluster.entries) (λ e. IsIncomplete e r)
+  StepNeeds verbs.Commit (Some k) (Some r) words.Ok = (x : ReplicaState) (slot : Staged) → m.replicas k r ≡ Some x → x.slot ≡ Some slot → IsNew k slot.origin
+  StepNeeds verb k r reply = Unit {0}
+
+  reserved_follows : (k r : Option ℕ) (reply : StepReply) → StepNeeds verbs.Reserve k r reply → Follows m IsNew (on_ok reply m (at_some k m (λ k. at_some r m (λ r. record m { reserved = put2 m.reserved k r (Some (slice_index m.cluster.up r)) }))))
+  reserved_follows (Some k) (Some r) words.Ok there = reserve_follows k r (slice_index m.cluster.up r) there
+  reserved_follows (Some k) None words.Ok there = same_follows
+  reserved_follows None r words.Ok there = same_follows
+  reserved_follows k r reply there = same_follows
+
+  commit_follows : (k r : Option ℕ) (reply : StepReply) → StepNeeds verbs.Commit k r reply → Follows m IsNew (on_ok reply m (at_some k m (λ k. at_some r m (λ r. change_replica m k r (m.replicas k r) (with_committed (entry_of k m.cluster.entries))))))
+  commit_follows (Some k) (Some r) words.Ok new =
+      changed_replica k r (m.replicas k r) refl (with_committed (entry_of k m.cluster.entries)) (committed_marks (entry_of k m.cluster.entries))
+      (λ x d there has. elim (committed_effects (entry_of k m.cluster.entries) x d has) [
+        | inl was ↦ inl was
+        | inr by ↦ (let (slot, is, origin) = by in inr (subst (IsNew k) origin (new x slot there is)))
+      ])
+  commit_follows (Some k) None words.Ok new = same_follows
+  commit_follows None r words.Ok new = same_follows
+  commit_follows k r reply new = same_follows
+
+  -- any step
+  pub changed_follows : (s : CallState) (verb : Verb) (k r : Option ℕ) (reply : StepReply) → StepNeeds verb k r reply → Follows m IsNew (changed m s verb k r reply)
+  changed_follows s verbs.Enter k r reply new = ok_follows reply _ (event_follows s events.Enter)
+  changed_follows s verbs.Open k r reply new = ok_follows reply _ (opened_follows _ s k (event_follows s events.Open))
+  changed_follows s verbs.Create k r reply new = ok_follows reply _ (event_follows s events.Create)
+  changed_follows s verbs.Reserve k r reply new = reserved_follows k r reply new
+  changed_follows s verbs.Finish k r reply new = ok_follows reply _ (opened_follows _ s k (event_follows s events.Finish))
+  changed_follows s verbs.Undo k r reply new = ok_follows reply _ (event_follows s events.Undo)
+  changed_follows s verbs.Stage k r reply new = ok_follows reply _ (both_follow k r _ (λ k r. changed_replica k r (m.replicas k r) refl _ (λ x. refl) (λ x d there has. inl has)))
+  changed_follows s verbs.Commit k r reply new = commit_follows k r reply new
+  changed_follows s verbs.Iter k r reply new = ok_follows reply _ (both_follow k r _ (λ k r. started_follows (client_of s.call) _ (started_place s.op) _))
+  changed_follows s verbs.Next k r reply new = ok_follows reply _ (both_follow k r _ (λ k r. next_follows (client_of s.call) (iteration_place s.op) _ _))
+  changed_follows s verbs.Leave k r reply new = ok_follows reply _ (event_follows s events.Leave)
+  changed_follows s verbs.Close k r reply new = ok_follows reply _ (closed_follows _ (client_of s.call) _ (event_follows s events.Close))
+  changed_follows s verbs.Unlink k r reply new = ok_follows reply _ (event_follows s events.Unlink)
+  changed_follows s verbs.Retain k r reply new = ok_follows reply _ (event_follows s events.Retain)
+  changed_follows s verbs.Look k r reply new = look_follows reply _ _ (closed_follows m (client_of s.call) (handle_in m (client_of s.call) (closed_place s.op)) same_follows) (undone_follows (making_in (driver_of s)))
+  changed_follows s verb k r reply new = same_follows

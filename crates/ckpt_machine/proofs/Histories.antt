@@ -1,0 +1,312 @@
+-- Which calls replicas have effects of: of calls that were begun; and one that is in hand commits its update there.
+use Rattle.run_labels.specs.declared.details.Details.{Details}
+use Rattle.std.proofs.Common.{◌≡◌, ◌⊎◌, ℕ, ◌+◌, ◌<◌, inl, inr, List, [], ◌∷◌, Option, Some, None, Bool, true, false, cond, ◌==◌, ℤ, refl, sym, ap, subst, ◌∙◌, arith}
+use Rattle.std.specs.Prelude.{IsSomeAnd, slice_index}
+use Rattle.std.proofs.lemmas.List.Elements.{All-nil, All-filter}
+use Rattle.std.proofs.lemmas.Option.{same_Some}
+use Rattle.ckpt_types.specs.declared.ais_error.AisError.TheVariants.{NotExist}
+use Rattle.ckpt_types.specs.declared.answers.Answer.TheVariants as answers
+use Rattle.ckpt_types.specs.declared.answers.Cause.TheVariants.{Plain}
+use Rattle.ckpt_types.specs.declared.answers.Outcome.{Outcome}
+use Rattle.ckpt_types.specs.declared.answers.Outcome.TheVariants.{Done, Refused}
+use Rattle.ckpt_types.specs.declared.identities.CallId.{CallId}
+use Rattle.ckpt_types.specs.declared.operation.Op.{Op}
+use Rattle.ckpt_types.specs.declared.operation.Op.TheVariants as ops
+use Rattle.node_msgs.specs.declared.steps.Verb.{Verb}
+use Rattle.node_msgs.specs.declared.steps.Verb.TheVariants as verbs
+use Rattle.node_msgs.specs.declared.steps.StepReply.{StepReply}
+use Rattle.node_msgs.specs.declared.steps.StepReply.TheVariants as words
+use Rattle.run_labels.specs.declared.labels.Label.{Label}
+use Rattle.run_labels.specs.declared.labels.Label.TheVariants as labels
+use Rattle.cluster_record.specs.declared.calls.UpdatePhase.TheVariants.{Committing}
+use Rattle.cluster_record.specs.declared.entries.Entry.{Entry}
+use Rattle.cluster_record.specs.Calls.{same_actor, number_of, client_of, put_actor, left}
+use Rattle.cluster_record.specs.DueUpdate.{UpdateState, update_on, by_phase, commit_at, update_taken, update_taken_by, commit_taken}
+use Rattle.cluster_record.specs.Places.{put}
+use Rattle.cluster_record.specs.RecordState.{RecordState, entry_of, moved, stays}
+use Rattle.cluster_record.specs.StepDone.{StepDone, done_of, first_lacking, last_having}
+use Rattle.ckpt_machine.specs.Beginning.{ended_place}
+use Rattle.ckpt_machine.specs.Drivers.{Driver}
+use Rattle.ckpt_machine.specs.Drivers as drivers
+use Rattle.ckpt_machine.specs.Driving.{driver_next, driver_taken}
+use Rattle.ckpt_machine.specs.Guards.{IsMadeBy, OfUpdate, OnReplica, CommitOk, Row, Allowed}
+use Rattle.ckpt_machine.specs.Invariant.{IsGoodIn, InvariantIn, Invariant}
+use Rattle.ckpt_machine.specs.Machine.{IterationTable, Machine, Staged, ReplicaState, CallState, empty_cluster}
+use Rattle.ckpt_machine.specs.Serving.{update_of}
+use Rattle.ckpt_machine.specs.Shape.{Shape, IsCompleteOn, IsShaped, IsOwner, slot_by}
+use Rattle.ckpt_machine.specs.Steps.{Told, IsDone, IsDue, driver_of, due, rooms_of, begun, begun_call, with_ended, with_record, without_iteration, kept_at_beginning, asked_handle, changed, stepped, step_of, after}
+use Rattle.ckpt_machine.proofs.Follows.{IsFree, IsIncomplete, IsBare, Has, Follows, record_follows, StepNeeds, changed_follows}
+use Rattle.ckpt_machine.specs.Runs.{last_from, last, IsRunFrom, IsRun}
+use Rattle.ckpt_machine.proofs.Lawful.{lawful}
+use Rattle.ckpt_machine.proofs.ReplicaSteps.{put_actor-cases}
+use Rattle.ckpt_machine.proofs.Start.{invariant_empty}
+use Rattle.ckpt_machine.proofs.Actors.{same_actor-refl, same_actor-true}
+use Rattle.ckpt_machine.proofs.NodeLists.{slice_index-replicate}
+use Rattle.ckpt_machine.proofs.Owning.{owner_origin}
+use Rattle.ckpt_machine.proofs.OptionLemmas.{IsSomeAnd-at, IsSomeAnd-from}
+
+-- what drives the call commits an update of this checkpoint
+pub record IsCommittingAt (k : ℕ) (d : Driver) : Type 0 where
+  pub update : UpdateState
+  pub driver_is : d ≡ drivers.Update update
+  pub ckpt : update.ckpt ≡ k
+  pub phase : update.phase ≡ Committing
+
+-- in every state of a run, by the guards: a call that a replica has an effect of was begun, and where it is in hand it commits there
+pub record HasHistory (m : Machine) : Type 0 where
+  pub bare : IsBare m
+  pub given : (k r : ℕ) (d : CallId) → Has m k r d → d.number < m.next d.actor
+  pub commits : (k r : ℕ) (s : CallState) → m.in_hand s.call.actor ≡ Some s → Has m k r s.call → IsCommittingAt k (driver_of s)
+
+pub history_empty : HasHistory empty_cluster
+history_empty = record {
+  bare = record { complete = λ k r x is. absurd (cc is); unmarked = λ k r x is. absurd (cc is); reserves = λ k r n is. absurd (cc is); free = All-nil IsFree };
+  given = λ k r d has. absurd (let none = has.there in cc none);
+  commits = λ k r s held has. absurd (cc held);
+}
+
+-- ---- whose a slot is
+
+module _ (m : Machine) (shapes : ℕ → Shape) (inv : InvariantIn shapes m) (bare : IsBare m) where
+  -- what is staged is of a call in hand, an update of this checkpoint, that owns it
+  pub slot_owned : (k r : ℕ) (x : ReplicaState) (slot : Staged) → m.replicas k r ≡ Some x → x.slot ≡ Some slot → IsOwner m k (shapes k) slot.owner × (slot.origin ≡ slot.owner)
+  slot_owned k r x slot at staged =
+      let (e, found, there) = IsSomeAnd-at (entry_of k m.cluster.entries) (λ e. IsCompleteOn e r) (bare.complete k r x at) in
+      by_maker e there e.making (inv.entries k e found)
+    where
+      by_owner : (o : Option CallId) → (shapes k).owners r ≡ o → slot_by (shapes k) o ≡ Some slot → ((d : CallId) → (shapes k).owners r ≡ Some d → IsOwner m k (shapes k) d) → IsOwner m k (shapes k) slot.owner × (slot.origin ≡ slot.owner)
+      by_owner None is none owned = absurd (cc none)
+      by_owner (Some d) is some owned =
+          let own = owned d is in
+          let same = same_Some (record { owner = d; origin = (shapes k).origin; update = (shapes k).update; moment = (shapes k).moment }) slot some in
+          let owner : d ≡ slot.owner = ap (λ (z : Staged). z.owner) same in
+          let origin : (shapes k).origin ≡ slot.origin = ap (λ (z : Staged). z.origin) same in
+          (subst (IsOwner m k (shapes k)) owner own, sym origin ∙ owner_origin m k (shapes k) d own ∙ owner)
+
+      by_maker : (e : Entry) → IsCompleteOn e r → (maker : Option CallId) → IsGoodIn m k (shapes k) e maker → IsOwner m k (shapes k) slot.owner × (slot.origin ≡ slot.owner)
+      by_maker e there (Some call) good =
+          let none : (slice_index e.complete r == 0) ≡ true = ap (λ nodes. slice_index nodes r == 0) good.0.complete ∙ ap (λ n. n == 0) (slice_index-replicate 8 r) in
+          absurd (let w : true ≡ false = sym none ∙ there in cc w)
+      by_maker e there None good =
+          let (y, is, shaped) = IsSomeAnd-at (m.replicas k r) (IsShaped (shapes k) ((shapes k).owners r)) (good.replicas r there) in
+          let same : y ≡ x = same_Some y x (sym is ∙ at) in
+          by_owner ((shapes k).owners r) refl (sym shaped.slot ∙ ap (λ (z : ReplicaState). z.slot) same ∙ staged) (good.owned r)
+
+-- on no node is complete what is in the making
+pub making_incomplete : (m : Machine) → Invariant m → (call : CallId) (k r : ℕ) → IsMadeBy m call k → IsSomeAnd (entry_of k m.cluster.entries) (λ e. IsIncomplete e r)
+making_incomplete m inv call k r by =
+    let (e, found, making) = IsSomeAnd-at (entry_of k m.cluster.entries) (λ e. e.making ≡ Some call) by in
+    let good = subst (λ maker. IsGoodIn m k (inv.shapes k) e maker) making (inv.holds.entries k e found) in
+    IsSomeAnd-from (entry_of k m.cluster.entries) (λ e. IsIncomplete e r) e found (ap (λ nodes. slice_index nodes r == 0) good.0.complete ∙ ap (λ n. n == 0) (slice_index-replicate 8 r))
+
+-- ---- a step of a call that commits
+
+of_update-is : (op : Op) (P : Type 0) → OfUpdate op P → P
+of_update-is (ops.Create place update) P p = p
+of_update-is (ops.Delete place update) P p = p
+of_update-is (ops.Expire place update) P p = p
+of_update-is (ops.Write place update) P p = p
+of_update-is (ops.Over place update) P p = p
+of_update-is op P p = absurd p
+
+-- it is a commit; or a look, where its checkpoint is gone or nothing is left to commit
+pub data CommitsBy (m : Machine) (u : UpdateState) (t : Told) : Type 0 where
+  commit : t.verb ≡ verbs.Commit → CommitsBy m u t
+  gone : entry_of u.ckpt m.cluster.entries ≡ None → t.end ≡ Some (Refused NotExist Plain) → CommitsBy m u t
+  nothing_left : t.end ≡ Some (Done answers.Nothing) → CommitsBy m u t
+
+pub commits_by : (m : Machine) (s : CallState) (u : UpdateState) (t : Told) → driver_of s ≡ drivers.Update u → u.phase ≡ Committing → IsDone m s (due m s) t → CommitsBy m u t
+commits_by m s u t is phase done = by_entry (entry_of u.ckpt m.cluster.entries) refl (subst (λ d. IsDone m s (driver_next m.cluster (rooms_of m (client_of s.call)) d) t) is done)
+  where
+    at : (last : Option ℕ) → IsDone m s (commit_at u last) t → CommitsBy m u t
+    at None looked = nothing_left (ap (λ (t : Told). t.end) looked)
+    at (Some r) served = commit served.verb
+
+    by_entry : (o : Option Entry) → entry_of u.ckpt m.cluster.entries ≡ o → IsDone m s (update_on u m.cluster.moment o) t → CommitsBy m u t
+    by_entry None none looked = gone none (ap (λ (t : Told). t.end) looked)
+    by_entry (Some e) found step =
+        at (last_having 0 e.complete u.owned)
+        (subst (λ ph. IsDone m s (by_phase u m.cluster.moment (first_lacking 0 e.complete u.owned) (last_having 0 e.complete u.owned) ph) t) phase step)
+
+-- a commit leaves its call committing
+committed_phase : (d : StepDone) (u : UpdateState) (reply : StepReply) → u.phase ≡ Committing → ((commit_taken d u reply).phase ≡ Committing) × ((commit_taken d u reply).ckpt ≡ u.ckpt)
+committed_phase d u words.Ok is = (refl, refl)
+committed_phase d u reply is = (is, refl)
+
+taken_commit : (d : StepDone) (u : UpdateState) (k : ℕ) → d.verb ≡ verbs.Commit → u.ckpt ≡ k → (u.phase ≡ Committing) ⊎ (d.reply ≡ words.Ok) → IsCommittingAt k (drivers.Update (update_taken d u))
+taken_commit d u k is ckpt phase = subst (λ verb. IsCommittingAt k (drivers.Update (update_taken_by d u verb))) (sym is) (record {
+  update = commit_taken d u d.reply;
+  driver_is = refl;
+  ckpt = (by_reply phase).1 ∙ ckpt;
+  phase = (by_reply phase).0;
+})
+  where
+    by_reply : (u.phase ≡ Committing) ⊎ (d.reply ≡ words.Ok) → ((commit_taken d u d.reply).phase ≡ Committing) × ((commit_taken d u d.reply).ckpt ≡ u.ckpt)
+    by_reply (inl is) = committed_phase d u d.reply is
+    by_reply (inr ok) = subst (λ reply. ((commit_taken d u reply).phase ≡ Committing) × ((commit_taken d u reply).ckpt ≡ u.ckpt)) (sym ok) (refl, refl)
+
+-- where it goes on it commits still
+still : (m : Machine) (s : CallState) (t : Told) (R : RecordState) (k : ℕ) → IsDone m s (due m s) t → t.end ≡ None → IsCommittingAt k (driver_of s) → IsCommittingAt k (driver_taken (done_of R t.verb t.ckpt t.node t.reply) (driver_of s))
+still m s t R k done goes_on at =
+    elim (commits_by m s at.update t at.driver_is at.phase done) [
+      | commit is ↦ subst (λ d. IsCommittingAt k (driver_taken (done_of R t.verb t.ckpt t.node t.reply) d)) (sym at.driver_is) (taken_commit (done_of R t.verb t.ckpt t.node t.reply) at.update k is at.ckpt (inl at.phase))
+      | gone none ends ↦ absurd (let w : None ≡ Some (Refused NotExist Plain) = sym goes_on ∙ ends in cc w)
+      | nothing_left ends ↦ absurd (let w : None ≡ Some (Done answers.Nothing) = sym goes_on ∙ ends in cc w)
+    ]
+
+-- ---- a step
+
+module _ (m : Machine) (inv : Invariant m) (history : HasHistory m) (s : CallState) (held : m.in_hand s.call.actor ≡ Some s) (t : Told) (row : Row m s t.verb t) where
+  -- a new effect is of the call itself, which commits at this checkpoint
+  pub record IsOwnCommit (k : ℕ) (d : CallId) : Type 0 where
+    pub own : d ≡ s.call
+    pub verb : t.verb ≡ verbs.Commit
+    pub reply : t.reply ≡ words.Ok
+    pub update : UpdateState
+    pub driver_is : driver_of s ≡ drivers.Update update
+    pub ckpt : update.ckpt ≡ k
+
+  abbrev n : Machine
+  n = changed m s t.verb t.ckpt t.node t.reply
+
+  own_commit : (k r : ℕ) (details : Details) → t.verb ≡ verbs.Commit → t.reply ≡ words.Ok → OnReplica m k r (λ e x. CommitOk m s.call (update_of s.op) k r t.end details x) → (x : ReplicaState) (slot : Staged) → m.replicas k r ≡ Some x → x.slot ≡ Some slot → IsOwnCommit k slot.origin
+  own_commit k r details verb reply on x slot at staged = one
+    where
+      one : IsOwnCommit k slot.origin
+      one =
+          let (e, found, here) = IsSomeAnd-at (entry_of k m.cluster.entries) (λ e. IsSomeAnd (m.replicas k r) (λ x. CommitOk m s.call (update_of s.op) k r t.end details x)) on in
+          let (y, is, ok) = IsSomeAnd-at (m.replicas k r) (λ x. CommitOk m s.call (update_of s.op) k r t.end details x) here in
+          let same : y ≡ x = same_Some y x (sym is ∙ at) in
+          let slots : ok.slot ≡ slot = same_Some ok.slot slot (sym ok.staged ∙ ap (λ (z : ReplicaState). z.slot) same ∙ staged) in
+          let (by, origin) = slot_owned m inv.shapes inv.holds history.bare k r x slot at staged in
+          let owner : slot.owner ≡ s.call = ap (λ (z : Staged). z.owner) (sym slots) ∙ ok.owner in
+          let own : IsOwner m k (inv.shapes k) s.call = subst (IsOwner m k (inv.shapes k)) owner by in
+          let state : own.state ≡ s = same_Some own.state s (sym own.in_hand ∙ held) in
+          record { own = origin ∙ owner; verb = verb; reply = reply; update = own.driver; driver_is = ap driver_of (sym state) ∙ own.driver_is; ckpt = own.ckpt }
+
+  follows : Follows m IsOwnCommit n
+  follows = changed_follows m history.bare IsOwnCommit s t.verb t.ckpt t.node t.reply (news t.verb t.ckpt t.node t.reply refl refl row)
+    where
+      news : (verb : Verb) (k r : Option ℕ) (reply : StepReply) → t.verb ≡ verb → t.reply ≡ reply → Row m s verb (record t { verb = verb; ckpt = k; node = r; reply = reply }) → StepNeeds m history.bare IsOwnCommit verb k r reply
+      news verbs.Commit (Some k) (Some r) words.Ok verb reply row = own_commit k r _ verb reply (of_update-is s.op _ row)
+      news verbs.Reserve (Some k) (Some r) words.Ok verb reply row = making_incomplete m inv s.call k r row.0.1
+      news verb k r reply verb_is reply_is row = tt
+
+  -- whoever has an effect after the step had it before, or commits by it
+  pub had : (k r : ℕ) (d : CallId) → Has n k r d → Has m k r d ⊎ IsOwnCommit k d
+  had k r d has = follows.effects k r has.replica d has.there has.effect
+
+  module _ (end : Option Outcome) (ends : t.end ≡ end) (done : IsDone m s (due m s) t) where
+    abbrev then_state : CallState
+    then_state = record s { steps = done_of n.cluster t.verb t.ckpt t.node t.reply ∷ s.steps }
+
+    abbrev then_machine : Machine
+    then_machine = stepped n s t.verb t.ckpt t.node t.reply end
+
+    -- where the call goes on, it commits still
+    own_commits : (k r : ℕ) → end ≡ None → Has then_machine k r s.call → IsCommittingAt k (driver_of then_state)
+    own_commits k r none has =
+        elim (had k r s.call (record { replica = has.replica; there = has.there; effect = has.effect })) [
+          | inl was ↦ still m s t n.cluster k done (ends ∙ none) (history.commits k r s held was)
+          | inr new ↦ subst (λ d. IsCommittingAt k (driver_taken (done_of n.cluster t.verb t.ckpt t.node t.reply) d)) (sym new.driver_is) (taken_commit (done_of n.cluster t.verb t.ckpt t.node t.reply) new.update k new.verb new.ckpt (inr new.reply))
+        ]
+
+    other_commits : (k r : ℕ) (z : CallState) → same_actor z.call.actor s.call.actor ≡ false → n.in_hand z.call.actor ≡ Some z → Has then_machine k r z.call → IsCommittingAt k (driver_of z)
+    other_commits k r z other in_hand has =
+        elim (had k r z.call (record { replica = has.replica; there = has.there; effect = has.effect })) [
+          | inl was ↦ history.commits k r z (sym (follows.in_hand z.call.actor) ∙ in_hand) was
+          | inr new ↦ absurd (let w : true ≡ false = sym (ap (λ (d : CallId). same_actor d.actor s.call.actor) new.own ∙ same_actor-refl s.call.actor) ∙ other in cc w)
+        ]
+
+    left_state : (o : Option Outcome) (z : CallState) → left o then_state ≡ Some z → (o ≡ None) × (then_state ≡ z)
+    left_state None z is = (refl, same_Some then_state z is)
+    left_state (Some e) z is = absurd (cc is)
+
+    pub step_history : HasHistory then_machine
+    step_history = record {
+      bare = follows.bare;
+      given = λ k r d has. elim (had k r d (record { replica = has.replica; there = has.there; effect = has.effect })) [
+        | inl was ↦ subst (λ next. d.number < next) (sym (follows.next d.actor)) (history.given k r d was)
+        | inr new ↦ subst (λ next. d.number < next) (sym (follows.next d.actor)) (subst (λ (d : CallId). d.number < m.next d.actor) (sym new.own) (inv.holds.hands s.call.actor s held).number)
+      ];
+      commits = λ k r z in_hand has. elim (put_actor-cases n.in_hand s.call.actor (left end then_state) z.call.actor z in_hand) [
+        | inl own ↦ (
+            let (none, is) = left_state end z own.1 in
+            let call : s.call ≡ z.call = ap (λ (z : CallState). z.call) is in
+            subst (λ z. IsCommittingAt k (driver_of z)) is (own_commits k r none (subst (Has then_machine k r) (sym call) has)))
+        | inr other ↦ other_commits k r z other.0 other.1 has
+      ];
+    }
+
+-- ---- any label
+
+abbrev first_state : Machine → CallId → Op → CallState
+first_state m call op = record { call = call; op = op; kept = kept_at_beginning m.cluster (number_of call.actor) (asked_handle m call.actor op); steps = []; snapshot = None }
+
+begun_history : (m : Machine) → HasHistory m → (call : CallId) (op : Op) (end : Option Outcome) → call.number ≡ m.next call.actor → HasHistory (begun m call op end)
+begun_history m history call op end number = by_place (ended_place end op)
+  where
+    number_later : (d : CallId) → d.number < m.next d.actor → d.number < put_actor m.next call.actor (m.next call.actor + 1) d.actor
+    number_later d below = by_test (same_actor d.actor call.actor) refl
+      where
+        by_test : (b : Bool) → same_actor d.actor call.actor ≡ b → d.number < cond b (m.next call.actor + 1) (m.next d.actor)
+        by_test false other = below
+        by_test true same = let it : m.next d.actor ≡ m.next call.actor = ap m.next (same_actor-true d.actor call.actor same) in omega (arith, below, it)
+
+    begun_is : (o : Option Outcome) (z : CallState) → left o (first_state m call op) ≡ Some z → call ≡ z.call
+    begun_is None z is = ap (λ (z : CallState). z.call) (same_Some (first_state m call op) z is)
+    begun_is (Some e) z is = absurd (cc is)
+
+    with_table : (table : ℕ → IterationTable) → HasHistory (record (begun_call m call op end) { iterations = table })
+    with_table table = record {
+      bare = history.bare;
+      given = λ k r d has. number_later d (history.given k r d (record { replica = has.replica; there = has.there; effect = has.effect }));
+      commits = λ k r z in_hand has. elim (put_actor-cases m.in_hand call.actor (left end (first_state m call op)) z.call.actor z in_hand) [
+        | inl own ↦ (
+            let was : Has m k r z.call = record { replica = has.replica; there = has.there; effect = has.effect } in
+            let below : call.number < m.next call.actor = history.given k r call (subst (Has m k r) (sym (begun_is end z own.1)) was) in
+            absurd (omega (arith, below, number)))
+        | inr other ↦ history.commits k r z other.1 (record { replica = has.replica; there = has.there; effect = has.effect })
+      ];
+    }
+
+    by_place : (place : Option ℕ) → HasHistory (with_ended (number_of call.actor) place (begun_call m call op end))
+    by_place None = with_table m.iterations
+    by_place (Some place) = with_table (put m.iterations (number_of call.actor) (without_iteration place (m.iterations (number_of call.actor))))
+
+moved_history : (m : Machine) → HasHistory m → (t : ℤ) → HasHistory (with_record m (moved t m.cluster))
+moved_history m history t = record {
+  bare = follows.bare;
+  given = λ k r d has. history.given k r d (before k r d has);
+  commits = λ k r s held has. history.commits k r s held (before k r s.call has);
+}
+  where
+    follows : Follows m (λ k d. ⊥) (with_record m (moved t m.cluster))
+    follows = record_follows m history.bare (λ k d. ⊥) (moved t m.cluster) (All-filter (stays t) IsFree m.cluster.entries history.bare.free)
+
+    before : (k r : ℕ) (d : CallId) → Has (with_record m (moved t m.cluster)) k r d → Has m k r d
+    before k r d has = elim (follows.effects k r has.replica d has.there has.effect) [ inl was ↦ was | inr none ↦ absurd none ]
+
+-- what is allowed and due keeps it
+pub keeps_history : (m : Machine) (l : Label) → Invariant m → HasHistory m → Allowed m l → IsDue m l → HasHistory (after m l)
+keeps_history m (labels.Began call op end) inv history allowed is = begun_history m history call op end is.number
+keeps_history m (labels.Stepped call op verb k r reply end details) inv history allowed step =
+    let held : m.in_hand step.state.call.actor ≡ Some step.state = ap (λ (c : CallId). m.in_hand c.actor) step.call_is ∙ step.in_hand in
+    let same : allowed.state ≡ step.state = same_Some allowed.state step.state (sym allowed.in_hand ∙ step.in_hand) in
+    subst (λ o. HasHistory (step_of m o verb k r reply end)) (sym step.in_hand) (step_history m inv history step.state held _ (subst (λ z. Row m z verb _) same allowed.row) end refl step.done)
+keeps_history m (labels.Word who word said) inv history allowed is = history
+keeps_history m (labels.Nodes n) inv history allowed is = record {
+  bare = record { complete = history.bare.complete; unmarked = history.bare.unmarked; reserves = history.bare.reserves; free = history.bare.free };
+  given = λ k r d has. history.given k r d (record { replica = has.replica; there = has.there; effect = has.effect });
+  commits = λ k r s held has. history.commits k r s held (record { replica = has.replica; there = has.there; effect = has.effect });
+}
+keeps_history m (labels.Moved t) inv history allowed is = moved_history m history t
+keeps_history m l inv history allowed is = absurd is
+
+-- so it holds in a run, with the invariant
+run_from : (m : Machine) (log : List Label) → Invariant m → HasHistory m → IsRunFrom m log → Invariant (last_from m log) × HasHistory (last_from m log)
+run_from m [] inv history run = (inv, history)
+run_from m (l ∷ log) inv history run = run_from (after m l) log (lawful m l inv run.1).1 (keeps_history m l inv history run.0 run.1) run.2
+
+pub run_history : (log : List Label) → IsRun log → Invariant (last log) × HasHistory (last log)
+run_history log run = run_from empty_cluster log invariant_empty history_empty run

@@ -1,0 +1,134 @@
+-- What is next of a call: a look, a step of the record, a reservation, or what its driver asks of a replica.
+use Rattle.ckpt_machine.specs.Drivers.{Rooms}
+use Rattle.std.proofs.Common.{ℕ, Bool, true, false, ℤ, cond}
+use Rattle.std.specs.Prelude.{Option, Some, None, is_some, not, ◌&&◌, nat_le, length}
+use Rattle.ckpt_types.specs.declared.answers.Outcome.{Outcome}
+use Rattle.ckpt_types.specs.declared.attributes.CreationAttributes.{CreationAttributes}
+use Rattle.ckpt_types.specs.declared.identities.CallId.{CallId}
+use Rattle.node_msgs.specs.declared.requests.Request.TheVariants.{Reserve, Stage, Commit}
+use Rattle.node_msgs.specs.declared.next.RecordStep.{RecordStep}
+use Rattle.node_msgs.specs.declared.next.RecordStep.TheVariants.{Open, Finish, Undo, Retain}
+use Rattle.node_msgs.specs.declared.next.Next.{Next}
+use Rattle.node_msgs.specs.declared.next.Next.TheVariants.{Serve, Event, End}
+use Rattle.ckpt_machine.specs.Drivers.{Driver}
+use Rattle.ckpt_machine.specs.Drivers as drivers
+use Rattle.cluster_record.specs.declared.calls.Making.{Making}
+use Rattle.cluster_record.specs.DueOpen.{OpenState}
+use Rattle.cluster_record.specs.DueActive.{ActiveState}
+use Rattle.cluster_record.specs.declared.entries.Entry.{Entry}
+use Rattle.cluster_record.specs.DueUpdate.{UpdateState}
+use Rattle.cluster_record.specs.declared.calls.UpdatePhase.{UpdatePhase}
+use Rattle.cluster_record.specs.declared.calls.UpdatePhase.TheVariants.{Staging, Committing}
+use Rattle.cluster_record.specs.RecordState.{RecordState, entry_of, named}
+use Rattle.cluster_record.specs.StepDone.{first_lacking, last_having}
+use Rattle.ckpt_machine.specs.Driving.{driver_next}
+use Rattle.cluster_record.specs.DueOpen.{accepts, create_next, entry_by, entry_next, on_named, reserve_or_finish, on_making, by_making}
+use Rattle.cluster_record.specs.DueUpdate.{commit_at, stage_at, by_phase, update_on}
+use Rattle.cluster_record.specs.DueActive.{on_active, active_on, active_request, starts_iteration}
+use Rattle.cluster_record.specs.DueOnce.{close_of, unlink_of_making, unlink_of, retain_of}
+use Rattle.ckpt_machine.proofs.Deadlines.{in_time-either}
+
+-- what a driver asks of a replica has it
+abbrev pub OfAsked : (Next → Type 0) → Driver → Type 0
+OfAsked P (drivers.Update u) = ((r : ℕ) (t : ℤ) → P (Serve r (Stage u.call u.ckpt t))) × ((r : ℕ) → P (Serve r (Commit u.call u.ckpt)))
+OfAsked P (drivers.Active a) = (r : ℕ) → P (Serve r (active_request a))
+OfAsked P driver = Unit {0}
+
+module _ (P : Next → Type 0) (ends : (o : Outcome) → P (End o)) (steps : (step : RecordStep) → P (Event step)) (reserves : (r k : ℕ) → P (Serve r (Reserve k))) where
+  by_two : (a b : Bool) (x y : Outcome) (step : RecordStep) → P (cond a (End x) (cond b (End y) (Event step)))
+  by_two true b x y step = ends x
+  by_two false true x y step = ends y
+  by_two false false x y step = steps step
+
+  by_one : (a : Bool) (x : Outcome) (step : RecordStep) → P (cond a (End x) (Event step))
+  by_one true x step = ends x
+  by_one false x step = steps step
+
+  -- ---- an open
+
+  of_entry : (room : Bool) (a : Option CreationAttributes) (e : Entry) (making : Option CallId) → P (entry_by making room a e)
+  of_entry room a e (Some call) = steps Open
+  of_entry room a e None = by_two (not (accepts a e)) (not room) _ _ _
+
+  of_named : (R : RecordState) (room : Bool) (deadline : Option ℤ) (a : Option CreationAttributes) (e : Option Entry) → P (on_named R room deadline a e)
+  of_named R room deadline None None = ends _
+  of_named R room deadline (Some a) None = in_time-either P deadline R.moment (create_next R room) ends (by_two (not room) (nat_le 16 (length R.entries)) _ _ _)
+  of_named R room deadline a (Some e) = in_time-either P deadline R.moment (entry_next room a e) ends (of_entry room a e e.making)
+
+  of_reserve : (k : ℕ) (r : Option ℕ) → P (reserve_or_finish k r)
+  of_reserve k None = steps Finish
+  of_reserve k (Some r) = reserves r k
+
+  of_making : (R : RecordState) (m : Making) → P (on_making R m)
+  of_making R m = by_test m.refused where
+    by_test : (b : Bool) → P (cond b (Event Undo) (reserve_or_finish m.ckpt (first_lacking 0 R.up m.reserved)))
+    by_test true = steps Undo
+    by_test false = of_reserve m.ckpt (first_lacking 0 R.up m.reserved)
+
+  of_open : (R : RecordState) (room : Bool) (o : OpenState) (m : Option Making) → P (by_making R room o m)
+  of_open R room o None = of_named R room o.deadline o.ask.attrs (named o.ask.name R.entries)
+  of_open R room o (Some m) = in_time-either P o.deadline R.moment (on_making R m) ends (of_making R m)
+
+  -- ---- an update
+
+  module _ (u : UpdateState) (stages : (r : ℕ) (t : ℤ) → P (Serve r (Stage u.call u.ckpt t))) (commits : (r : ℕ) → P (Serve r (Commit u.call u.ckpt))) where
+    of_commit : (last : Option ℕ) → P (commit_at u last)
+    of_commit None = ends _
+    of_commit (Some r) = commits r
+
+    of_stage : (moment : ℤ) (first last : Option ℕ) → P (stage_at u moment first last)
+    of_stage moment (Some r) last = stages r _
+    of_stage moment None last = of_commit last
+
+    of_phase : (moment : ℤ) (first last : Option ℕ) (phase : UpdatePhase) → P (by_phase u moment first last phase)
+    of_phase moment first last Staging = of_stage moment first last
+    of_phase moment first last Committing = of_commit last
+
+    of_update : (moment : ℤ) (e : Option Entry) → P (update_on u moment e)
+    of_update moment None = ends _
+    of_update moment (Some e) = of_phase moment (first_lacking 0 e.complete u.owned) (last_having 0 e.complete u.owned) u.phase
+
+  -- ---- a call to the active
+
+  of_active : (room : Bool) (a : ActiveState) (e : Option Entry) → ((r : ℕ) → P (Serve r (active_request a))) → P (active_on room a e)
+  of_active room a None asks = ends _
+  of_active room a (Some e) asks = at e.active where
+    by_test : (b : Bool) (x : Outcome) (r : ℕ) → P (cond b (End x) (Serve r (active_request a)))
+    by_test true x r = ends x
+    by_test false x r = asks r
+
+    at : (r : Option ℕ) → P (on_active room a r)
+    at None = ends _
+    at (Some r) = by_test (starts_iteration a.kind && not room) _ r
+
+  -- ---- a call of one step
+
+  of_close : (e : Option Entry) → P (close_of e)
+  of_close None = ends _
+  of_close (Some e) = steps _
+
+  of_unlink : (e : Option Entry) → P (unlink_of e)
+  of_unlink None = ends _
+  of_unlink (Some e) = by_maker e.making where
+    by_maker : (making : Option CallId) → P (unlink_of_making making)
+    by_maker None = steps _
+    by_maker (Some call) = ends _
+
+  of_retain : (e : Option Entry) → P (retain_of e)
+  of_retain None = ends _
+  of_retain (Some e) = by_test (is_some e.name) _ where
+    by_test : (b : Bool) (x : Outcome) → P (cond b (Event Retain) (End x))
+    by_test true x = steps Retain
+    by_test false x = ends x
+
+  -- ---- any call
+
+  pub next_of : (R : RecordState) (room : Rooms) (x : Driver) → OfAsked P x → P (driver_next R room x)
+  next_of R room (drivers.Enter r) asks = by_one (nat_le 64 (length R.clients)) _ _
+  next_of R room (drivers.Open o) asks = of_open R room.handles o o.making
+  next_of R room (drivers.Update u) asks = of_update u asks.0 asks.1 R.moment (entry_of u.ckpt R.entries)
+  next_of R room (drivers.Active a) asks = of_active room.iterations a (entry_of a.ckpt R.entries) asks
+  next_of R room drivers.Leave asks = steps _
+  next_of R room (drivers.Close k) asks = of_close (entry_of k R.entries)
+  next_of R room (drivers.Unlink name) asks = of_unlink (named name R.entries)
+  next_of R room (drivers.Retain k duration) asks = of_retain (entry_of k R.entries)

@@ -1,0 +1,330 @@
+-- An open that is making a checkpoint reserves it on each node that is up, and finishes it; or undoes it, where memory was refused or its deadline is reached; with any calls of others in hand.
+use Rattle.std.proofs.Common.{◌≡◌, ℕ, ◌+◌, ◌<◌, inl, inr, ◌∷◌, length, Option, Some, None, Bool, true, false, cond, not, ◌==◌, ◌&&◌, nat_lt, ℤ, refl, sym, ap, subst, ◌∙◌, arith}
+use Rattle.std.specs.Prelude.{IsSome, IfSome, slice_index, slice_set}
+use Rattle.std.proofs.lemmas.Bool.{eqb-true, eq-eqb, lt-ltb, and_parts}
+use Rattle.std.proofs.lemmas.Option.{same_Some}
+use Rattle.moment_rules.specs.Times.{is_reached}
+use Rattle.ckpt_types.specs.declared.ais_error.AisError.TheVariants.{Timeout}
+use Rattle.ckpt_types.specs.declared.answers.Answer.TheVariants as answers
+use Rattle.ckpt_types.specs.declared.answers.Cause.TheVariants.{Deadline}
+use Rattle.ckpt_types.specs.declared.answers.Outcome.TheVariants.{Done, Refused, NoMemory}
+use Rattle.ckpt_types.specs.declared.calls.OpenAsk.{OpenAsk}
+use Rattle.ckpt_types.specs.declared.identities.CallId.{CallId}
+use Rattle.node_msgs.specs.declared.requests.Request.TheVariants as requests
+use Rattle.node_msgs.specs.declared.replies.Reply.TheVariants as replies
+use Rattle.node_msgs.specs.declared.next.RecordStep.TheVariants as events
+use Rattle.node_msgs.specs.declared.next.Next.TheVariants.{Event, End}
+use Rattle.node_msgs.specs.declared.steps.Verb.TheVariants as verbs
+use Rattle.node_msgs.specs.declared.steps.StepReply.TheVariants as words
+use Rattle.cluster_record.specs.declared.calls.Making.{Making}
+use Rattle.cluster_record.specs.declared.entries.Entry.{Entry}
+use Rattle.cluster_record.specs.Calls.{put_actor}
+use Rattle.cluster_record.specs.DueOpen.{OpenState, IsBefore, in_time, reserve_or_finish, on_making}
+use Rattle.cluster_record.specs.Places.{put2}
+use Rattle.cluster_record.specs.RecordState.{RecordState, entry_of, identity_of, named, is_up, first_complete, made_with, finished, stays}
+use Rattle.cluster_record.specs.StepDone.{StepDone, done_of, first_lacking, has, lacks}
+use Rattle.ckpt_machine.specs.Beginning.{opened_place}
+use Rattle.ckpt_machine.specs.Drivers as drivers
+use Rattle.ckpt_machine.specs.Driving.{driver_taken, event_after, making_in}
+use Rattle.ckpt_machine.specs.Guards.{IsMadeBy, IsInTime, IsOwnMaking}
+use Rattle.ckpt_machine.specs.Entries.{WasMade, IsMakingEntry, AllStay}
+use Rattle.ckpt_machine.specs.InHand.{is_enter, IsMakingIn, IsInPlace, IsOpenIn}
+use Rattle.ckpt_machine.specs.Invariant.{InvariantIn, Invariant}
+use Rattle.ckpt_machine.specs.Left.{steps_left, lacking}
+use Rattle.ckpt_machine.specs.Machine.{Machine, CallState}
+use Rattle.ckpt_machine.specs.Steps.{Told, IsDone, IsServed, IsEvent, driver_of, with_record, with_opened, without_making, stepped}
+use Rattle.ckpt_machine.specs.Shape.{Shape}
+use Rattle.ckpt_machine.proofs.Deadlines.{in_time-cases}
+use Rattle.ckpt_machine.proofs.Finished.{finish_keeps}
+use Rattle.ckpt_machine.proofs.EntryLists.{swept-all}
+use Rattle.ckpt_machine.proofs.EntryLists.{entry_of-given, find_key-change_key, AllStay-change_key, open-stays, list_any-first}
+use Rattle.ckpt_machine.proofs.StepLabels.{IsServed-told, IsEvent-told}
+use Rattle.ckpt_machine.proofs.StepsLeft.{lacking-set}
+use Rattle.ckpt_machine.proofs.NodeLists.{first_lacking-is, first_lacking-None, index-other, length-slice_set, index-within, not-lacked, lacked-has, first_complete-there}
+use Rattle.ckpt_machine.proofs.OpenFacts.{LookRefused-open, may_exist, handle_keeps}
+use Rattle.ckpt_machine.proofs.OwnMaking.{open_at, making_at, made_by, making_entry}
+use Rattle.ckpt_machine.proofs.Reserved.{reserved_keeps}
+use Rattle.ckpt_machine.proofs.Undone.{undone_keeps}
+use Rattle.ckpt_machine.proofs.DueStep.{Goes}
+
+-- what is not true is false
+not_not : (b : Bool) → not b ≡ true → b ≡ false
+not_not true is = absurd (cc is)
+not_not false is = refl
+
+module _ (m : Machine) (shapes : ℕ → Shape) (inv : InvariantIn shapes m) (s : CallState) (held : m.in_hand s.call.actor ≡ Some s) (call : CallId) (ask : OpenAsk) (deadline : Option ℤ) (making : Making) (is : driver_of s ≡ drivers.Open (record { call = call; ask = ask; deadline = deadline; making = Some making })) where
+  -- what it keeps
+  abbrev at_making : OpenState
+  at_making = record { call = call; ask = ask; deadline = deadline; making = Some making }
+
+  -- its checkpoint
+  abbrev k : ℕ
+  k = making.ckpt
+
+  -- where its steps have led it
+  at_open : IsOpenIn m s at_making
+  at_open = open_at m shapes inv s at_making held is
+
+  -- how far the making is
+  its : IsMakingIn m s making
+  its = making_at m shapes inv s at_making making held is refl
+
+  -- its checkpoint is in the making by it
+  by : IsMadeBy m s.call k
+  by = made_by m shapes inv s at_making making held is refl
+
+  -- the entry, as it was created
+  abbrev entry : (e : Entry) × (entry_of k m.cluster.entries ≡ Some e) × (e.making ≡ Some s.call) × IsMakingEntry e
+  entry = making_entry m shapes inv s at_making making held is refl
+
+  -- the deadline is not reached
+  in_time_is : IsBefore m.cluster.moment deadline → IsInTime m s
+  in_time_is before = subst (IsBefore m.cluster.moment) at_open.deadline before
+
+  -- ---- undone
+
+  -- at its deadline
+  late_goes : (t : Told) (d : ℤ) → deadline ≡ Some d → is_reached d m.cluster.moment ≡ true → IsDone m s (End (Refused Timeout (Deadline d m.cluster.moment))) t → Goes m s (drivers.Open at_making) t
+  late_goes t d at_d late done =
+      let own : making_in (driver_of s) ≡ Some k = ap making_in is in
+      subst (Goes m s (drivers.Open at_making)) (sym done) (record {
+        row = (
+          refl,
+          refl,
+          (
+            LookRefused-open m s s.op ask Timeout (Deadline d m.cluster.moment) at_open.asks (may_exist (named ask.name m.cluster.entries) ask.attrs (at_open.given refl), sym at_open.deadline ∙ at_d, refl, late),
+            subst (IsOwnMaking m s.call) (sym own) by,
+          ),
+          refl,
+        );
+        holds = subst (λ o. Invariant (stepped (without_making m o) s verbs.Look None None words.Refused (Some (Refused Timeout (Deadline d m.cluster.moment))))) (sym own) (undone_keeps m shapes inv s at_making making held is refl);
+        nearer = λ none. absurd (cc none);
+      })
+
+  -- where memory was refused
+  undo_goes : (t : Told) → IsBefore m.cluster.moment deadline → IsEvent m s events.Undo t → Goes m s (drivers.Open at_making) t
+  undo_goes t before event = elim (IsEvent-told m s events.Undo t (drivers.Open at_making) event is refl) [
+    | inl ok ↦ subst (Goes m s (drivers.Open at_making)) (sym ok) (record {
+      row = ((by, in_time_is before, ap making_in is, refl), refl);
+      holds = subst (λ R. Invariant (stepped (with_record m R) s verbs.Undo (Some k) None words.Ok (Some NoMemory))) (sym (ap (λ d. event_after s.call d events.Undo m.cluster) is)) (undone_keeps m shapes inv s at_making making held is refl);
+      nearer = λ none. absurd (cc none);
+    })
+    | inr memory ↦ absurd (cc (memory.0))
+  ]
+
+  -- ---- finished
+
+  -- the record with the checkpoint made
+  abbrev finished_then : RecordState
+  finished_then = finished k ask.client m.cluster
+
+  -- the entry then
+  abbrev made : Entry
+  made = made_with m.cluster.up ask.client entry.0
+
+  -- its maker has it open
+  finished_stays : AllStay m.cluster.moment finished_then.entries
+  finished_stays = AllStay-change_key m.cluster.moment (made_with m.cluster.up ask.client) k m.cluster.entries inv.swept (λ e found stay.
+      let same : entry.0 ≡ e = same_Some entry.0 e (sym entry.1 ∙ found) in
+      subst (λ f. stays m.cluster.moment (made_with m.cluster.up ask.client f) ≡ true) same (open-stays m.cluster.moment made (list_any-first entry.0.references ask.client (subst (λ n. ask.client < n) (sym entry.3.clients) at_open.within))))
+
+  -- it is made now
+  made_now : WasMade finished_then k
+  made_now = record {
+    given = entry_of-given m.cluster.last_identity k m.cluster.entries entry.0 inv.up_to entry.1;
+    made = subst (λ o. IfSome o (λ (e : Entry). e.making ≡ None)) (sym (find_key-change_key identity_of k k (made_with m.cluster.up ask.client) (λ x. refl) m.cluster.entries entry.0 entry.1 ∙ ap (λ b. cond b (Some made) (entry_of k m.cluster.entries)) (eq-eqb k k refl))) refl;
+  }
+
+  -- its node is up
+  some_up : IsSome (first_complete 0 m.cluster.up)
+  some_up =
+      let (below, there) = and_parts (nat_lt ask.node 8) (not (slice_index m.cluster.up ask.node == 0)) at_open.node in
+      first_complete-there 0 m.cluster.up ask.node (not_not (slice_index m.cluster.up ask.node == 0) there)
+
+  -- the call ends, and its client has the handle
+  finished_keeps : Invariant (stepped (with_opened s (Some k) (with_record m finished_then)) s verbs.Finish (Some k) None words.Ok (Some (Done (answers.Opened k))))
+  finished_keeps = record {
+    shapes = _;
+    holds = handle_keeps m shapes inv s held finished_then (finish_keeps m shapes inv s at_making making held is refl ask.client entry.0 entry.1 entry.2 some_up finished_stays) k made_now (opened_place s.op);
+  }
+
+  -- every node that is up has reserved
+  all_reserved : first_lacking 0 m.cluster.up making.reserved ≡ None → (r : ℕ) → is_up r m.cluster ≡ true → m.reserved k r ≡ Some (slice_index m.cluster.up r)
+  all_reserved none r up =
+      let (below, there) = and_parts (nat_lt r 8) (not (slice_index m.cluster.up r == 0)) up in
+      its.reserved r (not-lacked (slice_index m.cluster.up r) (slice_index making.reserved r) (not_not (slice_index m.cluster.up r == 0) there) (first_lacking-None 0 m.cluster.up making.reserved (its.nodes ∙ sym (ap length inv.up.1)) none r))
+
+  -- the finish
+  finish_goes : (t : Told) → IsBefore m.cluster.moment deadline → first_lacking 0 m.cluster.up making.reserved ≡ None → IsEvent m s events.Finish t → Goes m s (drivers.Open at_making) t
+  finish_goes t before none event = elim (IsEvent-told m s events.Finish t (drivers.Open at_making) event is refl) [
+    | inl ok ↦ subst (Goes m s (drivers.Open at_making)) (sym ok) (record {
+      row = ((by, in_time_is before, all_reserved none, refl), refl);
+      holds = subst (λ R. Invariant (stepped (with_opened s (Some k) (with_record m R)) s verbs.Finish (Some k) None words.Ok (Some (Done (answers.Opened k)))))
+          (sym (ap (λ d. event_after s.call d events.Finish m.cluster) is ∙ swept-all finished_then finished_stays)) finished_keeps;
+      nearer = λ none. absurd (cc none);
+    })
+    | inr memory ↦ absurd (cc (memory.0))
+  ]
+
+  -- ---- reserved
+
+  module _ (r : ℕ) (lacked : lacks (slice_index m.cluster.up r) (slice_index making.reserved r) ≡ true) (was_given : making.refused ≡ false) (before : IsBefore m.cluster.moment deadline) where
+    -- what it keeps with another making
+    abbrev making_of : Making → OpenState
+    making_of w = record { call = call; ask = ask; deadline = deadline; making = Some w }
+
+    -- the reservation as the call keeps it
+    abbrev reserve_done : StepDone
+    reserve_done = done_of m.cluster verbs.Reserve (Some k) (Some r) words.Ok
+
+    -- the making with this node reserved
+    abbrev reserved : Making
+    reserved = record { ckpt = making.ckpt; reserved = slice_set making.reserved r (slice_index m.cluster.up r); refused = making.refused }
+
+    -- its refusal as the call keeps it
+    abbrev memory_done : StepDone
+    memory_done = done_of m.cluster verbs.Reserve (Some k) (Some r) words.Memory
+
+    -- the making that was refused memory
+    abbrev refused : Making
+    refused = record { ckpt = making.ckpt; reserved = making.reserved; refused = true }
+
+    -- it keeps one incarnation for each node
+    same_length : length making.reserved ≡ length m.cluster.up
+    same_length = its.nodes ∙ sym (ap length inv.up.1)
+
+    -- the node is up
+    up_there : is_up r m.cluster ≡ true
+    up_there =
+        let there : (slice_index m.cluster.up r == 0) ≡ false = (lacked-has (slice_index m.cluster.up r) (slice_index making.reserved r) lacked).0 in
+        let within : r < 8 = subst (λ (n : ℕ). r < n) (ap length inv.up.1) (index-within m.cluster.up r there) in
+        λ i. lt-ltb r 8 within i && not (there i)
+
+    -- ---- where the call is then
+
+    module _ (d : StepDone) (w : Making) (g : ℕ → ℕ → Option ℕ) (taken : driver_taken d (drivers.Open at_making) ≡ drivers.Open (making_of w)) (same_ckpt : w.ckpt ≡ making.ckpt) (elsewhere : (j q : ℕ) → (j == making.ckpt) ≡ false → g j q ≡ m.reserved j q) where
+      -- the call with one step more
+      abbrev then_state : CallState
+      then_state = record s { steps = d ∷ s.steps }
+
+      -- the state with these reservations
+      abbrev then_machine : Machine
+      then_machine = record m { reserved = g; in_hand = put_actor m.in_hand s.call.actor (Some then_state) }
+
+      -- where the step has led the call
+      driver_then : driver_of then_state ≡ drivers.Open (making_of w)
+      driver_then = ap (driver_taken d) is ∙ taken
+
+      -- the invariant holds then, where it holds of the making
+      goes_on : IsMakingIn then_machine then_state w → InvariantIn shapes then_machine
+      goes_on making_then = reserved_keeps m shapes inv s at_making making held is refl g elsewhere then_state refl (making_of w) driver_then w refl same_ckpt (let hand = inv.hands s.call.actor s held in record {
+        actor = refl;
+        client = hand.client;
+        number = hand.number;
+        live = λ others. hand.live (ap is_enter is);
+        here = subst (IsInPlace then_machine shapes then_state) (sym driver_then) (record {
+          caller = at_open.caller;
+          client = at_open.client;
+          within = at_open.within;
+          node = at_open.node;
+          built = at_open.built;
+          asks = at_open.asks;
+          named = at_open.named;
+          asked = at_open.asked;
+          deadline = at_open.deadline;
+          making = making_then;
+          given = λ some. at_open.given refl;
+          room = λ some. at_open.room refl;
+        });
+      })
+
+    -- ---- done
+
+    -- the reservations with this one
+    abbrev put_there : ℕ → ℕ → Option ℕ
+    put_there = put2 m.reserved k r (Some (slice_index m.cluster.up r))
+
+    -- each node that it has for reserved has
+    reserved_then : (q : ℕ) → has (slice_index m.cluster.up q) (slice_index (slice_set making.reserved r (slice_index m.cluster.up r)) q) ≡ true → put_there k q ≡ Some (slice_index m.cluster.up q)
+    reserved_then q had =
+        subst (λ b. cond (b && (q == r)) (Some (slice_index m.cluster.up r)) (m.reserved k q) ≡ Some (slice_index m.cluster.up q)) (sym (eq-eqb k k refl))
+        (elim (q == r) as (λ b. (q == r) ≡ b → cond b (Some (slice_index m.cluster.up r)) (m.reserved k q) ≡ Some (slice_index m.cluster.up q)) [
+          | true ↦ λ same. ap (λ (n : ℕ). Some (slice_index m.cluster.up n)) (sym (eqb-true q r same))
+          | false ↦ λ other. its.reserved q (ap (has (slice_index m.cluster.up q)) (sym (index-other making.reserved r q (slice_index m.cluster.up r) other)) ∙ had)
+        ] refl)
+
+    -- the invariant holds after the reservation
+    reserved_holds : Invariant (stepped (record m { reserved = put2 m.reserved k r (Some (slice_index m.cluster.up r)) }) s verbs.Reserve (Some k) (Some r) words.Ok None)
+    reserved_holds = record {
+      shapes = shapes;
+      holds = goes_on reserve_done reserved put_there refl refl (λ j q other. ap (λ b. cond (b && (q == r)) (Some (slice_index m.cluster.up r)) (m.reserved j q)) other)
+          (record { there = its.there; nodes = length-slice_set making.reserved r (slice_index m.cluster.up r) ∙ its.nodes; reserved = reserved_then });
+    }
+
+    -- and after its refusal
+    refused_holds : Invariant (stepped m s verbs.Reserve (Some k) (Some r) words.Memory None)
+    refused_holds = record {
+      shapes = shapes;
+      holds = goes_on memory_done refused m.reserved refl refl (λ j q other. refl) (record { there = its.there; nodes = its.nodes; reserved = its.reserved });
+    }
+
+    -- ---- nearer to its end
+
+    -- the steps that are left of a making that was not refused
+    left_is : (w : Making) → w.refused ≡ false → steps_left m.cluster (drivers.Open (making_of w)) ≡ lacking m.cluster.up w.reserved + 1
+    left_is w given = ap (λ b. cond b 1 (lacking m.cluster.up w.reserved + 1)) given
+
+    -- a node fewer is lacked
+    one_fewer : lacking m.cluster.up (slice_set making.reserved r (slice_index m.cluster.up r)) + 1 ≡ lacking m.cluster.up making.reserved
+    one_fewer = lacking-set m.cluster.up making.reserved r same_length lacked
+
+    -- so a reservation brings the call nearer to its end
+    reserved_nearer : steps_left m.cluster (drivers.Open (making_of reserved)) < steps_left m.cluster (drivers.Open at_making)
+    reserved_nearer =
+        let a : steps_left m.cluster (drivers.Open (making_of reserved)) ≡ lacking m.cluster.up (slice_set making.reserved r (slice_index m.cluster.up r)) + 1 = left_is reserved was_given in
+        let b : steps_left m.cluster (drivers.Open at_making) ≡ lacking m.cluster.up making.reserved + 1 = left_is making was_given in
+        let c = one_fewer in
+        subst (λ (n : ℕ). n < steps_left m.cluster (drivers.Open at_making)) (sym a) (subst (λ (n : ℕ). lacking m.cluster.up (slice_set making.reserved r (slice_index m.cluster.up r)) + 1 < n) (sym b) (omega (arith, c)))
+
+    -- and its refusal does
+    refused_nearer : steps_left m.cluster (drivers.Open (making_of refused)) < steps_left m.cluster (drivers.Open at_making)
+    refused_nearer =
+        let b : steps_left m.cluster (drivers.Open at_making) ≡ lacking m.cluster.up making.reserved + 1 = left_is making was_given in
+        let c = one_fewer in
+        subst (λ (n : ℕ). 1 < n) (sym b) (omega (arith, c))
+
+    -- the reservation is done, or refused memory
+    reserve_goes : (t : Told) → IsServed m s r (requests.Reserve k) t → Goes m s (drivers.Open at_making) t
+    reserve_goes t served = elim served.may [
+      | inl ok ↦ subst (Goes m s (drivers.Open at_making)) (sym (IsServed-told m s r (requests.Reserve k) t (drivers.Open at_making) (replies.Done answers.Nothing) served is ok)) (record {
+        row = ((up_there, by, in_time_is before, refl), refl);
+        holds = reserved_holds;
+        nearer = λ none. reserved_nearer;
+      })
+      | inr memory ↦ subst (Goes m s (drivers.Open at_making)) (sym (IsServed-told m s r (requests.Reserve k) t (drivers.Open at_making) replies.NoMemory served is memory)) (record {
+        row = ((up_there, by, in_time_is before, refl), refl);
+        holds = refused_holds;
+        nearer = λ none. refused_nearer;
+      })
+    ]
+
+  -- ---- any making
+
+  -- what is lacked first is reserved next, and where none is lacked it is finished
+  reserve_or_finish-goes : (first : Option ℕ) → first_lacking 0 m.cluster.up making.reserved ≡ first → making.refused ≡ false → IsBefore m.cluster.moment deadline → (t : Told) → IsDone m s (reserve_or_finish k first) t → Goes m s (drivers.Open at_making) t
+  reserve_or_finish-goes (Some r) lacked was_given before t done =
+      let at_r = first_lacking-is 0 m.cluster.up making.reserved r lacked in
+      let here : r ≡ 0 + at_r.place = at_r.at in
+      let same : at_r.place ≡ r = omega (arith, here) in
+      reserve_goes r (subst (λ (q : ℕ). lacks (slice_index m.cluster.up q) (slice_index making.reserved q) ≡ true) same at_r.lacked) was_given before t done
+  reserve_or_finish-goes None none was_given before t done = finish_goes t before none done
+
+  -- one that was refused memory is undone
+  by_memory : (b : Bool) → making.refused ≡ b → IsBefore m.cluster.moment deadline → (t : Told) → IsDone m s (cond b (Event events.Undo) (reserve_or_finish k (first_lacking 0 m.cluster.up making.reserved))) t → Goes m s (drivers.Open at_making) t
+  by_memory true was_refused before t done = undo_goes t before done
+  by_memory false was_given before t done = reserve_or_finish-goes (first_lacking 0 m.cluster.up making.reserved) refl was_given before t done
+
+  -- the next step of a making
+  pub making_goes : (t : Told) → IsDone m s (in_time deadline m.cluster.moment (on_making m.cluster making)) t → Goes m s (drivers.Open at_making) t
+  making_goes t done = in_time-cases (λ next. IsDone m s next t → Goes m s (drivers.Open at_making) t) deadline m.cluster.moment (on_making m.cluster making)
+      (λ d at_d late. late_goes t d at_d late) (λ before. by_memory making.refused refl before t) done

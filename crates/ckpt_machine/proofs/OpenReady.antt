@@ -1,0 +1,219 @@
+-- What the code relies on of an open in hand: what is due of it can be served, or done by the record; and its client has room for the handle.
+use Rattle.std.proofs.Common.{◌≡◌, ℕ, zero, suc, ◌+◌, ◌<◌, ◌≤◌, length, Option, Some, None, Bool, true, false, cond, not, ◌&&◌, ◌==◌, nat_le, nat_lt, refl, sym, ap, subst, ◌∙◌, arith}
+use Rattle.std.specs.Prelude.{is_some, IsSome, IfSome, slice_index}
+use Rattle.std.proofs.lemmas.Bool.{leb-false, lt-ltb, ltb-false, or_parts}
+use Rattle.ckpt_types.specs.declared.ais_error.AisError.TheVariants.{Exist, NoResources}
+use Rattle.ckpt_types.specs.declared.answers.Cause.TheVariants.{Plain, Count}
+use Rattle.ckpt_types.specs.declared.answers.Outcome.TheVariants.{Refused}
+use Rattle.ckpt_types.specs.declared.attributes.CreationAttributes.{CreationAttributes}
+use Rattle.ckpt_types.specs.declared.identities.ActorName.{ActorName}
+use Rattle.ckpt_types.specs.declared.identities.ActorName.TheVariants.{Client, Node}
+use Rattle.ckpt_types.specs.declared.identities.CallId.{CallId}
+use Rattle.ckpt_types.specs.Attributes.{IsWellFormed}
+use Rattle.ckpt_types.specs.Limits.{name_max}
+use Rattle.ckpt_types.proofs.AttributeLaws.{IsWellFormed-from_check}
+use Rattle.node_msgs.specs.declared.requests.Request.{Request}
+use Rattle.node_msgs.specs.declared.requests.Request.TheVariants as requests
+use Rattle.node_msgs.specs.declared.next.Next.{Next}
+use Rattle.node_msgs.specs.declared.next.Next.TheVariants.{Serve, Event, End}
+use Rattle.node_msgs.specs.declared.next.RecordStep.TheVariants as events
+use Rattle.cluster_record.specs.declared.calls.Making.{Making}
+use Rattle.cluster_record.specs.declared.clients.LiveClient.{LiveClient}
+use Rattle.cluster_record.specs.declared.entries.Entry.{Entry}
+use Rattle.cluster_record.specs.Calls.{IsClient, client_of, number_of}
+use Rattle.cluster_record.specs.DueOpen.{OpenState, create_next, entry_by, entry_next, on_named, on_free_name, accepts, reserve_or_finish, on_making, by_making, making_ckpt}
+use Rattle.cluster_record.specs.Makings.{IsMakingOf}
+use Rattle.cluster_record.specs.Places.{find_key}
+use Rattle.cluster_record.specs.RecordReady.{CanOpen}
+use Rattle.cluster_record.specs.RecordState.{RecordState, entry_of, named, client_key, is_live, is_live_client, is_live_from}
+use Rattle.cluster_record.specs.StepDone.{lacks, first_lacking}
+use Rattle.cluster_record.proofs.MakingLaws.{making-own}
+use Rattle.ckpt_machine.specs.Beginning.{IsBuilt}
+use Rattle.ckpt_machine.specs.Drivers as drivers
+use Rattle.ckpt_machine.specs.Driving.{driver_next}
+use Rattle.ckpt_machine.specs.Facts.{IsServable, IsReservable, IsFinishable, IsEventReady}
+use Rattle.ckpt_machine.specs.Guards.{IsOwnMaking}
+use Rattle.ckpt_machine.specs.Entries.{IsMakingEntry}
+use Rattle.ckpt_machine.specs.InHand.{AreGoodAttributes, is_enter, IsMakingIn, IsOpenIn}
+use Rattle.ckpt_machine.specs.Invariant.{InvariantIn}
+use Rattle.ckpt_machine.specs.Machine.{Machine, CallState}
+use Rattle.ckpt_machine.specs.Steps.{due, driver_of, room_of, rooms_of}
+use Rattle.ckpt_machine.specs.Shape.{Shape}
+use Rattle.ckpt_machine.proofs.Deadlines.{in_time-either}
+use Rattle.ckpt_machine.proofs.OptionLemmas.{IsSomeAnd-from}
+use Rattle.ckpt_machine.proofs.NodeLists.{first_lacking-is, first_lacking-None, not-lacked, lacked-has, index-within, slice_index-replicate}
+use Rattle.ckpt_machine.proofs.OwnMaking.{open_at, making_at, made_by, making_entry}
+
+-- a reservation is all that an open asks of a node
+abbrev pub IsReservation : Request → Type 0
+IsReservation (requests.Reserve k) = Unit {0}
+IsReservation request = ⊥
+
+-- what the code relies on of what is due of an open
+abbrev pub IsOpenReady : Machine → CallState → OpenState → Next → Type 0
+IsOpenReady m s o (Serve r request) = (r < 8) × IsServable m r request × IsReservation request
+IsOpenReady m s o (Event step) = IsEventReady m s (drivers.Open o) step
+IsOpenReady m s o (End outcome) = Unit {0}
+
+-- what is not 0 is from 1
+from_one : (n : ℕ) → (n == 0) ≡ false → 1 ≤ n
+from_one zero e = absurd (cc e)
+from_one (suc n) e = omega arith
+
+-- attributes that passed their check are well formed
+well_formed : (a : Option CreationAttributes) → AreGoodAttributes a → IfSome a IsWellFormed
+well_formed None good = tt
+well_formed (Some a) good = IsWellFormed-from_check a good
+
+-- the client of a call that is live is live
+client_live : (R : RecordState) (call : CallId) → IsClient call.actor → is_live R call ≡ true → is_live_client (client_of call) R ≡ true
+client_live R call client live = by_actor call.actor call.number client live
+  where
+    -- it is found
+    by_found : (o : Option LiveClient) (n : ℕ) → is_live_from o n ≡ true → is_some o ≡ true
+    by_found None n live = absurd (cc live)
+    by_found (Some x) n live = refl
+
+    by_actor : (a : ActorName) (n : ℕ) → IsClient a → is_live R (record { actor = a; number = n }) ≡ true → is_live_client (number_of a) R ≡ true
+    by_actor (Client c) n client live = by_found (find_key client_key c R.clients) n live
+    by_actor (Node r) n client live = absurd client
+
+module _ (m : Machine) (shapes : ℕ → Shape) (inv : InvariantIn shapes m) (s : CallState) (o : OpenState) (held : m.in_hand s.call.actor ≡ Some s) (is : driver_of s ≡ drivers.Open o) where
+  -- where its steps have led it
+  at_open : IsOpenIn m s o
+  at_open = open_at m shapes inv s o held is
+
+  -- it can be asked of the record
+  can_open : CanOpen o.ask m.cluster
+  can_open =
+      let parts = or_parts (length o.ask.name == 0) (nat_lt name_max (length o.ask.name)) at_open.named in
+      record {
+        client = at_open.within;
+        node = at_open.node;
+        name = (from_one (length o.ask.name) parts.0, ltb-false name_max (length o.ask.name) parts.1);
+        attributes = well_formed o.ask.attrs at_open.asked;
+      }
+
+  -- ---- with nothing in the making
+
+  -- a checkpoint that is asked for is made where there is room
+  create_ready : (room : Bool) (a : CreationAttributes) → o.ask.attrs ≡ Some a → named o.ask.name m.cluster.entries ≡ None → IsOpenReady m s o (create_next m.cluster room)
+  create_ready false a given free = tt
+  create_ready true a given free =
+      elim (nat_le 16 (length m.cluster.entries)) as (λ b. nat_le 16 (length m.cluster.entries) ≡ b → IsOpenReady m s o (cond b (End (Refused NoResources (Count 16))) (Event events.Create))) [
+        | true ↦ λ full. tt
+        | false ↦ λ few. (leb-false 16 (length m.cluster.entries) few, IsSomeAnd-from o.ask.attrs (λ a. Unit {0}) a given tt, free, can_open, at_open.caller)
+      ] refl
+
+  -- of a name that is free
+  free_ready : (room : Bool) (a : Option CreationAttributes) → o.ask.attrs ≡ a → named o.ask.name m.cluster.entries ≡ None → IsOpenReady m s o (on_free_name m.cluster room o.deadline a)
+  free_ready room None given free = tt
+  free_ready room (Some a) given free = in_time-either (IsOpenReady m s o) o.deadline m.cluster.moment (create_next m.cluster room) (λ outcome. tt) (create_ready room a given free)
+
+  -- the record is asked to open what has the attributes asked for, where it is made
+  asked_ready : (e : Entry) → named o.ask.name m.cluster.entries ≡ Some e → (e.making ≡ None → accepts o.ask.attrs e ≡ true) → IsOpenReady m s o (Event events.Open)
+  asked_ready e found takes = (IsSomeAnd-from (named o.ask.name m.cluster.entries) (λ e. e.making ≡ None → accepts o.ask.attrs e ≡ true) e found takes, can_open, at_open.caller)
+
+  -- one that is made is opened where it has the attributes asked for and there is room for the handle
+  made_ready : (room accepted : Bool) (e : Entry) → accepts o.ask.attrs e ≡ accepted → named o.ask.name m.cluster.entries ≡ Some e → IsOpenReady m s o (cond (not accepted) (End (Refused Exist Plain)) (cond (not room) (End (Refused NoResources (Count 32))) (Event events.Open)))
+  made_ready room false e takes found = tt
+  made_ready false true e takes found = tt
+  made_ready true true e takes found = asked_ready e found (λ made. takes)
+
+  -- of a name that a checkpoint has
+  entry_ready : (room : Bool) (e : Entry) (maker : Option CallId) → e.making ≡ maker → named o.ask.name m.cluster.entries ≡ Some e → IsOpenReady m s o (entry_by maker room o.ask.attrs e)
+  entry_ready room e None made found = made_ready room (accepts o.ask.attrs e) e refl found
+  entry_ready room e (Some by) made_by found = asked_ready e found (λ made. absurd (let w : None ≡ Some by = sym made ∙ made_by in cc w))
+
+  -- of any name
+  named_ready : (room : Bool) (x : Option Entry) → named o.ask.name m.cluster.entries ≡ x → IsOpenReady m s o (on_named m.cluster room o.deadline o.ask.attrs x)
+  named_ready room None found = free_ready room o.ask.attrs refl found
+  named_ready room (Some e) found = in_time-either (IsOpenReady m s o) o.deadline m.cluster.moment (entry_next room o.ask.attrs e) (λ outcome. tt) (entry_ready room e e.making refl found)
+
+  -- ---- with a checkpoint in the making
+
+  module _ (making : Making) (makes : o.making ≡ Some making) where
+    -- how far the making is
+    its : IsMakingIn m s making
+    its = making_at m shapes inv s o making held is makes
+
+    -- the entry, as it was created
+    abbrev entry : (e : Entry) × (entry_of making.ckpt m.cluster.entries ≡ Some e) × (e.making ≡ Some s.call) × IsMakingEntry e
+    entry = making_entry m shapes inv s o making held is makes
+
+    -- it keeps one incarnation for each node
+    same_length : length making.reserved ≡ length m.cluster.up
+    same_length = its.nodes ∙ sym (ap length inv.up.1)
+
+    -- it is in the making by a call of the client
+    own : IsMakingOf m.cluster o.ask.client (making_ckpt o.making)
+    own = subst (λ w. IsMakingOf m.cluster o.ask.client (making_ckpt w)) (sym makes) (making-own (entry_of making.ckpt m.cluster.entries) s.call o.ask.client at_open.client its.there)
+
+    -- no node is complete yet
+    none_complete : (r : ℕ) → slice_index entry.0.complete r ≡ 0
+    none_complete r = ap (λ nodes. slice_index nodes r) entry.3.complete ∙ slice_index-replicate 8 r
+
+    -- the node that is lacked first can reserve
+    reserve_ready : (r : ℕ) → first_lacking 0 m.cluster.up making.reserved ≡ Some r → IsOpenReady m s o (Serve r (requests.Reserve making.ckpt))
+    reserve_ready r lacked =
+        let at_r = first_lacking-is 0 m.cluster.up making.reserved r lacked in
+        let here : r ≡ 0 + at_r.place = at_r.at in
+        let same : at_r.place ≡ r = omega (arith, here) in
+        let there : (slice_index m.cluster.up r == 0) ≡ false = (lacked-has (slice_index m.cluster.up r) (slice_index making.reserved r) (subst (λ (q : ℕ). lacks (slice_index m.cluster.up q) (slice_index making.reserved q) ≡ true) same at_r.lacked)).0 in
+        let within : r < 8 = subst (λ (n : ℕ). r < n) (ap length inv.up.1) (index-within m.cluster.up r there) in (
+          within,
+          IsSomeAnd-from (entry_of making.ckpt m.cluster.entries) (IsReservable m.cluster r) entry.0 entry.1 (record {
+            up = λ i. lt-ltb r 8 within i && not (there i);
+            making = ap is_some entry.2;
+            not_complete = none_complete r;
+            well_formed = entry.3.well_formed;
+          }),
+          tt,
+        )
+
+    -- where none is lacked it can be finished
+    finish_ready : first_lacking 0 m.cluster.up making.reserved ≡ None → IsOpenReady m s o (Event events.Finish)
+    finish_ready none = (
+      subst (IsFinishable m) (sym makes) (
+        λ r up. its.reserved r (not-lacked (slice_index m.cluster.up r) (slice_index making.reserved r) up (first_lacking-None 0 m.cluster.up making.reserved same_length none r)),
+        IsSomeAnd-from (entry_of making.ckpt m.cluster.entries) (λ e. (e.generation ≡ 1) × ((r : ℕ) → slice_index e.complete r ≡ 0)) entry.0 entry.1 (entry.3.generation, none_complete),
+      ),
+      own,
+    )
+
+    -- it can be undone
+    undo_ready : IsOpenReady m s o (Event events.Undo)
+    undo_ready = (IsSomeAnd-from o.making (λ making. Unit {0}) making makes tt, own)
+
+    -- it is undone where memory was refused
+    by_memory : (refused : Bool) (first : Option ℕ) → first_lacking 0 m.cluster.up making.reserved ≡ first → IsOpenReady m s o (cond refused (Event events.Undo) (reserve_or_finish making.ckpt first))
+    by_memory true first lacked = undo_ready
+    by_memory false (Some r) lacked = reserve_ready r lacked
+    by_memory false None none = finish_ready none
+
+    -- before its deadline
+    making_ready : IsOpenReady m s o (by_making m.cluster (room_of m (client_of s.call)) o (Some making))
+    making_ready = in_time-either (IsOpenReady m s o) o.deadline m.cluster.moment (on_making m.cluster making) (λ outcome. tt) (by_memory making.refused (first_lacking 0 m.cluster.up making.reserved) refl)
+
+  -- ---- any open
+
+  -- what is due of it
+  pub open_ready : IsOpenReady m s o (due m s)
+  open_ready = subst (IsOpenReady m s o) (sym due_is) (by_making_of o.making refl)
+    where
+      due_is : due m s ≡ by_making m.cluster (room_of m (client_of s.call)) o o.making
+      due_is = ap (driver_next m.cluster (rooms_of m (client_of s.call))) is
+
+      by_making_of : (w : Option Making) → o.making ≡ w → IsOpenReady m s o (by_making m.cluster (room_of m (client_of s.call)) o w)
+      by_making_of None makes = named_ready (room_of m (client_of s.call)) (named o.ask.name m.cluster.entries) refl
+      by_making_of (Some making) makes = making_ready making makes
+
+  -- it has a place for its handle, and with a checkpoint in the making room for the handle; its client is live, and what it is making is in the making by it
+  pub open_fits : IsBuilt s.op × (IsSome o.making → room_of m (client_of s.call) ≡ true) × (is_live_client (client_of s.call) m.cluster ≡ true) × IsOwnMaking m s.call (making_ckpt o.making)
+  open_fits =
+      let hand = inv.hands s.call.actor s held in
+      (at_open.built, λ some. ap (room_of m) (sym at_open.client) ∙ at_open.room some, client_live m.cluster s.call hand.client (hand.live (ap is_enter is)), by_making_of o.making refl)
+    where
+      by_making_of : (w : Option Making) → o.making ≡ w → IsOwnMaking m s.call (making_ckpt w)
+      by_making_of None makes = tt
+      by_making_of (Some making) makes = made_by m shapes inv s o making held is makes

@@ -1,0 +1,55 @@
+-- An open of a checkpoint that is there: its client has one reference more, and the handle once its call has ended.
+use Rattle.std.proofs.Common.{◌≡◌, ℕ, Option, Some, None, true, refl, sym, ap, subst, ◌∙◌}
+use Rattle.std.specs.Prelude.{IfSome}
+use Rattle.std.proofs.lemmas.Option.{same_Some}
+use Rattle.cluster_record.specs.declared.entries.Entry.{Entry}
+use Rattle.cluster_record.specs.RecordState.{RecordState, entry_of, stays, referred, opened, swept}
+use Rattle.cluster_record.proofs.IdentityLaws.{IdentitiesRise-change_key}
+use Rattle.ckpt_machine.specs.Entries.{WasMade}
+use Rattle.ckpt_machine.specs.Invariant.{InvariantIn, Invariant}
+use Rattle.ckpt_machine.specs.Machine.{Machine, CallState}
+use Rattle.ckpt_machine.specs.Steps.{driver_of, with_record, with_opened}
+use Rattle.ckpt_machine.specs.Beginning.{opened_place}
+use Rattle.ckpt_machine.specs.Shape.{Shape}
+use Rattle.ckpt_machine.specs.Later.{IsLaterEntry}
+use Rattle.ckpt_machine.proofs.Entries.{ComesOf, ComesOf-change_key, ComesOf-filter, ComesOf-then}
+use Rattle.ckpt_machine.proofs.EntryLists.{entry_of-given}
+use Rattle.ckpt_machine.proofs.Moment.{IsLaterEntry-refl}
+use Rattle.ckpt_machine.proofs.NodeLists.{length-slice_set}
+use Rattle.ckpt_machine.proofs.OpenFacts.{ending, handle_keeps}
+use Rattle.ckpt_machine.proofs.PlainCalls.{is_plain, IsLaterEntry-then, changed_keeps}
+
+-- one reference more changes nothing that the invariant looks at
+referred-later : (c : ℕ) (e : Entry) → IsLaterEntry e (referred c e)
+referred-later c e = record { making = refl; complete = refl; active = refl; attributes = refl; generation = refl; clients = length-slice_set e.references c _ }
+
+module _ (m : Machine) (shapes : ℕ → Shape) (inv : InvariantIn shapes m) (s : CallState) (held : m.in_hand s.call.actor ≡ Some s) (plain : is_plain (driver_of s) ≡ true) (c : ℕ) (e : Entry) (there : entry_of e.identity m.cluster.entries ≡ Some e) (made : e.making ≡ None) where
+  -- the record with the reference, swept
+  abbrev R : RecordState
+  R = swept (opened e.identity c m.cluster)
+
+  -- the entries are later ones
+  opened_later : ComesOf IsLaterEntry m.cluster.entries R.entries
+  opened_later = ComesOf-then IsLaterEntry IsLaterEntry IsLaterEntry IsLaterEntry-then m.cluster.entries (opened e.identity c m.cluster).entries R.entries
+      (ComesOf-change_key IsLaterEntry IsLaterEntry-refl (referred c) (λ x. refl) (referred-later c) e.identity m.cluster.entries)
+      (ComesOf-filter IsLaterEntry IsLaterEntry-refl (stays m.cluster.moment) (opened e.identity c m.cluster).entries (IdentitiesRise-change_key (referred c) (λ x. refl) e.identity m.cluster.entries inv.rises))
+
+  -- it was made, and is
+  was_made : WasMade R e.identity
+  was_made = record {
+    given = entry_of-given m.cluster.last_identity e.identity m.cluster.entries e inv.up_to there;
+    made = by_entry (entry_of e.identity R.entries) refl;
+  }
+    where
+      by_entry : (o : Option Entry) → entry_of e.identity R.entries ≡ o → IfSome o (λ x. x.making ≡ None)
+      by_entry None gone = tt
+      by_entry (Some f) found =
+          let (g, was, later) = opened_later e.identity f found in
+          later.making ∙ ap (λ (x : Entry). x.making) (same_Some g e (sym was ∙ there)) ∙ made
+
+  -- the call ends, and its client has the handle
+  pub opened_keeps : (o : Option ℕ) → o ≡ Some e.identity → Invariant (ending s (with_opened s o (with_record m R)))
+  opened_keeps o is = subst (λ o. Invariant (ending s (with_opened s o (with_record m R)))) (sym is) (record {
+    shapes = shapes;
+    holds = handle_keeps m shapes inv s held R (changed_keeps m shapes inv s held plain e.identity (referred c) (λ x. refl) (referred-later c)) e.identity was_made (opened_place s.op);
+  })

@@ -1,0 +1,73 @@
+-- What a call asks of a replica it asks of the checkpoint that it was begun on.
+use Rattle.std.proofs.Common.{ℕ, Option, Some, refl, sym, subst}
+use Rattle.node_msgs.specs.Requests.{ckpt_of}
+use Rattle.node_msgs.specs.Steps.{verb_of, event_verb}
+use Rattle.node_msgs.specs.declared.next.Next.{Next}
+use Rattle.node_msgs.specs.declared.next.Next.TheVariants.{Serve, Event, End}
+use Rattle.node_msgs.specs.declared.next.RecordStep.{RecordStep}
+use Rattle.node_msgs.specs.declared.next.RecordStep.TheVariants as events
+use Rattle.cluster_record.specs.declared.calls.ActiveKind.{ActiveKind}
+use Rattle.cluster_record.specs.declared.calls.ActiveKind.TheVariants as kinds
+use Rattle.cluster_record.specs.DueActive.{active_request, request_by}
+use Rattle.ckpt_machine.specs.Guards.{IsOnOwn}
+use Rattle.ckpt_machine.specs.Machine.{Machine, CallState}
+use Rattle.ckpt_machine.specs.Steps.{Told, IsDone, driver_of}
+use Rattle.ckpt_types.specs.declared.identities.CallId.{CallId}
+use Rattle.ckpt_machine.specs.Drivers.{Driver, Rooms}
+use Rattle.ckpt_machine.specs.Drivers as drivers
+use Rattle.ckpt_machine.specs.Driving.{driver_next}
+use Rattle.ckpt_machine.specs.InHand.{IsInPlace}
+use Rattle.ckpt_machine.specs.Shape.{Shape}
+use Rattle.ckpt_machine.proofs.NextOf.{OfAsked, next_of}
+
+-- what is next asks so
+abbrev IsAskedOf : Option ℕ → Next → Type 0
+IsAskedOf own (Serve r request) = IsOnOwn (verb_of request) (Some (ckpt_of request)) own
+IsAskedOf own (Event step) = Unit {0}
+IsAskedOf own (End o) = Unit {0}
+
+-- no step of the record asks a replica
+no_event : (step : RecordStep) (ckpt own : Option ℕ) → IsOnOwn (event_verb step) ckpt own
+no_event events.Enter ckpt own = tt
+no_event events.Leave ckpt own = tt
+no_event events.Open ckpt own = tt
+no_event events.Create ckpt own = tt
+no_event events.Finish ckpt own = tt
+no_event events.Undo ckpt own = tt
+no_event events.Close ckpt own = tt
+no_event events.Unlink ckpt own = tt
+no_event events.Retain ckpt own = tt
+no_event (events.Hold r) ckpt own = tt
+no_event (events.Activate r) ckpt own = tt
+no_event (events.Complete k r t) ckpt own = tt
+
+-- so does the label of it
+pub own_told : (m : Machine) (s : CallState) (next : Next) (t : Told) → IsAskedOf s.kept.ckpt next → IsDone m s next t → IsOnOwn t.verb t.ckpt s.kept.ckpt
+own_told m s (Serve r request) t asked done = subst (λ verb. IsOnOwn verb t.ckpt s.kept.ckpt) (sym done.verb) (subst (λ ckpt. IsOnOwn (verb_of request) ckpt s.kept.ckpt) (sym done.ckpt) asked)
+own_told m s (Event step) t asked done = subst (λ verb. IsOnOwn verb t.ckpt s.kept.ckpt) (sym done.verb) (no_event step t.ckpt s.kept.ckpt)
+own_told m s (End o) t asked done = subst (λ (t : Told). IsOnOwn t.verb t.ckpt s.kept.ckpt) (sym done) tt
+
+-- ---- what a driver asks
+
+kind_asks : (call : CallId) (k r : ℕ) (kind : ActiveKind) → IsAskedOf (Some k) (Serve r (request_by call k kind))
+kind_asks call k r kinds.Apply = tt
+kind_asks call k r (kinds.Weak n) = tt
+kind_asks call k r kinds.Read = refl
+kind_asks call k r kinds.Status = refl
+kind_asks call k r (kinds.Iterate choice) = refl
+kind_asks call k r kinds.Next = refl
+
+-- an update and a call to the active are of the checkpoint that their call keeps
+asks : (m : Machine) (shapes : ℕ → Shape) (s : CallState) (d : Driver) → IsInPlace m shapes s d → OfAsked (IsAskedOf s.kept.ckpt) d
+asks m shapes s (drivers.Update u) at = (λ r t. sym at.kept, λ r. sym at.kept)
+asks m shapes s (drivers.Active a) at = λ r. subst (λ own. IsAskedOf own (Serve r (active_request a))) (sym at.kept) (kind_asks a.call a.ckpt r a.kind)
+asks m shapes s (drivers.Enter r) at = tt
+asks m shapes s (drivers.Open o) at = tt
+asks m shapes s drivers.Leave at = tt
+asks m shapes s (drivers.Close k) at = tt
+asks m shapes s (drivers.Unlink name) at = tt
+asks m shapes s (drivers.Retain k duration) at = tt
+
+-- so a due step is on it
+pub own_step : (m : Machine) (shapes : ℕ → Shape) (s : CallState) (room : Rooms) (t : Told) → IsInPlace m shapes s (driver_of s) → IsDone m s (driver_next m.cluster room (driver_of s)) t → IsOnOwn t.verb t.ckpt s.kept.ckpt
+own_step m shapes s room t at done = own_told m s (driver_next m.cluster room (driver_of s)) t (next_of (IsAskedOf s.kept.ckpt) (λ o. tt) (λ step. tt) (λ r k. tt) m.cluster room (driver_of s) (asks m shapes s (driver_of s) at)) done

@@ -1,0 +1,140 @@
+-- What an update in hand knows of its checkpoint.
+use Rattle.std.proofs.Common.{◌≡◌, ◌≢◌, ℕ, Option, Some, None, Bool, true, false, ◌&&◌, ◌==◌, refl, sym, ap, subst, ◌∙◌}
+use Rattle.std.specs.Prelude.{IfSome, slice_index}
+use Rattle.std.proofs.lemmas.Bool.{eqb-true, eq-eqb, and_parts}
+use Rattle.std.proofs.lemmas.Option.{same_Some}
+use Rattle.ckpt_types.specs.declared.identities.CallId.{CallId}
+use Rattle.cluster_record.specs.declared.entries.Entry.{Entry}
+use Rattle.cluster_record.specs.declared.calls.UpdatePhase.{UpdatePhase}
+use Rattle.cluster_record.specs.declared.calls.UpdatePhase.TheVariants.{Staging, Committing}
+use Rattle.cluster_record.specs.DueUpdate.{UpdateState}
+use Rattle.cluster_record.specs.Calls.{same_actor, same_call, put_actor}
+use Rattle.cluster_record.specs.Places.{put}
+use Rattle.cluster_record.specs.RecordState.{entry_of, is_live}
+use Rattle.cluster_record.specs.StepDone.{has}
+use Rattle.ckpt_machine.specs.Drivers as drivers
+use Rattle.ckpt_machine.specs.Machine.{Machine, ReplicaState, CallState}
+use Rattle.ckpt_machine.specs.Steps.{driver_of, seen, seen_at, seen_by}
+use Rattle.ckpt_machine.specs.Guards.{OnReplica}
+use Rattle.ckpt_machine.specs.Shape.{Shape, IsCompleteOn, IsShaped, is_owner, IsOwner, IsSpread, PhaseFits}
+use Rattle.ckpt_machine.specs.InHand.{is_enter, IsInPlace, IsUpdateIn}
+use Rattle.ckpt_machine.specs.Invariant.{IsGoodIn, InvariantIn, Invariant}
+use Rattle.ckpt_machine.proofs.ReplicaSteps.{IsOwner-other, none_changed, step_keeps}
+use Rattle.ckpt_machine.proofs.OptionLemmas.{IsSomeAnd-at, IsSomeAnd-from}
+use Rattle.ckpt_machine.proofs.Actors.{same_actor-refl, same_actor-true}
+
+-- ---- calls
+
+-- a call is itself
+pub same_call-refl : (c : CallId) → same_call c c ≡ true
+same_call-refl c = λ i. same_actor-refl c.actor i && eq-eqb c.number c.number refl i
+
+-- what is tested to be a call is it
+pub same_call-true : (a b : CallId) → same_call a b ≡ true → a ≡ b
+same_call-true a b is =
+    let (actors, numbers) = and_parts (same_actor a.actor b.actor) (a.number == b.number) is in
+    let actor = same_actor-true a.actor b.actor actors in
+    let number = eqb-true a.number b.number numbers in
+    λ i. record { actor = actor i; number = number i }
+
+-- who owns a slot by the test owns it
+pub is_owner-true : (c : CallId) (o : Option CallId) → is_owner c o ≡ true → o ≡ Some c
+is_owner-true c None is = absurd (cc is)
+is_owner-true c (Some d) is = ap Some (same_call-true d c is)
+
+pub is_owner-here : (c : CallId) (o : Option CallId) → o ≡ Some c → is_owner c o ≡ true
+is_owner-here c o is = ap (is_owner c) is ∙ same_call-refl c
+
+-- ---- owners
+
+-- an owner is the origin
+pub owner_origin : (m : Machine) (k : ℕ) (sh : Shape) (call : CallId) → IsOwner m k sh call → sh.origin ≡ call
+owner_origin m k sh call own = by_phase own.driver.phase own.phase ∙ own.call_is
+  where
+    by_phase : (ph : UpdatePhase) → PhaseFits sh own.state own.driver ph → sh.origin ≡ own.state.call
+    by_phase Staging fits = fits.origin
+    by_phase Committing fits = fits.origin
+
+-- where the slots are of one call, an owner is that call
+pub owner_alone : (m : Machine) (k : ℕ) (sh : Shape) (s : CallState) → sh.origin ≡ s.call → (d : CallId) → IsOwner m k sh d → d ≡ s.call
+owner_alone m k sh s origin d own = sym (owner_origin m k sh d own) ∙ origin
+
+-- and live
+pub owner_live : (m : Machine) (shapes : ℕ → Shape) (k : ℕ) (sh : Shape) (call : CallId) → InvariantIn shapes m → IsOwner m k sh call → is_live m.cluster call ≡ true
+owner_live m shapes k sh call inv own =
+    ap (is_live m.cluster) (sym own.call_is) ∙ (inv.hands call.actor own.state own.in_hand).live (ap is_enter own.driver_is)
+
+module _ (m : Machine) (shapes : ℕ → Shape) (inv : InvariantIn shapes m) (s : CallState) (u : UpdateState) (held : m.in_hand s.call.actor ≡ Some s) (is : driver_of s ≡ drivers.Update u) where
+  abbrev k : ℕ
+  k = u.ckpt
+
+  abbrev sh : Shape
+  sh = shapes u.ckpt
+
+  -- where its steps have led it
+  pub at : IsUpdateIn m shapes s u
+  at = subst (λ d. IsInPlace m shapes s d) is (inv.hands s.call.actor s held).here
+
+  -- its checkpoint is made, where it is there
+  pub made : (e : Entry) → entry_of u.ckpt m.cluster.entries ≡ Some e → e.making ≡ None
+  made e found = subst (λ o. IfSome o (λ e. e.making ≡ None)) found at.made.made
+
+  pub spread : (e : Entry) → entry_of u.ckpt m.cluster.entries ≡ Some e → IsSpread m u.ckpt (shapes u.ckpt) e
+  spread e found = subst (λ maker. IsGoodIn m u.ckpt (shapes u.ckpt) e maker) (made e found) (inv.entries u.ckpt e found)
+
+  -- where it owns a slot, the shape is as its phase says
+  pub own_phase : (sh : Shape) (own : IsOwner m u.ckpt sh s.call) → PhaseFits sh s u u.phase
+  own_phase sh own =
+      let state : own.state ≡ s = same_Some own.state s (sym own.in_hand ∙ held) in
+      let drivers_same : drivers.Update own.driver ≡ drivers.Update u = sym own.driver_is ∙ ap driver_of state ∙ is in
+      let driver : own.driver ≡ u = cc drivers_same in
+      subst (λ v. PhaseFits sh s v v.phase) driver (subst (λ z. PhaseFits sh z own.driver own.driver.phase) state own.phase)
+
+  -- an owner with the same actor is the call itself
+  pub owner_same : (z : Shape) (call : CallId) → IsOwner m u.ckpt z call → call ≢ s.call → same_actor call.actor s.call.actor ≡ false
+  owner_same z call own other = by_test (same_actor call.actor s.call.actor) refl
+    where
+      by_test : (b : Bool) → same_actor call.actor s.call.actor ≡ b → same_actor call.actor s.call.actor ≡ false
+      by_test false is_not = is_not
+      by_test true same =
+          let state : own.state ≡ s = same_Some own.state s (sym own.in_hand ∙ ap m.in_hand (same_actor-true call.actor s.call.actor same) ∙ held) in
+          absurd (other (sym own.call_is ∙ ap (λ (z : CallState). z.call) state))
+
+  module _ (e : Entry) (found : entry_of u.ckpt m.cluster.entries ≡ Some e) where
+    -- a node that it has is one whose slot it owns
+    pub owns_had : (q : ℕ) → IsCompleteOn e q → has (slice_index e.complete q) (slice_index u.owned q) ≡ true → (shapes u.ckpt).owners q ≡ Some s.call
+    owns_had q there had = is_owner-true s.call ((shapes u.ckpt).owners q) (sym (at.owns e found q there) ∙ had)
+
+    -- the replica of a complete node
+    pub replica_at : (q : ℕ) → IsCompleteOn e q → (x : ReplicaState) × (m.replicas u.ckpt q ≡ Some x) × IsShaped (shapes u.ckpt) ((shapes u.ckpt).owners q) x
+    replica_at q there = IsSomeAnd-at (m.replicas u.ckpt q) (IsShaped (shapes u.ckpt) ((shapes u.ckpt).owners q)) ((spread e found).replicas q there)
+
+    pub seen_is : (q : ℕ) (x : ReplicaState) → m.replicas u.ckpt q ≡ Some x → seen_at m u.ckpt q ≡ Some (seen u.ckpt e.attributes x)
+    seen_is q x there = ap (λ o. seen_by u.ckpt o (m.replicas u.ckpt q)) found ∙ ap (seen_by u.ckpt (Some e)) there
+
+    pub on_replica : (q : ℕ) (x : ReplicaState) (P : Entry → ReplicaState → Type 0) → m.replicas u.ckpt q ≡ Some x → P e x → OnReplica m u.ckpt q P
+    on_replica q x P there p = IsSomeAnd-from (entry_of u.ckpt m.cluster.entries) _ e found (IsSomeAnd-from (m.replicas u.ckpt q) (P e) x there p)
+
+  -- ---- the call ends, with nothing changed and no slot of it
+
+  -- it owns no slot
+  abbrev OwnsNone : Type 0
+  OwnsNone = (q : ℕ) (call : CallId) → (shapes u.ckpt).owners q ≡ Some call → call ≢ s.call
+
+  pub ended_keeps : ((e : Entry) → entry_of u.ckpt m.cluster.entries ≡ Some e → OwnsNone) → Invariant (record m { in_hand = put_actor m.in_hand s.call.actor None })
+  ended_keeps none = record {
+    shapes = put shapes u.ckpt (shapes u.ckpt);
+    holds = step_keeps m shapes inv s u held is m.replicas None (shapes u.ckpt) (none_changed m shapes inv s u held is) (λ call q other. refl) stays (λ z there. absurd (cc there)) made;
+  }
+    where
+      stays : (e : Entry) → entry_of u.ckpt m.cluster.entries ≡ Some e → e.making ≡ None → IsSpread (record m { in_hand = put_actor m.in_hand s.call.actor None }) u.ckpt (shapes u.ckpt) e
+      stays e found making = let was = spread e found in record {
+        nodes = was.nodes;
+        some = was.some;
+        active = was.active;
+        replicas = was.replicas;
+        fits = was.fits;
+        complete = was.complete;
+        lowest = was.lowest;
+        owned = λ q call owns. let own = was.owned q call owns in IsOwner-other m shapes inv s u held is m.replicas None u.ckpt (shapes u.ckpt) call (owner_same (shapes u.ckpt) call own (none e found q call owns)) own;
+      }

@@ -1,0 +1,184 @@
+-- A call that is no update and makes no checkpoint owns no slot and makes nothing: where it ends, what holds of all others stays.
+use Rattle.std.proofs.Common.{◌≡◌, ℕ, inl, inr, [], Option, Some, None, Bool, true, false, filter, not, refl, sym, ap, subst, ◌∙◌}
+use Rattle.std.specs.Prelude.{is_some, IsSome, IfSome}
+use Rattle.std.proofs.lemmas.Option.{same_Some}
+use Rattle.ckpt_types.specs.declared.ais_error.AisError.{AisError}
+use Rattle.ckpt_types.specs.declared.answers.Cause.{Cause}
+use Rattle.ckpt_types.specs.declared.answers.Outcome.TheVariants.{Refused}
+use Rattle.ckpt_types.specs.declared.identities.ActorName.{ActorName}
+use Rattle.ckpt_types.specs.declared.identities.CallId.{CallId}
+use Rattle.node_msgs.specs.declared.next.Next.TheVariants.{End}
+use Rattle.node_msgs.specs.declared.steps.Verb.TheVariants as verbs
+use Rattle.node_msgs.specs.declared.steps.StepReply.TheVariants as words
+use Rattle.cluster_record.specs.declared.calls.Making.{Making}
+use Rattle.cluster_record.specs.declared.entries.Entry.{Entry}
+use Rattle.cluster_record.specs.DueOpen.{making_ckpt}
+use Rattle.cluster_record.specs.Calls.{same_actor, client_of, put_actor}
+use Rattle.cluster_record.specs.Identities.{IdentitiesRise, AllUpTo}
+use Rattle.cluster_record.specs.Places.{find_key, change_key}
+use Rattle.cluster_record.specs.RecordState.{RecordState, entry_of, identity_of, client_key, is_live, is_live_client, no_nodes, stays, swept}
+use Rattle.cluster_record.proofs.IdentityLaws.{KeepsIdentity, IdentitiesRise-filter, AllUpTo-filter, IdentitiesRise-change_key, AllUpTo-change_key}
+use Rattle.ckpt_machine.specs.Drivers.{Driver}
+use Rattle.ckpt_machine.specs.Drivers as drivers
+use Rattle.ckpt_machine.specs.Driving.{making_in}
+use Rattle.ckpt_machine.specs.Machine.{Machine, CallState}
+use Rattle.ckpt_machine.specs.Steps.{Told, IsDone, driver_of, with_record, without_making, stepped}
+use Rattle.ckpt_machine.specs.Guards.{LookRefused, IsOwnMaking}
+use Rattle.ckpt_machine.specs.Shape.{Shape, IsOwner}
+use Rattle.ckpt_machine.specs.Invariant.{IsMaker, IsGoodClient, InvariantIn, Invariant}
+use Rattle.ckpt_machine.specs.Later.{IsLaterEntry, IsLaterRecord}
+use Rattle.ckpt_machine.proofs.OtherCalls.{IsIn-apart, IsGoodIn-apart}
+use Rattle.ckpt_machine.proofs.Entries.{ComesOf, ComesOf-filter, ComesOf-change_key, ComesOf-then, found_filter, there_still}
+use Rattle.ckpt_machine.proofs.Moment.{IsLaterEntry-refl, making_stays}
+use Rattle.ckpt_machine.proofs.ReplicaSteps.{put_actor-cases, put_actor-other}
+use Rattle.ckpt_machine.proofs.RecordSteps.{record_keeps}
+use Rattle.ckpt_machine.proofs.DueStep.{Goes}
+use Rattle.ckpt_machine.proofs.Actors.{same_actor-true}
+use Rattle.ckpt_machine.proofs.EntryLists.{AllStay-swept}
+
+-- neither an update, nor an open that is making a checkpoint
+abbrev pub is_plain : Driver → Bool
+is_plain (drivers.Enter r) = true
+is_plain (drivers.Open o) = not (is_some o.making)
+is_plain (drivers.Update u) = false
+is_plain (drivers.Active a) = true
+is_plain drivers.Leave = true
+is_plain (drivers.Close k) = true
+is_plain (drivers.Unlink name) = true
+is_plain (drivers.Retain k duration) = true
+
+-- one that is neither makes nothing
+makes_none : (d : Driver) → is_plain d ≡ true → making_in d ≡ None
+makes_none (drivers.Enter r) plain = refl
+makes_none (drivers.Open o) plain = by_making o.making plain where
+  by_making : (w : Option Making) → not (is_some w) ≡ true → making_ckpt w ≡ None
+  by_making None plain = refl
+  by_making (Some w) plain = absurd (cc plain)
+makes_none (drivers.Update u) plain = refl
+makes_none (drivers.Active a) plain = refl
+makes_none drivers.Leave plain = refl
+makes_none (drivers.Close k) plain = refl
+makes_none (drivers.Unlink name) plain = refl
+makes_none (drivers.Retain k duration) plain = refl
+
+pub IsLaterEntry-then : (e f g : Entry) → IsLaterEntry e f → IsLaterEntry f g → IsLaterEntry e g
+IsLaterEntry-then e f g first second = record {
+  making = second.making ∙ first.making;
+  complete = second.complete ∙ first.complete;
+  active = second.active ∙ first.active;
+  attributes = second.attributes ∙ first.attributes;
+  generation = second.generation ∙ first.generation;
+  clients = second.clients ∙ first.clients;
+}
+
+module _ (m : Machine) (shapes : ℕ → Shape) (inv : InvariantIn shapes m) (s : CallState) (held : m.in_hand s.call.actor ≡ Some s) (plain : is_plain (driver_of s) ≡ true) where
+  -- the calls in hand without it
+  abbrev pub others : ActorName → Option CallState
+  others = put_actor m.in_hand s.call.actor None
+
+  -- who has an update in hand, or an open that is making a checkpoint, is another
+  apart_from : (a : ActorName) (z : CallState) → m.in_hand a ≡ Some z → is_plain (driver_of z) ≡ false → same_actor a s.call.actor ≡ false
+  apart_from a z at not_plain = by_test (same_actor a s.call.actor) refl
+    where
+      by_test : (b : Bool) → same_actor a s.call.actor ≡ b → same_actor a s.call.actor ≡ false
+      by_test false is_not = is_not
+      by_test true same =
+          let state : s ≡ z = same_Some s z (sym held ∙ ap m.in_hand (sym (same_actor-true a s.call.actor same)) ∙ at) in
+          absurd (let w : true ≡ false = sym plain ∙ ap (λ (x : CallState). is_plain (driver_of x)) state ∙ not_plain in cc w)
+
+  pub owner_apart : (k : ℕ) (sh : Shape) (d : CallId) → IsOwner m k sh d → same_actor d.actor s.call.actor ≡ false
+  owner_apart k sh d own = apart_from d.actor own.state own.in_hand (ap is_plain own.driver_is)
+
+  pub maker_apart : (k : ℕ) (d : CallId) → IsMaker m k d → same_actor d.actor s.call.actor ≡ false
+  maker_apart k d maker = apart_from d.actor maker.state maker.in_hand (ap is_plain maker.driver_is ∙ ap (λ w. not (is_some w)) maker.making_is)
+
+  owner_stays : (k : ℕ) (sh : Shape) (d : CallId) → IsOwner m k sh d → others d.actor ≡ m.in_hand d.actor
+  owner_stays k sh d own = put_actor-other m.in_hand s.call.actor None d.actor (owner_apart k sh d own)
+
+  maker_stays : (k : ℕ) (d : CallId) → IsMaker m k d → others d.actor ≡ m.in_hand d.actor
+  maker_stays k d maker = put_actor-other m.in_hand s.call.actor None d.actor (maker_apart k d maker)
+
+  -- ---- it ends, and nothing else changes
+
+  pub plain_ends : InvariantIn shapes (record m { in_hand = put_actor m.in_hand s.call.actor None })
+  plain_ends = record {
+    up = inv.up;
+    none_live = inv.none_live;
+    rises = inv.rises;
+    up_to = inv.up_to;
+    swept = inv.swept;
+    entries = λ k e found. IsGoodIn-apart m shapes m.next others owner_stays maker_stays k (shapes k) e e.making (inv.entries k e found);
+    handles = inv.handles;
+    clients = inv.clients;
+    hands = λ a z left. elim (put_actor-cases m.in_hand s.call.actor None a z left) [
+      | inl here ↦ absurd (let w : None ≡ Some z = here.1 in cc w)
+      | inr other ↦ (let was = inv.hands a z other.1 in record { actor = was.actor; client = was.client; number = was.number; live = was.live; here = IsIn-apart m shapes m.next others z (driver_of z) was.here })
+    ];
+  }
+
+  -- by a look that refuses it
+  pub look_goes : (error : AisError) (cause : Cause) (t : Told) → LookRefused m s s.op error cause → IsDone m s (End (Refused error cause)) t → Goes m s (driver_of s) t
+  look_goes error cause t look done =
+      let none : making_in (driver_of s) ≡ None = makes_none (driver_of s) plain in
+      subst (Goes m s (driver_of s)) (sym done) (record {
+        row = (refl, refl, (look, subst (IsOwnMaking m s.call) (sym none) tt), refl);
+        holds = subst (λ k. Invariant (stepped (without_making m k) s verbs.Look None None words.Refused (Some (Refused error cause)))) (sym none) (record { shapes = shapes; holds = plain_ends });
+        nearer = λ none. absurd (cc none);
+      })
+
+  -- ---- it ends with a step of the record, and what is over is swept away
+
+  module _ (R : RecordState) (rises : IdentitiesRise R.entries) (up_to : AllUpTo m.cluster.last_identity R.entries) (up : R.up ≡ m.cluster.up) (last : R.last_identity ≡ m.cluster.last_identity) (later : ComesOf IsLaterEntry m.cluster.entries R.entries)
+      (none_live : m.cluster.up ≡ no_nodes → R.clients ≡ []) (clients : (c : ℕ) → IfSome (find_key client_key c R.clients) (IsGoodClient m.next R c))
+      (live : (a : ActorName) (z : CallState) → same_actor a s.call.actor ≡ false → m.in_hand a ≡ Some z → is_live m.cluster z.call ≡ true → is_live R z.call ≡ true)
+      (lives : (a : ActorName) (z : CallState) → same_actor a s.call.actor ≡ false → m.in_hand a ≡ Some z → is_live_client (client_of z.call) R ≡ is_live_client (client_of z.call) m.cluster)
+      (makes : (a : ActorName) (z : CallState) (k : ℕ) (e : Entry) → same_actor a s.call.actor ≡ false → m.in_hand a ≡ Some z → entry_of k m.cluster.entries ≡ Some e → e.making ≡ Some z.call → IsSome (entry_of k R.entries)) where
+    left_later : ComesOf IsLaterEntry m.cluster.entries (swept R).entries
+    left_later = ComesOf-then IsLaterEntry IsLaterEntry IsLaterEntry IsLaterEntry-then m.cluster.entries R.entries (swept R).entries later (ComesOf-filter IsLaterEntry IsLaterEntry-refl (stays R.moment) R.entries rises)
+
+    -- what is in the making is not swept away
+    makes_still : (k : ℕ) (e : Entry) (call : CallId) → entry_of k m.cluster.entries ≡ Some e → e.making ≡ Some call → IsSome (entry_of k R.entries) → IsSome (entry_of k (swept R).entries)
+    makes_still k e call was by some = by_entry (entry_of k R.entries) refl some
+      where
+        by_entry : (o : Option Entry) → entry_of k R.entries ≡ o → is_some o ≡ true → IsSome (entry_of k (swept R).entries)
+        by_entry None gone some = absurd (cc some)
+        by_entry (Some f) found some =
+            let (g, there, after) = later k f found in
+            let same : g ≡ e = same_Some g e (sym there ∙ was) in
+            let made_by : f.making ≡ Some call = after.making ∙ ap (λ (x : Entry). x.making) same ∙ by in
+            ap is_some (found_filter (stays R.moment) k R.entries f found (making_stays R.moment f (ap is_some made_by)))
+
+    -- another's, where it is left
+    left_other : {P : Type 0} → (a : ActorName) (z : CallState) → others a ≡ Some z → (same_actor a s.call.actor ≡ false → m.in_hand a ≡ Some z → P) → P
+    left_other {P} a z left then_it = elim (put_actor-cases m.in_hand s.call.actor None a z left) [
+      | inl here ↦ absurd (let w : None ≡ Some z = here.1 in cc w)
+      | inr other ↦ then_it other.0 other.1
+    ]
+
+    swept_later : IsLaterRecord m (swept R) others
+    swept_later = record {
+      up = up;
+      last = last;
+      rises = IdentitiesRise-filter (stays R.moment) R.entries rises;
+      up_to = subst (λ n. AllUpTo n (filter (stays R.moment) R.entries)) (sym last) (AllUpTo-filter (stays R.moment) m.cluster.last_identity R.entries up_to);
+      swept = AllStay-swept R.moment R.entries;
+      later = left_later;
+      none_live = none_live;
+      clients = clients;
+      was_held = λ a z left. left_other a z left (λ other at. at);
+      live = λ a z left is. left_other a z left (λ other at. live a z other at is);
+      lives = λ a z left. left_other a z left (λ other at. lives a z other at);
+      makes = λ a z k e left was by. left_other a z left (λ other at. makes_still k e z.call was by (makes a z k e other at was by));
+      owners = owner_stays;
+      makers = λ k d there maker. maker_stays k d maker;
+    }
+
+    pub swept_keeps : InvariantIn shapes (record (with_record m (swept R)) { in_hand = put_actor m.in_hand s.call.actor None })
+    swept_keeps = record_keeps m shapes inv (swept R) others swept_later
+
+  -- one entry was changed
+  pub changed_keeps : (k : ℕ) (f : Entry → Entry) → KeepsIdentity f → ((e : Entry) → IsLaterEntry e (f e)) → InvariantIn shapes (record (with_record m (swept (record m.cluster { entries = change_key identity_of k f m.cluster.entries }))) { in_hand = put_actor m.in_hand s.call.actor None })
+  changed_keeps k f keeps later = swept_keeps (record m.cluster { entries = change_key identity_of k f m.cluster.entries })
+      (IdentitiesRise-change_key f keeps k m.cluster.entries inv.rises) (AllUpTo-change_key f keeps m.cluster.last_identity k m.cluster.entries inv.up_to) refl refl
+      (ComesOf-change_key IsLaterEntry IsLaterEntry-refl f keeps later k m.cluster.entries) inv.none_live inv.clients
+      (λ a z other at live. live) (λ a z other at. refl) (λ a z j e other at was by. there_still f keeps k j m.cluster.entries e was)

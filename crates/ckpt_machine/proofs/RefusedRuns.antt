@@ -1,0 +1,230 @@
+-- A call that ends with a refusal has nothing after it, and leaves all else as it was.
+use Rattle.run_labels.specs.declared.details.Details.{Details}
+use Rattle.std.proofs.Common.{◌≡◌, ℕ, inl, inr, List, [], ◌∷◌, ◌++◌, Option, Some, None, true, false, cond, not, ◌==◌, refl, sym, ap, subst, ◌∙◌, arith}
+use Rattle.std.specs.Prelude.{IsSomeAnd, slice_index}
+use Rattle.std.proofs.lemmas.Option.{same_Some}
+use Rattle.ckpt_types.specs.declared.answers.Outcome.{Outcome}
+use Rattle.ckpt_types.specs.declared.identities.CallId.{CallId}
+use Rattle.ckpt_types.specs.declared.operation.Op.{Op}
+use Rattle.node_msgs.specs.declared.steps.Verb.TheVariants as verbs
+use Rattle.node_msgs.specs.declared.steps.StepReply.{StepReply}
+use Rattle.node_msgs.specs.declared.steps.StepReply.TheVariants as words
+use Rattle.run_labels.specs.declared.labels.Label.{Label}
+use Rattle.run_labels.specs.declared.labels.Label.TheVariants as labels
+use Rattle.cluster_record.specs.declared.entries.Entry.{Entry}
+use Rattle.cluster_record.specs.Calls.{number_of}
+use Rattle.cluster_record.specs.RecordState.{RecordState, identity_of, entry_of, complete_of, swept, undone}
+use Rattle.cluster_record.specs.Places.{put}
+use Rattle.std.proofs.lemmas.Bool.{eqb-true}
+use Rattle.cluster_record.proofs.KeptLaws.{All-find_key}
+use Rattle.ckpt_machine.specs.Beginning.{ended_place}
+use Rattle.ckpt_machine.specs.Guards.{IsMadeBy, CommitOk, CommitRow, Row, Allowed, ends_update, complete_replicas}
+use Rattle.ckpt_machine.specs.Invariant.{IsGoodIn, Invariant}
+use Rattle.ckpt_machine.specs.Machine.{Machine, ReplicaState, CallState}
+use Rattle.ckpt_machine.specs.Owned.{OwnsNothing, HasNoEffect, HasNothing}
+use Rattle.ckpt_machine.specs.Refusals.{IsRefused, IsRefusal, LeavesAll, UndoesOwn, LeavesBy, unmade, unmade_swept, Refuses, RefusalLeaves, call_of}
+use Rattle.ckpt_machine.specs.Runs.{last_from, last, IsRunFrom, IsRun}
+use Rattle.ckpt_machine.specs.Serving.{update_of, update_answer}
+use Rattle.ckpt_machine.specs.Shape.{IsCompleteOn}
+use Rattle.ckpt_machine.specs.Steps.{Told, IsDone, IsDue, due, begun, begun_call, with_ended, changed, stepped, step_of, after, replica_under, replicas_under, reservation_under, opened_state}
+use Rattle.ckpt_machine.proofs.Follows.{IsFree, IsIncomplete, IsBare, Has}
+use Rattle.ckpt_machine.proofs.Histories.{HasHistory, commits_by, commit, gone, nothing_left, slot_owned, making_incomplete, had, keeps_history, run_history}
+use Rattle.ckpt_machine.proofs.Lawful.{lawful}
+use Rattle.ckpt_machine.proofs.EntryLists.{find_key-without, AllStay-filter, swept-all}
+use Rattle.ckpt_machine.proofs.ReplicaSteps.{put_actor-here}
+use Rattle.ckpt_machine.proofs.Refusing.{at_node, of_update, on_replica, committed, left_none, refusal_leaves}
+use Rattle.ckpt_machine.proofs.Runs.{last-push}
+use Rattle.ckpt_machine.proofs.OptionLemmas.{IsSomeAnd-at}
+
+-- ---- who has no call in hand owns nothing
+
+module _ (m : Machine) (inv : Invariant m) (bare : IsBare m) (call : CallId) (none : m.in_hand call.actor ≡ None) where
+  not_in_hand : (d : CallId) (s : CallState) → m.in_hand d.actor ≡ Some s → d ≡ call → ⊥
+  not_in_hand d s held is = let w : None ≡ Some s = sym none ∙ ap (λ (d : CallId). m.in_hand d.actor) (sym is) ∙ held in cc w
+
+  no_maker : (k : ℕ) (e : Entry) → entry_of k m.cluster.entries ≡ Some e → e.making ≡ Some call → ⊥
+  no_maker k e found is =
+      let good = subst (λ maker. IsGoodIn m k (inv.shapes k) e maker) is (inv.holds.entries k e found) in
+      not_in_hand call good.1.state good.1.in_hand refl
+
+  pub owns_nothing : OwnsNothing m call
+  owns_nothing = record {
+    slots = λ k r x slot there staged.
+        let (own, origin) = slot_owned m inv.shapes inv.holds bare k r x slot there staged in
+        (λ is. not_in_hand slot.owner own.state own.in_hand is, λ is. not_in_hand slot.owner own.state own.in_hand (sym origin ∙ is));
+    marks = λ k r x marks there marked is. let w : None ≡ Some marks = sym (bare.unmarked k r x there) ∙ marked in cc w;
+    makes = no_maker;
+    holds = λ k e found is. let w : None ≡ Some call = sym (All-find_key IsFree identity_of k m.cluster.entries e bare.free found) ∙ is in cc w;
+  }
+
+-- ---- a commit refuses nothing
+
+commit_row : (m : Machine) (s : CallState) (k r : ℕ) (reply : StepReply) (end : Option Outcome) (details : Details) → CommitRow m s k r reply end details → IsRefused end → ⊥
+commit_row m s k r words.Ok end details row refused = on_replica m k r (λ e x. CommitOk m s.call (update_of s.op) k r end details x) row (λ e x (ok : CommitOk m s.call (update_of s.op) k r end details x). committed (ends_update s.call r ok.slot (complete_replicas m k)) (update_answer (update_of s.op)) end ok.answer refused)
+commit_row m s k r reply end details row refused = absurd row
+
+no_commit : (m : Machine) (s : CallState) (t : Told) → t.verb ≡ verbs.Commit → Row m s t.verb t → IsRefused t.end → ⊥
+no_commit m s t verb row refused = at_node t.ckpt t.node _ (subst (λ verb. Row m s verb t) verb row) (λ k r p. of_update s.op _ p (λ p. commit_row m s k r t.reply t.end _ p refused))
+
+-- ---- a step that refuses
+
+module _ (m : Machine) (inv : Invariant m) (history : HasHistory m) (s : CallState) (held : m.in_hand s.call.actor ≡ Some s) (t : Told) (row : Row m s t.verb t) (done : IsDone m s (due m s) t) (refused : IsRefused t.end) where
+  -- its call had no effect
+  had_none : (k r : ℕ) → Has m k r s.call → ⊥
+  had_none k r has =
+      let at = history.commits k r s held has in
+      elim (commits_by m s at.update t at.driver_is at.phase done) [
+        | commit is ↦ no_commit m s t is row refused
+        | gone none ends ↦ (
+            let (e, found, there) = IsSomeAnd-at (entry_of k m.cluster.entries) (λ e. IsCompleteOn e r) (history.bare.complete k r has.replica has.there) in
+            let w : None ≡ Some e = sym none ∙ ap (λ k. entry_of k m.cluster.entries) at.ckpt ∙ found in cc w)
+        | nothing_left ends ↦ subst IsRefused ends refused
+      ]
+
+  -- and has none
+  pub has_none : HasNoEffect (stepped (changed m s t.verb t.ckpt t.node t.reply) s t.verb t.ckpt t.node t.reply t.end) s.call
+  has_none k r x there has = elim (had m inv history s held t row k r s.call (record { replica = x; there = there; effect = has })) [
+    | inl was ↦ had_none k r was
+    | inr new ↦ no_commit m s t new.verb row refused
+  ]
+
+-- ---- any label
+
+begun_none : (m : Machine) → HasHistory m → (call : CallId) (op : Op) (end : Option Outcome) → call.number ≡ m.next call.actor → (place : Option ℕ) → HasNoEffect (with_ended (number_of call.actor) place (begun_call m call op end)) call
+begun_none m history call op end number None k r x there has = let below = history.given k r call (record { replica = x; there = there; effect = has }) in omega (arith, below, number)
+begun_none m history call op end number (Some place) k r x there has = let below = history.given k r call (record { replica = x; there = there; effect = has }) in omega (arith, below, number)
+
+begun_ended : (m : Machine) (call : CallId) (op : Op) (end : Option Outcome) → IsRefused end → (place : Option ℕ) → (with_ended (number_of call.actor) place (begun_call m call op end)).in_hand call.actor ≡ None
+begun_ended m call op end refused None = put_actor-here m.in_hand call.actor _ ∙ left_none end _ refused
+begun_ended m call op end refused (Some place) = put_actor-here m.in_hand call.actor _ ∙ left_none end _ refused
+
+-- what is refused has nothing
+pub refused_has_nothing : (m : Machine) (l : Label) → Invariant m → HasHistory m → Allowed m l → IsDue m l → IsRefusal l → IsSomeAnd (call_of l) (HasNothing (after m l))
+refused_has_nothing m (labels.Began call op end) inv history allowed is refused = record {
+  owns = owns_nothing (begun m call op end) (lawful m (labels.Began call op end) inv is).1 (keeps_history m (labels.Began call op end) inv history allowed is).bare call (begun_ended m call op end refused (ended_place end op));
+  effects = begun_none m history call op end is.number (ended_place end op);
+}
+refused_has_nothing m (labels.Stepped call op verb k r reply end details) inv history allowed step refused =
+    let s = step.state in
+    let held : m.in_hand s.call.actor ≡ Some s = ap (λ (c : CallId). m.in_hand c.actor) step.call_is ∙ step.in_hand in
+    let same : allowed.state ≡ s = same_Some allowed.state s (sym allowed.in_hand ∙ step.in_hand) in
+    let then_state = changed m s verb k r reply in
+    let ended : (stepped then_state s verb k r reply end).in_hand call.actor ≡ None =
+    ap (λ (c : CallId). (stepped then_state s verb k r reply end).in_hand c.actor) (sym step.call_is) ∙ put_actor-here then_state.in_hand s.call.actor _ ∙ left_none end _ refused in
+    let none = has_none m inv history s held _ (subst (λ z. Row m z verb _) same allowed.row) step.done refused in
+    record {
+      owns = owns_nothing (after m (labels.Stepped call op verb k r reply end details)) (lawful m (labels.Stepped call op verb k r reply end details) inv step).1 (keeps_history m (labels.Stepped call op verb k r reply end details) inv history allowed step).bare call
+          (subst (λ o. (step_of m o verb k r reply end).in_hand call.actor ≡ None) (sym step.in_hand) ended);
+      effects = subst (λ o. HasNoEffect (step_of m o verb k r reply end) call) (sym step.in_hand) (subst (HasNoEffect (stepped then_state s verb k r reply end)) step.call_is none);
+    }
+refused_has_nothing m l inv history allowed is refused = absurd refused
+
+-- ---- a making that is undone
+
+module _ (m : Machine) (inv : Invariant m) (bare : IsBare m) (call : CallId) (k : ℕ) (own : IsMadeBy m call k) where
+  -- nothing is over
+  same_record : swept (undone k m.cluster) ≡ undone k m.cluster
+  same_record = swept-all (undone k m.cluster) (AllStay-filter m.cluster.moment (λ e. not (e.identity == k)) m.cluster.entries inv.holds.swept)
+
+  -- where a node is not complete it has no replica
+  no_replica : (j r : ℕ) → ((e : Entry) → entry_of j m.cluster.entries ≡ Some e → IsIncomplete e r) → m.replicas j r ≡ None
+  no_replica j r none = by_replica (m.replicas j r) refl
+    where
+      by_replica : (o : Option ReplicaState) → m.replicas j r ≡ o → m.replicas j r ≡ None
+      by_replica None is = is
+      by_replica (Some x) is =
+          let (e, found, there) = IsSomeAnd-at (entry_of j m.cluster.entries) (λ e. IsCompleteOn e r) (bare.complete j r x is) in
+          absurd (let w : true ≡ false = sym (none e found) ∙ there in cc w)
+
+  -- a replica is as it was under the entry that it had
+  replica_kept : (j r : ℕ) (o : Option Entry) → entry_of j m.cluster.entries ≡ o → replica_under o (slice_index (complete_of o) r) r (m.replicas j r) ≡ m.replicas j r
+  replica_kept j r None at = sym (no_replica j r (λ e found. absurd (let w : None ≡ Some e = sym at ∙ found in cc w)))
+  replica_kept j r (Some e) found =
+      elim (slice_index e.complete r == 0) as (λ b. (slice_index e.complete r == 0) ≡ b → cond b None (cond b (Some (opened_state e)) (m.replicas j r)) ≡ m.replicas j r) [
+        | true ↦ λ is. sym (no_replica j r (λ f other. let same : e ≡ f = same_Some e f (sym found ∙ other) in subst (λ f. IsIncomplete f r) same is))
+        | false ↦ λ is. refl
+      ] refl
+
+  reservation_kept : (j r : ℕ) (o : Option Entry) → entry_of j m.cluster.entries ≡ o → reservation_under o r (m.reserved j r) ≡ m.reserved j r
+  reservation_kept j r o at = by_reservation (m.reserved j r) refl
+    where
+      there : (n : ℕ) → (o : Option Entry) → IsSomeAnd o (λ e. IsIncomplete e r) → reservation_under o r (Some n) ≡ Some n
+      there n None none = absurd none
+      there n (Some e) is = ap (λ b. cond b (Some n) None) is
+
+      none : (o : Option Entry) → reservation_under o r None ≡ None
+      none None = refl
+      none (Some e) = elim (slice_index e.complete r == 0) as (λ b. cond {A = Option ℕ} b None None ≡ None) [ true ↦ refl | false ↦ refl ]
+
+      by_reservation : (x : Option ℕ) → m.reserved j r ≡ x → reservation_under o r x ≡ x
+      by_reservation None is = none o
+      by_reservation (Some n) is = there n o (subst (λ o. IsSomeAnd o (λ e. IsIncomplete e r)) at (bare.reserves j r n is))
+
+  left : (j : ℕ) → entry_of j (undone k m.cluster).entries ≡ cond (j == k) None (entry_of j m.cluster.entries)
+  left j = find_key-without identity_of k j m.cluster.entries
+
+  -- each replica is as it was, and each reservation but its own
+  same_replicas : (j r : ℕ) → replicas_under m.cluster (undone k m.cluster) m.replicas j r ≡ m.replicas j r
+  same_replicas j r =
+      ap (λ o. replica_under o (slice_index (complete_of (entry_of j m.cluster.entries)) r) r (m.replicas j r)) (left j)
+      ∙ elim (j == k) as (λ b. (j == k) ≡ b → replica_under (cond b None (entry_of j m.cluster.entries)) (slice_index (complete_of (entry_of j m.cluster.entries)) r) r (m.replicas j r) ≡ m.replicas j r) [
+        | true ↦ λ is. sym (no_replica j r (λ e found.
+            let (f, there, none) = IsSomeAnd-at (entry_of k m.cluster.entries) (λ e. IsIncomplete e r) (making_incomplete m inv call k r own) in
+            let same : f ≡ e = same_Some f e (sym there ∙ ap (λ k. entry_of k m.cluster.entries) (sym (eqb-true j k is)) ∙ found) in
+            subst (λ e. IsIncomplete e r) same none))
+        | false ↦ λ is. replica_kept j r (entry_of j m.cluster.entries) refl
+      ] refl
+
+  same_reserved : (j r : ℕ) → reservation_under (entry_of j (undone k m.cluster).entries) r (m.reserved j r) ≡ put m.reserved k (λ r. None) j r
+  same_reserved j r =
+      ap (λ o. reservation_under o r (m.reserved j r)) (left j)
+      ∙ elim (j == k) as (λ b. reservation_under (cond b None (entry_of j m.cluster.entries)) r (m.reserved j r) ≡ (cond b (λ r. None) (m.reserved j)) r) [
+        | true ↦ refl
+        | false ↦ reservation_kept j r (entry_of j m.cluster.entries) refl
+      ]
+
+  -- nothing else goes with it
+  pub leaves_unmade : (n : Machine) → LeavesAll call.actor (unmade_swept k m) n → LeavesAll call.actor (unmade k m) n
+  leaves_unmade n all = record {
+    cluster = all.cluster ∙ same_record;
+    replicas = λ j r. all.replicas j r ∙ ap (λ R. replicas_under m.cluster R m.replicas j r) same_record ∙ same_replicas j r;
+    reserved = λ j r. all.reserved j r ∙ ap (λ (R : RecordState). reservation_under (entry_of j R.entries) r (m.reserved j r)) same_record ∙ same_reserved j r;
+    snapshots = all.snapshots;
+    handles = all.handles;
+    places = all.places;
+    last_handles = all.last_handles;
+    iterations = all.iterations;
+    pending = all.pending;
+    next = all.next;
+    others = all.others;
+    operations = all.operations;
+    ended = all.ended;
+  }
+
+undoes_alone : (m : Machine) → Invariant m → IsBare m → (call : CallId) (n : Machine) → UndoesOwn unmade_swept call m n → UndoesOwn unmade call m n
+undoes_alone m inv bare call n own = record { ckpt = own.ckpt; own = own.own; rest = leaves_unmade m inv bare call own.ckpt own.own n own.rest }
+
+-- where the invariant holds nothing else goes with a making
+leaves_alone : (m n : Machine) (l : Label) → Invariant m → IsBare m → LeavesBy unmade_swept l m n → LeavesBy unmade l m n
+leaves_alone m n (labels.Began call op end) inv bare leaves = leaves
+leaves_alone m n (labels.Stepped call op verbs.Look k r reply end details) inv bare leaves = elim leaves [ inl all ↦ inl all | inr own ↦ inr (undoes_alone m inv bare call n own) ]
+leaves_alone m n (labels.Stepped call op verbs.Undo k r reply end details) inv bare leaves = undoes_alone m inv bare call n leaves
+leaves_alone m n (labels.Stepped call op verb k r reply end details) inv bare leaves = leaves
+leaves_alone m n l inv bare leaves = absurd leaves
+
+-- ---- in a run
+
+-- what is before the last label is a run, and the label is allowed and due where it comes
+run_before : (m : Machine) (log : List Label) (l : Label) → IsRunFrom m (log ++ l ∷ []) → IsRunFrom m log × Allowed (last_from m log) l × IsDue (last_from m log) l
+run_before m [] l run = (tt, run.0, run.1)
+run_before m (x ∷ log) l run = let (before, allowed, is) = run_before (after m x) log l run.2 in ((run.0, run.1, before), allowed, is)
+
+-- THE LAW: a call that ends with a refusal has nothing after it, and leaves all else as it was
+pub run_leaves : (log longer : List Label) → IsRun longer → RefusalLeaves log longer
+run_leaves log longer run l grows refused =
+    let (before, allowed, is) = run_before _ log l (subst IsRun grows run) in
+    let (inv, history) = run_history log before in
+    subst (Refuses l (last log)) (sym (ap last grows ∙ last-push log l)) (record {
+      leaves = leaves_alone (last log) (after (last log) l) l inv history.bare (refusal_leaves (last log) l allowed refused);
+      nothing = refused_has_nothing (last log) l inv history allowed is refused;
+    })

@@ -1,0 +1,213 @@
+-- A step that changes one replica and the call in hand of one actor leaves what holds of every other call and of every other checkpoint.
+use Rattle.std.proofs.Common.{◌≡◌, ◌⊎◌, ℕ, inl, inr, Option, Some, None, Bool, true, false, cond, ◌&&◌, ◌==◌, refl, sym, ap, subst, ◌∙◌}
+use Rattle.std.specs.Prelude.{IsSomeAnd, IfSome}
+use Rattle.std.proofs.lemmas.Bool.{eqb-true, eq-eqb}
+use Rattle.std.proofs.lemmas.Option.{same_Some}
+use Rattle.ckpt_types.specs.declared.identities.ActorName.{ActorName}
+use Rattle.ckpt_types.specs.declared.identities.CallId.{CallId}
+use Rattle.cluster_record.specs.declared.calls.Making.{Making}
+use Rattle.cluster_record.specs.declared.entries.Entry.{Entry}
+use Rattle.cluster_record.specs.DueUpdate.{UpdateState}
+use Rattle.cluster_record.specs.Calls.{same_actor, put_actor}
+use Rattle.cluster_record.specs.Places.{put, put2}
+use Rattle.cluster_record.specs.RecordState.{entry_of}
+use Rattle.ckpt_machine.specs.Drivers.{Driver}
+use Rattle.ckpt_machine.specs.Drivers as drivers
+use Rattle.ckpt_machine.specs.Machine.{Machine, ReplicaState, CallState}
+use Rattle.ckpt_machine.specs.Steps.{driver_of}
+use Rattle.ckpt_machine.specs.Shape.{Shape, IsShaped, is_owner, IsOwner, IsSpread}
+use Rattle.ckpt_machine.specs.InHand.{IsMakingIn, IsInPlace, IsInHand}
+use Rattle.ckpt_machine.specs.Invariant.{IsMaker, IsGoodIn, InvariantIn}
+use Rattle.ckpt_machine.proofs.Actors.{same_actor-refl, same_actor-true}
+
+-- ---- calls
+
+-- what an actor has in hand after one actor's was changed
+pub put_actor-cases : {X : Type 0} (f : ActorName → Option X) (a : ActorName) (o : Option X) (b : ActorName) (x : X) → put_actor f a o b ≡ Some x → ((b ≡ a) × (o ≡ Some x)) ⊎ ((same_actor b a ≡ false) × (f b ≡ Some x))
+put_actor-cases f a o b x e =
+    elim (same_actor b a) as (λ t. same_actor b a ≡ t → cond t o (f b) ≡ Some x → ((b ≡ a) × (o ≡ Some x)) ⊎ ((same_actor b a ≡ false) × (f b ≡ Some x))) [
+      | true ↦ λ is here. inl (same_actor-true b a is, here)
+      | false ↦ λ is there. inr (is, there)
+    ] refl e
+
+pub put_actor-here : {X : Type 0} (f : ActorName → X) (a : ActorName) (x : X) → put_actor f a x a ≡ x
+put_actor-here f a x = ap (λ b. cond b x (f a)) (same_actor-refl a)
+
+pub put_actor-other : {X : Type 0} (f : ActorName → X) (a : ActorName) (x : X) (b : ActorName) → same_actor b a ≡ false → put_actor f a x b ≡ f b
+put_actor-other f a x b other = ap (λ t. cond t x (f b)) other
+
+-- ---- the step
+
+module _ (m : Machine) (shapes : ℕ → Shape) (inv : InvariantIn shapes m) (s : CallState) (u : UpdateState) (held : m.in_hand s.call.actor ≡ Some s) (is : driver_of s ≡ drivers.Update u) where
+  -- the state with other replicas of its checkpoint, and with this left of the call
+  abbrev with_step : (ℕ → ℕ → Option ReplicaState) → Option CallState → Machine
+  with_step f o = record m { replicas = f; in_hand = put_actor m.in_hand s.call.actor o }
+
+  -- replicas of other checkpoints stay
+  abbrev StaysElsewhere : (ℕ → ℕ → Option ReplicaState) → Type 0
+  StaysElsewhere f = (j q : ℕ) → (j == u.ckpt) ≡ false → f j q ≡ m.replicas j q
+
+  pub one_changed : (x : ReplicaState) (r : ℕ) → StaysElsewhere (put2 m.replicas u.ckpt r (Some x))
+  one_changed x r j q other = ap (λ b. cond (b && (q == r)) (Some x) (m.replicas j q)) other
+
+  pub none_changed : StaysElsewhere m.replicas
+  none_changed j q other = refl
+
+  -- the owner of a slot of another checkpoint is another call
+  other_owner : (j : ℕ) (sh : Shape) (call : CallId) → (j == u.ckpt) ≡ false → (own : IsOwner m j sh call) → same_actor call.actor s.call.actor ≡ false
+  other_owner j sh call other own = by_test (same_actor call.actor s.call.actor) refl
+    where
+      by_test : (b : Bool) → same_actor call.actor s.call.actor ≡ b → same_actor call.actor s.call.actor ≡ false
+      by_test false is_not = is_not
+      by_test true same =
+          let state : own.state ≡ s = same_Some own.state s (sym own.in_hand ∙ ap m.in_hand (same_actor-true call.actor s.call.actor same) ∙ held) in
+          let drivers_same : drivers.Update own.driver ≡ drivers.Update u = sym own.driver_is ∙ ap driver_of state ∙ is in
+          let driver : own.driver ≡ u = cc drivers_same in
+          let ckpt : j ≡ u.ckpt = sym own.ckpt ∙ ap (λ (v : UpdateState). v.ckpt) driver in
+          absurd (let e : true ≡ false = sym (eq-eqb j u.ckpt ckpt) ∙ other in cc)
+
+  pub IsOwner-other : (f : ℕ → ℕ → Option ReplicaState) (o : Option CallState) (j : ℕ) (sh : Shape) (call : CallId) → same_actor call.actor s.call.actor ≡ false → IsOwner m j sh call → IsOwner (with_step f o) j sh call
+  IsOwner-other f o j sh call other own = record {
+    state = own.state;
+    in_hand = put_actor-other m.in_hand s.call.actor o call.actor other ∙ own.in_hand;
+    call_is = own.call_is;
+    driver = own.driver;
+    driver_is = own.driver_is;
+    ckpt = own.ckpt;
+    phase = own.phase;
+  }
+
+  IsSpread-other : (f : ℕ → ℕ → Option ReplicaState) (o : Option CallState) → StaysElsewhere f → (j : ℕ) (sh : Shape) (e : Entry) → (j == u.ckpt) ≡ false → IsSpread m j sh e → IsSpread (with_step f o) j sh e
+  IsSpread-other f o stays j sh e other spread = record {
+    nodes = spread.nodes;
+    some = spread.some;
+    active = spread.active;
+    replicas = λ q there. subst (λ y. IsSomeAnd y (IsShaped sh (sh.owners q))) (sym (stays j q other)) (spread.replicas q there);
+    fits = spread.fits;
+    complete = spread.complete;
+    lowest = spread.lowest;
+    owned = λ q call owns. let own = spread.owned q call owns in IsOwner-other f o j sh call (other_owner j sh call other own) own;
+  }
+
+  -- one in the making is by another call
+  IsMaker-other : (f : ℕ → ℕ → Option ReplicaState) (o : Option CallState) (j : ℕ) (call : CallId) → IsMaker m j call → IsMaker (with_step f o) j call
+  IsMaker-other f o j call maker = record {
+    state = maker.state;
+    in_hand = put_actor-other m.in_hand s.call.actor o call.actor (by_test (same_actor call.actor s.call.actor) refl) ∙ maker.in_hand;
+    call_is = maker.call_is;
+    driver = maker.driver;
+    driver_is = maker.driver_is;
+    making = maker.making;
+    making_is = maker.making_is;
+    ckpt = maker.ckpt;
+  }
+    where
+      by_test : (b : Bool) → same_actor call.actor s.call.actor ≡ b → same_actor call.actor s.call.actor ≡ false
+      by_test false is_not = is_not
+      by_test true same =
+          let state : maker.state ≡ s = same_Some maker.state s (sym maker.in_hand ∙ ap m.in_hand (same_actor-true call.actor s.call.actor same) ∙ held) in
+          let apart : drivers.Open maker.driver ≡ drivers.Update u = sym maker.driver_is ∙ ap driver_of state ∙ is in
+          absurd (cc apart)
+
+  IsGoodIn-other : (f : ℕ → ℕ → Option ReplicaState) (o : Option CallState) → StaysElsewhere f → (j : ℕ) (sh : Shape) (e : Entry) (maker : Option CallId) → (j == u.ckpt) ≡ false → IsGoodIn m j sh e maker → IsGoodIn (with_step f o) j sh e maker
+  IsGoodIn-other f o stays j sh e None other good = IsSpread-other f o stays j sh e other good
+  IsGoodIn-other f o stays j sh e (Some call) other good = (good.0, IsMaker-other f o j call good.1)
+
+  -- ---- the other calls in hand
+
+  -- in the changed shape other calls own just what they owned
+  abbrev KeepsOthers : Shape → Type 0
+  KeepsOthers sh = (call : CallId) (q : ℕ) → same_actor call.actor s.call.actor ≡ false → is_owner call (sh.owners q) ≡ is_owner call ((shapes u.ckpt).owners q)
+
+  shape_other : (sh : Shape) (j : ℕ) → (j == u.ckpt) ≡ false → put shapes u.ckpt sh j ≡ shapes j
+  shape_other sh j other = ap (λ b. cond b sh (shapes j)) other
+
+  shape_here : (sh : Shape) (j : ℕ) → (j == u.ckpt) ≡ true → put shapes u.ckpt sh j ≡ sh
+  shape_here sh j same = ap (λ b. cond b sh (shapes j)) same
+
+  owners_kept : (sh : Shape) → KeepsOthers sh → (call : CallId) (j q : ℕ) → same_actor call.actor s.call.actor ≡ false → is_owner call ((put shapes u.ckpt sh j).owners q) ≡ is_owner call ((shapes j).owners q)
+  owners_kept sh keeps call j q other =
+      elim (j == u.ckpt) as (λ b. (j == u.ckpt) ≡ b → is_owner call ((cond b sh (shapes j)).owners q) ≡ is_owner call ((shapes j).owners q)) [
+        | true ↦ λ same. keeps call q other ∙ ap (λ k. is_owner call ((shapes k).owners q)) (sym (eqb-true j u.ckpt same))
+        | false ↦ λ same. refl
+      ] refl
+
+  IfSome-making : (f : ℕ → ℕ → Option ReplicaState) (o : Option CallState) (z : CallState) (making : Option Making) → IfSome making (IsMakingIn m z) → IfSome making (IsMakingIn (with_step f o) z)
+  IfSome-making f o z None at = tt
+  IfSome-making f o z (Some making) at = record { there = at.there; nodes = at.nodes; reserved = at.reserved }
+
+  IsIn-other : (f : ℕ → ℕ → Option ReplicaState) (o : Option CallState) (sh : Shape) → KeepsOthers sh → (z : CallState) → same_actor z.call.actor s.call.actor ≡ false → (d : Driver) → IsInPlace m shapes z d → IsInPlace (with_step f o) (put shapes u.ckpt sh) z d
+  IsIn-other f o sh keeps z other (drivers.Enter q) at = record { op = at.op; client = at.client; up = at.up; not_live = at.not_live }
+  IsIn-other f o sh keeps z other (drivers.Open v) at = record {
+    caller = at.caller;
+    client = at.client;
+    within = at.within;
+    node = at.node;
+    built = at.built;
+    asks = at.asks;
+    named = at.named;
+    asked = at.asked;
+    deadline = at.deadline;
+    making = IfSome-making f o z v.making at.making;
+    given = at.given;
+    room = at.room;
+  }
+  IsIn-other f o sh keeps z other (drivers.Update v) at = record {
+    call = at.call;
+    update = at.update;
+    kept = at.kept;
+    made = at.made;
+    nodes = at.nodes;
+    owns = λ e found q there. at.owns e found q there ∙ sym (owners_kept sh keeps z.call v.ckpt q other);
+    some = at.some;
+  }
+  IsIn-other f o sh keeps z other (drivers.Active a) at = record { call = at.call; kind = at.kind; made = at.made; kept = at.kept; room = at.room; handle = at.handle }
+  IsIn-other f o sh keeps z other drivers.Leave at = record { op = at.op; live = at.live }
+  IsIn-other f o sh keeps z other (drivers.Close k) at = record { op = at.op; kept = at.kept; handle = at.handle }
+  IsIn-other f o sh keeps z other (drivers.Unlink name) at = at
+  IsIn-other f o sh keeps z other (drivers.Retain k duration) at = record { op = at.op; from_zero = at.from_zero; kept = at.kept; made = at.made }
+
+  IsInHand-other : (f : ℕ → ℕ → Option ReplicaState) (o : Option CallState) (sh : Shape) → KeepsOthers sh → (a : ActorName) (z : CallState) → same_actor a s.call.actor ≡ false → IsInHand m shapes a z → IsInHand (with_step f o) (put shapes u.ckpt sh) a z
+  IsInHand-other f o sh keeps a z other at = record {
+    actor = at.actor;
+    client = at.client;
+    number = at.number;
+    live = at.live;
+    here = IsIn-other f o sh keeps z (ap (λ b. same_actor b s.call.actor) at.actor ∙ other) (driver_of z) at.here;
+  }
+
+  -- ---- the whole
+
+  -- a call in hand is where its steps have led it
+  hand_at : IsInHand m shapes s.call.actor s
+  hand_at = inv.hands s.call.actor s held
+
+  -- the invariant holds after the step, where it holds of the call and of its checkpoint
+  pub step_keeps : (f : ℕ → ℕ → Option ReplicaState) (o : Option CallState) (sh : Shape) → StaysElsewhere f → KeepsOthers sh
+      → ((e : Entry) → entry_of u.ckpt m.cluster.entries ≡ Some e → e.making ≡ None → IsSpread (with_step f o) u.ckpt sh e)
+      → ((z : CallState) → o ≡ Some z → IsInHand (with_step f o) (put shapes u.ckpt sh) s.call.actor z)
+      → ((e : Entry) → entry_of u.ckpt m.cluster.entries ≡ Some e → e.making ≡ None)
+      → InvariantIn (put shapes u.ckpt sh) (with_step f o)
+  step_keeps f o sh stays keeps spread own made = record {
+    up = inv.up;
+    none_live = inv.none_live;
+    rises = inv.rises;
+    up_to = inv.up_to;
+    swept = inv.swept;
+    entries = λ j e found. by_test j e found (j == u.ckpt) refl;
+    handles = inv.handles;
+    clients = inv.clients;
+    hands = λ a z there. elim (put_actor-cases m.in_hand s.call.actor o a z there) [
+      | inl here ↦ subst (λ b. IsInHand (with_step f o) (put shapes u.ckpt sh) b z) (sym here.0) (own z here.1)
+      | inr other ↦ IsInHand-other f o sh keeps a z other.0 (inv.hands a z other.1)
+    ];
+  }
+    where
+      by_test : (j : ℕ) (e : Entry) → entry_of j m.cluster.entries ≡ Some e → (b : Bool) → (j == u.ckpt) ≡ b → IsGoodIn (with_step f o) j (put shapes u.ckpt sh j) e e.making
+      by_test j e found false other = subst (λ z. IsGoodIn (with_step f o) j z e e.making) (sym (shape_other sh j other)) (IsGoodIn-other f o stays j (shapes j) e e.making other (inv.entries j e found))
+      by_test j e found true same =
+          let k_is : u.ckpt ≡ j = sym (eqb-true j u.ckpt same) in
+          let here : entry_of u.ckpt m.cluster.entries ≡ Some e = ap (λ k. entry_of k m.cluster.entries) k_is ∙ found in
+          let none = made e here in
+          subst (λ z. IsGoodIn (with_step f o) j z e e.making) (sym (shape_here sh j same))
+          (subst (λ maker. IsGoodIn (with_step f o) j sh e maker) (sym none) (subst (λ k. IsSpread (with_step f o) k sh e) k_is (spread e here none)))

@@ -1,0 +1,113 @@
+-- A step that changes the reservations of the checkpoint that a call is making, and how far this call is: what holds of every other call and of every checkpoint stays.
+use Rattle.std.proofs.Common.{◌≡◌, ◌≢◌, ℕ, inl, inr, Option, Some, None, Bool, true, false, ◌==◌, refl, sym, ap, subst, ◌∙◌}
+use Rattle.std.specs.Prelude.{IfSome}
+use Rattle.std.proofs.lemmas.Option.{same_Some}
+use Rattle.ckpt_types.specs.declared.identities.CallId.{CallId}
+use Rattle.cluster_record.specs.declared.calls.Making.{Making}
+use Rattle.cluster_record.specs.declared.entries.Entry.{Entry}
+use Rattle.cluster_record.specs.DueOpen.{OpenState}
+use Rattle.cluster_record.specs.Calls.{same_actor, put_actor}
+use Rattle.ckpt_machine.specs.Drivers.{Driver}
+use Rattle.ckpt_machine.specs.Drivers as drivers
+use Rattle.ckpt_machine.specs.Machine.{Machine, CallState}
+use Rattle.ckpt_machine.specs.Steps.{driver_of}
+use Rattle.ckpt_machine.specs.Shape.{Shape, IsOwner}
+use Rattle.ckpt_machine.specs.InHand.{IsMakingIn, IsInPlace, IsInHand}
+use Rattle.ckpt_machine.specs.Invariant.{IsMaker, IsGoodIn, InvariantIn}
+use Rattle.ckpt_machine.proofs.Actors.{same_actor-true}
+use Rattle.ckpt_machine.proofs.OwnMaking.{owner_apart, maker_same, not_own, actor_apart}
+use Rattle.ckpt_machine.proofs.ReplicaSteps.{put_actor-cases, put_actor-here, put_actor-other}
+
+module _ (m : Machine) (shapes : ℕ → Shape) (inv : InvariantIn shapes m) (s : CallState) (o : OpenState) (making : Making) (held : m.in_hand s.call.actor ≡ Some s) (is : driver_of s ≡ drivers.Open o) (makes : o.making ≡ Some making)
+    (g : ℕ → ℕ → Option ℕ) (elsewhere : (j q : ℕ) → (j == making.ckpt) ≡ false → g j q ≡ m.reserved j q)
+    (w : CallState) (call_is : w.call ≡ s.call) (v : OpenState) (driver_is : driver_of w ≡ drivers.Open v) (then_making : Making) (then_makes : v.making ≡ Some then_making) (same_ckpt : then_making.ckpt ≡ making.ckpt) where
+  -- the state with these reservations, and with this left of the call
+  abbrev then_machine : Machine
+  then_machine = record m { reserved = g; in_hand = put_actor m.in_hand s.call.actor (Some w) }
+
+  -- ---- checkpoints
+
+  -- a slot has its owner still
+  IsOwner-then : (j : ℕ) (sh : Shape) (d : CallId) → IsOwner m j sh d → IsOwner then_machine j sh d
+  IsOwner-then j sh d own = record { state = own.state; in_hand = put_actor-other m.in_hand s.call.actor (Some w) d.actor (owner_apart m s o held is j sh d own) ∙ own.in_hand; call_is = own.call_is; driver = own.driver; driver_is = own.driver_is; ckpt = own.ckpt; phase = own.phase }
+
+  -- one in the making is by another call, or is this one
+  IsMaker-then : (j : ℕ) (d : CallId) → IsMaker m j d → IsMaker then_machine j d
+  IsMaker-then j d own = by_test (same_actor d.actor s.call.actor) refl
+    where
+      by_test : (b : Bool) → same_actor d.actor s.call.actor ≡ b → IsMaker then_machine j d
+      by_test false other = record { state = own.state; in_hand = put_actor-other m.in_hand s.call.actor (Some w) d.actor other ∙ own.in_hand; call_is = own.call_is; driver = own.driver; driver_is = own.driver_is; making = own.making; making_is = own.making_is; ckpt = own.ckpt }
+      by_test true same =
+          let actor : d.actor ≡ s.call.actor = same_actor-true d.actor s.call.actor same in
+          let state : own.state ≡ s = same_Some own.state s (sym own.in_hand ∙ ap m.in_hand actor ∙ held) in
+          record {
+            state = w;
+            in_hand = ap (put_actor m.in_hand s.call.actor (Some w)) actor ∙ put_actor-here m.in_hand s.call.actor (Some w);
+            call_is = call_is ∙ ap (λ (x : CallState). x.call) (sym state) ∙ own.call_is;
+            driver = v;
+            driver_is = driver_is;
+            making = then_making;
+            making_is = then_makes;
+            ckpt = same_ckpt ∙ sym (maker_same m s o held is making makes j d own actor);
+          }
+
+  -- a checkpoint is as it was
+  IsGoodIn-then : (j : ℕ) (sh : Shape) (e : Entry) (maker : Option CallId) → IsGoodIn m j sh e maker → IsGoodIn then_machine j sh e maker
+  IsGoodIn-then j sh e None good = record {
+    nodes = good.nodes;
+    some = good.some;
+    active = good.active;
+    replicas = good.replicas;
+    fits = good.fits;
+    complete = good.complete;
+    lowest = good.lowest;
+    owned = λ r d owns. IsOwner-then j sh d (good.owned r d owns);
+  }
+  IsGoodIn-then j sh e (Some d) good = (good.0, IsMaker-then j d good.1)
+
+  -- ---- where the calls of others are
+
+  -- another call makes what it made
+  making_then : (z : CallState) → z.call ≢ s.call → (x : Making) → IsMakingIn m z x → IsMakingIn then_machine z x
+  making_then z other x at = record { there = at.there; nodes = at.nodes; reserved = λ r had. elsewhere x.ckpt r (not_own m shapes inv s o making held is makes z other x at) ∙ at.reserved r had }
+
+  -- where it makes something
+  IfSome-making : (z : CallState) → z.call ≢ s.call → (x : Option Making) → IfSome x (IsMakingIn m z) → IfSome x (IsMakingIn then_machine z)
+  IfSome-making z other None at = tt
+  IfSome-making z other (Some x) at = making_then z other x at
+
+  -- another call is where it was
+  IsIn-then : (z : CallState) → z.call ≢ s.call → (d : Driver) → IsInPlace m shapes z d → IsInPlace then_machine shapes z d
+  IsIn-then z other (drivers.Enter r) at = record { op = at.op; client = at.client; up = at.up; not_live = at.not_live }
+  IsIn-then z other (drivers.Open x) at = record { caller = at.caller; client = at.client; within = at.within; node = at.node; built = at.built; asks = at.asks; named = at.named; asked = at.asked; deadline = at.deadline; making = IfSome-making z other x.making at.making; given = at.given; room = at.room }
+  IsIn-then z other (drivers.Update u) at = record { call = at.call; update = at.update; kept = at.kept; made = at.made; nodes = at.nodes; owns = at.owns; some = at.some }
+  IsIn-then z other (drivers.Active a) at = record { call = at.call; kind = at.kind; made = at.made; kept = at.kept; room = at.room; handle = at.handle }
+  IsIn-then z other drivers.Leave at = record { op = at.op; live = at.live }
+  IsIn-then z other (drivers.Close k) at = record { op = at.op; kept = at.kept; handle = at.handle }
+  IsIn-then z other (drivers.Unlink name) at = at
+  IsIn-then z other (drivers.Retain k duration) at = record { op = at.op; from_zero = at.from_zero; kept = at.kept; made = at.made }
+
+  -- ---- the whole
+
+  -- the invariant holds after it, where it holds of the call
+  pub reserved_keeps : IsInHand then_machine shapes s.call.actor w → InvariantIn shapes then_machine
+  reserved_keeps own = record {
+    up = inv.up;
+    none_live = inv.none_live;
+    rises = inv.rises;
+    up_to = inv.up_to;
+    swept = inv.swept;
+    entries = λ j e found. IsGoodIn-then j (shapes j) e e.making (inv.entries j e found);
+    handles = inv.handles;
+    clients = inv.clients;
+    hands = λ a z there. elim (put_actor-cases m.in_hand s.call.actor (Some w) a z there) [
+      | inl here ↦ subst (λ b. IsInHand then_machine shapes b z) (sym here.0) (subst (IsInHand then_machine shapes s.call.actor) (same_Some w z here.1) own)
+      | inr other ↦ (let was = inv.hands a z other.1 in record {
+        actor = was.actor;
+        client = was.client;
+        number = was.number;
+        live = was.live;
+        here = IsIn-then z (actor_apart s a z was.actor other.0) (driver_of z) was.here;
+      })
+    ];
+  }

@@ -1,0 +1,25 @@
+-- A run goes on by one label.
+use Rattle.std.proofs.Common.{◌≡◌, List, [], ◌∷◌, ◌++◌, refl}
+use Rattle.run_labels.specs.declared.labels.Label.{Label}
+use Rattle.ckpt_machine.specs.Machine.{Machine, empty_cluster}
+use Rattle.ckpt_machine.specs.Steps.{IsDue, after}
+use Rattle.ckpt_machine.specs.Guards.{Allowed}
+use Rattle.ckpt_machine.specs.Runs.{last_from, last, IsRunFrom, IsRun}
+
+-- the state after one label more
+pub last_from-push : (m : Machine) (log : List Label) (l : Label) → last_from m (log ++ l ∷ []) ≡ after (last_from m log) l
+last_from-push m [] l = refl
+last_from-push m (x ∷ log) l = last_from-push (after m x) log l
+
+-- the same from the empty cluster
+pub last-push : (log : List Label) (l : Label) → last (log ++ l ∷ []) ≡ after (last log) l
+last-push log l = last_from-push empty_cluster log l
+
+-- from any state, labels that may come go on by one that may come
+pub IsRunFrom-push : (m : Machine) (log : List Label) (l : Label) → IsRunFrom m log → Allowed (last_from m log) l → IsDue (last_from m log) l → IsRunFrom m (log ++ l ∷ [])
+IsRunFrom-push m [] l run allowed due = (allowed, due, tt)
+IsRunFrom-push m (x ∷ log) l run allowed due = (run.0, run.1, IsRunFrom-push (after m x) log l run.2 allowed due)
+
+-- a run of the machine goes on by a label that is allowed and due
+pub run_more : (log : List Label) (l : Label) → IsRun log → Allowed (last log) l → IsDue (last log) l → IsRun (log ++ l ∷ [])
+run_more log l run allowed due = IsRunFrom-push empty_cluster log l run allowed due

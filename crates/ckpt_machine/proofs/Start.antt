@@ -1,0 +1,26 @@
+-- The empty cluster has the invariant.
+use Rattle.std.proofs.Common.{[], None, false, refl, arith}
+use Rattle.ckpt_types.specs.declared.identities.ActorName.TheVariants.{Node}
+use Rattle.ckpt_types.specs.declared.update.Update.TheVariants as updates
+use Rattle.ckpt_machine.specs.Machine.{empty_cluster}
+use Rattle.ckpt_machine.specs.Shape.{Shape}
+use Rattle.ckpt_machine.specs.Invariant.{Invariant}
+
+no_shape : Shape
+no_shape = record { owners = λ r. None; origin = record { actor = Node 0; number = 0 }; update = updates.Nothing; moment = empty_cluster.cluster.moment; sections = []; effects = []; outcome = []; done = false }
+
+pub invariant_empty : Invariant empty_cluster
+invariant_empty = record {
+  shapes = λ k. no_shape;
+  holds = record {
+    up = (0, refl);
+    none_live = λ none. refl;
+    rises = tt;
+    up_to = tt;
+    swept = tt;
+    entries = λ k e found. absurd (cc found);
+    handles = λ c h among. let (i, below, is) = among in absurd (omega (arith, below));
+    clients = λ c. tt;
+    hands = λ a s held. absurd (cc held);
+  };
+}

@@ -1,0 +1,37 @@
+use Rattle.ckpt_machine.proofs.Counting.{counts_empty, counts_up}
+use Rattle.ckpt_machine.proofs.Facts.{facts}
+use Rattle.ckpt_machine.proofs.Lawful.{lawful}
+use Rattle.ckpt_machine.proofs.Nearer.{step_nearer}
+use Rattle.ckpt_machine.proofs.RefusedRuns.{run_leaves}
+use Rattle.ckpt_machine.proofs.Refusing.{refusal_leaves}
+use Rattle.ckpt_machine.proofs.RunLaws.{run_has}
+use Rattle.ckpt_machine.proofs.Start.{invariant_empty}
+use Rattle.ckpt_machine.proofs.AllOrNone.{all_or_none}
+use Rattle.ckpt_machine.proofs.machine_law.Goals as goal
+
+pub returns-clause-starts : goal.returns-clause-starts
+returns-clause-starts c = (invariant_empty, counts_empty)
+
+pub returns-clause-lawful : goal.returns-clause-lawful
+returns-clause-lawful c = lawful
+
+pub returns-clause-runs : goal.returns-clause-runs
+returns-clause-runs c = run_has
+
+pub returns-clause-facts : goal.returns-clause-facts
+returns-clause-facts c = facts
+
+pub returns-clause-counts : goal.returns-clause-counts
+returns-clause-counts c = counts_up
+
+pub returns-clause-nearer : goal.returns-clause-nearer
+returns-clause-nearer c = step_nearer
+
+pub returns-clause-refusals : goal.returns-clause-refusals
+returns-clause-refusals c = refusal_leaves
+
+pub returns-clause-refused : goal.returns-clause-refused
+returns-clause-refused c = run_leaves
+
+pub returns-clause-all_or_none : goal.returns-clause-all_or_none
+returns-clause-all_or_none c = all_or_none

@@ -1,0 +1,162 @@
+-- What the machine allows a call to answer at its beginning: each answer with its cause, where none before it applies; and the words that may stand in place of a call or a step.
+use Rattle.std.specs.Prelude.{◌≡◌, ℕ, ◌<◌, length, Option, Some, None, is_some, is_none, IsSome, Bool, true, false, not, ◌&&◌, ◌||◌, pos, int_lt}
+use Rattle.ckpt_types.specs.declared.ais_error.AisError.{AisError}
+use Rattle.ckpt_types.specs.declared.ais_error.AisError.TheVariants as errors
+use Rattle.ckpt_types.specs.declared.answers.Answer.TheVariants as answers
+use Rattle.ckpt_types.specs.declared.answers.Cause.TheVariants.{Plain}
+use Rattle.ckpt_types.specs.declared.answers.Outcome.{Outcome}
+use Rattle.ckpt_types.specs.declared.answers.Outcome.TheVariants.{Done, Refused, NoMemory}
+use Rattle.ckpt_types.specs.declared.identities.ActorName.{ActorName}
+use Rattle.ckpt_types.specs.declared.identities.CallId.{CallId}
+use Rattle.ckpt_types.specs.declared.identities.Who.{Who}
+use Rattle.ckpt_types.specs.declared.identities.Who.TheVariants.{Actor}
+use Rattle.ckpt_types.specs.declared.open_flags.OpenFlags.{OpenFlags}
+use Rattle.ckpt_types.specs.declared.operation.Op.{Op}
+use Rattle.ckpt_types.specs.declared.operation.Op.TheVariants as ops
+use Rattle.ckpt_types.specs.Attributes.{has_bad_open_flags}
+use Rattle.ckpt_types.specs.Limits.{nodes_max}
+use Rattle.run_labels.specs.declared.words.LineWord.{LineWord}
+use Rattle.run_labels.specs.declared.words.LineWord.TheVariants as linewords
+use Rattle.run_labels.specs.declared.words.OpWord.TheVariants as opwords
+use Rattle.run_labels.specs.declared.words.Said.{Said}
+use Rattle.run_labels.specs.declared.words.Said.TheVariants.{Busy, Idle, Live, Down}
+use Rattle.client_handles.specs.declared.handle_view.HandleView.{HandleView}
+use Rattle.cluster_record.specs.Calls.{number_of, IsClient}
+use Rattle.cluster_record.specs.RecordState.{is_live_client, is_up}
+use Rattle.ckpt_machine.specs.Beginning.{version_is_bad, name_is_bad, attributes_are_bad, vector_is_bad, update_is_bad, choice_is_bad, may_write, may_read, may_always, handle_place, iteration_place, takes_room, IsBuilt}
+use Rattle.ckpt_machine.specs.Machine.{Machine}
+use Rattle.ckpt_machine.specs.Steps.{MayBegin, asked_handle}
+
+-- ---- the causes
+
+-- an Initialize of a version that the service does not speak
+abbrev pub has_bad_version : Op → Bool
+has_bad_version (ops.Client r version callbacks) = version_is_bad version
+has_bad_version op = false
+
+-- any other call is of a client that is live
+abbrev pub is_of_client : Op → Bool
+is_of_client (ops.Client r version callbacks) = false
+is_of_client op = true
+
+-- it is about the handle of a place, or about the iteration of one
+abbrev pub is_of_place : Op → Bool
+is_of_place op = is_some (handle_place op) || is_some (iteration_place op)
+
+-- the client of the call is not live, or the place stands for no handle, or for no iteration
+abbrev pub has_bad_handle : Bool → Option HandleView → Op → Bool
+has_bad_handle live h op = (is_of_client op && not live) || (is_of_place op && is_none h)
+
+-- an open with no flag, or an unknown one
+abbrev pub has_bad_flags : Op → Bool
+has_bad_flags (ops.Open place name flags timeout a) = has_bad_open_flags flags
+has_bad_flags op = false
+
+-- what is a bad argument of each operation: a name, timeout or attributes; a number of elements; a choice; a duration
+abbrev pub has_bad_arguments : Op → Bool
+has_bad_arguments (ops.Open place name flags timeout a) = name_is_bad name || int_lt timeout (pos 0) || attributes_are_bad flags a
+has_bad_arguments (ops.Create place update) = update_is_bad update
+has_bad_arguments (ops.Delete place update) = update_is_bad update
+has_bad_arguments (ops.Expire place update) = update_is_bad update
+has_bad_arguments (ops.Write place update) = update_is_bad update
+has_bad_arguments (ops.Over place update) = update_is_bad update
+has_bad_arguments (ops.Read place elements) = vector_is_bad (length elements)
+has_bad_arguments (ops.Iter iteration place chosen time) = choice_is_bad chosen
+has_bad_arguments (ops.Retain place duration) = int_lt duration (pos 0)
+has_bad_arguments op = false
+
+-- what its handle is to be opened for
+abbrev pub needs_opened : Op → OpenFlags → Bool
+needs_opened (ops.Create place update) = may_write
+needs_opened (ops.Delete place update) = may_write
+needs_opened (ops.Expire place update) = may_write
+needs_opened (ops.Write place update) = may_write
+needs_opened (ops.Over place update) = may_write
+needs_opened (ops.Read place elements) = may_read
+needs_opened (ops.Iter iteration place chosen time) = may_read
+needs_opened op = may_always
+
+-- there is a handle, which was not opened for this
+abbrev pub was_not_opened_for : (OpenFlags → Bool) → Option HandleView → Bool
+was_not_opened_for may None = false
+was_not_opened_for may (Some h) = not (may h.flags)
+
+-- its handle was not opened for what it asks
+abbrev pub lacks_access : Option HandleView → Op → Bool
+lacks_access h op = was_not_opened_for (needs_opened op) h
+
+-- the end of an iteration is answered at once; every other call goes on
+abbrev pub ends_at_once : Op → Bool
+ends_at_once (ops.EndIter iteration) = true
+ends_at_once op = false
+
+-- ---- the answers, of a client that is live or not, and with the handle of the place
+
+-- a refusal, where its cause is there and none before it
+abbrev pub BeginRefused : Bool → Option HandleView → Op → AisError → Type 0
+BeginRefused live h op errors.Version = has_bad_version op ≡ true
+BeginRefused live h op errors.BadHandle = (has_bad_version op ≡ false) × (has_bad_handle live h op ≡ true)
+BeginRefused live h op errors.BadFlags = (has_bad_version op ≡ false) × (has_bad_handle live h op ≡ false) × (has_bad_flags op ≡ true)
+BeginRefused live h op errors.InvalidParam = (has_bad_version op ≡ false) × (has_bad_handle live h op ≡ false) × (has_bad_flags op ≡ false) × (has_bad_arguments op ≡ true)
+BeginRefused live h op errors.Access = (has_bad_version op ≡ false) × (has_bad_handle live h op ≡ false) × (has_bad_flags op ≡ false) × (has_bad_arguments op ≡ false) × (lacks_access h op ≡ true)
+BeginRefused live h op error = ⊥
+
+-- no refusal applies
+pub record MeetsNoRefusal (live : Bool) (h : Option HandleView) (op : Op) : Type 0 where
+  pub version : has_bad_version op ≡ false
+  pub handle : has_bad_handle live h op ≡ false
+  pub flags : has_bad_flags op ≡ false
+  pub arguments : has_bad_arguments op ≡ false
+  pub access : lacks_access h op ≡ false
+
+-- a refusal; OK at once; no memory for the room of an iteration; or the call goes on
+abbrev pub BeginRow : Bool → Option HandleView → Op → Option Outcome → Type 0
+BeginRow live h op (Some (Refused error Plain)) = BeginRefused live h op error
+BeginRow live h op (Some (Done answers.Nothing)) = MeetsNoRefusal live h op × (ends_at_once op ≡ true)
+BeginRow live h op (Some NoMemory) = MeetsNoRefusal live h op × (takes_room op ≡ true)
+BeginRow live h op None = MeetsNoRefusal live h op × (ends_at_once op ≡ false)
+BeginRow live h op end = ⊥
+
+-- a client begins an operation that is built, with the number that is its next, while it has no call in hand
+pub record IsAllowedBegin (m : Machine) (call : CallId) (op : Op) (end : Option Outcome) : Type 0 where
+  pub client : IsClient call.actor
+  pub built : IsBuilt op
+  pub number : call.number ≡ m.next call.actor
+  pub none_in_hand : m.in_hand call.actor ≡ None
+  pub may : MayBegin m.cluster (number_of call.actor) op
+  pub row : BeginRow (is_live_client (number_of call.actor) m.cluster) (asked_handle m call.actor op) op end
+
+-- ---- the words
+
+-- the line begins a call; it begins an Initialize; it is `step` or `finish`
+abbrev pub IsCallLine : LineWord → Type 0
+IsCallLine (linewords.Op op) = Unit {0}
+IsCallLine line = ⊥
+
+-- the line begins an Initialize
+abbrev pub IsInitializeLine : LineWord → Type 0
+IsInitializeLine (linewords.Op opwords.Client) = Unit {0}
+IsInitializeLine line = ⊥
+
+-- the line is `step` or `finish`
+abbrev pub IsStepLine : LineWord → Type 0
+IsStepLine (linewords.Op op) = ⊥
+IsStepLine line = Unit {0}
+
+-- one of the nodes is not up
+pub record SomeNodeIsDown (m : Machine) : Type 0 where
+  pub node : ℕ
+  pub below : node < nodes_max
+  pub down : is_up node m.cluster ≡ false
+
+-- BUSY where a call is in hand; where none is, LIVE to an Initialize of a client that is live, DOWN to one of a client that is not, and IDLE to a step
+abbrev pub WordRow : Machine → ActorName → LineWord → Said → Type 0
+WordRow m a line Busy = IsCallLine line × IsSome (m.in_hand a)
+WordRow m a line Live = IsInitializeLine line × (m.in_hand a ≡ None) × (is_live_client (number_of a) m.cluster ≡ true)
+WordRow m a line Down = IsInitializeLine line × (m.in_hand a ≡ None) × (is_live_client (number_of a) m.cluster ≡ false) × SomeNodeIsDown m
+WordRow m a line Idle = IsStepLine line × (m.in_hand a ≡ None)
+
+-- the word of an actor is allowed by its row
+abbrev pub IsAllowedWord : Machine → Who → LineWord → Said → Type 0
+IsAllowedWord m (Actor a) line said = WordRow m a line said
+IsAllowedWord m who line said = ⊥

@@ -1,0 +1,531 @@
+-- Which labels the machine allows: the guards, over all complete replicas at once, and the answers with their causes.
+use Rattle.std.specs.Prelude.{◌≡◌, ◌⊎◌, ℕ, ◌+◌, ◌<◌, ◌≤◌, List, [], ◌∷◌, ◌++◌, length, Option, Some, None, IsSome, IsSomeAnd, Ok, Err, IsOk, Bool, true, false, not, ◌==◌, ◌&&◌, ◌||◌, if◌then◌else◌, ℤ, slice_index}
+use Rattle.moment_rules.specs.Times.{is_reached}
+use Rattle.ckpt_types.specs.declared.ais_error.AisError.{AisError}
+use Rattle.ckpt_types.specs.declared.ais_error.AisError.TheVariants as errors
+use Rattle.ckpt_types.specs.declared.answers.Answer.{Answer}
+use Rattle.ckpt_types.specs.declared.answers.Answer.TheVariants as answers
+use Rattle.ckpt_types.specs.declared.answers.Cause.{Cause}
+use Rattle.ckpt_types.specs.declared.answers.Cause.TheVariants.{Plain, Index, Holder, Deadline, Count}
+use Rattle.ckpt_types.specs.declared.answers.Outcome.{Outcome}
+use Rattle.ckpt_types.specs.declared.answers.Outcome.TheVariants.{Done, Refused, NoMemory}
+use Rattle.ckpt_types.specs.declared.attributes.CreationAttributes.{CreationAttributes}
+use Rattle.ckpt_types.specs.declared.identities.CallId.{CallId}
+use Rattle.ckpt_types.specs.declared.operation.Op.{Op}
+use Rattle.ckpt_types.specs.declared.operation.Op.TheVariants as ops
+use Rattle.ckpt_types.specs.declared.update.ReadElement.{ReadElement}
+use Rattle.ckpt_types.specs.declared.update.Update.{Update}
+use Rattle.ckpt_types.specs.Updates.{Refusal, outcome}
+use Rattle.ckpt_types.specs.Reads.{read, status, NextGiven, given, description}
+use Rattle.ckpt_types.specs.Limits.{clients_max, checkpoints_max, handles_max, iterations_max, nodes_max}
+use Rattle.run_labels.specs.declared.details.Details.{Details}
+use Rattle.run_labels.specs.declared.details.Details.TheVariants as beside
+use Rattle.run_labels.specs.declared.words.OpWord.{OpWord}
+use Rattle.node_msgs.specs.declared.steps.Verb.{Verb}
+use Rattle.node_msgs.specs.declared.steps.Verb.TheVariants as verbs
+use Rattle.node_msgs.specs.declared.steps.StepReply.{StepReply}
+use Rattle.node_msgs.specs.declared.steps.StepReply.TheVariants as words
+use Rattle.run_labels.specs.declared.labels.Label.{Label}
+use Rattle.run_labels.specs.declared.labels.Label.TheVariants as labels
+use Rattle.run_labels.specs.OpWord.{word_of_op}
+use Rattle.cluster_record.specs.declared.entries.Entry.{Entry}
+use Rattle.cluster_record.specs.Calls.{same_call, client_of}
+use Rattle.cluster_record.specs.RecordState.{entry_of, complete_of, named, attributes_now, is_live, is_live_client, is_up, IsMomentFrom}
+use Rattle.cluster_record.specs.DueOpen.{IsBefore, accepts}
+use Rattle.ckpt_machine.specs.BeginRows.{IsAllowedBegin, IsAllowedWord}
+use Rattle.ckpt_machine.specs.Driving.{deadline_from, making_in, refused_cause}
+use Rattle.ckpt_machine.specs.Serving.{update_of, update_answer, told_id}
+use Rattle.ckpt_machine.specs.Machine.{Machine, Staged, ReplicaState, CallState}
+use Rattle.ckpt_machine.specs.Steps.{Told, driver_of, room_of, rooms_of, ids_asked, staged_moment, effect_of}
+
+-- ---- the complete replicas of a checkpoint, with their nodes, in node order
+
+-- one replica more, where the node has one
+abbrev pub with_replica : ℕ → Option ReplicaState → List (ℕ × ReplicaState) → List (ℕ × ReplicaState)
+with_replica r None others = others
+with_replica r (Some x) others = (r, x) ∷ others
+
+-- the complete replicas from a node on
+abbrev pub replicas_from : (ℕ → Option ReplicaState) → ℕ → List ℕ → List (ℕ × ReplicaState)
+replicas_from replicas n [] = []
+replicas_from replicas n (c ∷ cs) = if c == 0 then replicas_from replicas (n + 1) cs else with_replica n (replicas n) (replicas_from replicas (n + 1) cs)
+
+-- the complete replicas of a checkpoint, in node order
+abbrev pub complete_replicas : Machine → ℕ → List (ℕ × ReplicaState)
+complete_replicas m k = replicas_from (m.replicas k) 0 (complete_of (entry_of k m.cluster.entries))
+
+-- each of them has it
+abbrev pub OnEach : (ReplicaState → Type 0) → List (ℕ × ReplicaState) → Type 0
+OnEach P [] = Unit {0}
+OnEach P ((r, x) ∷ others) = P x × OnEach P others
+
+-- the slot has it, if there is one
+abbrev pub IfSlot : Option Staged → (Staged → Type 0) → Type 0
+IfSlot None P = Unit {0}
+IfSlot (Some slot) P = P slot
+
+-- the call owns the slot
+abbrev pub owns_slot : CallId → Option Staged → Bool
+owns_slot call None = false
+owns_slot call (Some slot) = same_call slot.owner call
+
+-- a complete replica on another node has a slot of the call
+abbrev pub owned_elsewhere : CallId → ℕ → List (ℕ × ReplicaState) → Bool
+owned_elsewhere call r [] = false
+owned_elsewhere call r ((q, x) ∷ others) = (not (q == r) && owns_slot call x.slot) || owned_elsewhere call r others
+
+-- ---- a checkpoint with its entry, and a node's replica of it
+
+-- the checkpoint is there, and the node has its replica
+abbrev pub OnReplica : Machine → ℕ → ℕ → (Entry → ReplicaState → Type 0) → Type 0
+OnReplica m k r P = IsSomeAnd (entry_of k m.cluster.entries) (λ e. IsSomeAnd (m.replicas k r) (P e))
+
+-- ---- all-replicas updates
+
+-- staged: the replica has no slot and the update an outcome, all complete replicas have equal effects, and each slot is of this very update
+pub record StageOk (m : Machine) (call : CallId) (update : Update) (k : ℕ) (e : Entry) (x : ReplicaState) : Type 0 where
+  pub free : x.slot ≡ None
+  pub fits : IsOk (outcome e.attributes update (staged_moment m k) x.sections)
+  pub same_effects : OnEach (λ y. y.effects ≡ x.effects) (complete_replicas m k)
+  pub only_own : OnEach (λ y. IfSlot y.slot (λ slot. slot ≡ record { owner = call; origin = call; update = update; moment = staged_moment m k })) (complete_replicas m k)
+
+-- refused: no complete replica has a slot of the call, and the outcome at the record's moment is the refusal
+pub record StageRefused (m : Machine) (s : CallState) (k : ℕ) (end : Option Outcome) (e : Entry) (x : ReplicaState) : Type 0 where
+  pub free : x.slot ≡ None
+  pub none_own : OnEach (λ y. owns_slot s.call y.slot ≡ false) (complete_replicas m k)
+  pub why : Refusal
+  pub refused : outcome e.attributes (update_of s.op) m.cluster.moment x.sections ≡ Err why
+  -- the cause is the index for a write alone
+  pub answer : end ≡ Some (Refused why.error (refused_cause s.op why.index))
+
+-- held: another call owns the slot; where that call is live, this one is to try again
+pub record StageHeld (m : Machine) (call by : CallId) (end : Option Outcome) (x : ReplicaState) : Type 0 where
+  pub owner : IsSomeAnd x.slot (λ slot. slot.owner ≡ by)
+  pub another : same_call by call ≡ false
+  pub live : is_live m.cluster by ≡ true
+  pub answer : end ≡ Some (Refused errors.TryAgain (Holder by))
+
+-- a stage is done, refused by the sections, or held off by another call
+abbrev pub StageRow : Machine → CallState → ℕ → ℕ → StepReply → Option Outcome → Type 0
+StageRow m s k r words.Ok end = OnReplica m k r (StageOk m s.call (update_of s.op) k) × (end ≡ None)
+StageRow m s k r words.Refused end = OnReplica m k r (StageRefused m s k end)
+StageRow m s k r (words.Held by) end = OnReplica m k r (λ e x. StageHeld m s.call by end x)
+StageRow m s k r reply end = ⊥
+
+-- the replica has the same slot still, or has committed it
+abbrev pub HasSlotOrEffect : ReplicaState → Staged → ReplicaState → Option Staged → Type 0
+HasSlotOrEffect x slot y (Some other) = (other.origin ≡ slot.origin) × (other.update ≡ slot.update) × (other.moment ≡ slot.moment) × (y.effects ≡ x.effects)
+HasSlotOrEffect x slot y None = y.effects ≡ x.effects ++ effect_of slot ∷ []
+
+-- a commit ends an update where this is the call's own, and no other complete replica has a slot of the call
+abbrev pub ends_update : CallId → ℕ → Staged → List (ℕ × ReplicaState) → Bool
+ends_update call r slot replicas = same_call slot.origin call && not (owned_elsewhere call r replicas)
+
+-- committed: the call owns the slot, whose update is its own or of a call that is not live, and every complete replica has that update staged on equal effects, or has it
+pub record CommitOk (m : Machine) (call : CallId) (update : Update) (k r : ℕ) (end : Option Outcome) (details : Details) (x : ReplicaState) : Type 0 where
+  pub slot : Staged
+  pub staged : x.slot ≡ Some slot
+  pub owner : slot.owner ≡ call
+  pub origin : (slot.origin ≡ call) ⊎ (is_live m.cluster slot.origin ≡ false)
+  pub others : OnEach (λ y. HasSlotOrEffect x slot y y.slot) (complete_replicas m k)
+  -- an update is answered OK by the commit of its own after which no complete replica has a slot of the call; a creation tells its identifier then
+  pub answer : end ≡ (if ends_update call r slot (complete_replicas m k) then Some (Done (update_answer update)) else None)
+  pub told : details ≡ (if ends_update call r slot (complete_replicas m k) then told_id update slot.moment x.sections else beside.Nothing)
+
+-- a commit is done
+abbrev pub CommitRow : Machine → CallState → ℕ → ℕ → StepReply → Option Outcome → Details → Type 0
+CommitRow m s k r words.Ok end details = OnReplica m k r (λ e x. CommitOk m s.call (update_of s.op) k r end details x)
+CommitRow m s k r reply end details = ⊥
+
+-- ---- reads, on the active
+
+-- the active reads, or refuses as `read` does
+abbrev pub ReadRow : Machine → List ReadElement → ℕ → ℕ → Told → Type 0
+ReadRow m elements k r t = OnReplica m k r (λ e x. (e.active ≡ Some r) × ReadAnswer m elements x t.reply) where
+  ReadAnswer : Machine → List ReadElement → ReplicaState → StepReply → Type 0
+  ReadAnswer m elements x words.Ok = (pieces : List (List ℕ)) × (read elements m.cluster.moment x.sections ≡ Ok pieces) × (t.details ≡ beside.Pieces pieces) × (t.end ≡ Some (Done answers.Pieces))
+  ReadAnswer m elements x words.Refused = (why : Refusal) × (read elements m.cluster.moment x.sections ≡ Err why) × (t.details ≡ beside.Nothing) × (t.end ≡ Some (Refused why.error (Index why.index)))
+  ReadAnswer m elements x reply = ⊥
+
+-- ---- status and iterations, on the active
+
+-- the status of its sections, with the checkpoint's attributes as they are now
+pub record StatusOk (m : Machine) (r : ℕ) (end : Option Outcome) (details : Details) (e : Entry) (x : ReplicaState) : Type 0 where
+  pub active : e.active ≡ Some r
+  pub answer : end ≡ Some (Done answers.Status)
+  pub told : details ≡ beside.Status (status (attributes_now e) m.cluster.moment x.sections)
+
+-- the active tells the status
+abbrev pub StatusRow : Machine → ℕ → ℕ → StepReply → Option Outcome → Details → Type 0
+StatusRow m k r words.Ok end details = OnReplica m k r (StatusOk m r end details)
+StatusRow m k r reply end details = ⊥
+
+-- an iteration is started, for which the client has a free place
+pub record IterOk (m : Machine) (s : CallState) (r : ℕ) (end : Option Outcome) (e : Entry) (x : ReplicaState) : Type 0 where
+  pub active : e.active ≡ Some r
+  pub room : (rooms_of m (client_of s.call)).iterations ≡ true
+  pub answer : end ≡ Some (Done answers.Nothing)
+
+-- the active starts an iteration
+abbrev pub IterRow : Machine → CallState → ℕ → ℕ → StepReply → Option Outcome → Type 0
+IterRow m s k r words.Ok end = OnReplica m k r (IterOk m s r end)
+IterRow m s k r reply end = ⊥
+
+-- the next section that its iteration gives, or that none is left
+abbrev pub NextAnswer : Option NextGiven → StepReply → Option Outcome → Details → Type 0
+NextAnswer (Some next) words.Ok end details = (end ≡ Some (Done answers.Section)) × (details ≡ beside.Section (description next.section))
+NextAnswer None words.Refused end details = (end ≡ Some (Refused errors.NoSections Plain)) × (details ≡ beside.Nothing)
+NextAnswer next reply end details = ⊥
+
+-- the active gives the next section, or says that none is left
+pub record NextOk (m : Machine) (s : CallState) (r : ℕ) (t : Told) (e : Entry) (x : ReplicaState) : Type 0 where
+  pub active : e.active ≡ Some r
+  pub answer : NextAnswer (given (ids_asked m s) m.cluster.moment x.sections) t.reply t.end t.details
+
+-- the active goes on with an iteration
+abbrev pub NextRow : Machine → CallState → ℕ → ℕ → Told → Type 0
+NextRow m s k r t = OnReplica m k r (NextOk m s r t)
+
+-- ---- clients, makings and opens
+
+-- the client can become live on the node
+pub record MayEnter (m : Machine) (c r : ℕ) : Type 0 where
+  pub up : is_up r m.cluster ≡ true
+  pub not_live : is_live_client c m.cluster ≡ false
+  pub few : length m.cluster.clients < clients_max
+
+-- a client becomes live, or its own memory is refused
+abbrev pub EnterRow : Machine → ℕ → ℕ → StepReply → Option Outcome → Type 0
+EnterRow m c r words.Ok end = MayEnter m c r × (end ≡ Some (Done answers.Version))
+EnterRow m c r words.Memory end = MayEnter m c r × (end ≡ Some NoMemory)
+EnterRow m c r reply end = ⊥
+
+-- the checkpoint is in the making by the call
+abbrev pub IsMadeBy : Machine → CallId → ℕ → Type 0
+IsMadeBy m call k = IsSomeAnd (entry_of k m.cluster.entries) (λ e. e.making ≡ Some call)
+
+-- the deadline that a call has, if it has one
+abbrev pub deadline_of : CallState → Option ℤ
+deadline_of s = deadline_from s.kept.moment s.op
+
+-- the deadline of the call is not reached
+abbrev pub IsInTime : Machine → CallState → Type 0
+IsInTime m s = IsBefore m.cluster.moment (deadline_of s)
+
+-- a checkpoint of the name can be made, with this identity
+pub record MayCreate (m : Machine) (s : CallState) (name : List ℕ) (a : Option CreationAttributes) (k : ℕ) : Type 0 where
+  pub free : named name m.cluster.entries ≡ None
+  pub asked : IsSome a
+  pub in_time : IsInTime m s
+  pub room : room_of m (client_of s.call) ≡ true
+  pub few : length m.cluster.entries < checkpoints_max
+  pub next : k ≡ m.cluster.last_identity + 1
+
+-- a checkpoint is in the making, or the memory for it is refused
+abbrev pub CreateRow : Machine → CallState → List ℕ → Option CreationAttributes → ℕ → StepReply → Option Outcome → Type 0
+CreateRow m s name a k words.Ok end = MayCreate m s name a k × (end ≡ None)
+CreateRow m s name a k words.Memory end = MayCreate m s name a k × (end ≡ Some NoMemory)
+CreateRow m s name a k reply end = ⊥
+
+-- a node that is up reserves for the making of the call, or is refused the memory
+abbrev pub ReserveRow : Machine → CallState → ℕ → ℕ → StepReply → Option Outcome → Type 0
+ReserveRow m s k r words.Ok end = (is_up r m.cluster ≡ true) × IsMadeBy m s.call k × IsInTime m s × (end ≡ None)
+ReserveRow m s k r words.Memory end = (is_up r m.cluster ≡ true) × IsMadeBy m s.call k × IsInTime m s × (end ≡ None)
+ReserveRow m s k r reply end = ⊥
+
+-- every node that is up has reserved under its present incarnation
+abbrev pub FinishRow : Machine → CallState → ℕ → StepReply → Option Outcome → Type 0
+FinishRow m s k words.Ok end = IsMadeBy m s.call k × IsInTime m s × ((r : ℕ) → is_up r m.cluster ≡ true → m.reserved k r ≡ Some (slice_index m.cluster.up r)) × (end ≡ Some (Done (answers.Opened k)))
+FinishRow m s k reply end = ⊥
+
+-- what the call is making is undone
+abbrev pub UndoRow : Machine → CallState → ℕ → StepReply → Option Outcome → Type 0
+UndoRow m s k words.Ok end = IsMadeBy m s.call k × IsInTime m s × (making_in (driver_of s) ≡ Some k) × (end ≡ Some NoMemory)
+UndoRow m s k reply end = ⊥
+
+-- a checkpoint of this identity is made, and has the attributes asked for
+pub record IsOpenable (a : Option CreationAttributes) (k : ℕ) (e : Entry) : Type 0 where
+  pub identity : e.identity ≡ k
+  pub made : e.making ≡ None
+  pub accepted : accepts a e ≡ true
+
+-- the checkpoint of the name can be opened
+pub record MayOpen (m : Machine) (s : CallState) (name : List ℕ) (a : Option CreationAttributes) (k : ℕ) : Type 0 where
+  pub there : IsSomeAnd (named name m.cluster.entries) (IsOpenable a k)
+  pub in_time : IsInTime m s
+  pub room : room_of m (client_of s.call) ≡ true
+
+-- the checkpoint of the name is in the making by another call, which is live; this one is to try again
+pub record OpenHeld (m : Machine) (s : CallState) (name : List ℕ) (k : ℕ) (by : CallId) (end : Option Outcome) : Type 0 where
+  pub there : IsSomeAnd (named name m.cluster.entries) (λ e. (e.identity ≡ k) × (e.making ≡ Some by))
+  pub in_time : IsInTime m s
+  pub live : is_live m.cluster by ≡ true
+  pub another : same_call by s.call ≡ false
+  pub answer : end ≡ Some (Refused errors.TryAgain (Holder by))
+
+-- a checkpoint is opened, or the memory for that is refused; or another call is making it
+abbrev pub OpenRow : Machine → CallState → List ℕ → Option CreationAttributes → ℕ → StepReply → Option Outcome → Type 0
+OpenRow m s name a k words.Ok end = MayOpen m s name a k × (end ≡ Some (Done (answers.Opened k)))
+OpenRow m s name a k words.Memory end = MayOpen m s name a k × (end ≡ Some NoMemory)
+OpenRow m s name a k words.Refused end = (by : CallId) × OpenHeld m s name k by end
+OpenRow m s name a k reply end = ⊥
+
+-- ---- the end of a checkpoint's life
+
+-- a client that is live leaves
+abbrev pub LeaveRow : Machine → ℕ → StepReply → Option Outcome → Type 0
+LeaveRow m c words.Ok end = (is_live_client c m.cluster ≡ true) × (end ≡ Some (Done answers.Nothing))
+LeaveRow m c reply end = ⊥
+
+-- the checkpoint of the handle is there
+abbrev pub CloseRow : Machine → CallState → ℕ → StepReply → Option Outcome → Type 0
+CloseRow m s k words.Ok end = (s.kept.ckpt ≡ Some k) × IsSome (entry_of k m.cluster.entries) × (end ≡ Some (Done answers.Nothing))
+CloseRow m s k reply end = ⊥
+
+-- the checkpoint of the name is made
+pub record CanUnlink (k : ℕ) (e : Entry) : Type 0 where
+  pub identity : e.identity ≡ k
+  pub made : e.making ≡ None
+
+-- the name of a checkpoint goes
+abbrev pub UnlinkRow : Machine → List ℕ → ℕ → StepReply → Option Outcome → Type 0
+UnlinkRow m name k words.Ok end = IsSomeAnd (named name m.cluster.entries) (CanUnlink k) × (end ≡ Some (Done answers.Nothing))
+UnlinkRow m name k reply end = ⊥
+
+-- the checkpoint of the handle is there and has a name
+abbrev pub RetainRow : Machine → CallState → ℕ → StepReply → Option Outcome → Type 0
+RetainRow m s k words.Ok end = (s.kept.ckpt ≡ Some k) × IsSomeAnd (entry_of k m.cluster.entries) (λ e. IsSome e.name) × (end ≡ Some (Done answers.Nothing))
+RetainRow m s k reply end = ⊥
+
+-- ---- what the record and the client's tables decide
+
+-- a checkpoint has the name, or one is asked for
+abbrev pub MayExist : Option Entry → Option CreationAttributes → Type 0
+MayExist None a = IsSome a
+MayExist (Some e) a = Unit {0}
+
+-- the checkpoint of the name is made and has the attributes asked for; where none has the name, one is asked for
+abbrev pub IsAccepted : Option Entry → Option CreationAttributes → Type 0
+IsAccepted None a = IsSome a
+IsAccepted (Some e) a = (e.making ≡ None) × (accepts a e ≡ true)
+
+-- the client has as many handles as it may have
+pub record HasNoPlace (m : Machine) (s : CallState) (name : List ℕ) (a : Option CreationAttributes) (n : ℕ) : Type 0 where
+  pub accepted : IsAccepted (named name m.cluster.entries) a
+  pub full : room_of m (client_of s.call) ≡ false
+  pub limit : n ≡ handles_max
+
+-- a checkpoint is asked for where as many are there as may be
+pub record IsFull (m : Machine) (s : CallState) (name : List ℕ) (a : Option CreationAttributes) (n : ℕ) : Type 0 where
+  pub free : named name m.cluster.entries ≡ None
+  pub asked : IsSome a
+  pub room : room_of m (client_of s.call) ≡ true
+  pub full : checkpoints_max ≤ length m.cluster.entries
+  pub limit : n ≡ checkpoints_max
+
+-- the refusals of an open that the record and the tables decide, each where none before it applies: NOT_EXIST, TIMEOUT, EXIST, NO_RESOURCES; between TIMEOUT and EXIST comes TRY_AGAIN, which a step of the record answers
+abbrev pub OpenLook : Machine → CallState → List ℕ → Option CreationAttributes → AisError → Cause → Type 0
+OpenLook m s name a errors.NotExist Plain = (named name m.cluster.entries ≡ None) × (a ≡ None)
+OpenLook m s name a errors.Timeout (Deadline deadline moment) = MayExist (named name m.cluster.entries) a × (deadline_of s ≡ Some deadline) × (moment ≡ m.cluster.moment) × (is_reached deadline moment ≡ true)
+OpenLook m s name a errors.Exist Plain = IsInTime m s × IsSomeAnd (named name m.cluster.entries) (λ e. (e.making ≡ None) × (accepts a e ≡ false))
+OpenLook m s name a errors.NoResources (Count n) = IsInTime m s × (HasNoPlace m s name a n ⊎ IsFull m s name a n)
+OpenLook m s name a error cause = ⊥
+
+-- as many clients are live as may be
+abbrev pub EnterLook : Machine → AisError → Cause → Type 0
+EnterLook m errors.NoResources (Count n) = (clients_max ≤ length m.cluster.clients) × (n ≡ clients_max)
+EnterLook m error cause = ⊥
+
+-- the handle's entry is gone, or a read's checkpoint has no active
+abbrev pub GoneLook : Machine → Option ℕ → AisError → Cause → Type 0
+GoneLook m (Some k) errors.NotExist Plain = entry_of k m.cluster.entries ≡ None
+GoneLook m k error cause = ⊥
+
+-- the checkpoint is gone, or has no active
+abbrev pub HasNoActive : Option Entry → Type 0
+HasNoActive None = Unit {0}
+HasNoActive (Some e) = e.active ≡ None
+
+-- NOT_EXIST of a call to the active
+abbrev pub NoActiveLook : Machine → Option ℕ → AisError → Cause → Type 0
+NoActiveLook m (Some k) errors.NotExist Plain = HasNoActive (entry_of k m.cluster.entries)
+NoActiveLook m k error cause = ⊥
+
+-- there is no active, or the client has as many iterations as it may have
+abbrev pub IterLook : Machine → CallState → AisError → Cause → Type 0
+IterLook m s errors.NoResources (Count n) = IsSomeAnd s.kept.ckpt (λ k. IsSomeAnd (entry_of k m.cluster.entries) (λ e. IsSome e.active)) × ((rooms_of m (client_of s.call)).iterations ≡ false) × (n ≡ iterations_max)
+IterLook m s error cause = NoActiveLook m s.kept.ckpt error cause
+
+-- no checkpoint has the name, or another live call is making it
+abbrev pub UnlinkLook : Machine → CallState → List ℕ → AisError → Cause → Type 0
+UnlinkLook m s name errors.NotExist Plain = named name m.cluster.entries ≡ None
+UnlinkLook m s name errors.TryAgain (Holder by) = IsSomeAnd (named name m.cluster.entries) (λ e. e.making ≡ Some by) × (is_live m.cluster by ≡ true) × (same_call by s.call ≡ false)
+UnlinkLook m s name error cause = ⊥
+
+-- the handle's entry is gone, or unlinked
+abbrev pub RetainLook : Machine → Option ℕ → AisError → Cause → Type 0
+RetainLook m (Some k) errors.BadOperation Plain = IsSomeAnd (entry_of k m.cluster.entries) (λ e. e.name ≡ None)
+RetainLook m k error cause = GoneLook m k error cause
+
+-- what the record alone refuses, by the operation
+abbrev pub LookRefused : Machine → CallState → Op → AisError → Cause → Type 0
+LookRefused m s (ops.Client r version callbacks) error cause = EnterLook m error cause
+LookRefused m s (ops.Open place name flags timeout a) error cause = OpenLook m s name a error cause
+LookRefused m s (ops.Create place update) error cause = GoneLook m s.kept.ckpt error cause
+LookRefused m s (ops.Delete place update) error cause = GoneLook m s.kept.ckpt error cause
+LookRefused m s (ops.Expire place update) error cause = GoneLook m s.kept.ckpt error cause
+LookRefused m s (ops.Write place update) error cause = GoneLook m s.kept.ckpt error cause
+LookRefused m s (ops.Over place update) error cause = GoneLook m s.kept.ckpt error cause
+LookRefused m s (ops.Read place elements) error cause = NoActiveLook m s.kept.ckpt error cause
+LookRefused m s (ops.Status place) error cause = NoActiveLook m s.kept.ckpt error cause
+LookRefused m s (ops.Iter iteration place chosen time) error cause = IterLook m s error cause
+LookRefused m s (ops.Next iteration) error cause = NoActiveLook m s.kept.ckpt error cause
+LookRefused m s (ops.Unlink name) error cause = UnlinkLook m s name error cause
+LookRefused m s (ops.Retain place duration) error cause = RetainLook m s.kept.ckpt error cause
+LookRefused m s op error cause = ⊥
+
+-- nothing is left to do: a close of a checkpoint that is gone
+abbrev pub LookDone : Machine → CallState → Op → Answer → Type 0
+LookDone m s (ops.Close place) answers.Nothing = IsSomeAnd s.kept.ckpt (λ k. entry_of k m.cluster.entries ≡ None)
+LookDone m s op answer = ⊥
+
+-- what a call is making, where it is making something, is in the making by this very call
+abbrev pub IsOwnMaking : Machine → CallId → Option ℕ → Type 0
+IsOwnMaking m call None = Unit {0}
+IsOwnMaking m call (Some k) = IsMadeBy m call k
+
+-- a refusal undoes no making but the call's own
+abbrev pub LookRow : Machine → CallState → StepReply → Option Outcome → Type 0
+LookRow m s words.Refused (Some (Refused error cause)) = LookRefused m s s.op error cause × IsOwnMaking m s.call (making_in (driver_of s))
+LookRow m s words.Done (Some (Done answer)) = LookDone m s s.op answer
+LookRow m s reply end = ⊥
+
+-- ---- any step
+
+-- the label names a checkpoint and no node
+abbrev pub AtCkpt : Option ℕ → Option ℕ → (ℕ → Type 0) → Type 0
+AtCkpt (Some k) None P = P k
+AtCkpt k r P = ⊥
+
+-- the label names a checkpoint and a node
+abbrev pub AtNode : Option ℕ → Option ℕ → (ℕ → ℕ → Type 0) → Type 0
+AtNode (Some k) (Some r) P = P k r
+AtNode k r P = ⊥
+
+-- the label names neither a checkpoint nor a node
+abbrev pub AtNone : Option ℕ → Option ℕ → Type 0 → Type 0
+AtNone None None P = P
+AtNone k r P = ⊥
+
+-- the label names a node and no checkpoint
+abbrev pub AtNodeAlone : Option ℕ → Option ℕ → (ℕ → Type 0) → Type 0
+AtNodeAlone None (Some r) P = P r
+AtNodeAlone k r P = ⊥
+
+-- the operation is an open, of this name and with these attributes
+abbrev pub OfOpen : Op → (List ℕ → Option CreationAttributes → Type 0) → Type 0
+OfOpen (ops.Open place name flags timeout a) P = P name a
+OfOpen op P = ⊥
+
+-- the operation is a read of these elements
+abbrev pub OfRead : Op → (List ReadElement → Type 0) → Type 0
+OfRead (ops.Read place elements) P = P elements
+OfRead op P = ⊥
+
+-- the operation is one of the five updates
+abbrev pub OfUpdate : Op → Type 0 → Type 0
+OfUpdate (ops.Create place update) P = P
+OfUpdate (ops.Delete place update) P = P
+OfUpdate (ops.Expire place update) P = P
+OfUpdate (ops.Write place update) P = P
+OfUpdate (ops.Over place update) P = P
+OfUpdate op P = ⊥
+
+-- the operation is a status
+abbrev pub OfStatus : Op → Type 0 → Type 0
+OfStatus (ops.Status place) P = P
+OfStatus op P = ⊥
+
+-- the operation starts an iteration
+abbrev pub OfIter : Op → Type 0 → Type 0
+OfIter (ops.Iter iteration place chosen time) P = P
+OfIter op P = ⊥
+
+-- the operation goes on with an iteration
+abbrev pub OfNext : Op → Type 0 → Type 0
+OfNext (ops.Next iteration) P = P
+OfNext op P = ⊥
+
+-- it is a Finalize, a close, an unlink of this name, or a setting of a retention
+abbrev pub OfFinalize : Op → Type 0 → Type 0
+OfFinalize ops.Finalize P = P
+OfFinalize op P = ⊥
+
+-- the operation is a close
+abbrev pub OfClose : Op → Type 0 → Type 0
+OfClose (ops.Close place) P = P
+OfClose op P = ⊥
+
+-- the operation is an unlink of this name
+abbrev pub OfUnlink : Op → (List ℕ → Type 0) → Type 0
+OfUnlink (ops.Unlink name) P = P name
+OfUnlink op P = ⊥
+
+-- the operation sets a retention
+abbrev pub OfRetain : Op → Type 0 → Type 0
+OfRetain (ops.Retain place duration) P = P
+OfRetain op P = ⊥
+
+-- the operation is an Initialize on this node
+abbrev pub OfClient : Op → ℕ → Type 0 → Type 0
+OfClient (ops.Client r version callbacks) q P = (q ≡ r) × P
+OfClient op q P = ⊥
+
+-- THE ROWS: a verb, and when its step is allowed, with which reply, end and details
+abbrev pub Row : Machine → CallState → Verb → Told → Type 0
+Row m s verbs.Enter t = AtNodeAlone t.ckpt t.node (λ r. OfClient s.op r (EnterRow m (client_of s.call) r t.reply t.end)) × (t.details ≡ beside.Nothing)
+Row m s verbs.Open t = AtCkpt t.ckpt t.node (λ k. OfOpen s.op (λ name a. OpenRow m s name a k t.reply t.end)) × (t.details ≡ beside.Nothing)
+Row m s verbs.Create t = AtCkpt t.ckpt t.node (λ k. OfOpen s.op (λ name a. CreateRow m s name a k t.reply t.end)) × (t.details ≡ beside.Nothing)
+Row m s verbs.Reserve t = AtNode t.ckpt t.node (λ k r. ReserveRow m s k r t.reply t.end) × (t.details ≡ beside.Nothing)
+Row m s verbs.Finish t = AtCkpt t.ckpt t.node (λ k. FinishRow m s k t.reply t.end) × (t.details ≡ beside.Nothing)
+Row m s verbs.Undo t = AtCkpt t.ckpt t.node (λ k. UndoRow m s k t.reply t.end) × (t.details ≡ beside.Nothing)
+Row m s verbs.Stage t = AtNode t.ckpt t.node (λ k r. OfUpdate s.op (StageRow m s k r t.reply t.end)) × (t.details ≡ beside.Nothing)
+Row m s verbs.Commit t = AtNode t.ckpt t.node (λ k r. OfUpdate s.op (CommitRow m s k r t.reply t.end t.details))
+Row m s verbs.Read t = AtNode t.ckpt t.node (λ k r. OfRead s.op (λ elements. ReadRow m elements k r t))
+Row m s verbs.Status t = AtNode t.ckpt t.node (λ k r. OfStatus s.op (StatusRow m k r t.reply t.end t.details))
+Row m s verbs.Iter t = AtNode t.ckpt t.node (λ k r. OfIter s.op (IterRow m s k r t.reply t.end)) × (t.details ≡ beside.Nothing)
+Row m s verbs.Next t = AtNode t.ckpt t.node (λ k r. OfNext s.op (NextRow m s k r t))
+Row m s verbs.Leave t = AtNone t.ckpt t.node (OfFinalize s.op (LeaveRow m (client_of s.call) t.reply t.end)) × (t.details ≡ beside.Nothing)
+Row m s verbs.Close t = AtCkpt t.ckpt t.node (λ k. OfClose s.op (CloseRow m s k t.reply t.end)) × (t.details ≡ beside.Nothing)
+Row m s verbs.Unlink t = AtCkpt t.ckpt t.node (λ k. OfUnlink s.op (λ name. UnlinkRow m name k t.reply t.end)) × (t.details ≡ beside.Nothing)
+Row m s verbs.Retain t = AtCkpt t.ckpt t.node (λ k. OfRetain s.op (RetainRow m s k t.reply t.end)) × (t.details ≡ beside.Nothing)
+Row m s verbs.Look t = (t.ckpt ≡ None) × (t.node ≡ None) × LookRow m s t.reply t.end × (t.details ≡ beside.Nothing)
+Row m s verb t = ⊥
+
+-- what is asked of a replica is asked of the checkpoint that the call was begun on
+abbrev pub IsOnOwn : Verb → Option ℕ → Option ℕ → Type 0
+IsOnOwn verbs.Stage ckpt own = ckpt ≡ own
+IsOnOwn verbs.Commit ckpt own = ckpt ≡ own
+IsOnOwn verbs.Read ckpt own = ckpt ≡ own
+IsOnOwn verbs.Status ckpt own = ckpt ≡ own
+IsOnOwn verbs.Iter ckpt own = ckpt ≡ own
+IsOnOwn verbs.Next ckpt own = ckpt ≡ own
+IsOnOwn verb ckpt own = Unit {0}
+
+-- a step is of the call that its actor has in hand, and its row holds
+pub record IsAllowedStep (m : Machine) (call : CallId) (op : OpWord) (t : Told) : Type 0 where
+  pub state : CallState
+  pub in_hand : m.in_hand call.actor ≡ Some state
+  pub call_is : state.call ≡ call
+  pub word : word_of_op state.op ≡ op
+  pub own : IsOnOwn t.verb t.ckpt state.kept.ckpt
+  pub row : Row m state t.verb t
+
+-- from m the machine allows this label; a label whose row is not built is not allowed
+abbrev pub Allowed : Machine → Label → Type 0
+Allowed m (labels.Began call op end) = IsAllowedBegin m call op end
+Allowed m (labels.Stepped call op verb k r reply end details) = IsAllowedStep m call op (record { verb = verb; ckpt = k; node = r; reply = reply; end = end; details = details })
+Allowed m (labels.Word who word said) = IsAllowedWord m who word said
+Allowed m (labels.Nodes n) = (0 < n) × (n ≤ nodes_max) × ((r : ℕ) → is_up r m.cluster ≡ false)
+Allowed m (labels.Moved t) = IsMomentFrom m.cluster.moment t
+Allowed m label = ⊥

@@ -1,0 +1,57 @@
+-- What holds in every state of a run, of any number of nodes up to eight and of calls in hand; from it follow the guards, and all that the code relies on.
+use Rattle.std.specs.Prelude.{◌≡◌, ℕ, ◌<◌, ◌≤◌, [], Option, Some, None, IfSome, Contains, true}
+use Rattle.ckpt_types.specs.declared.identities.ActorName.{ActorName}
+use Rattle.ckpt_types.specs.declared.identities.CallId.{CallId}
+use Rattle.client_handles.specs.declared.handle_view.HandleView.{HandleView}
+use Rattle.cluster_record.specs.declared.calls.Making.{Making}
+use Rattle.cluster_record.specs.DueOpen.{OpenState}
+use Rattle.cluster_record.specs.declared.clients.LiveClient.{LiveClient}
+use Rattle.cluster_record.specs.declared.entries.Entry.{Entry}
+use Rattle.cluster_record.specs.RecordState.{RecordState, entry_of, first_nodes, no_nodes, is_up, client_key}
+use Rattle.ckpt_machine.specs.Machine.{Machine, CallState}
+use Rattle.ckpt_machine.specs.Steps.{driver_of}
+use Rattle.cluster_record.specs.Identities.{IdentitiesRise, AllUpTo}
+use Rattle.ckpt_types.specs.declared.identities.ActorName.TheVariants.{Client}
+use Rattle.cluster_record.specs.Places.{find_key}
+use Rattle.ckpt_machine.specs.Shape.{Shape, held, IsSpread}
+use Rattle.ckpt_machine.specs.Drivers as drivers
+use Rattle.ckpt_machine.specs.Entries.{AllStay, WasMade, IsMakingEntry}
+use Rattle.ckpt_machine.specs.InHand.{IsInHand}
+
+-- the call is in hand, an open that is making the checkpoint
+pub record IsMaker (m : Machine) (k : ℕ) (call : CallId) : Type 0 where
+  pub state : CallState
+  pub in_hand : held m call ≡ Some state
+  pub call_is : state.call ≡ call
+  pub driver : OpenState
+  pub driver_is : driver_of state ≡ drivers.Open driver
+  pub making : Making
+  pub making_is : driver.making ≡ Some making
+  pub ckpt : making.ckpt ≡ k
+
+-- a checkpoint is made and has its replicas, or is in the making by this call
+abbrev pub IsGoodIn : Machine → ℕ → Shape → Entry → Option CallId → Type 0
+IsGoodIn m k sh e None = IsSpread m k sh e
+IsGoodIn m k sh e (Some call) = IsMakingEntry e × IsMaker m k call
+
+-- one that is live entered by a call that was begun, on a node that is up
+abbrev pub IsGoodClient : (ActorName → ℕ) → RecordState → ℕ → LiveClient → Type 0
+IsGoodClient next R c live = (live.initialize < next (Client c)) × (is_up live.node R ≡ true)
+
+-- what holds in every state of a run, where the checkpoints have these shapes
+pub record InvariantIn (shapes : ℕ → Shape) (m : Machine) : Type 0 where
+  -- the nodes that are up came up at once, with the first incarnation
+  pub up : (n : ℕ) × (m.cluster.up ≡ first_nodes n)
+  pub none_live : m.cluster.up ≡ no_nodes → m.cluster.clients ≡ []
+  pub rises : IdentitiesRise m.cluster.entries
+  pub up_to : AllUpTo m.cluster.last_identity m.cluster.entries
+  pub swept : AllStay m.cluster.moment m.cluster.entries
+  pub entries : (k : ℕ) (e : Entry) → entry_of k m.cluster.entries ≡ Some e → IsGoodIn m k (shapes k) e e.making
+  pub handles : (c : ℕ) (h : HandleView) → Contains (m.handles c) h → (1 ≤ h.handle) × WasMade m.cluster h.id
+  pub clients : (c : ℕ) → IfSome (find_key client_key c m.cluster.clients) (IsGoodClient m.next m.cluster c)
+  pub hands : (a : ActorName) (s : CallState) → m.in_hand a ≡ Some s → IsInHand m shapes a s
+
+-- what holds in every state of a run
+pub record Invariant (m : Machine) : Type 0 where
+  pub shapes : ℕ → Shape
+  pub holds : InvariantIn shapes m

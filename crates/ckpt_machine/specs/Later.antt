@@ -1,0 +1,42 @@
+-- A step of the record that takes entries away, and changes in the others nothing but names, references, retentions and last closes.
+use Rattle.std.specs.Prelude.{◌≡◌, ℕ, [], length, Option, Some, IsSome, IfSome, true}
+use Rattle.ckpt_types.specs.declared.identities.ActorName.{ActorName}
+use Rattle.ckpt_types.specs.declared.identities.CallId.{CallId}
+use Rattle.cluster_record.specs.declared.entries.Entry.{Entry}
+use Rattle.cluster_record.specs.Calls.{client_of}
+use Rattle.cluster_record.specs.Identities.{IdentitiesRise, AllUpTo}
+use Rattle.cluster_record.specs.Places.{find_key}
+use Rattle.cluster_record.specs.RecordState.{RecordState, entry_of, client_key, no_nodes, is_live, is_live_client}
+use Rattle.ckpt_machine.specs.Entries.{AllStay}
+use Rattle.ckpt_machine.specs.Invariant.{IsMaker, IsGoodClient}
+use Rattle.ckpt_machine.specs.Machine.{Machine, CallState}
+use Rattle.ckpt_machine.specs.Shape.{Shape, IsOwner}
+
+-- the same as far as the invariant looks
+pub record IsLaterEntry (e f : Entry) : Type 0 where
+  pub making : f.making ≡ e.making
+  pub complete : f.complete ≡ e.complete
+  pub active : f.active ≡ e.active
+  pub attributes : f.attributes ≡ e.attributes
+  pub generation : f.generation ≡ e.generation
+  pub clients : length f.references ≡ length e.references
+
+-- R comes after the record of m, where these calls are left in hand
+pub record IsLaterRecord (m : Machine) (R : RecordState) (hands : ActorName → Option CallState) : Type 0 where
+  pub up : R.up ≡ m.cluster.up
+  pub last : R.last_identity ≡ m.cluster.last_identity
+  pub rises : IdentitiesRise R.entries
+  pub up_to : AllUpTo R.last_identity R.entries
+  pub swept : AllStay R.moment R.entries
+  pub later : (k : ℕ) (f : Entry) → entry_of k R.entries ≡ Some f → (e : Entry) × (entry_of k m.cluster.entries ≡ Some e) × IsLaterEntry e f
+  pub none_live : m.cluster.up ≡ no_nodes → R.clients ≡ []
+  pub clients : (c : ℕ) → IfSome (find_key client_key c R.clients) (IsGoodClient m.next R c)
+  -- the calls that are left
+  pub was_held : (a : ActorName) (z : CallState) → hands a ≡ Some z → m.in_hand a ≡ Some z
+  -- live as they were, and with what they are making
+  pub live : (a : ActorName) (z : CallState) → hands a ≡ Some z → is_live m.cluster z.call ≡ true → is_live R z.call ≡ true
+  pub lives : (a : ActorName) (z : CallState) → hands a ≡ Some z → is_live_client (client_of z.call) R ≡ is_live_client (client_of z.call) m.cluster
+  pub makes : (a : ActorName) (z : CallState) (k : ℕ) (e : Entry) → hands a ≡ Some z → entry_of k m.cluster.entries ≡ Some e → e.making ≡ Some z.call → IsSome (entry_of k R.entries)
+  -- those who own slots, or are making what is left, are left
+  pub owners : (k : ℕ) (sh : Shape) (call : CallId) → IsOwner m k sh call → hands call.actor ≡ m.in_hand call.actor
+  pub makers : (k : ℕ) (call : CallId) → IsSome (entry_of k R.entries) → IsMaker m k call → hands call.actor ≡ m.in_hand call.actor

@@ -1,0 +1,57 @@
+-- What the law of the machine says.
+use Rattle.std.specs.Prelude.{◌≡◌, ℕ, ◌+◌, ◌<◌, List, length, Option, Some, None}
+use Rattle.ckpt_types.specs.declared.identities.CallId.{CallId}
+use Rattle.node_msgs.specs.declared.steps.StepReply.{StepReply}
+use Rattle.node_msgs.specs.declared.steps.Verb.{Verb}
+use Rattle.run_labels.specs.declared.details.Details.{Details}
+use Rattle.run_labels.specs.declared.labels.Label.{Label}
+use Rattle.run_labels.specs.declared.labels.Label.TheVariants as labels
+use Rattle.run_labels.specs.declared.words.OpWord.{OpWord}
+use Rattle.cluster_record.specs.StepDone.{done_of}
+use Rattle.ckpt_machine.specs.AllOrNone.{AllOrNone}
+use Rattle.ckpt_machine.specs.Invariant.{Invariant}
+use Rattle.ckpt_machine.specs.Driving.{driver_taken}
+use Rattle.ckpt_machine.specs.Facts.{Facts}
+use Rattle.ckpt_machine.specs.Guards.{Allowed}
+use Rattle.ckpt_machine.specs.Left.{steps_left}
+use Rattle.ckpt_machine.specs.Machine.{Machine, CallState, empty_cluster}
+use Rattle.ckpt_machine.specs.Refusals.{IsRefusal, LeavesBy, RefusalLeaves, unmade_swept}
+use Rattle.ckpt_machine.specs.Runs.{last, IsRun, Counts}
+use Rattle.ckpt_machine.specs.Steps.{IsDue, after, driver_of}
+
+-- the empty cluster has the invariant, and counts nothing
+abbrev pub Starts : Type 0
+Starts = Invariant empty_cluster × Counts empty_cluster 0
+
+-- what is due is allowed, and leaves the invariant
+abbrev pub IsLawful : Type 0
+IsLawful = (m : Machine) (l : Label) → Invariant m → IsDue m l → Allowed m l × Invariant (after m l)
+
+-- so after every run the invariant holds, and no more is counted than the run has labels
+abbrev pub EachRunHas : Type 0
+EachRunHas = (log : List Label) → IsRun log → Invariant (last log) × Counts (last log) (length log)
+
+-- the invariant gives what the code relies on
+abbrev pub GivesFacts : Type 0
+GivesFacts = (m : Machine) → Invariant m → Facts m
+
+-- each label counts up by at most one
+abbrev pub CountsUp : Type 0
+CountsUp = (m : Machine) (l : Label) (n : ℕ) → Invariant m → IsDue m l → Counts m n → Counts (after m l) (n + 1)
+
+-- a due step that does not end its call brings it nearer to its end
+abbrev pub BringsNearer : Type 0
+BringsNearer = (m : Machine) (call : CallId) (op : OpWord) (verb : Verb) (k r : Option ℕ) (reply : StepReply) (details : Details) (s : CallState) → Invariant m → IsDue m (labels.Stepped call op verb k r reply None details) → m.in_hand call.actor ≡ Some s
+    → let R = (after m (labels.Stepped call op verb k r reply None details)).cluster in steps_left R (driver_taken (done_of R verb k r reply) (driver_of s)) < steps_left m.cluster (driver_of s)
+
+-- what is allowed and ends a call with a refusal leaves all as it was, but that its call has ended, and what it was making is undone
+abbrev pub RefusalsLeave : Type 0
+RefusalsLeave = (m : Machine) (l : Label) → Allowed m l → IsRefusal l → LeavesBy unmade_swept l m (after m l)
+
+-- in a run it does so, where nothing but the making is undone, and the call has nothing then: no slot, no marks, no making and no hold, and no replica has an effect of it
+abbrev pub RefusedHasNothing : Type 0
+RefusedHasNothing = (log longer : List Label) → IsRun longer → RefusalLeaves log longer
+
+-- wherever the invariant holds, an update is on all complete replicas of its checkpoint, or on none
+abbrev pub IsOnAllOrNone : Type 0
+IsOnAllOrNone = (m : Machine) → Invariant m → AllOrNone m

@@ -1,0 +1,42 @@
+-- How many steps are left of a call in hand, at most.
+use Rattle.std.specs.Prelude.{ℕ, ◌+◌, ◌*◌, List, [], ◌∷◌, Option, Some, None, if◌then◌else◌}
+use Rattle.ckpt_machine.specs.Drivers.{Driver}
+use Rattle.ckpt_machine.specs.Drivers as drivers
+use Rattle.cluster_record.specs.declared.calls.Making.{Making}
+use Rattle.cluster_record.specs.declared.calls.UpdatePhase.{UpdatePhase}
+use Rattle.cluster_record.specs.declared.calls.UpdatePhase.TheVariants.{Staging, Committing}
+use Rattle.cluster_record.specs.RecordState.{RecordState, entry_of, complete_of}
+use Rattle.cluster_record.specs.StepDone.{lacks, has}
+
+-- how many of the nodes the call lacks, and has
+abbrev pub lacking : List ℕ → List ℕ → ℕ
+lacking [] own = 0
+lacking (c ∷ cs) [] = 0
+lacking (c ∷ cs) (o ∷ os) = (if lacks c o then 1 else 0) + lacking cs os
+
+-- how many of the nodes the call has
+abbrev pub having : List ℕ → List ℕ → ℕ
+having [] own = 0
+having (c ∷ cs) [] = 0
+having (c ∷ cs) (o ∷ os) = (if has c o then 1 else 0) + having cs os
+
+-- a making creates, reserves on each node and finishes; ten steps are more than any takes
+abbrev pub making_left : RecordState → Option Making → ℕ
+making_left R None = 10
+making_left R (Some m) = if m.refused then 1 else lacking R.up m.reserved + 1
+
+-- an update stages at each node that it lacks and then commits at all, or commits at those that it has; one step is left where it has none, a look
+abbrev pub update_left : List ℕ → List ℕ → UpdatePhase → ℕ
+update_left complete owned Staging = 2 * lacking complete owned + having complete owned + 1
+update_left complete owned Committing = having complete owned + 1
+
+-- at most so many steps are left of a call
+abbrev pub steps_left : RecordState → Driver → ℕ
+steps_left R (drivers.Enter r) = 1
+steps_left R (drivers.Open o) = making_left R o.making
+steps_left R (drivers.Update u) = update_left (complete_of (entry_of u.ckpt R.entries)) u.owned u.phase
+steps_left R (drivers.Active a) = 1
+steps_left R drivers.Leave = 1
+steps_left R (drivers.Close k) = 1
+steps_left R (drivers.Unlink name) = 1
+steps_left R (drivers.Retain k duration) = 1

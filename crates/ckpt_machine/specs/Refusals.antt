@@ -1,0 +1,90 @@
+-- What a refused call leaves as it was.
+use Rattle.std.specs.Prelude.{◌≡◌, ◌⊎◌, ℕ, ◌+◌, List, [], ◌∷◌, ◌++◌, Option, Some, None, IsSomeAnd, false}
+use Rattle.ckpt_types.specs.declared.answers.Outcome.{Outcome}
+use Rattle.ckpt_types.specs.declared.answers.Outcome.TheVariants.{Refused, NoMemory}
+use Rattle.ckpt_types.specs.declared.identities.ActorName.{ActorName}
+use Rattle.ckpt_types.specs.declared.identities.CallId.{CallId}
+use Rattle.node_msgs.specs.declared.steps.Verb.TheVariants as verbs
+use Rattle.run_labels.specs.declared.labels.Label.{Label}
+use Rattle.run_labels.specs.declared.labels.Label.TheVariants as labels
+use Rattle.ckpt_machine.specs.Machine.{Machine}
+use Rattle.cluster_record.specs.Calls.{same_actor, put_actor}
+use Rattle.cluster_record.specs.Places.{put}
+use Rattle.cluster_record.specs.RecordState.{undone}
+use Rattle.ckpt_machine.specs.Owned.{HasNothing}
+use Rattle.ckpt_machine.specs.Steps.{without_making}
+use Rattle.ckpt_machine.specs.Guards.{IsMadeBy}
+use Rattle.ckpt_machine.specs.Runs.{last}
+
+-- a call ends so that was refused, or was refused its own memory
+abbrev pub IsRefused : Option Outcome → Type 0
+IsRefused (Some (Refused error cause)) = Unit {0}
+IsRefused (Some NoMemory) = Unit {0}
+IsRefused end = ⊥
+
+-- the label ends a call with a refusal, or by the want of memory of its own, where it begins or at a step
+abbrev pub IsRefusal : Label → Type 0
+IsRefusal (labels.Began call op end) = IsRefused end
+IsRefusal (labels.Stepped call op verb k r reply end details) = IsRefused end
+IsRefusal label = ⊥
+
+-- the call of a label
+abbrev pub call_of : Label → Option CallId
+call_of (labels.Began call op end) = Some call
+call_of (labels.Stepped call op verb k r reply end details) = Some call
+call_of label = None
+
+-- m' is as n, but that this actor has no call in hand
+pub record LeavesAll (actor : ActorName) (n m' : Machine) : Type 0 where
+  -- the record with its names
+  pub cluster : m'.cluster ≡ n.cluster
+  -- what nodes have of checkpoints
+  pub replicas : (k r : ℕ) → m'.replicas k r ≡ n.replicas k r
+  pub reserved : (k r : ℕ) → m'.reserved k r ≡ n.reserved k r
+  pub snapshots : (k : ℕ) → m'.snapshots k ≡ n.snapshots k
+  -- the tables of every client
+  pub handles : (c : ℕ) → m'.handles c ≡ n.handles c
+  pub places : (c p : ℕ) → m'.places c p ≡ n.places c p
+  pub last_handles : (c : ℕ) → m'.last_handles c ≡ n.last_handles c
+  pub iterations : (c : ℕ) → m'.iterations c ≡ n.iterations c
+  pub pending : (c : ℕ) → m'.pending c ≡ n.pending c
+  -- the calls
+  pub next : (a : ActorName) → m'.next a ≡ n.next a
+  pub others : (a : ActorName) → same_actor a actor ≡ false → m'.in_hand a ≡ n.in_hand a
+  pub operations : (d : CallId) → m'.operations d ≡ n.operations d
+  pub ended : m'.in_hand actor ≡ None
+
+-- a checkpoint that was in the making is undone: its entry is gone with its name, and what nodes reserved for it
+abbrev pub unmade : ℕ → Machine → Machine
+unmade k m = record m { cluster = undone k m.cluster; reserved = put m.reserved k (λ r. None) }
+
+-- the same as a step of the record: what is over is swept away then
+abbrev pub unmade_swept : ℕ → Machine → Machine
+unmade_swept k m = without_making m (Some k)
+
+-- all is as it was, but that the checkpoint that this call was making is undone
+pub record UndoesOwn (undo : ℕ → Machine → Machine) (call : CallId) (m m' : Machine) : Type 0 where
+  pub ckpt : ℕ
+  pub own : IsMadeBy m call ckpt
+  pub rest : LeavesAll call.actor (undo ckpt m) m'
+
+-- the number of this call is taken
+abbrev pub number_taken : CallId → Machine → Machine
+number_taken call m = record m { next = put_actor m.next call.actor (m.next call.actor + 1) }
+
+-- a refusal leaves all as it was, but that its call has ended, and its number is taken; one that the record alone decides may undo the making of its own call; and where a node had no memory for a making, it is undone
+abbrev pub LeavesBy : (ℕ → Machine → Machine) → Label → Machine → Machine → Type 0
+LeavesBy undo (labels.Began call op end) m m' = LeavesAll call.actor (number_taken call m) m'
+LeavesBy undo (labels.Stepped call op verbs.Look k r reply end details) m m' = LeavesAll call.actor m m' ⊎ UndoesOwn undo call m m'
+LeavesBy undo (labels.Stepped call op verbs.Undo k r reply end details) m m' = UndoesOwn undo call m m'
+LeavesBy undo (labels.Stepped call op verb k r reply end details) m m' = LeavesAll call.actor m m'
+LeavesBy undo label m m' = ⊥
+
+-- A call that ends with a refusal owns no slot, no marks, no making and no hold after it, and no replica has an effect of it; and the label that refuses it leaves all else as it was.
+pub record Refuses (l : Label) (m m' : Machine) : Type 0 where
+  pub leaves : LeavesBy unmade l m m'
+  pub nothing : IsSomeAnd (call_of l) (HasNothing m')
+
+-- where the last label is a refusal, it is so by the states before and after it
+abbrev pub RefusalLeaves : List Label → List Label → Type 0
+RefusalLeaves log longer = (l : Label) → longer ≡ log ++ l ∷ [] → IsRefusal l → Refuses l (last log) (last longer)

@@ -1,0 +1,108 @@
+-- What stands behind the replicas of a checkpoint with updates on all replicas: one equation for each node, with a witness.
+use Rattle.std.specs.Prelude.{◌≡◌, ℕ, ◌<◌, List, [], ◌∷◌, ◌++◌, length, Option, Some, None, IsSome, IsSomeAnd, Ok, Bool, true, false, ◌==◌, if◌then◌else◌, ℤ, slice_index}
+use Rattle.ckpt_types.specs.declared.identities.CallId.{CallId}
+use Rattle.ckpt_types.specs.declared.update.Update.{Update}
+use Rattle.ckpt_types.specs.Sections.{Section}
+use Rattle.ckpt_types.specs.Updates.{outcome}
+use Rattle.ckpt_types.specs.Limits.{nodes_max}
+use Rattle.cluster_record.specs.declared.entries.Entry.{Entry}
+use Rattle.cluster_record.specs.declared.calls.UpdatePhase.{UpdatePhase}
+use Rattle.cluster_record.specs.declared.calls.UpdatePhase.TheVariants.{Staging, Committing}
+use Rattle.cluster_record.specs.Calls.{same_call}
+use Rattle.cluster_record.specs.DueUpdate.{UpdateState}
+use Rattle.cluster_record.specs.RecordState.{first_complete}
+use Rattle.ckpt_machine.specs.Drivers as drivers
+use Rattle.ckpt_machine.specs.Serving.{update_of}
+use Rattle.ckpt_machine.specs.Machine.{Machine, Effect, Applied, Staged, ReplicaState, CallState}
+use Rattle.ckpt_machine.specs.Steps.{driver_of}
+
+-- the slots by node, each with its owner; the update that is staged; the contents under it, and those after it, which the replicas without a slot have where it is done
+pub record Shape : Type 0 where
+  pub owners : ℕ → Option CallId
+  pub origin : CallId
+  pub update : Update
+  pub moment : ℤ
+  pub sections : List Section
+  pub effects : List Effect
+  pub outcome : List Section
+  pub done : Bool
+
+-- ---- the replica of a node, by the owner of its slot
+
+-- its slot: none, or the staged update with this owner
+abbrev pub slot_by : Shape → Option CallId → Option Staged
+slot_by sh None = None
+slot_by sh (Some owner) = Some (record { owner = owner; origin = sh.origin; update = sh.update; moment = sh.moment })
+
+-- its sections: those under the update, or where it has no slot and the update is done, those after it
+abbrev pub sections_by : Shape → Option CallId → List Section
+sections_by sh None = if sh.done then sh.outcome else sh.sections
+sections_by sh (Some owner) = sh.sections
+
+-- its effects likewise
+abbrev pub effects_by : Shape → Option CallId → List Effect
+effects_by sh None = if sh.done then sh.effects ++ Applied sh.origin sh.update sh.moment ∷ [] else sh.effects
+effects_by sh (Some owner) = sh.effects
+
+-- a replica is as the shape says by the owner of its slot; its generation and its marks are its own
+pub record IsShaped (sh : Shape) (owner : Option CallId) (x : ReplicaState) : Type 0 where
+  pub slot : x.slot ≡ slot_by sh owner
+  pub sections : x.sections ≡ sections_by sh owner
+  pub effects : x.effects ≡ effects_by sh owner
+
+-- the owner of a slot, where it has one, is this call
+abbrev pub is_owner : CallId → Option CallId → Bool
+is_owner call None = false
+is_owner call (Some owner) = same_call owner call
+
+-- the checkpoint is complete on this node
+abbrev pub IsCompleteOn : Entry → ℕ → Type 0
+IsCompleteOn e r = (slice_index e.complete r == 0) ≡ false
+
+-- ---- the call that owns a slot
+
+-- it stages its own update, which no replica has
+pub record IsStaging (sh : Shape) (s : CallState) (u : UpdateState) : Type 0 where
+  pub origin : sh.origin ≡ s.call
+  pub update : sh.update ≡ update_of s.op
+  pub moment : sh.moment ≡ u.moment
+  pub undone : sh.done ≡ false
+
+-- it commits its own update, and the replicas without a slot have it
+pub record IsCommitting (sh : Shape) (s : CallState) : Type 0 where
+  pub origin : sh.origin ≡ s.call
+  pub update : sh.update ≡ update_of s.op
+  pub is_done : sh.done ≡ true
+
+-- it does what its phase says
+abbrev pub PhaseFits : Shape → CallState → UpdateState → UpdatePhase → Type 0
+PhaseFits sh s u Staging = IsStaging sh s u
+PhaseFits sh s u Committing = IsCommitting sh s
+
+-- what the actor of a call has in hand
+abbrev pub held : Machine → CallId → Option CallState
+held m call = m.in_hand call.actor
+
+-- the call is in hand, an update of this checkpoint
+pub record IsOwner (m : Machine) (k : ℕ) (sh : Shape) (call : CallId) : Type 0 where
+  pub state : CallState
+  pub in_hand : held m call ≡ Some state
+  pub call_is : state.call ≡ call
+  pub driver : UpdateState
+  pub driver_is : driver_of state ≡ drivers.Update driver
+  pub ckpt : driver.ckpt ≡ k
+  pub phase : PhaseFits sh state driver driver.phase
+
+-- ---- the whole
+
+-- a checkpoint that is made has its replicas on its complete nodes, of which the lowest is the active; the slots are on the lowest of them, each of a call in hand
+pub record IsSpread (m : Machine) (k : ℕ) (sh : Shape) (e : Entry) : Type 0 where
+  pub nodes : length e.complete ≡ nodes_max
+  pub some : IsSome (first_complete 0 e.complete)
+  pub active : e.active ≡ first_complete 0 e.complete
+  pub replicas : (r : ℕ) → IsCompleteOn e r → IsSomeAnd (m.replicas k r) (IsShaped sh (sh.owners r))
+  -- what is staged has this outcome
+  pub fits : (r : ℕ) (call : CallId) → sh.owners r ≡ Some call → outcome e.attributes sh.update sh.moment sh.sections ≡ Ok sh.outcome
+  pub complete : (r : ℕ) (call : CallId) → sh.owners r ≡ Some call → IsCompleteOn e r
+  pub lowest : (q r : ℕ) (call : CallId) → q < r → IsCompleteOn e q → sh.owners r ≡ Some call → IsSome (sh.owners q)
+  pub owned : (r : ℕ) (call : CallId) → sh.owners r ≡ Some call → IsOwner m k sh call

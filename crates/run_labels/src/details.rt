@@ -1,0 +1,14 @@
+use ckpt_types::{Apart, CheckpointDescriptor, Pieces, SectionDescriptor};
+
+/// What a call is told beside its outcome: the details of its answer.
+#[derive(Debug, Drop)]
+pub enum Details {
+    /// Nothing is told beside it.
+    Nothing,
+    /// The bytes of a read in the order of its elements, or the identifier of a section that was made.
+    Pieces(Pieces),
+    /// The next section of an iteration.
+    Section(Apart<SectionDescriptor>),
+    /// The status of a checkpoint.
+    Status(Apart<CheckpointDescriptor>),
+}
