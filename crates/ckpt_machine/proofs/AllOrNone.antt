@@ -8,6 +8,10 @@ use Rattle.ckpt_machine.specs.Machine.{Machine, Applied, ReplicaState}
 use Rattle.ckpt_machine.specs.Shape.{Shape, IsCompleteOn, IsShaped, IsSpread, sections_by, effects_by}
 use Rattle.ckpt_machine.specs.Invariant.{IsGoodIn, Invariant}
 use Rattle.ckpt_machine.specs.AllOrNone.{OneUpdate, IsOfOne, AreEqual, AreOfOne, AllOrNone}
+use Rattle.ckpt_machine.specs.Laws.{IsOnAllOrNone}
+use Rattle.ckpt_machine.specs.Runs.{last}
+use Rattle.ckpt_machine.proofs.RunLaws.{run_has}
+use Rattle.ckpt_machine.proofs.Runs.{run_front}
 use Rattle.ckpt_machine.proofs.NodeLists.{FirstComplete, first_complete-is, trichotomy}
 use Rattle.ckpt_machine.proofs.Stage.{IfSome-more, on_complete}
 
@@ -50,5 +54,10 @@ module _ (m : Machine) (k : ℕ) (z : Shape) (e : Entry) (found : entry_of k m.c
         each = on_complete m k e found (λ y. IsOfOne one z.done y y.slot) (λ q there. IfSome-more (m.replicas k q) (IsShaped z (z.owners q)) _ (λ y shaped. of_one z.done refl (z.owners q) y shaped) (spread.replicas q there));
       })
 
-pub all_or_none : (m : Machine) → Invariant m → AllOrNone m
+-- wherever the invariant holds
+all_or_none : (m : Machine) → Invariant m → AllOrNone m
 all_or_none m inv k e found none = together m k (inv.shapes k) e found (subst (λ maker. IsGoodIn m k (inv.shapes k) e maker) none (inv.holds.entries k e found))
+
+-- so after each front of a run
+pub on_all_or_none : IsOnAllOrNone
+on_all_or_none log run front back is = all_or_none (last front) (run_has front (run_front log front back is run)).0

@@ -10,6 +10,7 @@ use Rattle.ckpt_types.specs.declared.answers.Outcome.TheVariants.{Done, Refused,
 use Rattle.ckpt_types.specs.declared.identities.CallId.{CallId}
 use Rattle.ckpt_types.specs.declared.identities.Who.{Who}
 use Rattle.ckpt_types.specs.declared.identities.Who.TheVariants.{Actor}
+use Rattle.ckpt_types.specs.declared.identities.Who.TheVariants as whos
 use Rattle.ckpt_types.specs.declared.open_flags.OpenFlags.{OpenFlags}
 use Rattle.ckpt_types.specs.declared.operation.Op.{Op}
 use Rattle.ckpt_types.specs.declared.operation.Op.TheVariants as ops
@@ -151,6 +152,8 @@ word_row m (Actor a) (linewords.Op opwords.Client) Live is = (tt, is.0, is.1)
 word_row m (Actor a) (linewords.Op opwords.Client) Down is = (tt, is.0, is.1, record { node = is.2.0; below = is.2.1; down = is.2.2 })
 word_row m (Actor a) linewords.Step Idle is = (tt, is)
 word_row m (Actor a) linewords.Finish Idle is = (tt, is)
+word_row m (whos.Call call) linewords.Step Idle is = (tt, is)
+word_row m (whos.Call call) linewords.Finish Idle is = (tt, is)
 word_row m who line said is = absurd is
 
 -- and one that is allowed is due
@@ -164,4 +167,7 @@ word_due m (Actor a) line Busy row = absurd row.0
 word_due m (Actor a) line Live row = absurd row.0
 word_due m (Actor a) line Down row = absurd row.0
 word_due m (Actor a) line Idle row = absurd row.0
-word_due m who line said row = absurd row
+word_due m (whos.Call call) linewords.Step Idle row = row.1
+word_due m (whos.Call call) linewords.Finish Idle row = row.1
+word_due m (whos.Call call) (linewords.Op op) Idle row = absurd row.0
+word_due m (whos.Call call) line said row = absurd row

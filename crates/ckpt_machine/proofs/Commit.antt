@@ -23,7 +23,8 @@ use Rattle.ckpt_machine.specs.Serving.{update_of, update_answer, told_id, or_sam
 use Rattle.ckpt_machine.specs.Driving.{driver_taken}
 use Rattle.ckpt_machine.specs.Machine.{Machine, Applied, Staged, ReplicaState, CallState}
 use Rattle.ckpt_machine.specs.Steps.{driver_of, stepped, ended_details, committed_slot, with_committed}
-use Rattle.ckpt_machine.specs.Guards.{HasSlotOrEffect, CommitOk, CommitRow, complete_replicas, replicas_from, owns_slot, owned_elsewhere, ends_update}
+use Rattle.ckpt_machine.specs.Complete.{complete_replicas, replicas_from}
+use Rattle.ckpt_machine.specs.Guards.{HasSlotOrEffect, CommitOk, CommitRow, owns_slot, owned_elsewhere, ends_update}
 use Rattle.ckpt_machine.specs.Shape.{Shape, IsCompleteOn, IsShaped, is_owner, IsOwner, IsSpread, slot_by}
 use Rattle.ckpt_machine.specs.InHand.{is_enter, IsInPlace, IsUpdateIn, IsInHand, OwnsIn, HasSome}
 use Rattle.ckpt_machine.specs.Invariant.{InvariantIn, Invariant}

@@ -414,4 +414,5 @@ counts_up m (labels.Stepped call op verb k r reply end details) n inv is few =
 counts_up m (labels.Word who word said) n inv is few = more m n few
 counts_up m (labels.Nodes nodes) n inv is few = let c = more m n few in record { next = c.next; last_handles = c.last_handles; last_iterations = c.last_iterations; effects = c.effects; identity = c.identity; references = c.references }
 counts_up m (labels.Moved t) n inv is few = on_record m n few (moved t m.cluster) (record { rises = IdentitiesRise-filter (stays t) m.cluster.entries inv.holds.rises; last = omega arith; few = λ n few k e c found. let a = Few-filter n (stays t) m.cluster.entries inv.holds.rises few k e c found in omega (arith, a) })
+counts_up m (labels.Shown k replicas) n inv is few = more m n few
 counts_up m l n inv is few = absurd is

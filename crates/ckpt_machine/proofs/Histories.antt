@@ -301,6 +301,7 @@ keeps_history m (labels.Nodes n) inv history allowed is = record {
   commits = λ k r s held has. history.commits k r s held (record { replica = has.replica; there = has.there; effect = has.effect });
 }
 keeps_history m (labels.Moved t) inv history allowed is = moved_history m history t
+keeps_history m (labels.Shown k replicas) inv history allowed is = history
 keeps_history m l inv history allowed is = absurd is
 
 -- so it holds in a run, with the invariant

@@ -50,4 +50,5 @@ lawful m (labels.Stepped call op verb k r reply end details) inv step =
 lawful m (labels.Word who word said) inv is = (word_row m who word said is, inv)
 lawful m (labels.Nodes n) inv is = ((is.0, is.1, λ r. is_up-none r m.cluster is.2), record { shapes = inv.shapes; holds = nodes_keep m inv.shapes inv.holds n is.2 })
 lawful m (labels.Moved t) inv is = (is, moved_keeps m t inv)
+lawful m (labels.Shown k replicas) inv is = (is, inv)
 lawful m l inv is = absurd is

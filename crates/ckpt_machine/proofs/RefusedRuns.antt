@@ -1,6 +1,6 @@
 -- A call that ends with a refusal has nothing after it, and leaves all else as it was.
 use Rattle.run_labels.specs.declared.details.Details.{Details}
-use Rattle.std.proofs.Common.{◌≡◌, ℕ, inl, inr, List, [], ◌∷◌, ◌++◌, Option, Some, None, true, false, cond, not, ◌==◌, refl, sym, ap, subst, ◌∙◌, arith}
+use Rattle.std.proofs.Common.{◌≡◌, ℕ, inl, inr, List, [], ◌∷◌, ◌++◌, Option, Some, None, true, false, cond, not, ◌==◌, refl, sym, ap, subst, ◌∙◌, append_assoc, arith}
 use Rattle.std.specs.Prelude.{IsSomeAnd, slice_index}
 use Rattle.std.proofs.lemmas.Option.{same_Some}
 use Rattle.ckpt_types.specs.declared.answers.Outcome.{Outcome}
@@ -18,11 +18,12 @@ use Rattle.cluster_record.specs.Places.{put}
 use Rattle.std.proofs.lemmas.Bool.{eqb-true}
 use Rattle.cluster_record.proofs.KeptLaws.{All-find_key}
 use Rattle.ckpt_machine.specs.Beginning.{ended_place}
-use Rattle.ckpt_machine.specs.Guards.{IsMadeBy, CommitOk, CommitRow, Row, Allowed, ends_update, complete_replicas}
+use Rattle.ckpt_machine.specs.Complete.{complete_replicas}
+use Rattle.ckpt_machine.specs.Guards.{IsMadeBy, CommitOk, CommitRow, Row, Allowed, ends_update}
 use Rattle.ckpt_machine.specs.Invariant.{IsGoodIn, Invariant}
 use Rattle.ckpt_machine.specs.Machine.{Machine, ReplicaState, CallState}
 use Rattle.ckpt_machine.specs.Owned.{OwnsNothing, HasNoEffect, HasNothing}
-use Rattle.ckpt_machine.specs.Refusals.{IsRefused, IsRefusal, LeavesAll, UndoesOwn, LeavesBy, unmade, unmade_swept, Refuses, RefusalLeaves, call_of}
+use Rattle.ckpt_machine.specs.Refusals.{IsRefused, IsRefusal, LeavesAll, UndoesOwn, LeavesBy, unmade, unmade_swept, Refuses, call_of}
 use Rattle.ckpt_machine.specs.Runs.{last_from, last, IsRunFrom, IsRun}
 use Rattle.ckpt_machine.specs.Serving.{update_of, update_answer}
 use Rattle.ckpt_machine.specs.Shape.{IsCompleteOn}
@@ -33,7 +34,8 @@ use Rattle.ckpt_machine.proofs.Lawful.{lawful}
 use Rattle.ckpt_machine.proofs.EntryLists.{find_key-without, AllStay-filter, swept-all}
 use Rattle.ckpt_machine.proofs.ReplicaSteps.{put_actor-here}
 use Rattle.ckpt_machine.proofs.Refusing.{at_node, of_update, on_replica, committed, left_none, refusal_leaves}
-use Rattle.ckpt_machine.proofs.Runs.{last-push}
+use Rattle.ckpt_machine.specs.Laws.{RefusedHasNothing}
+use Rattle.ckpt_machine.proofs.Runs.{last-push, run_front}
 use Rattle.ckpt_machine.proofs.OptionLemmas.{IsSomeAnd-at}
 
 -- ---- who has no call in hand owns nothing
@@ -219,12 +221,16 @@ run_before : (m : Machine) (log : List Label) (l : Label) → IsRunFrom m (log +
 run_before m [] l run = (tt, run.0, run.1)
 run_before m (x ∷ log) l run = let (before, allowed, is) = run_before (after m x) log l run.2 in ((run.0, run.1, before), allowed, is)
 
+-- a front with the label behind it, and the rest
+front_with : (log front back : List Label) (l : Label) → log ≡ front ++ l ∷ back → log ≡ (front ++ l ∷ []) ++ back
+front_with log front back l is = is ∙ sym (append_assoc front (l ∷ []) back)
+
 -- THE LAW: a call that ends with a refusal has nothing after it, and leaves all else as it was
-pub run_leaves : (log longer : List Label) → IsRun longer → RefusalLeaves log longer
-run_leaves log longer run l grows refused =
-    let (before, allowed, is) = run_before _ log l (subst IsRun grows run) in
-    let (inv, history) = run_history log before in
-    subst (Refuses l (last log)) (sym (ap last grows ∙ last-push log l)) (record {
-      leaves = leaves_alone (last log) (after (last log) l) l inv history.bare (refusal_leaves (last log) l allowed refused);
-      nothing = refused_has_nothing (last log) l inv history allowed is refused;
+pub run_leaves : RefusedHasNothing
+run_leaves log run front back l is refused =
+    let (before, allowed, due) = run_before _ front l (run_front log (front ++ l ∷ []) back (front_with log front back l is) run) in
+    let (inv, history) = run_history front before in
+    subst (Refuses l (last front)) (sym (last-push front l)) (record {
+      leaves = leaves_alone (last front) (after (last front) l) l inv history.bare (refusal_leaves (last front) l allowed refused);
+      nothing = refused_has_nothing (last front) l inv history allowed due refused;
     })

@@ -28,7 +28,8 @@ use Rattle.ckpt_machine.specs.Drivers as drivers
 use Rattle.ckpt_machine.specs.Serving.{update_of, update_answer}
 use Rattle.ckpt_machine.specs.Machine.{Machine, ReplicaState, CallState}
 use Rattle.ckpt_machine.specs.Steps.{changed, stepped, step_of, after, with_ended, begun_call, ids_asked, Told, driver_of, with_record, event_done, without_making}
-use Rattle.ckpt_machine.specs.Guards.{AtCkpt, AtNode, AtNodeAlone, OfOpen, OfUpdate, OfClient, OnReplica, CommitOk, Row, Allowed, ends_update, complete_replicas, OfIter, OfNext, IterOk, NextOk, NextAnswer, AtNone, OfFinalize, OfClose, OfUnlink, OfRetain, LookRow, UndoRow, IsOwnMaking}
+use Rattle.ckpt_machine.specs.Complete.{complete_replicas}
+use Rattle.ckpt_machine.specs.Guards.{AtCkpt, AtNode, AtNodeAlone, OfOpen, OfUpdate, OfClient, OnReplica, CommitOk, Row, Allowed, ends_update, OfIter, OfNext, IterOk, NextOk, NextAnswer, AtNone, OfFinalize, OfClose, OfUnlink, OfRetain, LookRow, UndoRow, IsOwnMaking}
 use Rattle.ckpt_machine.specs.Driving.{making_in, event_after}
 use Rattle.ckpt_machine.specs.Refusals.{IsRefused, IsRefusal, LeavesAll, UndoesOwn, LeavesBy, number_taken, unmade_swept}
 use Rattle.ckpt_machine.proofs.ReplicaSteps.{put_actor-here, put_actor-other}

@@ -1,5 +1,5 @@
 -- A run goes on by one label.
-use Rattle.std.proofs.Common.{◌≡◌, List, [], ◌∷◌, ◌++◌, refl}
+use Rattle.std.proofs.Common.{◌≡◌, List, [], ◌∷◌, ◌++◌, refl, subst}
 use Rattle.run_labels.specs.declared.labels.Label.{Label}
 use Rattle.ckpt_machine.specs.Machine.{Machine, empty_cluster}
 use Rattle.ckpt_machine.specs.Steps.{IsDue, after}
@@ -19,6 +19,15 @@ last-push log l = last_from-push empty_cluster log l
 pub IsRunFrom-push : (m : Machine) (log : List Label) (l : Label) → IsRunFrom m log → Allowed (last_from m log) l → IsDue (last_from m log) l → IsRunFrom m (log ++ l ∷ [])
 IsRunFrom-push m [] l run allowed due = (allowed, due, tt)
 IsRunFrom-push m (x ∷ log) l run allowed due = (run.0, run.1, IsRunFrom-push (after m x) log l run.2 allowed due)
+
+-- a front of a run is a run
+pub IsRunFrom-front : (m : Machine) (front back : List Label) → IsRunFrom m (front ++ back) → IsRunFrom m front
+IsRunFrom-front m [] back run = tt
+IsRunFrom-front m (l ∷ front) back run = (run.0, run.1, IsRunFrom-front (after m l) front back run.2)
+
+-- of a run from the empty cluster
+pub run_front : (log front back : List Label) → log ≡ front ++ back → IsRun log → IsRun front
+run_front log front back is run = IsRunFrom-front empty_cluster front back (subst IsRun is run)
 
 -- a run of the machine goes on by a label that is allowed and due
 pub run_more : (log : List Label) (l : Label) → IsRun log → Allowed (last log) l → IsDue (last log) l → IsRun (log ++ l ∷ [])

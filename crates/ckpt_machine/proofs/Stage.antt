@@ -19,7 +19,8 @@ use Rattle.ckpt_machine.specs.Serving.{update_of}
 use Rattle.ckpt_machine.specs.Driving.{driver_taken}
 use Rattle.ckpt_machine.specs.Machine.{Machine, Applied, ReplicaState, CallState}
 use Rattle.ckpt_machine.specs.Steps.{driver_of, staged_moment, with_slot, stepped}
-use Rattle.ckpt_machine.specs.Guards.{OnEach, IfSlot, StageOk, StageRow, complete_replicas, replicas_from}
+use Rattle.ckpt_machine.specs.Complete.{complete_replicas, replicas_from}
+use Rattle.ckpt_machine.specs.Guards.{OnEach, IfSlot, StageOk, StageRow}
 use Rattle.ckpt_machine.specs.Shape.{Shape, IsCompleteOn, IsShaped, is_owner, IsOwner, IsSpread, slot_by, sections_by, effects_by}
 use Rattle.ckpt_machine.specs.InHand.{is_enter, IsUpdateIn, IsInPlace, IsInHand, OwnsIn}
 use Rattle.ckpt_machine.specs.Invariant.{InvariantIn, Invariant}

@@ -5,10 +5,13 @@ use Rattle.ckpt_types.specs.declared.identities.CallId.{CallId}
 use Rattle.ckpt_types.specs.declared.update.Update.{Update}
 use Rattle.ckpt_types.specs.Sections.{Section}
 use Rattle.ckpt_types.specs.Updates.{outcome}
+use Rattle.run_labels.specs.declared.labels.Label.{Label}
 use Rattle.cluster_record.specs.declared.entries.Entry.{Entry}
 use Rattle.cluster_record.specs.RecordState.{entry_of}
 use Rattle.ckpt_machine.specs.Machine.{Machine, Effect, Applied, Staged, ReplicaState}
-use Rattle.ckpt_machine.specs.Guards.{OnEach, complete_replicas}
+use Rattle.ckpt_machine.specs.Complete.{complete_replicas}
+use Rattle.ckpt_machine.specs.Guards.{OnEach}
+use Rattle.ckpt_machine.specs.Runs.{last}
 
 -- no complete replica has a slot, and all have equal sections and effects
 pub record AreEqual (m : Machine) (k : ℕ) : Type 0 where
@@ -38,6 +41,10 @@ pub record AreOfOne (m : Machine) (k : ℕ) (a : CreationAttributes) : Type 0 wh
   pub fits : outcome a one.update one.moment one.sections ≡ Ok one.outcome
   pub each : OnEach (λ y. IsOfOne one done y y.slot) (complete_replicas m k)
 
--- OF EVERY CHECKPOINT THAT IS MADE: no complete replica has a slot, and all are equal; or all slots are of one update
+-- of every checkpoint that is made: no complete replica has a slot, and all are equal; or all slots are of one update
 abbrev pub AllOrNone : Machine → Type 0
 AllOrNone m = (k : ℕ) (e : Entry) → entry_of k m.cluster.entries ≡ Some e → e.making ≡ None → AreEqual m k ⊎ AreOfOne m k e.attributes
+
+-- AT EVERY TIME OF A RUN: it is so after each front of the log
+abbrev pub IsAllOrNoneThroughout : List Label → Type 0
+IsAllOrNoneThroughout log = (front back : List Label) → log ≡ front ++ back → AllOrNone (last front)

@@ -10,6 +10,7 @@ use Rattle.ckpt_types.specs.declared.identities.ActorName.{ActorName}
 use Rattle.ckpt_types.specs.declared.identities.CallId.{CallId}
 use Rattle.ckpt_types.specs.declared.identities.Who.{Who}
 use Rattle.ckpt_types.specs.declared.identities.Who.TheVariants.{Actor}
+use Rattle.ckpt_types.specs.declared.identities.Who.TheVariants as whos
 use Rattle.ckpt_types.specs.declared.open_flags.OpenFlags.{OpenFlags}
 use Rattle.ckpt_types.specs.declared.operation.Op.{Op}
 use Rattle.ckpt_types.specs.declared.operation.Op.TheVariants as ops
@@ -128,7 +129,7 @@ pub record IsAllowedBegin (m : Machine) (call : CallId) (op : Op) (end : Option 
 
 -- ---- the words
 
--- the line begins a call; it begins an Initialize; it is `step` or `finish`
+-- the line begins a call
 abbrev pub IsCallLine : LineWord → Type 0
 IsCallLine (linewords.Op op) = Unit {0}
 IsCallLine line = ⊥
@@ -156,7 +157,12 @@ WordRow m a line Live = IsInitializeLine line × (m.in_hand a ≡ None) × (is_l
 WordRow m a line Down = IsInitializeLine line × (m.in_hand a ≡ None) × (is_live_client (number_of a) m.cluster ≡ false) × SomeNodeIsDown m
 WordRow m a line Idle = IsStepLine line × (m.in_hand a ≡ None)
 
--- the word of an actor is allowed by its row
+-- IDLE to a step of an asynchronous operation that is not there, or is finished
+abbrev pub OperationRow : Machine → CallId → LineWord → Said → Type 0
+OperationRow m call line Idle = IsStepLine line × (m.operations call ≡ None)
+OperationRow m call line said = ⊥
+
+-- a word is allowed by its row: that of an actor, or of an asynchronous operation
 abbrev pub IsAllowedWord : Machine → Who → LineWord → Said → Type 0
 IsAllowedWord m (Actor a) line said = WordRow m a line said
-IsAllowedWord m who line said = ⊥
+IsAllowedWord m (whos.Call call) line said = OperationRow m call line said

@@ -107,7 +107,7 @@ begin_end live h (ops.Unlink name) = if_live live None
 begin_end live h ops.Finalize = if_live live None
 begin_end live h op = None
 
--- the place of the handle that an operation names, the place of the iteration that it goes on with or ends, and the place that an open names
+-- the place of the handle that an operation names
 abbrev pub handle_place : Op → Option ℕ
 handle_place (ops.Create place update) = Some place
 handle_place (ops.Delete place update) = Some place
@@ -132,7 +132,7 @@ abbrev pub closed_place : Op → Option ℕ
 closed_place (ops.Close place) = Some place
 closed_place op = None
 
--- the place of the iteration that an operation starts, and its choice; what is none chooses nothing
+-- the place of the iteration that an operation starts
 abbrev pub started_place : Op → Option ℕ
 started_place (ops.Iter iteration place chosen time) = Some iteration
 started_place op = None
@@ -175,12 +175,12 @@ abbrev pub takes_room : Op → Bool
 takes_room (ops.Iter iteration place chosen time) = true
 takes_room op = false
 
--- the operation starts an iteration with this choice, or goes on with one
+-- the operation starts an iteration with this choice
 abbrev pub IsIterOf : Choice → Op → Type 0
 IsIterOf choice (ops.Iter iteration place chosen time) = (choice ≡ choice_of chosen time) × (iteration < places_max)
 IsIterOf choice op = ⊥
 
--- the operation closes a handle, sets this retention, or takes this name away
+-- the operation closes a handle
 abbrev pub IsCloseOf : Op → Type 0
 IsCloseOf (ops.Close place) = Unit {0}
 IsCloseOf op = ⊥

@@ -33,26 +33,14 @@ use Rattle.cluster_record.specs.Calls.{same_call, client_of}
 use Rattle.cluster_record.specs.RecordState.{entry_of, complete_of, named, attributes_now, is_live, is_live_client, is_up, IsMomentFrom}
 use Rattle.cluster_record.specs.DueOpen.{IsBefore, accepts}
 use Rattle.ckpt_machine.specs.BeginRows.{IsAllowedBegin, IsAllowedWord}
+use Rattle.ckpt_machine.specs.Complete.{complete_replicas}
 use Rattle.ckpt_machine.specs.Driving.{deadline_from, making_in, refused_cause}
 use Rattle.ckpt_machine.specs.Serving.{update_of, update_answer, told_id}
 use Rattle.ckpt_machine.specs.Machine.{Machine, Staged, ReplicaState, CallState}
+use Rattle.ckpt_machine.specs.Shown.{shown_at}
 use Rattle.ckpt_machine.specs.Steps.{Told, driver_of, room_of, rooms_of, ids_asked, staged_moment, effect_of}
 
--- ---- the complete replicas of a checkpoint, with their nodes, in node order
-
--- one replica more, where the node has one
-abbrev pub with_replica : ℕ → Option ReplicaState → List (ℕ × ReplicaState) → List (ℕ × ReplicaState)
-with_replica r None others = others
-with_replica r (Some x) others = (r, x) ∷ others
-
--- the complete replicas from a node on
-abbrev pub replicas_from : (ℕ → Option ReplicaState) → ℕ → List ℕ → List (ℕ × ReplicaState)
-replicas_from replicas n [] = []
-replicas_from replicas n (c ∷ cs) = if c == 0 then replicas_from replicas (n + 1) cs else with_replica n (replicas n) (replicas_from replicas (n + 1) cs)
-
--- the complete replicas of a checkpoint, in node order
-abbrev pub complete_replicas : Machine → ℕ → List (ℕ × ReplicaState)
-complete_replicas m k = replicas_from (m.replicas k) 0 (complete_of (entry_of k m.cluster.entries))
+-- ---- the complete replicas of a checkpoint, at once
 
 -- each of them has it
 abbrev pub OnEach : (ReplicaState → Type 0) → List (ℕ × ReplicaState) → Type 0
@@ -456,7 +444,7 @@ abbrev pub OfNext : Op → Type 0 → Type 0
 OfNext (ops.Next iteration) P = P
 OfNext op P = ⊥
 
--- it is a Finalize, a close, an unlink of this name, or a setting of a retention
+-- the operation is a Finalize
 abbrev pub OfFinalize : Op → Type 0 → Type 0
 OfFinalize ops.Finalize P = P
 OfFinalize op P = ⊥
@@ -528,4 +516,5 @@ Allowed m (labels.Stepped call op verb k r reply end details) = IsAllowedStep m 
 Allowed m (labels.Word who word said) = IsAllowedWord m who word said
 Allowed m (labels.Nodes n) = (0 < n) × (n ≤ nodes_max) × ((r : ℕ) → is_up r m.cluster ≡ false)
 Allowed m (labels.Moved t) = IsMomentFrom m.cluster.moment t
+Allowed m (labels.Shown k replicas) = replicas ≡ shown_at m k
 Allowed m label = ⊥

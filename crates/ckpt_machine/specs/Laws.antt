@@ -8,14 +8,14 @@ use Rattle.run_labels.specs.declared.labels.Label.{Label}
 use Rattle.run_labels.specs.declared.labels.Label.TheVariants as labels
 use Rattle.run_labels.specs.declared.words.OpWord.{OpWord}
 use Rattle.cluster_record.specs.StepDone.{done_of}
-use Rattle.ckpt_machine.specs.AllOrNone.{AllOrNone}
+use Rattle.ckpt_machine.specs.AllOrNone.{IsAllOrNoneThroughout}
 use Rattle.ckpt_machine.specs.Invariant.{Invariant}
 use Rattle.ckpt_machine.specs.Driving.{driver_taken}
 use Rattle.ckpt_machine.specs.Facts.{Facts}
 use Rattle.ckpt_machine.specs.Guards.{Allowed}
 use Rattle.ckpt_machine.specs.Left.{steps_left}
 use Rattle.ckpt_machine.specs.Machine.{Machine, CallState, empty_cluster}
-use Rattle.ckpt_machine.specs.Refusals.{IsRefusal, LeavesBy, RefusalLeaves, unmade_swept}
+use Rattle.ckpt_machine.specs.Refusals.{IsRefusal, LeavesBy, EachRefusalLeaves, unmade_swept}
 use Rattle.ckpt_machine.specs.Runs.{last, IsRun, Counts}
 use Rattle.ckpt_machine.specs.Steps.{IsDue, after, driver_of}
 
@@ -50,8 +50,8 @@ RefusalsLeave = (m : Machine) (l : Label) → Allowed m l → IsRefusal l → Le
 
 -- in a run it does so, where nothing but the making is undone, and the call has nothing then: no slot, no marks, no making and no hold, and no replica has an effect of it
 abbrev pub RefusedHasNothing : Type 0
-RefusedHasNothing = (log longer : List Label) → IsRun longer → RefusalLeaves log longer
+RefusedHasNothing = (log : List Label) → IsRun log → EachRefusalLeaves log
 
--- wherever the invariant holds, an update is on all complete replicas of its checkpoint, or on none
+-- at every time of a run, an update is on all complete replicas of its checkpoint, or on none
 abbrev pub IsOnAllOrNone : Type 0
-IsOnAllOrNone = (m : Machine) → Invariant m → AllOrNone m
+IsOnAllOrNone = (log : List Label) → IsRun log → IsAllOrNoneThroughout log

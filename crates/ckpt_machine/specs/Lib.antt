@@ -4,6 +4,8 @@ pub mod Beginning
 pub mod Serving
 pub mod Driving
 pub mod Machine
+pub mod Complete
+pub mod Shown
 pub mod Steps
 pub mod BeginRows
 pub mod Guards

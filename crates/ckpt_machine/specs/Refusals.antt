@@ -85,6 +85,6 @@ pub record Refuses (l : Label) (m m' : Machine) : Type 0 where
   pub leaves : LeavesBy unmade l m m'
   pub nothing : IsSomeAnd (call_of l) (HasNothing m')
 
--- where the last label is a refusal, it is so by the states before and after it
-abbrev pub RefusalLeaves : List Label → List Label → Type 0
-RefusalLeaves log longer = (l : Label) → longer ≡ log ++ l ∷ [] → IsRefusal l → Refuses l (last log) (last longer)
+-- OF EACH LABEL OF A LOG that is a refusal: it is so by the states before and after it
+abbrev pub EachRefusalLeaves : List Label → Type 0
+EachRefusalLeaves log = (front back : List Label) (l : Label) → log ≡ front ++ l ∷ back → IsRefusal l → Refuses l (last front) (last (front ++ l ∷ []))

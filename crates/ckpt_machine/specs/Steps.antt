@@ -13,6 +13,7 @@ use Rattle.ckpt_types.specs.declared.identities.ActorName.{ActorName}
 use Rattle.ckpt_types.specs.declared.identities.CallId.{CallId}
 use Rattle.ckpt_types.specs.declared.identities.Who.{Who}
 use Rattle.ckpt_types.specs.declared.identities.Who.TheVariants.{Actor}
+use Rattle.ckpt_types.specs.declared.identities.Who.TheVariants as whos
 use Rattle.ckpt_types.specs.declared.operation.Op.{Op}
 use Rattle.ckpt_types.specs.declared.operation.Op.TheVariants as ops
 use Rattle.ckpt_types.specs.declared.update.Update.{Update}
@@ -62,6 +63,7 @@ use Rattle.node_msgs.specs.Steps.{word_of, verb_of, event_verb}
 use Rattle.ckpt_machine.specs.Driving.{Kept, driver_state, driver_next, driver_taken, driver_end, event_ckpt, event_node, event_end, event_after, event_refusal, making_in, takes_memory}
 use Rattle.cluster_record.specs.StepDone.{done_of}
 use Rattle.ckpt_machine.specs.Beginning.{begin_end, handle_place, iteration_place, closed_place, started_place, ended_place, chosen_choice, opened_place, opened_for, takes_room, IsBuilt}
+use Rattle.ckpt_machine.specs.Shown.{shown_at}
 use Rattle.ckpt_machine.specs.Machine.{IterationTable, Machine, Effect, Applied, Staged, ReplicaState, CallState}
 
 -- ---- what the code sees of one replica
@@ -266,10 +268,16 @@ IsSaid m a linewords.Step said = ⊥
 IsSaid m a linewords.Finish Idle = m.in_hand a ≡ None
 IsSaid m a linewords.Finish said = ⊥
 
--- the word answers a line of an actor; no other line has one
+-- the word answers a step of an asynchronous operation: none of this call is unfinished
+abbrev pub IsSaidOfOperation : Machine → CallId → LineWord → Said → Type 0
+IsSaidOfOperation m call (linewords.Op w) said = ⊥
+IsSaidOfOperation m call line Idle = m.operations call ≡ None
+IsSaidOfOperation m call line said = ⊥
+
+-- the word answers a line of an actor, or a step of an asynchronous operation
 abbrev pub IsWord : Machine → Who → LineWord → Said → Type 0
 IsWord m (Actor a) word said = IsSaid m a word said
-IsWord m who word said = ⊥
+IsWord m (whos.Call call) word said = IsSaidOfOperation m call word said
 
 -- the label is due in this state; what is not built is not due
 abbrev pub IsDue : Machine → Label → Type 0
@@ -278,6 +286,7 @@ IsDue m (labels.Stepped call op verb k r reply end details) = IsDueStep m call o
 IsDue m (labels.Word who word said) = IsWord m who word said
 IsDue m (labels.Nodes n) = (0 < n) × (n ≤ nodes_max) × (m.cluster.up ≡ no_nodes)
 IsDue m (labels.Moved t) = IsMomentFrom m.cluster.moment t
+IsDue m (labels.Shown k replicas) = replicas ≡ shown_at m k
 IsDue m label = ⊥
 
 -- ---- the state after a label

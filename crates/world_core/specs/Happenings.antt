@@ -1,11 +1,12 @@
 -- What an event does to the world, with the label that answers it.
-use Rattle.std.specs.Prelude.{◌≡◌, ◌⊎◌, ℕ, ◌<◌, [], ◌∷◌, ◌++◌, length, Option, Some, None, Bool, nat_lt, ℤ, slice_get, slice_set}
+use Rattle.std.specs.Prelude.{◌≡◌, ◌⊎◌, ℕ, ◌<◌, ◌≤◌, [], ◌∷◌, ◌++◌, length, Option, Some, None, Bool, nat_lt, ℤ, slice_get, slice_set}
 use Rattle.ckpt_types.specs.declared.answers.Outcome.{Outcome}
 use Rattle.ckpt_types.specs.declared.identities.ActorName.TheVariants.{Client}
 use Rattle.ckpt_types.specs.declared.identities.CallId.{CallId}
+use Rattle.ckpt_types.specs.declared.identities.Who.{Who}
 use Rattle.ckpt_types.specs.declared.identities.Who.TheVariants as whos
 use Rattle.ckpt_types.specs.declared.operation.Op.{Op}
-use Rattle.ckpt_types.specs.Limits.{iterations_max, handles_max, client_numbers}
+use Rattle.ckpt_types.specs.Limits.{iterations_max, handles_max, client_numbers, nodes_max}
 use Rattle.node_msgs.specs.declared.next.Next.{Next}
 use Rattle.run_labels.specs.Kept.{Kept}
 use Rattle.run_labels.specs.declared.details.Details.{Details}
@@ -25,7 +26,7 @@ use Rattle.cluster_record.specs.RecordState.{empty_record, IsMomentFrom}
 use Rattle.ckpt_machine.specs.Driving.{driver_next}
 use Rattle.ckpt_machine.specs.Beginning.{IsBuilt}
 use Rattle.world_core.specs.Shows.{Does, handles_in, iterations_in, handle_in_place, handle_over_place, hand_at}
-use Rattle.world_core.specs.Runs.{AnswersBegin, IsIdleWord}
+use Rattle.world_core.specs.Runs.{AnswersBegin, IsStepped, HasNothingToStep, IsIdleWord, IsShownOf}
 
 -- the log has one label more, of which this holds
 pub record Adds (old new : Kept) (holds : Label → Type 0) : Type 0 where
@@ -70,10 +71,10 @@ pub record IsStep (c : ℕ) (old new : World) (label : Label) : Type 0 where
   pub hands : new.hands ≡ slice_set old.hands c (left end next)
   pub does : Does old new label
 
--- the client has no call in hand, and a word says so
-pub record IsIdle (c : ℕ) (finish : Bool) (old new : World) (label : Label) : Type 0 where
-  pub none : hand_at old.hands c ≡ None
-  pub word : IsIdleWord (Client c) finish old new label
+-- a word says that nothing is in hand to step
+pub record IsIdle (who : Who) (finish : Bool) (old new : World) (label : Label) : Type 0 where
+  pub none : HasNothingToStep who old
+  pub word : IsIdleWord who finish old new label
   pub does : Does old new label
 
 -- the client's call begins: it is in hand just where the beginning did not end it
@@ -100,6 +101,12 @@ pub record BringsUp (n : ℕ) (old new : World) (label : Label) : Type 0 where
   pub hands : new.hands ≡ old.hands
   pub does : Does old new label
 
+-- the replicas of a checkpoint are told, and the world is as it was
+pub record TellsReplicas (k : ℕ) (old new : World) (label : Label) : Type 0 where
+  pub label_is : IsShownOf k label
+  pub same : new ≡ old
+  pub does : Does old new label
+
 -- the moment is set, and the calls in hand are as they were
 pub record SetsMoment (t : ℤ) (old new : World) (label : Label) : Type 0 where
   pub label_is : label ≡ labels.Moved t
@@ -108,9 +115,10 @@ pub record SetsMoment (t : ℤ) (old new : World) (label : Label) : Type 0 where
 
 -- what the event asks of the world
 abbrev pub ComesNow : World → Event → Type 0
-ComesNow w (happenings.Nodes n) = (n ≡ 1) × (w.cluster ≡ empty_record)
+ComesNow w (happenings.Nodes n) = (0 < n) × (n ≤ nodes_max) × (w.cluster ≡ empty_record)
 ComesNow w (happenings.Begin (Client c) op) = (c < client_numbers) × IsBuilt op
-ComesNow w (happenings.Step (whos.Actor (Client c)) finish) = c < client_numbers
+ComesNow w (happenings.Step who finish) = IsStepped who
+ComesNow w (happenings.Show k) = Unit {0}
 ComesNow w (happenings.At t) = IsMomentFrom w.cluster.moment t
 ComesNow w event = ⊥
 
@@ -118,6 +126,8 @@ ComesNow w event = ⊥
 abbrev pub IsAnswered : Event → World → World → Label → Type 0
 IsAnswered (happenings.Nodes n) old new label = BringsUp n old new label
 IsAnswered (happenings.Begin (Client c) op) old new label = Begins c op old new label
-IsAnswered (happenings.Step (whos.Actor (Client c)) finish) old new label = IsStep c old new label ⊎ IsIdle c finish old new label
+IsAnswered (happenings.Step (whos.Actor (Client c)) finish) old new label = IsStep c old new label ⊎ IsIdle (whos.Actor (Client c)) finish old new label
+IsAnswered (happenings.Step who finish) old new label = IsIdle who finish old new label
+IsAnswered (happenings.Show k) old new label = TellsReplicas k old new label
 IsAnswered (happenings.At t) old new label = SetsMoment t old new label
 IsAnswered event old new label = ⊥

@@ -1,5 +1,5 @@
 -- Runs of the machine that the world shows.
-use Rattle.std.specs.Prelude.{◌≡◌, ◌≢◌, ℕ, ◌-◌, ◌<◌, ◌^◌, List, [], ◌∷◌, ◌++◌, length, replicate, Option, Some, None, Bool, true, false, ℤ, slice_get}
+use Rattle.std.specs.Prelude.{◌≡◌, ◌≢◌, ℕ, ◌-◌, ◌<◌, ◌≤◌, ◌^◌, List, [], ◌∷◌, ◌++◌, length, replicate, Option, Some, None, Bool, true, false, ℤ, slice_get}
 use Rattle.ckpt_types.specs.declared.answers.Outcome.{Outcome}
 use Rattle.ckpt_types.specs.declared.identities.ActorName.{ActorName}
 use Rattle.ckpt_types.specs.declared.identities.ActorName.TheVariants.{Client}
@@ -50,20 +50,22 @@ abbrev pub IsScriptClient : ActorName → Type 0
 IsScriptClient (Client c) = c < client_numbers
 IsScriptClient a = ⊥
 
+-- a client that a script may name, a node, or an asynchronous operation
 abbrev pub IsStepped : Who → Type 0
-IsStepped (whos.Actor a) = IsScriptClient a
-IsStepped who = ⊥
+IsStepped (whos.Actor (Client c)) = c < client_numbers
+IsStepped who = Unit {0}
 
 -- no client has a call in hand
 abbrev pub NoneInHand : World → Type 0
 NoneInHand w = (d : ℕ) → hand_at w.hands d ≡ None
 
--- the events that may come, as far as they are built: one node, and clients whose calls begin and are stepped in any order
+-- the events that may come: up to eight nodes first, then calls of clients that begin and are stepped in any order, moments, and shows
 abbrev pub Comes : World → List Label → Event → Type 0
-Comes w log (happenings.Nodes n) = (n ≡ 1) × (log ≡ [])
+Comes w log (happenings.Nodes n) = (0 < n) × (n ≤ nodes_max) × (log ≡ [])
 Comes w log (happenings.Begin a op) = IsScriptClient a × IsBuilt op
 Comes w log (happenings.Step who finish) = IsStepped who
 Comes w log (happenings.At t) = IsMomentFrom w.cluster.moment t
+Comes w log (happenings.Show k) = Unit {0}
 
 -- a call is in hand after a label just where the label did not end it
 abbrev pub GoesOn : CallId → Op → Option Outcome → Option InHand → Type 0
@@ -97,25 +99,37 @@ abbrev pub step_word : Bool → LineWord
 step_word true = linewords.Finish
 step_word false = linewords.Step
 
-abbrev pub IsIdleWord : ActorName → Bool → World → World → Label → Type 0
-IsIdleWord a finish old new (labels.Word who word said) = (who ≡ whos.Actor a) × (word ≡ step_word finish) × (new.hands ≡ old.hands)
-IsIdleWord a finish old new label = ⊥
+abbrev pub IsIdleWord : Who → Bool → World → World → Label → Type 0
+IsIdleWord whose finish old new (labels.Word who word said) = (who ≡ whose) × (word ≡ step_word finish) × (new.hands ≡ old.hands)
+IsIdleWord whose finish old new label = ⊥
 
 abbrev pub AnswersStep : ActorName → Bool → Option InHand → World → World → Label → Type 0
-AnswersStep a finish None old new label = IsIdleWord a finish old new label
+AnswersStep a finish None old new label = IsIdleWord (whos.Actor a) finish old new label
 AnswersStep a finish (Some h) old new label = IsStepOf a (Some h) old new label
 
+-- no node copies yet
 abbrev pub hand_of_actor : World → ActorName → Option InHand
 hand_of_actor w (Client c) = hand_at w.hands c
 hand_of_actor w a = None
+
+-- nor is there an asynchronous operation
+abbrev pub HasNothingToStep : Who → World → Type 0
+HasNothingToStep (whos.Actor a) w = hand_of_actor w a ≡ None
+HasNothingToStep (whos.Call call) w = Unit {0}
+
+-- the label tells the replicas of this checkpoint
+abbrev pub IsShownOf : ℕ → Label → Type 0
+IsShownOf k (labels.Shown other replicas) = other ≡ k
+IsShownOf k label = ⊥
 
 -- a label answers an event
 abbrev pub Answers : Event → World → World → Label → Type 0
 Answers (happenings.Nodes n) old new label = (label ≡ labels.Nodes n) × (new.hands ≡ old.hands)
 Answers (happenings.Begin a op) old new label = AnswersBegin a op old new label
 Answers (happenings.Step (whos.Actor a) finish) old new label = AnswersStep a finish (hand_of_actor old a) old new label
-Answers (happenings.Step who finish) old new label = ⊥
+Answers (happenings.Step (whos.Call call) finish) old new label = IsIdleWord (whos.Call call) finish old new label
 Answers (happenings.At t) old new label = (label ≡ labels.Moved t) × (new.hands ≡ old.hands)
+Answers (happenings.Show k) old new label = IsShownOf k label × (new.hands ≡ old.hands)
 
 -- the calls of other clients are as they were
 abbrev pub KeepsOthers : Event → World → World → Type 0

@@ -37,7 +37,8 @@ pub(crate) const DECLARES_NOTHING: CreationAttributes = CreationAttributes {
 impl World {
     /// The first nodes come up.
     pub(crate) fn bring_up(&mut self, n: u8, log: &mut RunLog)
-        requires first { n ≡ 1 }
+        requires some { 0 < n }
+        requires few { n ≤ nodes_max }
         requires empty { self.old.cluster ≡ empty_record }
         requires spare { 1 ≤ log.old.spare }
         ensures { Adds log.old log.new (BringsUp n self.old self.new) }

@@ -3,13 +3,14 @@ ghost use Rattle.world_core.specs.Shows.{IsShown, HasNumbersLeft};
 ghost use Rattle.world_core.specs.Parts.{record_in, call_in_hand};
 ghost use Rattle.world_core.specs.Happenings.{Adds, ComesNow, IsAnswered};
 ghost use Rattle.world_core.specs.Runs.{IsNew, IsRunTo, MayHappen, Happens};
-ghost use Rattle.ckpt_machine.specs.Refusals.{RefusalLeaves};
+ghost use Rattle.ckpt_machine.specs.AllOrNone.{IsAllOrNoneThroughout};
+ghost use Rattle.ckpt_machine.specs.Refusals.{EachRefusalLeaves};
 ghost use Rattle.world_core.specs.StepsLeft.{ComesNearer};
 
 use crate::hands::Hands;
 use crate::nodes::Nodes;
 use crate::tables::Tables;
-use ckpt_types::{ActorName, Moment, Op, Who};
+use ckpt_types::{ActorName, CkptId, Moment, Op, Who};
 use cluster_record::Record;
 use run_labels::RunLog;
 use std::alloc::{AllocError, Global};
@@ -25,6 +26,8 @@ pub enum Event {
     Step(Who, bool),
     /// The moment is set, and what is over then is swept away.
     At(Moment),
+    /// The replicas of a checkpoint are told.
+    Show(CkptId),
 }
 
 /// The cluster.
@@ -79,7 +82,10 @@ impl World {
 
         // A call that is refused, or is refused its own memory, leaves all as it was but a making of its own, which is
         // undone; it owns nothing then, and no replica has an effect of it.
-        ensures refused { OnOk result (RefusalLeaves log.old.labels log.new.labels) }
+        ensures refused { EachRefusalLeaves log.new.labels }
+
+        // An update is on all replicas of its checkpoint or on none, after each front of the log.
+        ensures all_or_none { IsAllOrNoneThroughout log.new.labels }
         ensures err { OnErr result ((self.new ≡ self.old) × (log.new.labels ≡ log.old.labels)) }
 
         // For whoever steps a call to its end.
@@ -110,6 +116,11 @@ impl World {
             Event::Step(Who::Actor(ActorName::Client(c)), finish) => {
                 self.step(alloc, c, finish, log)
             }
+            Event::Step(who, finish) => {
+                self.idle(who, finish, log);
+                Ok(())
+            }
+            Event::Show(ckpt) => self.show(alloc, ckpt, log),
             Event::At(t) => {
                 self.at(t, log);
                 Ok(())

@@ -6,7 +6,7 @@ use Rattle.ckpt_machine.proofs.RefusedRuns.{run_leaves}
 use Rattle.ckpt_machine.proofs.Refusing.{refusal_leaves}
 use Rattle.ckpt_machine.proofs.RunLaws.{run_has}
 use Rattle.ckpt_machine.proofs.Start.{invariant_empty}
-use Rattle.ckpt_machine.proofs.AllOrNone.{all_or_none}
+use Rattle.ckpt_machine.proofs.AllOrNone.{on_all_or_none}
 use Rattle.ckpt_machine.proofs.machine_law.Goals as goal
 
 pub returns-clause-starts : goal.returns-clause-starts
@@ -34,4 +34,4 @@ pub returns-clause-refused : goal.returns-clause-refused
 returns-clause-refused c = run_leaves
 
 pub returns-clause-all_or_none : goal.returns-clause-all_or_none
-returns-clause-all_or_none c = all_or_none
+returns-clause-all_or_none c = on_all_or_none
