@@ -37,7 +37,7 @@ use Rattle.ckpt_machine.specs.Complete.{complete_replicas}
 use Rattle.ckpt_machine.specs.Driving.{deadline_from, making_in, refused_cause}
 use Rattle.ckpt_machine.specs.Serving.{update_of, update_answer, told_id}
 use Rattle.ckpt_machine.specs.Machine.{Machine, Staged, ReplicaState, CallState}
-use Rattle.ckpt_machine.specs.Shown.{shown_at}
+use Rattle.ckpt_machine.specs.Listing.{listing_at}
 use Rattle.ckpt_machine.specs.Steps.{Told, driver_of, room_of, rooms_of, ids_asked, staged_moment, effect_of}
 
 -- ---- the complete replicas of a checkpoint, at once
@@ -516,5 +516,5 @@ Allowed m (labels.Stepped call op verb k r reply end details) = IsAllowedStep m 
 Allowed m (labels.Word who word said) = IsAllowedWord m who word said
 Allowed m (labels.Nodes n) = (0 < n) × (n ≤ nodes_max) × ((r : ℕ) → is_up r m.cluster ≡ false)
 Allowed m (labels.Moved t) = IsMomentFrom m.cluster.moment t
-Allowed m (labels.Shown k replicas) = replicas ≡ shown_at m k
+Allowed m (labels.Shown k replicas) = replicas ≡ listing_at m k
 Allowed m label = ⊥

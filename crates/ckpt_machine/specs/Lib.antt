@@ -5,7 +5,7 @@ pub mod Serving
 pub mod Driving
 pub mod Machine
 pub mod Complete
-pub mod Shown
+pub mod Listing
 pub mod Steps
 pub mod BeginRows
 pub mod Guards

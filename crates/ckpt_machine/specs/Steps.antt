@@ -63,7 +63,7 @@ use Rattle.node_msgs.specs.Steps.{word_of, verb_of, event_verb}
 use Rattle.ckpt_machine.specs.Driving.{Kept, driver_state, driver_next, driver_taken, driver_end, event_ckpt, event_node, event_end, event_after, event_refusal, making_in, takes_memory}
 use Rattle.cluster_record.specs.StepDone.{done_of}
 use Rattle.ckpt_machine.specs.Beginning.{begin_end, handle_place, iteration_place, closed_place, started_place, ended_place, chosen_choice, opened_place, opened_for, takes_room, IsBuilt}
-use Rattle.ckpt_machine.specs.Shown.{shown_at}
+use Rattle.ckpt_machine.specs.Listing.{listing_at}
 use Rattle.ckpt_machine.specs.Machine.{IterationTable, Machine, Effect, Applied, Staged, ReplicaState, CallState}
 
 -- ---- what the code sees of one replica
@@ -286,7 +286,7 @@ IsDue m (labels.Stepped call op verb k r reply end details) = IsDueStep m call o
 IsDue m (labels.Word who word said) = IsWord m who word said
 IsDue m (labels.Nodes n) = (0 < n) × (n ≤ nodes_max) × (m.cluster.up ≡ no_nodes)
 IsDue m (labels.Moved t) = IsMomentFrom m.cluster.moment t
-IsDue m (labels.Shown k replicas) = replicas ≡ shown_at m k
+IsDue m (labels.Shown k replicas) = replicas ≡ listing_at m k
 IsDue m label = ⊥
 
 -- ---- the state after a label

@@ -5,6 +5,7 @@ use Rattle.ckpt_types.specs.declared.answers.Outcome.{Outcome}
 use Rattle.ckpt_types.specs.declared.identities.ActorName.{ActorName}
 use Rattle.ckpt_types.specs.declared.identities.ActorName.TheVariants.{Client, Node}
 use Rattle.ckpt_types.specs.declared.identities.CallId.{CallId}
+use Rattle.ckpt_types.specs.declared.identities.Who.{Who}
 use Rattle.ckpt_types.specs.declared.identities.Who.TheVariants as whos
 use Rattle.ckpt_types.specs.declared.operation.Op.{Op}
 use Rattle.run_labels.specs.declared.labels.Label.{Label}
@@ -32,13 +33,12 @@ use Rattle.world_core.proofs.Words.{cluster_is_empty}
 -- ---- what comes
 
 pub comes_now : (w : World) (log : List Label) (event : Event) → MayHappen w log event → ComesNow w event
-comes_now w log (happenings.Nodes n) may = (may.comes.0, cluster_is_empty w (subst (IsRunTo w) may.comes.1 may.run))
+comes_now w log (happenings.Nodes n) may = (may.comes.0, may.comes.1, cluster_is_empty w (subst (IsRunTo w) may.comes.2 may.run))
 comes_now w log (happenings.Begin (Client c) op) may = may.comes
 comes_now w log (happenings.Begin (Node r) op) may = absurd may.comes.0
-comes_now w log (happenings.Step (whos.Actor (Client c)) finish) may = may.comes
-comes_now w log (happenings.Step (whos.Actor (Node r)) finish) may = absurd may.comes
-comes_now w log (happenings.Step (whos.Call call) finish) may = absurd may.comes
+comes_now w log (happenings.Step who finish) may = may.comes
 comes_now w log (happenings.At t) may = may.comes
+comes_now w log (happenings.Show k) may = tt
 
 -- ---- the calls in hand after it
 
@@ -70,17 +70,17 @@ step_others : (c d : ℕ) (old new : World) (label : Label) → IsStep c old new
 step_others c d old new label step apart =
     ap (λ hands. hand_at hands d) step.hands ∙ hand_other old.hands c d (left step.end step.next) (Some step.hand) (place_of_hand old.hands c step.hand step.held) apart
 
-idle_hands : (a : ActorName) (finish : Bool) (old new : World) (label : Label) → IsIdleWord a finish old new label → new.hands ≡ old.hands
-idle_hands a finish old new (labels.Word who word said) is = is.2
-idle_hands a finish old new (labels.Began call op end) is = absurd is
-idle_hands a finish old new (labels.Stepped call op verb k r reply end details) is = absurd is
-idle_hands a finish old new (labels.Failed node failed) is = absurd is
-idle_hands a finish old new (labels.Joined node incarnation) is = absurd is
-idle_hands a finish old new (labels.Moved moment) is = absurd is
-idle_hands a finish old new (labels.Pulled ckpt reply) is = absurd is
-idle_hands a finish old new (labels.Put ckpt node reply) is = absurd is
-idle_hands a finish old new (labels.Shown ckpt replicas) is = absurd is
-idle_hands a finish old new (labels.Nodes count) is = absurd is
+idle_hands : (whose : Who) (finish : Bool) (old new : World) (label : Label) → IsIdleWord whose finish old new label → new.hands ≡ old.hands
+idle_hands whose finish old new (labels.Word who word said) is = is.2
+idle_hands whose finish old new (labels.Began call op end) is = absurd is
+idle_hands whose finish old new (labels.Stepped call op verb k r reply end details) is = absurd is
+idle_hands whose finish old new (labels.Failed node failed) is = absurd is
+idle_hands whose finish old new (labels.Joined node incarnation) is = absurd is
+idle_hands whose finish old new (labels.Moved moment) is = absurd is
+idle_hands whose finish old new (labels.Pulled ckpt reply) is = absurd is
+idle_hands whose finish old new (labels.Put ckpt node reply) is = absurd is
+idle_hands whose finish old new (labels.Shown ckpt replicas) is = absurd is
+idle_hands whose finish old new (labels.Nodes count) is = absurd is
 
 -- ---- the label of a beginning
 
@@ -131,9 +131,10 @@ does_label (happenings.Begin (Client c) op) old new label is = is.does
 does_label (happenings.Begin (Node r) op) old new label is = absurd is
 does_label (happenings.Step (whos.Actor (Client c)) finish) old new label (inl step) = step.does
 does_label (happenings.Step (whos.Actor (Client c)) finish) old new label (inr idle) = idle.does
-does_label (happenings.Step (whos.Actor (Node r)) finish) old new label is = absurd is
-does_label (happenings.Step (whos.Call call) finish) old new label is = absurd is
+does_label (happenings.Step (whos.Actor (Node r)) finish) old new label is = is.does
+does_label (happenings.Step (whos.Call call) finish) old new label is = is.does
 does_label (happenings.At t) old new label is = is.does
+does_label (happenings.Show k) old new label is = is.does
 
 answers_label : (event : Event) (old new : World) (label : Label) → IsAnswered event old new label → Answers event old new label
 answers_label (happenings.Nodes n) old new label is = (is.label_is, is.hands)
@@ -141,19 +142,21 @@ answers_label (happenings.Begin (Client c) op) old new label is = begin_does_ans
 answers_label (happenings.Begin (Node r) op) old new label is = absurd is
 answers_label (happenings.Step (whos.Actor (Client c)) finish) old new label (inl step) = step_answers c finish old new label step
 answers_label (happenings.Step (whos.Actor (Client c)) finish) old new label (inr idle) = subst (λ p. AnswersStep (Client c) finish p old new label) (sym idle.none) idle.word
-answers_label (happenings.Step (whos.Actor (Node r)) finish) old new label is = absurd is
-answers_label (happenings.Step (whos.Call call) finish) old new label is = absurd is
+answers_label (happenings.Step (whos.Actor (Node r)) finish) old new label is = is.word
+answers_label (happenings.Step (whos.Call call) finish) old new label is = is.word
 answers_label (happenings.At t) old new label is = (is.label_is, is.hands)
+answers_label (happenings.Show k) old new label is = (is.label_is, ap (λ (w : World). w.hands) is.same)
 
 keeps_others : (event : Event) (old new : World) (label : Label) → IsAnswered event old new label → KeepsOthers event old new
 keeps_others (happenings.Nodes n) old new label is = tt
 keeps_others (happenings.Begin (Client c) op) old new label is = λ d apart. begin_others c op old new label d is.begins apart
 keeps_others (happenings.Begin (Node r) op) old new label is = absurd is
 keeps_others (happenings.Step (whos.Actor (Client c)) finish) old new label (inl step) = λ d apart. step_others c d old new label step apart
-keeps_others (happenings.Step (whos.Actor (Client c)) finish) old new label (inr idle) = λ d apart. ap (λ hands. hand_at hands d) (idle_hands (Client c) finish old new label idle.word)
-keeps_others (happenings.Step (whos.Actor (Node r)) finish) old new label is = absurd is
-keeps_others (happenings.Step (whos.Call call) finish) old new label is = absurd is
+keeps_others (happenings.Step (whos.Actor (Client c)) finish) old new label (inr idle) = λ d apart. ap (λ hands. hand_at hands d) (idle_hands (whos.Actor (Client c)) finish old new label idle.word)
+keeps_others (happenings.Step (whos.Actor (Node r)) finish) old new label is = tt
+keeps_others (happenings.Step (whos.Call call) finish) old new label is = tt
 keeps_others (happenings.At t) old new label is = tt
+keeps_others (happenings.Show k) old new label is = tt
 
 -- a step of the call in hand brings it nearer to its end
 comes_nearer : (log : List Label) (c : ℕ) (old new : World) (label : Label) → IsRunTo old log → IsStep c old new label → IfSome (hand_at old.hands c) (λ h. left_of new (Client c) < left_of old (Client c))
@@ -167,9 +170,10 @@ nearer_with (happenings.Nodes n) log old new label run is = tt
 nearer_with (happenings.Begin a op) log old new label run is = tt
 nearer_with (happenings.Step (whos.Actor (Client c)) finish) log old new label run (inl step) = comes_nearer log c old new label run step
 nearer_with (happenings.Step (whos.Actor (Client c)) finish) log old new label run (inr idle) = subst (λ (p : Option InHand). IfSome p (λ h. left_of new (Client c) < left_of old (Client c))) (sym idle.none) tt
-nearer_with (happenings.Step (whos.Actor (Node r)) finish) log old new label run is = absurd is
-nearer_with (happenings.Step (whos.Call call) finish) log old new label run is = absurd is
+nearer_with (happenings.Step (whos.Actor (Node r)) finish) log old new label run is = tt
+nearer_with (happenings.Step (whos.Call call) finish) log old new label run is = tt
 nearer_with (happenings.At t) log old new label run is = tt
+nearer_with (happenings.Show k) log old new label run is = tt
 
 -- the run goes on by the label that answers the event
 pub run_with : (event : Event) (old new : World) (log longer : List Label) (label : Label) → MayHappen old log event → IsAnswered event old new label → longer ≡ log ++ label ∷ [] → IsRunTo new longer

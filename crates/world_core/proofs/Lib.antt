@@ -12,6 +12,7 @@ pub mod HandsKept
 pub mod Held
 pub mod HoldingLaws
 pub mod IterationSteps
+pub mod Listings
 pub mod LiveRooms
 pub mod Look
 pub mod Maps

@@ -31,7 +31,7 @@ use Rattle.ckpt_machine.specs.Facts.{Facts}
 use Rattle.world_core.specs.Shows.{Does, Shows, History, machine_of}
 use Rattle.world_core.specs.Freeing.{freed}
 use Rattle.world_core.specs.Happenings.{SetsMoment}
-use Rattle.world_core.specs.Runs.{Answers, AnswersBegin, AnswersStep, hand_of_actor, moment_of}
+use Rattle.world_core.specs.Runs.{Answers, AnswersBegin, AnswersStep, IsIdleWord, IsShownOf, hand_of_actor, moment_of}
 use Rattle.cluster_record.proofs.IdentityLaws.{filter_leaves}
 use Rattle.world_core.proofs.Freeing.{DoesBefore, does_freed, holds_freed}
 use Rattle.world_core.proofs.Going.{goes_same, goes_left, event_keeps}
@@ -176,13 +176,22 @@ step-moment a finish (Some h) old new (labels.Moved t) before answers = absurd a
 step-moment a finish None old new label before answers = refl
 step-moment a finish (Some h) old new label before answers = refl
 
+idle-moment : (who : Who) (finish : Bool) (old new : World) (label : Label) (before : ℤ) → IsIdleWord who finish old new label → moment_after label before ≡ before
+idle-moment who finish old new (labels.Moved t) before answers = absurd answers
+idle-moment who finish old new label before answers = refl
+
+listed-moment : (k : ℕ) (label : Label) (before : ℤ) → IsShownOf k label → moment_after label before ≡ before
+listed-moment k (labels.Moved t) before is = absurd is
+listed-moment k label before is = refl
+
 -- a label that answers an event sets the moment as the event does
 pub answers-moment : (event : Event) (old new : World) (label : Label) (before : ℤ) → Answers event old new label → moment_after label before ≡ moment_of event before
 answers-moment (happenings.Nodes n) old new label before answers = ap (λ l. moment_after l before) answers.0
 answers-moment (happenings.Begin a op) old new label before answers = begin-moment a op old new label before answers
 answers-moment (happenings.Step (whos.Actor a) finish) old new label before answers = step-moment a finish (hand_of_actor old a) old new label before answers
-answers-moment (happenings.Step (whos.Call call) finish) old new label before answers = absurd answers
+answers-moment (happenings.Step (whos.Call call) finish) old new label before answers = idle-moment (whos.Call call) finish old new label before answers
 answers-moment (happenings.At t) old new label before answers = ap (λ l. moment_after l before) answers.0
+answers-moment (happenings.Show k) old new label before answers = listed-moment k label before answers.0
 
 -- and so the world shows it
 pub shown-moment : (event : Event) (old new : World) (label : Label) (m : Machine) → Shows old m → Facts m → Does old new label → Answers event old new label → new.cluster.moment ≡ moment_of event old.cluster.moment

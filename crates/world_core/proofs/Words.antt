@@ -1,8 +1,9 @@
 -- The labels that answer without a call: the words in place of a call, and the first nodes coming up.
-use Rattle.std.proofs.Common.{◌≡◌, ℕ, ◌<◌, Bool, true, false, [], refl, sym, ap, subst, ◌∙◌, arith}
+use Rattle.std.proofs.Common.{◌≡◌, ℕ, ◌<◌, ◌≤◌, Bool, true, false, [], refl, sym, ap, subst, ◌∙◌, arith}
 use Rattle.std.specs.Prelude.{◌≢◌, Option, Some, None}
-use Rattle.ckpt_types.specs.declared.identities.ActorName.TheVariants.{Client}
-use Rattle.ckpt_types.specs.declared.identities.Who.TheVariants.{Actor}
+use Rattle.ckpt_types.specs.declared.identities.ActorName.TheVariants.{Client, Node}
+use Rattle.ckpt_types.specs.declared.identities.Who.{Who}
+use Rattle.ckpt_types.specs.declared.identities.Who.TheVariants.{Actor, Call}
 use Rattle.ckpt_types.specs.Limits.{nodes_max}
 use Rattle.run_labels.specs.declared.words.OpWord.{OpWord}
 use Rattle.run_labels.specs.declared.words.OpWord.TheVariants as opwords
@@ -16,9 +17,10 @@ use Rattle.cluster_record.specs.declared.entries.Entry.{Entry}
 use Rattle.world_core.specs.declared.world.World.{World}
 use Rattle.cluster_record.specs.RecordState.{RecordState, entry_of, is_live_client, is_up, brought_up, empty_record}
 use Rattle.ckpt_machine.specs.Machine.{Machine}
-use Rattle.ckpt_machine.specs.Steps.{IsSaid, after}
+use Rattle.ckpt_machine.specs.Steps.{IsSaid, IsWord, after}
 use Rattle.world_core.specs.Shows.{Does, History, machine_of, hand_at, shown_hand, where_not_complete, reserved_in}
-use Rattle.world_core.specs.Runs.{IsRunTo, step_word}
+use Rattle.world_core.specs.Runs.{IsRunTo, step_word, HasNothingToStep}
+use Rattle.world_core.specs.Happenings.{IsIdle, NamesNoClient}
 use Rattle.world_core.proofs.HoldingLaws.{held_by_none}
 
 -- a word leaves the world as it is
@@ -55,6 +57,27 @@ idle_done w c finish word is free = subst (λ (word : LineWord). Does w w (Word 
   said true h = none_in_hand w h c free
   said false h = none_in_hand w h c free
 
+-- a `step` or `finish` line of a node or an asynchronous operation
+pub idle_of_none : (w : World) (who : Who) (finish : Bool) → NamesNoClient who → Does w w (Word who (step_word finish) Idle)
+idle_of_none w who finish none = record {
+  due_is = λ m s f. subst (λ m. IsWord m who (step_word finish) Idle) (sym s.same) (said who finish none s.history);
+  shows = λ m s f. s;
+} where
+  said : (who : Who) (finish : Bool) → NamesNoClient who → (h : History) → IsWord (machine_of w h) who (step_word finish) Idle
+  said (Actor (Client c)) finish none h = absurd none
+  said (Actor (Node r)) true none h = refl
+  said (Actor (Node r)) false none h = refl
+  said (Call call) true none h = refl
+  said (Call call) false none h = refl
+
+-- and its answer
+pub is_idle_of_none : (w : World) (who : Who) (finish : Bool) → NamesNoClient who → IsIdle who finish w w (Word who (step_word finish) Idle)
+is_idle_of_none w who finish none = record { none = nothing who none; word = (refl, refl, refl); does = idle_of_none w who finish none } where
+  nothing : (who : Who) → NamesNoClient who → HasNothingToStep who w
+  nothing (Actor (Client c)) none = absurd none
+  nothing (Actor (Node r)) none = refl
+  nothing (Call call) none = tt
+
 -- ---- the first nodes come up
 
 -- with no label yet the record is the empty one
@@ -65,10 +88,10 @@ none_under : (e : Option Entry) (r : ℕ) (x y : Option ℕ) → e ≡ None → 
 none_under None r x y is = refl
 none_under (Some e) r x y is = absurd (cc is)
 
--- the first node comes up in a cluster in which nothing has happened
-pub nodes_done : (w : World) (n : ℕ) (R : RecordState) → n ≡ 1 → w.cluster ≡ empty_record → R ≡ brought_up n w.cluster → Does w (record w { cluster = R }) (Nodes n)
-nodes_done w n R one empty R_is = subst (λ (R : RecordState). Does w (record w { cluster = R }) (Nodes n)) (sym R_is) (record {
-  due_is = λ m s f. (omega (arith, one), omega (arith, one), ap (λ (m : Machine). m.cluster.up) s.same ∙ ap (λ (R : RecordState). R.up) empty);
+-- the first nodes come up in a cluster in which nothing has happened
+pub nodes_done : (w : World) (n : ℕ) (R : RecordState) → 0 < n → n ≤ nodes_max → w.cluster ≡ empty_record → R ≡ brought_up n w.cluster → Does w (record w { cluster = R }) (Nodes n)
+nodes_done w n R some few empty R_is = subst (λ (R : RecordState). Does w (record w { cluster = R }) (Nodes n)) (sym R_is) (record {
+  due_is = λ m s f. (some, few, ap (λ (m : Machine). m.cluster.up) s.same ∙ ap (λ (R : RecordState). R.up) empty);
   shows = λ m s f. record {
     history = s.history;
     same = ap (λ m. after m (Nodes n)) s.same ∙ (λ i. record (machine_of (record w { cluster = brought_up n w.cluster }) s.history) { reserved = λ k r. same k r i });

@@ -71,6 +71,11 @@ pub record IsStep (c : ℕ) (old new : World) (label : Label) : Type 0 where
   pub hands : new.hands ≡ slice_set old.hands c (left end next)
   pub does : Does old new label
 
+-- a node, or an asynchronous operation: neither has anything to step yet
+abbrev pub NamesNoClient : Who → Type 0
+NamesNoClient (whos.Actor (Client c)) = ⊥
+NamesNoClient who = Unit {0}
+
 -- a word says that nothing is in hand to step
 pub record IsIdle (who : Who) (finish : Bool) (old new : World) (label : Label) : Type 0 where
   pub none : HasNothingToStep who old

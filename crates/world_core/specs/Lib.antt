@@ -5,6 +5,7 @@ pub mod LiveRooms
 pub mod TableView
 pub mod NewTable
 pub mod Freeing
+pub mod Listing
 pub mod Holding
 pub mod Reserving
 pub mod CallStates

@@ -15,6 +15,7 @@ mod one_step;
 mod open_call;
 mod reading;
 mod replica;
+mod showing;
 mod steps;
 mod tables;
 mod update_call;

@@ -140,6 +140,14 @@ impl Nodes {
         }
     }
 
+    /// The replica that a node keeps of a checkpoint, complete or reserved.
+    pub fn find(&self, r: NodeId, ckpt: CkptId) -> Option<&Replica>
+        requires { r < nodes_max }
+        ensures { MatchOption result (replica_in self.now ckpt r ≡ None) (λ replica. replica_in self.now ckpt r ≡ Some replica.now) }
+    {
+        self.list[r as usize].find(ckpt)
+    }
+
     /// A node takes all the storage of a replica, and opens it; what is reserved already stays.
     pub fn reserve(
         &mut self,

@@ -19,7 +19,7 @@ ghost use Rattle.world_core.specs.Reserving.{IsReservedAt};
 ghost use Rattle.world_core.specs.Runs.{step_word};
 ghost use Rattle.ckpt_machine.specs.Facts.{IsReservable};
 ghost use Rattle.world_core.specs.Shows.{IsShown, HasNumbersLeft, hand_at};
-ghost use Rattle.world_core.specs.Happenings.{Adds, rooms_in, IsNext, IsStep, IsIdle};
+ghost use Rattle.world_core.specs.Happenings.{Adds, rooms_in, IsNext, IsStep, IsIdle, NamesNoClient};
 ghost use Rattle.ckpt_types.specs.declared.identities.CallId.{CallId};
 ghost use Rattle.ckpt_types.specs.declared.sections.Choice.{Choice};
 ghost use Rattle.ckpt_types.specs.Limits.{client_numbers, nodes_max, places_max};
@@ -51,12 +51,12 @@ impl World {
         requires shown { IsShown self.old }
         requires roomy { HasNumbersLeft self.old }
         requires spare { 1 ≤ log.old.spare }
-        ensures ok { OnOk result (Adds log.old log.new (λ label. IsStep c self.old self.new label ⊎ IsIdle c finish self.old self.new label)) }
+        ensures ok { OnOk result (Adds log.old log.new (λ label. IsStep c self.old self.new label ⊎ IsIdle (whos.Actor (Client c)) finish self.old self.new label)) }
         ensures err { OnErr result ((self.new ≡ self.old) × (log.new.labels ≡ log.old.labels)) }
     {
         let next = match self.hands.find(c) {
             None => {
-                log.push(idle(c, finish));
+                log.push(idle_label(Who::Actor(ActorName::Client(c)), finish));
                 return Ok(());
             }
             Some(hand) => hand.driver.next(&self.cluster, self.rooms(c)),
@@ -84,6 +84,15 @@ impl World {
                 Ok(())
             }
         }
+    }
+
+    /// A word says that nothing is in hand to step.
+    pub(crate) fn idle(&self, who: Who, finish: bool, log: &mut RunLog)
+        requires no_client { NamesNoClient who }
+        requires spare { 1 ≤ log.old.spare }
+        ensures { Adds log.old log.new (IsIdle who finish self.now self.now) }
+    {
+        log.push(idle_label(who, finish));
     }
 
     // What the client's tables have a free place for.
@@ -367,15 +376,15 @@ impl World {
     }
 }
 
-fn idle(c: u8, finish: bool) -> Label
-    ensures { result ≡ labels.Word (whos.Actor (Client c)) (step_word finish) Idle }
+fn idle_label(who: Who, finish: bool) -> Label
+    ensures { result ≡ labels.Word who (step_word finish) Idle }
 {
     let word = if finish {
         LineWord::Finish
     } else {
         LineWord::Step
     };
-    Label::Word(Who::Actor(ActorName::Client(c)), word, Said::Idle)
+    Label::Word(who, word, Said::Idle)
 }
 
 // What a step of the record makes of its client's table.

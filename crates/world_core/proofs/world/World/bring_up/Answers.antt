@@ -6,5 +6,5 @@ pub returns : goal.returns
 returns c = record {
   label = _;
   labels = c.push.ensures.labels;
-  is = record { label_is = refl; hands = refl; does = nodes_done c.args.self.now c.args.n c.bring_up.new.self c.requires.first c.requires.empty c.bring_up.ensures };
+  is = record { label_is = refl; hands = refl; does = nodes_done c.args.self.now c.args.n c.bring_up.new.self c.requires.some c.requires.few c.requires.empty c.bring_up.ensures };
 }

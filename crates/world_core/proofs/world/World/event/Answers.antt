@@ -1,5 +1,6 @@
 use Rattle.std.proofs.Common.{ap, ◌∙◌, ◌++◌, ◌∷◌, []}
 use Rattle.world_core.proofs.Events.{run_with, happens_with, nearer_with}
+use Rattle.ckpt_machine.proofs.AllOrNone.{on_all_or_none}
 use Rattle.ckpt_machine.proofs.RefusedRuns.{run_leaves}
 use Rattle.world_core.proofs.Running.{shown, roomy}
 use Rattle.world_core.proofs.world.World.event.Goals as goal
@@ -27,7 +28,14 @@ returns-clause-happens c =
 pub returns-clause-refused : goal.returns-clause-refused
 returns-clause-refused c =
     let added = c.in_ok-happen.ensures.ok in
-    run_leaves c.args.log.now.labels c.happen.new.log.labels
+    run_leaves c.happen.new.log.labels
+    (run_with c.args.event c.args.self.now c.happen.new.self c.args.log.now.labels c.happen.new.log.labels added.label c.requires added.is
+    (added.labels ∙ ap (λ labels. labels ++ added.label ∷ []) c.reserve.ensures.labels)).run
+
+pub returns-clause-all_or_none : goal.returns-clause-all_or_none
+returns-clause-all_or_none c =
+    let added = c.in_ok-happen.ensures.ok in
+    on_all_or_none c.happen.new.log.labels
     (run_with c.args.event c.args.self.now c.happen.new.self c.args.log.now.labels c.happen.new.log.labels added.label c.requires added.is
     (added.labels ∙ ap (λ labels. labels ++ added.label ∷ []) c.reserve.ensures.labels)).run
 
