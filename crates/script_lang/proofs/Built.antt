@@ -16,10 +16,10 @@ use Rattle.script_lang.specs.declared.forms.LineWord.{LineWord}
 use Rattle.script_lang.specs.declared.forms.LineWord.TheVariants as word
 use Rattle.script_lang.specs.declared.lines.Line.{Line}
 use Rattle.script_lang.specs.declared.lines.Line.TheVariants as lines
-use Rattle.script_lang.specs.Table.{Values, Told, form, is_later, attributes, attributes_of, io_group, io_element, read_group, read_element}
+use Rattle.script_lang.specs.Table.{Values, Told, form, is_later, begun, attributes, attributes_of, io_group, io_element, read_group, read_element}
 use Rattle.script_lang.specs.Grammar.{marks_of, moment_of, moment_after, order_fault, is_nodes, goes_back, is_later_line, is_later_declared, is_later_attributes, asked_in}
 use Rattle.script_lang.specs.Scripts.{FitAll, FitMore, FitGroups, FitTold, IsLine, Orderly, IsScript}
-use Rattle.script_lang.specs.BuiltScripts.{no_callbacks, IsBuiltDeclared, AreBuiltAttributes, IsIoElement, IsReadElement, AreWrites, AreReads, IsBuiltLine, moment_behind, AreBuiltLines, IsOneNode, IsOneNodeFirst, IsBuiltScript}
+use Rattle.script_lang.specs.BuiltScripts.{no_callbacks, IsBuiltDeclared, AreBuiltAttributes, IsIoElement, IsReadElement, AreWrites, AreReads, IsBuiltLine, moment_behind, AreBuiltLines, AreFirstNodes, AreNodesFirst, IsBuiltScript}
 
 -- WHAT THE TESTS OF THE NARROWER FORMS TELL
 
@@ -69,7 +69,7 @@ later_moment : (t u : ℤ) → IsMoment u → int_lt u t ≡ false → (t ≤ℤ
 later_moment t (pos n) f h = (grind (arith, ints, h), grind (arith, ints, f))
 later_moment t (negsuc n) f h = absurd f
 
--- ONE CASE FOR EACH WORD: a line of a form that is built is a call or a moment, or the nodes
+-- ONE CASE FOR EACH WORD: a line of a form that is built asks for what is built, or brings the nodes up
 
 line_built : (t : ℤ) (k : LineWord) (v : Told (form k).shape) → FitTold (form k).shape v → is_later k ≡ false → is_nodes ((form k).line v) ≡ false → goes_back ((form k).line v) t ≡ false → is_later_line ((form k).line v) ≡ false → asked_in ((form k).line v) ≤ script_reads_max → IsBuiltLine t ((form k).line v)
 line_built t word.Nodes v f b n m h asked = absurd (cc n)
@@ -89,26 +89,63 @@ line_built t word.EndIter v f b n m h asked = (omega (arith, f.0), omega (arith,
 line_built t word.Write v f b n m h asked = (omega (arith, f.0.0), (omega (arith, f.0.1.0), writes v.1 f.1 f.2 f.3))
 line_built t word.Over v f b n m h asked = (omega (arith, f.0), (omega (arith, f.1.0), f.1.1.0.1))
 line_built t word.Read v f b n m h asked = (omega (arith, f.0.0), (omega (arith, f.0.1.0), reads v.1 f.1 f.2 f.3 asked))
+line_built t word.Step v f b n m h asked = (f.0, omega (arith, f.1.0.0), f.1.0.1)
+line_built t word.Finish v f b n m h asked = f.0
 line_built t word.At v f b n m h asked = later_moment t v.0 f.0 m
+line_built t word.Show v f b n m h asked = tt
 line_built t _ v f b n m h asked = absurd (cc b)
 
-node_built : (k : LineWord) (v : Told (form k).shape) → FitTold (form k).shape v → is_later k ≡ false → is_nodes ((form k).line v) ≡ true → is_later_line ((form k).line v) ≡ false → IsOneNode ((form k).line v)
-node_built word.Nodes v f b n h = grind (arith, h, f.0.0)
-node_built _ v f b n h = absurd (cc n)
+node_built : (k : LineWord) (v : Told (form k).shape) → FitTold (form k).shape v → is_nodes ((form k).line v) ≡ true → AreFirstNodes ((form k).line v)
+node_built word.Nodes v f n = (omega (arith, f.0.0), f.0.1)
+node_built _ v f n = absurd (cc n)
+
+-- THE SAME LINE, BEGUN: what is told of it stays
+
+begun_nodes : (x : Line) → is_nodes (begun x) ≡ is_nodes x
+begun_nodes (lines.Call c o) = refl
+begun_nodes _ = refl
+
+begun_back : (x : Line) (t : ℤ) → goes_back (begun x) t ≡ goes_back x t
+begun_back (lines.Call c o) t = refl
+begun_back _ t = refl
+
+begun_later : (x : Line) → is_later_line (begun x) ≡ is_later_line x
+begun_later (lines.Call c o) = refl
+begun_later _ = refl
+
+begun_asked : (x : Line) → asked_in (begun x) ≡ asked_in x
+begun_asked (lines.Call c o) = refl
+begun_asked _ = refl
+
+begun_built : (t : ℤ) (x : Line) → IsBuiltLine t x → IsBuiltLine t (begun x)
+begun_built t (lines.Call c o) h = h
+begun_built t (lines.Copy n) h = absurd h
+begun_built t _ h = h
+
+begun_first : (x : Line) → AreFirstNodes x → AreFirstNodes (begun x)
+begun_first (lines.Call c o) h = absurd h
+begun_first (lines.Copy n) h = absurd h
+begun_first _ h = h
 
 -- FOR ALL AT ONCE
 
 as_line : (t : ℤ) (x : Line) → IsLine x → is_nodes x ≡ false → goes_back x t ≡ false → is_later_line x ≡ false → asked_in x ≤ script_reads_max → IsBuiltLine t x
-as_line t x f n m h asked = elim f.4 [
-  | inl e ↦ subst (IsBuiltLine t) (sym e) (line_built t f.0 f.1 f.2 f.3 (ap is_nodes (sym e) ∙ n) (ap (λ y. goes_back y t) (sym e) ∙ m) (ap is_later_line (sym e) ∙ h) (subst (λ y. asked_in y ≤ script_reads_max) e asked))
-  | inr p ↦ absurd (cc p.0)
-]
+as_line t x f n m h asked =
+    let y = (form f.0).line f.1 in
+    elim f.4 [
+      | inl e ↦ subst (IsBuiltLine t) (sym e) (line_built t f.0 f.1 f.2 f.3 (ap is_nodes (sym e) ∙ n) (ap (λ z. goes_back z t) (sym e) ∙ m) (ap is_later_line (sym e) ∙ h) (subst (λ z. asked_in z ≤ script_reads_max) e asked))
+      | inr p ↦
+          let plain : asked_in y ≤ script_reads_max = subst (λ n. n ≤ script_reads_max) (ap asked_in p.1 ∙ begun_asked y) asked in
+          subst (IsBuiltLine t) (sym p.1) (begun_built t y (line_built t f.0 f.1 f.2 f.3 (sym (ap is_nodes p.1 ∙ begun_nodes y) ∙ n) (sym (ap (λ z. goes_back z t) p.1 ∙ begun_back y t) ∙ m) (sym (ap is_later_line p.1 ∙ begun_later y) ∙ h) plain))
+    ]
 
-as_node : (x : Line) → IsLine x → is_nodes x ≡ true → is_later_line x ≡ false → IsOneNode x
-as_node x f n h = elim f.4 [
-  | inl e ↦ subst IsOneNode (sym e) (node_built f.0 f.1 f.2 f.3 (ap is_nodes (sym e) ∙ n) (ap is_later_line (sym e) ∙ h))
-  | inr p ↦ absurd (cc p.0)
-]
+as_node : (x : Line) → IsLine x → is_nodes x ≡ true → AreFirstNodes x
+as_node x f n =
+    let y = (form f.0).line f.1 in
+    elim f.4 [
+      | inl e ↦ subst AreFirstNodes (sym e) (node_built f.0 f.1 f.2 (ap is_nodes (sym e) ∙ n))
+      | inr p ↦ subst AreFirstNodes (sym p.1) (begun_first y (node_built f.0 f.1 f.2 (sym (ap is_nodes p.1 ∙ begun_nodes y) ∙ n)))
+    ]
 
 no_nodes_fault : (b : Bool) (o : Option Reason) → (if b then Some reasons.Nodes else o) ≡ None → (b ≡ false) × (o ≡ None)
 no_nodes_fault true o e = absurd (cc)
@@ -149,11 +186,11 @@ lines_built y earlier (x ∷ xs) o =
     let p = later_nodes y earlier x o.1 in
     (as_line now x o.0 p.0 p.1 o.2 o.3, subst (λ t. AreBuiltLines t xs) (sym (moment_behind-is now x)) (lines_built x (y ∷ earlier) xs o.4))
 
-first_built : (xs : List Line) → IsScript xs → IsOneNodeFirst xs
+first_built : (xs : List Line) → IsScript xs → AreNodesFirst xs
 first_built [] o = tt
 first_built (x ∷ xs) o =
     let n = first_nodes x o.1 in
-    (as_node x o.0 n o.2, subst (λ t. AreBuiltLines t xs) (nodes_moment x n) (lines_built x [] xs o.4))
+    (as_node x o.0 n, subst (λ t. AreBuiltLines t xs) (nodes_moment x n) (lines_built x [] xs o.4))
 
 pub built_script : (xs : List Line) → IsScript xs → length xs ≤ script_lines_max → IsBuiltScript xs
 built_script xs o few = (first_built xs o, few)

@@ -1,5 +1,5 @@
 -- A line is read again from its words. The lemmas by cases on the first word have one case for each row of the table.
-use Rattle.std.proofs.Common.{◌≡◌, refl, sym, ◌∙◌, ap, subst, ℕ, Bool, true, false, cond, not, ◌||◌, ◌==◌, List, [], ◌∷◌, ◌++◌, length, map, Option, Some, None, Result, Ok, Err, arith, rules, bytes_eq, codes, ◌⊎◌, inl, inr, flat_map}
+use Rattle.std.proofs.Common.{◌≡◌, refl, sym, ◌∙◌, ap, subst, ℕ, Bool, true, false, cond, not, ◌==◌, List, [], ◌∷◌, ◌++◌, length, map, Option, Some, None, Result, Ok, Err, arith, rules, bytes_eq, codes, ◌⊎◌, inl, inr, flat_map}
 use Rattle.script_words.specs.declared.reason.Reason.{Reason}
 use Rattle.script_words.specs.declared.reason.Reason.TheVariants as reasons
 use Rattle.script_lang.specs.declared.forms.LineWord.{LineWord}
@@ -7,7 +7,7 @@ use Rattle.script_lang.specs.declared.forms.LineWord.TheVariants as word
 use Rattle.script_lang.specs.declared.lines.Line.{Line}
 use Rattle.script_words.specs.Reasons.{◌>>=◌}
 use Rattle.script_words.specs.Words.{Class}
-use Rattle.script_lang.specs.Table.{Values, Shape, just, maybe, times, Told, form, told, counts, line_by, said_by, letters, word_of, word_of_first, word_of_second, word_of_third, is_later, begin_is_later, may_begin, plain, begun, begun_by, begin, line_in, attributes, io_element, read_element, io_group, read_group}
+use Rattle.script_lang.specs.Table.{Values, Shape, just, maybe, times, Told, form, told, counts, line_by, said_by, letters, word_of, word_of_first, word_of_second, word_of_third, may_begin, plain, begun, begun_by, begin, line_in, attributes, io_element, read_element, io_group, read_group}
 use Rattle.script_lang.specs.Spelling.{spell_all, spell_more, spell_told, Parts, parts, words_by, is_begin, line_words, io_values, read_values}
 use Rattle.script_lang.specs.Grammar.{not_built, is_later_word, begins_later}
 use Rattle.script_lang.specs.Scripts.{FitAll, FitMore, FitGroups, FitTold, IsLine}
@@ -161,7 +161,7 @@ line_words_begun k v h =
 
 -- how a line is of its form: plain, or behind `begin`
 abbrev Said : Line → (k : LineWord) → Told (form k).shape → Type 0
-Said x k v = (x ≡ (form k).line v) ⊎ ((begin_is_later ≡ false) × (may_begin k ≡ true) × (x ≡ begun ((form k).line v)))
+Said x k v = (x ≡ (form k).line v) ⊎ ((may_begin k ≡ true) × (x ≡ begun ((form k).line v)))
 
 -- a line is read again from its words
 pub line_again : (x : Line) → IsLine x → line_in (line_words x) ≡ Ok x
@@ -170,11 +170,7 @@ line_again x f = go f.4
   where
     go : Said x f.0 f.1 → line_in (line_words x) ≡ Ok x
     go (inl e) = subst (λ y. line_in (line_words y) ≡ Ok y) (sym e) (rw (line_words_plain f.0 f.1, not_begin f.0, word_again f.0) (by_again f.0 f.1 f.2))
-    go (inr p) = subst (λ y. line_in (line_words y) ≡ Ok y) (sym p.2) (rw (line_words_begun f.0 f.1 p.1, word_again f.0, p.1, by_again f.0 f.1 f.2) refl)
-
-neither : (a b : Bool) → a ≡ false → b ≡ false → (a || b) ≡ false
-neither true b h k = absurd (cc)
-neither false b h k = k
+    go (inr p) = subst (λ y. line_in (line_words y) ≡ Ok y) (sym p.1) (rw (line_words_begun f.0 f.1 p.0, word_again f.0, p.0, by_again f.0 f.1 f.2) refl)
 
 -- and its words are of a line that is built
 pub built : (x : Line) → IsLine x → not_built (line_words x) ≡ false
@@ -182,7 +178,7 @@ built x f = go f.4
   where
     go : Said x f.0 f.1 → not_built (line_words x) ≡ false
     go (inl e) = subst (λ ws. not_built ws ≡ false) (sym (ap line_words e ∙ line_words_plain f.0 f.1)) (rw (not_begin f.0, word_again f.0) (f.3))
-    go (inr p) = subst (λ ws. not_built ws ≡ false) (sym (ap line_words p.2 ∙ line_words_begun f.0 f.1 p.1)) (ap (λ o. begin_is_later || is_later_word o) (word_again f.0) ∙ neither begin_is_later (is_later f.0) p.0 f.3)
+    go (inr p) = subst (λ ws. not_built ws ≡ false) (sym (ap line_words p.1 ∙ line_words_begun f.0 f.1 p.0)) (ap is_later_word (word_again f.0) ∙ f.3)
 
 pub picked : {A : Type 0} (b : Bool) (x y : Result A Reason) (z : A) → cond b x y ≡ Ok z → ((b ≡ true) × (x ≡ Ok z)) ⊎ ((b ≡ false) × (y ≡ Ok z))
 picked true x y z e = inl (refl, e)
@@ -204,27 +200,21 @@ plain_said (Some k) ws x b e =
     let q = by_said k ws x e in
     (k, q.0, q.1, b, inl q.2)
 
-begun_said : (o : Option LineWord) (ws : List (List ℕ)) (x : Line) → begin_is_later ≡ false → is_later_word o ≡ false → begun_by o ws ≡ Ok x → IsLine x
+begun_said : (o : Option LineWord) (ws : List (List ℕ)) (x : Line) → is_later_word o ≡ false → begun_by o ws ≡ Ok x → IsLine x
 unfolding said_by
-begun_said None ws x h b e = absurd (cc)
-begun_said (Some k) ws x h b e =
+begun_said None ws x b e = absurd (cc)
+begun_said (Some k) ws x b e =
     elim (picked (may_begin k) (line_by (form k) ws >>= λ y. Ok (begun y)) (Err reasons.Word) x e) [
       | inl r ↦
           let s = bind_ok (line_by (form k) ws) _ x r.1 in
           let q = by_said k ws s.0 s.1 in
-          (k, q.0, q.1, b, inr (h, r.0, sym (ok_inj (begun s.0) x s.2) ∙ ap begun q.2))
+          (k, q.0, q.1, b, inr (r.0, sym (ok_inj (begun s.0) x s.2) ∙ ap begun q.2))
       | inr r ↦ absurd (cc r.1)
     ]
 
-not_either : (a b : Bool) → (a || b) ≡ false → (a ≡ false) × (b ≡ false)
-not_either true b h = absurd (cc)
-not_either false b h = (refl, h)
-
 begin_said : (ws : List (List ℕ)) (x : Line) → begins_later ws ≡ false → begin ws ≡ Ok x → IsLine x
 begin_said [] x b e = absurd (cc e)
-begin_said (w ∷ ws) x b e =
-    let n = not_either begin_is_later (is_later_word (word_of w)) b in
-    begun_said (word_of w) ws x n.0 n.1 e
+begin_said (w ∷ ws) x b e = begun_said (word_of w) ws x b e
 
 picked_both : (b m n : Bool) (x y : Result Line Reason) (z : Line) → cond b m n ≡ false → cond b x y ≡ Ok z → ((m ≡ false) × (x ≡ Ok z)) ⊎ ((n ≡ false) × (y ≡ Ok z))
 picked_both true m n x y z h e = inl (h, e)
@@ -284,4 +274,4 @@ words_plain x f = go f.4
 
     go : Said x f.0 f.1 → AllPlain (line_words x) × (no_hash (line_words x) ≡ true)
     go (inl e) = subst (λ ws. AllPlain ws × (no_hash ws ≡ true)) (sym (ap line_words e ∙ line_words_plain f.0 f.1)) ((letters_plain f.0, told_so), letters_start f.0)
-    go (inr p) = subst (λ ws. AllPlain ws × (no_hash ws ≡ true)) (sym (ap line_words p.2 ∙ line_words_begun f.0 f.1 p.1)) ((record { graphic = refl; some = omega arith }, (letters_plain f.0, told_so)), refl)
+    go (inr p) = subst (λ ws. AllPlain ws × (no_hash ws ≡ true)) (sym (ap line_words p.1 ∙ line_words_begun f.0 f.1 p.0)) ((record { graphic = refl; some = omega arith }, (letters_plain f.0, told_so)), refl)

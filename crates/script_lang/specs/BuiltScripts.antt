@@ -3,14 +3,16 @@ use Rattle.std.specs.Prelude.{◌≡◌, ◌≢◌, ◌+◌, ◌^◌, ◌-◌, �
 use Rattle.std.specs.List.{All}
 use Rattle.ckpt_types.specs.declared.attributes.CreationAttributes.{CreationAttributes}
 use Rattle.ckpt_types.specs.declared.calls.CallbackSet.{CallbackSet}
+use Rattle.ckpt_types.specs.declared.identities.ActorName.TheVariants as actor
+use Rattle.ckpt_types.specs.declared.identities.Who.{Who}
 use Rattle.ckpt_types.specs.declared.operation.Op.{Op}
 use Rattle.ckpt_types.specs.declared.operation.Op.TheVariants as ops
 use Rattle.ckpt_types.specs.declared.update.IoElement.{IoElement}
 use Rattle.ckpt_types.specs.declared.update.ReadElement.{ReadElement}
 use Rattle.ckpt_types.specs.declared.update.Update.{Update}
 use Rattle.ckpt_types.specs.declared.update.Update.TheVariants as updates
-use Rattle.ckpt_types.specs.Limits.{nodes_max, places_max, client_numbers, section_id_max, line_elements_max, script_reads_max, script_lines_max, end_of_time, wr_active_replica, wr_active_replica_weak, checkpoint_collocated}
-use Rattle.script_words.specs.Fitting.{IsNewId, IsTime, IsVersion}
+use Rattle.ckpt_types.specs.Limits.{nodes_max, places_max, client_numbers, section_id_max, line_elements_max, line_steps_max, script_reads_max, script_lines_max, end_of_time, wr_active_replica, wr_active_replica_weak, checkpoint_collocated}
+use Rattle.script_words.specs.Fitting.{IsNewId, IsTime, IsVersion, IsWho}
 use Rattle.script_lang.specs.declared.lines.Line.{Line}
 use Rattle.script_lang.specs.declared.lines.Line.TheVariants as lines
 
@@ -92,10 +94,18 @@ IsBuiltOp (ops.Over place update) = (place < places_max) × IsOverwriting update
 IsBuiltOp (ops.Read place elements) = (place < places_max) × AreReads elements
 IsBuiltOp _ = ⊥
 
--- at this moment, a call of a client, begun and stepped to its end; or a moment that is no earlier, before the end of time
+-- whose call may be stepped: a client's or a node's, for the one that it has in hand, or a call of a client by its number
+abbrev pub IsStepped : Who → Type 0
+IsStepped who = IsWho who
+
+-- at this moment, a call of a client, stepped to its end or only begun; steps of a call, so many or to its end; a moment that is no earlier, before the end of time; or the replicas of a checkpoint
 abbrev pub IsBuiltLine : ℤ → Line → Type 0
 IsBuiltLine t (lines.Call client op) = (client < client_numbers) × IsBuiltOp op
+IsBuiltLine t (lines.Begin (actor.Client client) op) = (client < client_numbers) × IsBuiltOp op
+IsBuiltLine t (lines.Step who steps) = IsStepped who × (0 < steps) × (steps ≤ line_steps_max)
+IsBuiltLine t (lines.Finish who) = IsStepped who
 IsBuiltLine t (lines.At u) = (t ≤ℤ u) × (u ≤ℤ pos (nat_abs end_of_time - 1))
+IsBuiltLine t (lines.Show k) = ⊤
 IsBuiltLine t _ = ⊥
 
 -- the moment behind a line
@@ -108,16 +118,16 @@ abbrev pub AreBuiltLines : ℤ → List Line → Type 0
 AreBuiltLines t [] = ⊤
 AreBuiltLines t (x ∷ xs) = IsBuiltLine t x × AreBuiltLines (moment_behind t x) xs
 
--- one node comes up
-abbrev pub IsOneNode : Line → Type 0
-IsOneNode (lines.Nodes count) = count ≡ 1
-IsOneNode _ = ⊥
+-- the first nodes come up, as many as there may be
+abbrev pub AreFirstNodes : Line → Type 0
+AreFirstNodes (lines.Nodes count) = (0 < count) × (count ≤ nodes_max)
+AreFirstNodes _ = ⊥
 
--- one node first, and then calls and moments alone, from the moment 0 on; or nothing
-abbrev pub IsOneNodeFirst : List Line → Type 0
-IsOneNodeFirst [] = ⊤
-IsOneNodeFirst (x ∷ xs) = IsOneNode x × AreBuiltLines (pos 0) xs
+-- the nodes first, and then lines as above alone, from the moment 0 on; or nothing
+abbrev pub AreNodesFirst : List Line → Type 0
+AreNodesFirst [] = ⊤
+AreNodesFirst (x ∷ xs) = AreFirstNodes x × AreBuiltLines (pos 0) xs
 
 -- A SCRIPT OF WHAT IS BUILT, of no more lines than a script may have
 abbrev pub IsBuiltScript : List Line → Type 0
-IsBuiltScript xs = IsOneNodeFirst xs × (length xs ≤ script_lines_max)
+IsBuiltScript xs = AreNodesFirst xs × (length xs ≤ script_lines_max)

@@ -13,7 +13,7 @@ use Rattle.script_lang.specs.declared.forms.LineWord.{LineWord}
 use Rattle.script_lang.specs.declared.lines.Line.{Line}
 use Rattle.script_lang.specs.declared.lines.Line.TheVariants as lines
 use Rattle.script_lang.specs.declared.marks.Marks.{Marks}
-use Rattle.script_lang.specs.Table.{word_of, is_later, begin_is_later, line_in}
+use Rattle.script_lang.specs.Table.{word_of, is_later, line_in}
 
 -- the lines, each ended by the byte 10; the last may lack it
 abbrev pub text_lines : List ℕ → List (List ℕ)
@@ -36,10 +36,10 @@ abbrev pub is_later_word : Option LineWord → Bool
 is_later_word None = false
 is_later_word (Some k) = is_later k
 
--- the same of the word behind `begin`
+-- the same of the word behind `begin`, where there is one
 abbrev pub begins_later : List (List ℕ) → Bool
-begins_later [] = begin_is_later
-begins_later (w ∷ ws) = begin_is_later || is_later_word (word_of w)
+begins_later [] = false
+begins_later (w ∷ ws) = is_later_word (word_of w)
 
 -- a line that is not built by its first word, or by the word behind `begin`
 abbrev pub not_built : List (List ℕ) → Bool
@@ -187,9 +187,8 @@ is_later_op (ops.Open place name flags timeout attributes) = is_later_attributes
 is_later_op (ops.OpenAsync place invocation name flags attributes) = is_later_attributes attributes
 is_later_op _ = false
 
--- more than one node, or a call as above
+-- a call as above, plain or behind `begin`
 abbrev pub is_later_line : Line → Bool
-is_later_line (lines.Nodes n) = nat_le 2 n
 is_later_line (lines.Call client op) = is_later_op op
 is_later_line (lines.Begin actor op) = is_later_op op
 is_later_line _ = false

@@ -5,7 +5,7 @@ use Rattle.script_words.specs.Fitting.{Fits}
 use Rattle.script_words.specs.Words.{Class}
 use Rattle.script_lang.specs.declared.forms.LineWord.{LineWord}
 use Rattle.script_lang.specs.declared.lines.Line.{Line}
-use Rattle.script_lang.specs.Table.{Values, Shape, just, maybe, times, Told, form, is_later, begin_is_later, may_begin, begun}
+use Rattle.script_lang.specs.Table.{Values, Shape, just, maybe, times, Told, form, is_later, may_begin, begun}
 use Rattle.script_lang.specs.Grammar.{marks_of, order_fault, is_later_line, asked_in, block_of}
 
 -- each value is one that a word of its class can say
@@ -29,7 +29,7 @@ FitTold (times cs ds) v = FitAll cs v.0 × FitGroups ds v.1 × (0 < length v.1) 
 
 -- a line of a form that is built, plain or behind `begin`
 abbrev pub IsLine : Line → Type 0
-IsLine x = (k : LineWord) × (v : Told (form k).shape) × FitTold (form k).shape v × (is_later k ≡ false) × ((x ≡ (form k).line v) ⊎ ((begin_is_later ≡ false) × (may_begin k ≡ true) × (x ≡ begun ((form k).line v))))
+IsLine x = (k : LineWord) × (v : Told (form k).shape) × FitTold (form k).shape v × (is_later k ≡ false) × ((x ≡ (form k).line v) ⊎ ((may_begin k ≡ true) × (x ≡ begun ((form k).line v))))
 
 -- behind these lines, the latest first, each line is of its form, may stand where it stands and reads no more bytes than a script may ask for, and no block is left open
 abbrev pub Orderly : List Line → List Line → Type 0

@@ -176,22 +176,15 @@ is_later word.Active = true
 is_later word.Sync = true
 is_later word.SyncAsync = true
 is_later word.Dispatch = true
-is_later word.Step = true
-is_later word.Finish = true
 is_later word.Copy = true
 is_later word.Fail = true
 is_later word.Join = true
 is_later word.Pull = true
 is_later word.Put = true
 is_later word.Propagate = true
-is_later word.Show = true
 is_later word.Race = true
 is_later word.End = true
 is_later _ = false
-
--- the same of the word `begin`
-abbrev pub begin_is_later : Bool
-begin_is_later = true
 
 -- what may stand behind `begin`: a call or a copying
 abbrev pub may_begin : LineWord → Bool

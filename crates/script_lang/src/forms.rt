@@ -8,9 +8,6 @@ use ckpt_types::{ActorName, Op};
 use script_words::{LineError, Reason};
 use std::alloc::Global;
 
-/// Whether `begin` is not built yet.
-pub(crate) const BEGIN_IS_LATER: bool = true;
-
 /// The first word of a line.
 #[derive(Clone, Copy, Debug)]
 pub(crate) enum LineWord {
@@ -178,15 +175,12 @@ pub fn is_later(word: LineWord) -> bool
             | LineWord::Sync
             | LineWord::SyncAsync
             | LineWord::Dispatch
-            | LineWord::Step
-            | LineWord::Finish
             | LineWord::Copy
             | LineWord::Fail
             | LineWord::Join
             | LineWord::Pull
             | LineWord::Put
             | LineWord::Propagate
-            | LineWord::Show
             | LineWord::Race
             | LineWord::End
     )

@@ -192,7 +192,6 @@ fn is_later_line(line: &Line) -> bool
     ensures { result ≡ spec_is_later_line line.now }
 {
     match line {
-        Line::Nodes(count) => 2 <= *count,
         Line::Call(_, op) => is_later_op(op),
         Line::Begin(_, op) => is_later_op(op),
         _ => false,

@@ -6,7 +6,7 @@ ghost use Rattle.script_words.specs.Reasons.{Reads};
 ghost use Rattle.script_lang.specs.Table.{texts};
 ghost use Rattle.script_lang.specs.Grammar.{text_lines, words_of, reading, some_line, is_empty, is_later_word as spec_is_later_word, begins_later as spec_begins_later, line_of as spec_line_of};
 
-use crate::forms::{BEGIN_IS_LATER, LineWord, begin_line, is_later, plain_line, says, word_named};
+use crate::forms::{LineWord, begin_line, is_later, plain_line, says, word_named};
 use crate::lines::Line;
 use memchr::memchr;
 use script_words::{LineError, Reason};
@@ -90,13 +90,13 @@ fn is_later_word(word: Option<LineWord>) -> bool
     }
 }
 
-// Whether `begin`, or a line of the first of these words behind it, is not built yet.
+// Whether the lines of the first of these words, which stand behind `begin`, are not built yet.
 fn begins_later(words: &[&[u8]]) -> bool
     ensures { result ≡ spec_begins_later (texts words.now) }
 {
     match words {
-        [] => BEGIN_IS_LATER,
-        [first, ..] => BEGIN_IS_LATER || is_later_word(word_named(first)),
+        [] => false,
+        [first, ..] => is_later_word(word_named(first)),
     }
 }
 

@@ -13,6 +13,8 @@ ok 1 => nodes 1
 ok 1 => nodes 1|
 ok 1 => |# one node||nodes 1|#||
 ok 1 => #nodes__1 \u{7f}|nodes 1
+ok 1 => nodes 2
+ok 1 => nodes 8
 ok 3 => nodes 1|client c99 n7 Z.255.0 none|client c0 n0 A.0.255 none
 ok 2 => nodes 1|open c0 h99 x 4294967295 -9223372036854775808
 ok 2 => nodes 1|open c0 h0 'a 0 0 4294967295 0 end 0 18446744073709551615 0
@@ -40,15 +42,24 @@ ok 5 => unlink c0 'ck|unlink c99 x
 ok 6 => retain c0 h0 5|retain c99 h99 end|retain c0 h1 -9223372036854775808
 ok 5 => finalize c0|finalize c99
 ok 5 => iter c0 i99 h0 18446744073709551615 -5|iter c99 i0 h99 0 end
-ok 7 => next c0 i0|next c99 i99|enditer c0 i0|enditer c99 i99";
+ok 7 => next c0 i0|next c99 i99|enditer c0 i0|enditer c99 i99
+ok 5 => begin client c99 n7 Z.255.0 none|begin finalize c99
+ok 5 => begin open c0 h1 'ck 7 end|begin open c0 h1 'ck 7 end 1 16 0 1 16 8
+ok 7 => begin close c99 h99|begin unlink c0 x|begin retain c0 h0 -1|begin status c0 h0
+ok 8 => begin create c0 h0 gen 5 'data|begin delete c0 h0 'id|begin expire c0 h0 'id end|begin write c0 h0 x 0 'a 'id 5 xFF|begin over c0 h0 x x
+ok 7 => begin read c0 h0 x 0 1 'id 0 16777215|begin iter c0 i99 h0 1 end|begin next c0 i0|begin enditer c0 i0
+ok 7 => step c0 1|step c99 1000000|step n0 2|step n7 999999
+ok 6 => step c0.1 1|step c0.10 1000000|step c99.4294967295 1
+ok 8 => finish c0|finish c99|finish n0|finish n7|finish c99.4294967295
+ok 5 => show K1|show K9999
+ok 8 => begin close c0 h0|at 5|step c0 1|at 6|finish c0";
 
 /// What is told of a script that is at fault, and the script.
 const FAULTS: &str = "\
 1 number => nodes 9
 1 number => nodes 0
 1 number => nodes 01
-1 not built => nodes 2
-1 not built => nodes 8
+1 number => nodes 10
 1 count => nodes
 1 count => nodes 1 1
 1 word => nodes__1
@@ -61,8 +72,13 @@ const FAULTS: &str = "\
 2 word => nodes 1|Nodes 1
 2 nodes => nodes 1|nodes 1
 2 nodes => nodes 1|nodes 2
+2 nodes => nodes 8|nodes 1
 1 nodes => client c0 n0 B.2.2 none
 1 nodes => client c0 n0 B.2.2 open
+1 nodes => begin close c0 h0
+1 nodes => step c0 1
+1 nodes => finish c0
+1 nodes => show K1
 5 count => # first||nodes 1||client c0 n0 B.2
 2 count => nodes 1|client c0 n0 B.2
 2 word => nodes 1|client c100 n8 B.2.2 none
@@ -77,9 +93,13 @@ const FAULTS: &str = "\
 2 count => nodes 1|at 1 2
 2 not built => nodes 1|race
 2 not built => nodes 1|race__1_
-2 not built => nodes 1|begin
-2 not built => nodes 1|begin write c0 h0 x 0 'a
-2 not built => nodes 1|copy|";
+2 not built => nodes 1|copy|
+2 count => nodes 1|begin
+2 word => nodes 1|begin_
+2 word => nodes 1|begin__copy n0
+2 not built => nodes 1|begin copy
+2 not built => nodes 1|begin copy__n0
+1 not built => begin copy n0";
 
 /// The same, of scripts behind the lines of `OPENED`.
 const FAULTS_BEHIND: &str = "\
@@ -111,17 +131,13 @@ const FAULTS_BEHIND: &str = "\
 4 count => status c0
 4 word => close c0 i0
 4 count => close c0
-4 not built => begin close c0 h0
 4 bytes => unlink c0 ck
 4 count => unlink c0 h0 'ck
-4 not built => begin unlink c0 'ck
 4 count => retain c0 h0
 4 word => retain c0 h100 5
 4 number => retain c0 h0 x5
-4 not built => begin retain c0 h0 5
 4 word => finalize n0
 4 count => finalize c0 h0
-4 not built => begin finalize c0
 4 word => iter c0 h0 i0 1 end
 4 count => iter c0 i0 h0 1
 4 number => iter c0 i0 h0 -1 end
@@ -135,7 +151,62 @@ const FAULTS_BEHIND: &str = "\
 4 count => over c0 h0 'a 'aaaaaaaaaaaaaaaaaaaaaaaaaaaaaaaaaaaaaaaaaaaaaaaaaaaaaaaaaaaaaaaa x
 4 word => over c0 h0 'a 'aaaaaaaaaaaaaaaaaaaaaaaaaaaaaaaaaaaaaaaaaaaaaaaaaaaaaaaaaaaaaaaa_
 4 word => over c0 h0 'a__'aaaaaaaaaaaaaaaaaaaaaaaaaaaaaaaaaaaaaaaaaaaaaaaaaaaaaaaaaaaaaaaa
-4 bytes => over c0 h0 'aaaaaaaaaaaaaaaaaaaaaaaaaaaaaaaaaaaaaaaaaaaaaaaaaaaaaaaaaaaaaaaa 'aaaaaaaaaaaaaaaaaaaaaaaaaaaaaaaaaaaaaaaaaaaaaaaaaaaaaaaaaaaaaaaa\u{7f}";
+4 bytes => over c0 h0 'aaaaaaaaaaaaaaaaaaaaaaaaaaaaaaaaaaaaaaaaaaaaaaaaaaaaaaaaaaaaaaaa 'aaaaaaaaaaaaaaaaaaaaaaaaaaaaaaaaaaaaaaaaaaaaaaaaaaaaaaaaaaaaaaaa\u{7f}
+4 word => begin begin
+4 word => begin begin close c0 h0
+4 word => begin nodes 2
+4 word => begin at 5
+4 word => begin step c0 1
+4 word => begin finish c0
+4 word => begin show K1
+4 word => begin foo
+4 word => begin Close c0 h0
+4 not built => begin copy n0
+4 not built => begin copy n8
+4 not built => begin sync c0 h0 0
+4 not built => begin openasync
+4 not built => begin race
+4 not built => begin client c1 n0 B.2.2 both
+4 not built => begin open c0 h0 'ck 7 end 2 16 0 1 16 8
+4 count => begin close c0
+4 word => begin close n0 h0
+4 word => begin close c0__h0
+4 count => begin client c1 n0 B.2.2
+4 word => begin client c1 n8 B.2.2 both
+4 number => begin open c0 h0 'ck 7 x 2 16 0 1 16 8
+4 bytes => begin write c0 h0 x 0 b
+4 reads => begin read c0 h0 x 0 16777217
+6 reads => begin read c0 h0 x 0 16777216|read c0 h0 x 0 0|begin read c1 h0 x 0 1
+4 number => step c0 0
+4 number => step c0 1000001
+4 number => step c0 01
+4 number => step c0 -1
+4 number => step c0 c0
+4 word => step h0 0
+4 word => step c100 1
+4 word => step n8 1
+4 word => step K1 1
+4 word => step c0.0 1
+4 word => step c0.01 1
+4 word => step c0. 1
+4 word => step c0.4294967296 1
+4 word => step c100.1 1
+4 word => step n0.1 1
+4 count => step
+4 count => step c0
+4 count => step c0 1 1
+4 count => finish
+4 count => finish c0 1
+4 word => finish h0
+4 word => finish c0.0
+4 word => finish n8
+4 count => show
+4 count => show K1 K2
+4 word => show K0
+4 word => show K01
+4 word => show K10000
+4 word => show k1
+4 word => show n0";
 
 /// A script, and its one spelling.
 const SPELLED: &str = "\
@@ -144,7 +215,9 @@ nodes 1|create c0 h0 'a 5 x4A|create c0 h1 gen 9223372036854775807 'b|at 7|#|at 
 nodes 1|expire c0 h0 'a 9223372036854775807|expire c0 h0 x -9|over c0 h0 'a x|over c0 h0 x '~ => nodes 1|expire c0 h0 x61 end|expire c0 h0 x -9|over c0 h0 x61 x|over c0 h0 x x7e|
 nodes 1|status c9 h8|#|iter c0 i1 h2 3 9223372036854775807|next c0 i1|enditer c0 i1 => nodes 1|status c9 h8|iter c0 i1 h2 3 end|next c0 i1|enditer c0 i1|
 nodes 1|close c9 h8|unlink c0 'a||retain c1 h2 9223372036854775807|retain c1 h2 -1|finalize c0 => nodes 1|close c9 h8|unlink c0 x61|retain c1 h2 end|retain c1 h2 -1|finalize c0|
-nodes 1|open c7 h1 x 1 9223372036854775807|open c7 h2 '~ 2 -5 => nodes 1|open c7 h1 x 1 end|open c7 h2 x7e 2 -5|";
+nodes 1|open c7 h1 x 1 9223372036854775807|open c7 h2 '~ 2 -5 => nodes 1|open c7 h1 x 1 end|open c7 h2 x7e 2 -5|
+nodes 8|begin close c9 h8|step c9 1000000|#|finish c9|step c9.70 2|finish n7||show K9999 => nodes 8|begin close c9 h8|step c9 1000000|finish c9|step c9.70 2|finish n7|show K9999|
+nodes 2|begin create c0 h0 'a 9223372036854775807 'b|begin write c0 h0 'a 0 'b x 1 xFF => nodes 2|begin create c0 h0 x61 end x62|begin write c0 h0 x61 0 x62 x 1 xff|";
 
 /// The same, of scripts behind the lines of `OPENED`.
 const SPELLED_BEHIND: &str = "\
@@ -270,6 +343,15 @@ fn a_write_and_a_read_have_256_elements_at_most(rt: HostRuntime) -> Result<(), F
     assert!(rt; is_told_of_many(alloc, read, element, 0, "2 count")?);
     assert!(rt; is_told_of_many(alloc, read, element, 256, "ok 2")?);
     assert!(rt; is_told_of_many(alloc, read, element, 257, "2 count")?);
+    Ok(())
+}
+
+#[test]
+fn a_script_has_16_show_lines_at_most(rt: HostRuntime) -> Result<(), Fail> {
+    let alloc = rt.alloc();
+    assert!(rt; is_told_of_many(alloc, "", "show K1|", 16, "ok 17")?);
+    assert!(rt; is_told_of_many(alloc, "", "show K1|", 17, "18 shows")?);
+    assert!(rt; is_told_of_many(alloc, "", "show K1|show K0|", 17, "3 word")?);
     Ok(())
 }
 
