@@ -56,7 +56,8 @@ one_is t active k r e effects origin rest false (Some x) fits = ap (λ shown. sh
 -- ---- all nodes
 
 module _ (w : World) (h : History) (fits : Fits w h) (k : ℕ) (e : Entry) (found : entry_of k w.cluster.entries ≡ Some e) where
-  t : ℤ
+  -- at the moment
+  abbrev t : ℤ
   t = w.cluster.moment
 
   -- where a node is complete
@@ -66,11 +67,14 @@ module _ (w : World) (h : History) (fits : Fits w h) (k : ℕ) (e : Entry) (foun
   -- the node that comes next
   next_is : (c r : ℕ) (rest : List (ℕ × ReplicaState)) → slice_index e.complete r ≡ c
       → map (replica_listed t e.active) (cond (c == 0) rest (with_replica r ((machine_of w h).replicas k r) rest)) ≡ node_listed w.nodes k e t r ++ map (replica_listed t e.active) rest
-  unfolding t
   next_is c r rest is =
       ap (λ (c : ℕ). map (replica_listed t e.active) (cond (c == 0) rest (with_replica r ((machine_of w h).replicas k r) rest))) (sym is)
       ∙ ap (λ (o : Option Replica). map (replica_listed t e.active) (cond (slice_index e.complete r == 0) rest (with_replica r (shown_replica (h.effects k r) (h.origins k r) o) rest))) (complete_is r)
       ∙ one_is t e.active k r (entry_of k w.cluster.entries) (h.effects k r) (h.origins k r) rest (slice_index e.complete r == 0) (replica_in w.nodes k r) (subst (FitsReplica k (entry_of k w.cluster.entries) (h.effects k r)) (complete_is r) (fits.replicas k r))
+
+  -- with one node more
+  nodes_more : (n : ℕ) → nodes_listed w.nodes k e t n ++ node_listed w.nodes k e t n ≡ nodes_listed w.nodes k e t (n + 1)
+  nodes_more n = ap (nodes_listed w.nodes k e t) (let next : suc n ≡ n + 1 = omega arith in next)
 
   -- those from a node on, behind those of the nodes below it
   from_is : (cs : List ℕ) (n : ℕ) → ((i : ℕ) → slice_index e.complete (n + i) ≡ slice_index cs i)
@@ -82,14 +86,15 @@ module _ (w : World) (h : History) (fits : Fits w h) (k : ℕ) (e : Entry) (foun
       let one_more : n + 1 + length cs ≡ n + length (c ∷ cs) = omega arith in
       ap (λ shown. nodes_listed w.nodes k e t n ++ shown) (next_is c n rest here)
       ∙ sym (append_assoc (nodes_listed w.nodes k e t n) (node_listed w.nodes k e t n) (map (replica_listed t e.active) rest))
+      ∙ ap (λ shown. shown ++ map (replica_listed t e.active) rest) (nodes_more n)
       ∙ from_is cs (n + 1) (λ i. ap (slice_index e.complete) (let at : n + 1 + i ≡ n + suc i = omega arith in at) ∙ same (suc i))
       ∙ ap (nodes_listed w.nodes k e t) one_more
 
   made_is : (making : Option CallId) → made_listed w.nodes k e t making ≡ listing_made (machine_of w h) k e.active making
-  unfolding t
   made_is (Some maker) = refl
   made_is None = ap Some (
-      sym (from_is e.complete 0 (λ i. refl))
+      ap (nodes_listed w.nodes k e t) (let all : length e.complete ≡ 0 + length e.complete = omega arith in all)
+      ∙ sym (from_is e.complete 0 (λ i. ap (slice_index e.complete) (let same : 0 + i ≡ i = omega arith in same)))
       ∙ ap (λ (o : Option Entry). map (replica_listed t e.active) (replicas_from ((machine_of w h).replicas k) 0 (complete_of o))) (sym found))
 
 -- WHAT THE WORLD LISTS is what the machine lists

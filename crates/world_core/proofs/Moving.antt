@@ -6,6 +6,7 @@ use Rattle.std.proofs.Common.{◌≡◌, ℕ, List, Option, Some, None, Bool, �
 use Rattle.std.specs.Prelude.{filter}
 use Rattle.ckpt_types.specs.declared.answers.Outcome.{Outcome}
 use Rattle.ckpt_types.specs.declared.identities.ActorName.{ActorName}
+use Rattle.ckpt_types.specs.declared.identities.Who.{Who}
 use Rattle.ckpt_types.specs.declared.identities.Who.TheVariants as whos
 use Rattle.ckpt_types.specs.declared.operation.Op.{Op}
 use Rattle.node_msgs.specs.declared.next.RecordStep.{RecordStep}

@@ -59,6 +59,7 @@ fn list_made(
     entry: &Entry,
     now: Moment,
 ) -> Result<Option<ShownReplicas>, AllocError>
+    requires { length entry.now.complete ≡ nodes_max }
     ensures { IfOk result (λ replicas. replicas ≡ made_listed nodes.now ckpt entry.now now entry.now.making) }
 {
     match entry.making {
@@ -74,10 +75,11 @@ fn list_replicas(
     entry: &Entry,
     now: Moment,
 ) -> Result<ShownReplicas, AllocError>
+    requires { length entry.now.complete ≡ nodes_max }
     ensures { IfOk result (λ replicas. replicas ≡ nodes_listed nodes.now ckpt entry.now now (length entry.now.complete)) }
 {
     let mut replicas = Vec::with_capacity(alloc, NODES_MAX)?;
-    for r in 0..entry.complete.len() {
+    for r in 0..NODES_MAX {
         add_node(&mut replicas, alloc, nodes, ckpt, entry, r as NodeId, now)?;
     }
     Ok(Vector::from_vec(replicas))
@@ -150,13 +152,19 @@ fn list_slot(slot: &Option<Slot>) -> ShownSlot
 fn list_sections(alloc: Global, store: &Store, now: Moment) -> Result<ShownSections, AllocError>
     ensures { IfOk result (λ sections. sections ≡ map section_listed (present now store.now.sections)) }
 {
-    // No more sections stand than were declared.
-    let _declared = store.attributes().max_sections;
+    let _declared = declared(store);
     let mut sections = Vec::new(alloc);
     for place in 0..store.len() {
         add_section(&mut sections, alloc, &store.at(place), now)?;
     }
     Ok(Vector::from_vec(sections))
+}
+
+// No more sections stand than were declared.
+fn declared(store: &Store) -> u32
+    ensures { length store.now.sections ≤ result }
+{
+    store.attributes().max_sections
 }
 
 // A section, where it is present.

@@ -1,4 +1,4 @@
-use Rattle.std.proofs.Common.{◌≡◌, ◌++◌, ap, sym, ◌∙◌, length, take, map, FitsSigned, to_z, of_z, w64, arith}
+use Rattle.std.proofs.Common.{◌≡◌, ◌++◌, ap, sym, ◌∙◌, length, take, map, ◌∷◌, [], FitsSigned, to_z, of_z, w64, arith}
 use Rattle.std.proofs.lemmas.Int.{to_z-of_z}
 use Rattle.std.proofs.lemmas.List.{take_all}
 use Rattle.ckpt_types.specs.Sections.{section_of, present}
@@ -16,8 +16,7 @@ pub from_vec-requires : goal.from_vec-requires
 from_vec-requires c =
     let few = length-listed-le (to_z w64 (of_z w64 c.args.now)) c.args.store.now.sections c.loop-place.place in
     let kept = ap length c.loop-place.invariant in
-    let fits = c.attributes.ensures.kept.few in
-    omega (arith, few, kept, fits)
+    omega (arith, few, kept, c.declared-declared.ensures)
 
 pub returns : goal.returns
 returns c =
