@@ -35,7 +35,7 @@ use Rattle.ckpt_machine.proofs.EntryLists.{find_key-without, AllStay-filter, swe
 use Rattle.ckpt_machine.proofs.ReplicaSteps.{put_actor-here}
 use Rattle.ckpt_machine.proofs.Refusing.{at_node, of_update, on_replica, committed, left_none, refusal_leaves}
 use Rattle.ckpt_machine.specs.Laws.{RefusedHasNothing}
-use Rattle.ckpt_machine.proofs.Runs.{last-push, run_front}
+use Rattle.ckpt_machine.proofs.Runs.{last-push, run_before, run_front}
 use Rattle.ckpt_machine.proofs.OptionLemmas.{IsSomeAnd-at}
 
 -- ---- who has no call in hand owns nothing
@@ -215,11 +215,6 @@ leaves_alone m n (labels.Stepped call op verb k r reply end details) inv bare le
 leaves_alone m n l inv bare leaves = absurd leaves
 
 -- ---- in a run
-
--- what is before the last label is a run, and the label is allowed and due where it comes
-run_before : (m : Machine) (log : List Label) (l : Label) → IsRunFrom m (log ++ l ∷ []) → IsRunFrom m log × Allowed (last_from m log) l × IsDue (last_from m log) l
-run_before m [] l run = (tt, run.0, run.1)
-run_before m (x ∷ log) l run = let (before, allowed, is) = run_before (after m x) log l run.2 in ((run.0, run.1, before), allowed, is)
 
 -- a front with the label behind it, and the rest
 front_with : (log front back : List Label) (l : Label) → log ≡ front ++ l ∷ back → log ≡ (front ++ l ∷ []) ++ back

@@ -20,6 +20,11 @@ pub IsRunFrom-push : (m : Machine) (log : List Label) (l : Label) → IsRunFrom 
 IsRunFrom-push m [] l run allowed due = (allowed, due, tt)
 IsRunFrom-push m (x ∷ log) l run allowed due = (run.0, run.1, IsRunFrom-push (after m x) log l run.2 allowed due)
 
+-- what is before the last label is a run, and the label is allowed and due where it comes
+pub run_before : (m : Machine) (log : List Label) (l : Label) → IsRunFrom m (log ++ l ∷ []) → IsRunFrom m log × Allowed (last_from m log) l × IsDue (last_from m log) l
+run_before m [] l run = (tt, run.0, run.1)
+run_before m (x ∷ log) l run = let (before, allowed, is) = run_before (after m x) log l run.2 in ((run.0, run.1, before), allowed, is)
+
 -- a front of a run is a run
 pub IsRunFrom-front : (m : Machine) (front back : List Label) → IsRunFrom m (front ++ back) → IsRunFrom m front
 IsRunFrom-front m [] back run = tt

@@ -1,28 +1,36 @@
 -- A log that follows a script grows: step by step to the end of a call, and line by line.
-use Rattle.std.proofs.Common.{◌≡◌, ℕ, ◌+◌, ◌<◌, ◌≤◌, List, [], ◌∷◌, ◌++◌, length, drop, get_or, refl, sym, ap, subst, ◌∙◌, append_assoc, append-nil, length-append, arith, add-one, eqb, eqb-true, suc}
+use Rattle.std.proofs.Common.{◌≡◌, ℕ, zero, ◌+◌, ◌<◌, ◌≤◌, List, [], ◌∷◌, ◌++◌, length, drop, get_or, refl, sym, ap, subst, ◌∙◌, append_assoc, append-nil, length-append, arith, add-one, suc}
 use Rattle.std.proofs.Math.Seq.{drop-cons}
-use Rattle.std.proofs.lemmas.Bool.{eqb-false}
+use Rattle.std.proofs.lemmas.Option.{same_Some}
 use Rattle.std.specs.Prelude.{Option, Some, None, IfSome, is_some, Bool, true, false, Result, Ok, Err, OnOk}
 use Rattle.ckpt_types.specs.declared.answers.Outcome.{Outcome}
-use Rattle.ckpt_types.specs.declared.identities.ActorName.TheVariants.{Client}
+use Rattle.ckpt_types.specs.declared.identities.ActorName.TheVariants.{Client, Node}
+use Rattle.ckpt_types.specs.declared.identities.Who.{Who}
+use Rattle.ckpt_types.specs.declared.identities.Who.TheVariants.{Actor, Call}
 use Rattle.ckpt_types.specs.declared.identities.CallId.{CallId}
 use Rattle.ckpt_types.specs.declared.operation.Op.{Op}
 use Rattle.ckpt_types.specs.declared.operation.Op.TheVariants as ops
 use Rattle.run_labels.specs.declared.labels.Label.{Label}
 use Rattle.run_labels.specs.declared.labels.Label.TheVariants as labels
 use Rattle.run_labels.specs.declared.words.Said.{Said}
-use Rattle.run_labels.specs.declared.words.Said.TheVariants.{Down}
+use Rattle.run_labels.specs.declared.words.Said.TheVariants.{Down, Idle}
+use Rattle.run_labels.specs.declared.words.LineWord.TheVariants as linewords
 use Rattle.script_lang.specs.declared.lines.Line.{Line}
 use Rattle.world_core.specs.declared.hands.InHand.{InHand}
 use Rattle.world_core.specs.declared.world.World.{World}
 use Rattle.cluster_record.specs.RecordState.{is_up}
-use Rattle.ckpt_machine.specs.Machine.{Machine, empty_cluster}
+use Rattle.ckpt_machine.specs.Machine.{Machine, CallState, empty_cluster}
 use Rattle.ckpt_machine.specs.Steps.{after}
-use Rattle.ckpt_machine.specs.Runs.{last, last_from}
-use Rattle.world_core.specs.Runs.{GoesOn, IsRunTo, SaysTrue, AnswersBegin, AnswersStep, NoneInHand}
-use Rattle.world_core.specs.Shows.{hand_at}
-use Rattle.session_run.specs.Follows.{StepsToEnd, SaysTrueIn, IsWholeCall, AnswersLine, FollowsFrom, Follows}
-use Rattle.session_run.specs.Growing.{one_node_labels, GrowsBy, IsFinish, NoneBut}
+use Rattle.ckpt_machine.specs.Runs.{last, last_from, IsRun}
+use Rattle.ckpt_machine.specs.Driving.{Kept}
+use Rattle.cluster_record.specs.StepDone.{StepDone}
+use Rattle.ckpt_machine.proofs.Runs.{run_before}
+use Rattle.world_core.specs.Runs.{GoesOn, IsRunTo, SaysTrue, Answers, AnswersBegin, AnswersStep, IsIdleWord, Happens, step_word}
+use Rattle.world_core.specs.declared.world.Event.TheVariants as happenings
+use Rattle.world_core.proofs.Held.{state_in}
+use Rattle.world_core.specs.Shows.{hand_at, shown_hand}
+use Rattle.session_run.specs.Follows.{StepsToEnd, StepsUpTo, SaysTrueIn, IsWholeCall, IsBegunCall, AreSteps, stepped_call, AnswersLine, FollowsFrom, Follows}
+use Rattle.session_run.specs.Growing.{built_line_labels, GrowsBy, IsFinish, IsStepping, client_where, client_in_hand}
 
 -- what is left of a call that goes on are the steps of the call in hand
 steps_of_hand : (call : CallId) (op : Op) (end : Option Outcome) (o : Option InHand) (more : List Label) → GoesOn call op end o → IsFinish o more → StepsToEnd call end more
@@ -43,6 +51,27 @@ step_grows c None old new l answers held more f = absurd cc
 step_grows c (Some h) old new (labels.Stepped call op verb k r reply end details) answers held more f = (answers.0, steps_of_hand h.call h.op end (hand_at new.hands c) more answers.1 f)
 step_grows c (Some h) old new l answers held more f = absurd answers
 
+-- the same of a number of steps
+steps_of_stepping : (call : CallId) (op : Op) (n : ℕ) (end : Option Outcome) (o : Option InHand) (more : List Label) → GoesOn call op end o → IsStepping n o more → StepsUpTo call n end more
+steps_of_stepping call op n (Some e) None more goes f = f
+steps_of_stepping call op n (Some e) (Some h) more goes f = absurd goes
+steps_of_stepping call op n None None more goes f = absurd goes
+steps_of_stepping call op n None (Some h) more goes f = subst (λ c. StepsUpTo c n None more) goes.0 f
+
+pub stepping_grows : (c n : ℕ) (o : Option InHand) (old new : World) (l : Label) → AnswersStep (Client c) false o old new l → is_some o ≡ true →
+    (more : List Label) → IsStepping n (hand_at new.hands c) more → IsStepping (suc n) o (l ∷ more)
+stepping_grows c n None old new l answers held more f = absurd cc
+stepping_grows c n (Some h) old new (labels.Stepped call op verb k r reply end details) answers held more f = (answers.0, steps_of_stepping h.call h.op n end (hand_at new.hands c) more answers.1 f)
+stepping_grows c n (Some h) old new l answers held more f = absurd answers
+
+-- none are left of no call, nor where no more were asked for
+pub stepping_of_none : (n : ℕ) (o : Option InHand) → o ≡ None → IsStepping n o []
+stepping_of_none n o e = subst (λ (o : Option InHand). IsStepping n o []) (sym e) refl
+
+pub stepping_zero : (o : Option InHand) → IsStepping zero o []
+stepping_zero None = refl
+stepping_zero (Some h) = refl
+
 -- what a word says of the world, it says of the machine's state that the world shows
 SaysTrueIn-shown : (op : Op) (said : Said) (w : World) (m : Machine) → m.cluster ≡ w.cluster → SaysTrue op said w → SaysTrueIn op said m
 SaysTrueIn-shown (ops.Client r version callbacks) Down w m same true_of = ap (is_up r) same ∙ true_of
@@ -58,6 +87,101 @@ begin_grows c op old new log (labels.Word who word said) more run answers idle f
     (answers.0, answers.1, SaysTrueIn-shown op said old (last log) same answers.3, subst (λ (o : Option InHand). IsFinish o more) (ap (λ hands. hand_at hands c) answers.2 ∙ idle) f)
 begin_grows c op old new log l more run answers idle f = absurd answers
 
+-- the label that answers a line by which a call only begins
+pub begin_alone : (c : ℕ) (op : Op) (old new : World) (log : List Label) (l : Label) → IsRunTo old log → AnswersBegin (Client c) op old new l → IsBegunCall (last log) (Client c) op (l ∷ [])
+begin_alone c op old new log (labels.Began call begun end) run answers = (answers.0, answers.1, refl)
+begin_alone c op old new log (labels.Word who word said) run answers =
+    let same : (last log).cluster ≡ old.cluster = ap (λ (m : Machine). m.cluster) run.shows.same in
+    (answers.0, answers.1, SaysTrueIn-shown op said old (last log) same answers.3, refl)
+begin_alone c op old new log l run answers = absurd answers
+
+-- no call begins where its client has one in hand
+not_begun : (c : ℕ) (old new : World) (log longer : List Label) (call : CallId) (op : Op) (end : Option Outcome) → IsRunTo old log → IsRunTo new longer → longer ≡ log ++ labels.Began call op end ∷ [] → call.actor ≡ Client c → is_some (hand_at old.hands c) ≡ true → ⊥
+not_begun c old new log longer call op end run later grows own held =
+    let (before, allowed, due) = run_before _ log (labels.Began call op end) (subst IsRun grows later.run) in
+    let h = run.shows.history in
+    let none : shown_hand (h.kept c) (h.steps c) (hand_at old.hands c) ≡ None = sym (ap (λ (m : Machine). m.in_hand (Client c)) run.shows.same) ∙ ap (last log).in_hand (sym own) ∙ due.none_in_hand in
+    by_hand (hand_at old.hands c) (h.kept c) (h.steps c) none held
+  where
+    by_hand : (o : Option InHand) (kept : Kept) (steps : List StepDone) → shown_hand kept steps o ≡ None → is_some o ≡ true → ⊥
+    by_hand None kept steps none held = cc held
+    by_hand (Some hand) kept steps none held = cc none
+
+-- so the one label that answers its line is a word
+pub busy_alone : (c : ℕ) (op : Op) (old new : World) (log longer : List Label) (l : Label) → IsRunTo old log → IsRunTo new longer → longer ≡ log ++ l ∷ [] → AnswersBegin (Client c) op old new l → is_some (hand_at old.hands c) ≡ true → IsWholeCall (last log) (Client c) op (l ∷ [])
+busy_alone c op old new log longer (labels.Began call begun end) run later grows answers held = absurd (not_begun c old new log longer call begun end run later grows answers.0 held)
+busy_alone c op old new log longer (labels.Word who word said) run later grows answers held = begin_alone c op old new log (labels.Word who word said) run answers
+busy_alone c op old new log longer l run later grows answers held = absurd answers
+
+-- ---- the call of which a line asks for steps
+
+-- the client that is named has it in hand, in the world and in the state that it shows
+record IsHeld (w : World) (log : List Label) (who : Who) (c : ℕ) : Type 0 where
+  pub hand : InHand
+  pub held : hand_at w.hands c ≡ Some hand
+  pub state : CallState
+  pub stepped : stepped_call (last log) who ≡ Some state
+  pub call_is : state.call ≡ hand.call
+
+is_held : (w : World) (log : List Label) (who : Who) (c : ℕ) → IsRunTo w log → client_in_hand who w ≡ Some c → IsHeld w log who c
+is_held w log (Actor (Client d)) c run is = by_hand (hand_at w.hands d) refl is
+  where
+    by_hand : (o : Option InHand) → hand_at w.hands d ≡ o → client_where o d ≡ Some c → IsHeld w log (Actor (Client d)) c
+    by_hand None held is = absurd (cc is)
+    by_hand (Some hand) held is = record {
+      hand = hand;
+      held = ap (hand_at w.hands) (sym (same_Some d c is)) ∙ held;
+      state = state_in run.shows.history d hand;
+      stepped = ap (λ (m : Machine). m.in_hand (Client d)) run.shows.same ∙ ap (shown_hand (run.shows.history.kept d) (run.shows.history.steps d)) held;
+      call_is = refl;
+    }
+is_held w log (Actor (Node r)) c run is = absurd (cc is)
+is_held w log (Call call) c run is = absurd (cc is)
+
+-- where no client is named that has a call in hand, nothing is stepped
+pub none_stepped : (w : World) (log : List Label) (who : Who) → IsRunTo w log → client_in_hand who w ≡ None → stepped_call (last log) who ≡ None
+none_stepped w log (Actor (Client d)) run is = ap (λ (m : Machine). m.in_hand (Client d)) run.shows.same ∙ by_hand (hand_at w.hands d) is
+  where
+    by_hand : (o : Option InHand) → client_where o d ≡ None → shown_hand (run.shows.history.kept d) (run.shows.history.steps d) o ≡ None
+    by_hand None is = refl
+    by_hand (Some hand) is = absurd (cc is)
+none_stepped w log (Actor (Node r)) run is = ap (λ (m : Machine). m.in_hand (Node r)) run.shows.same
+none_stepped w log (Call call) run is = ap (λ (m : Machine). m.operations call) run.shows.same
+
+-- so many steps of the call in hand are steps of the call that is named
+pub are_stepping : (w : World) (log : List Label) (who : Who) (c n : ℕ) → IsRunTo w log → client_in_hand who w ≡ Some c → (more : List Label) → IsStepping n (hand_at w.hands c) more → AreSteps (stepped_call (last log) who) who linewords.Step (λ call. StepsUpTo call n None) more
+are_stepping w log who c n run is more f =
+    let it = is_held w log who c run is in
+    subst (λ (o : Option CallState). AreSteps o who linewords.Step (λ call. StepsUpTo call n None) more) (sym it.stepped)
+    (subst (λ (call : CallId). StepsUpTo call n None more) (sym it.call_is) (subst (λ (o : Option InHand). IsStepping n o more) it.held f))
+
+-- and likewise to its end
+pub are_finishing : (w : World) (log : List Label) (who : Who) (c : ℕ) → IsRunTo w log → client_in_hand who w ≡ Some c → (more : List Label) → IsFinish (hand_at w.hands c) more → AreSteps (stepped_call (last log) who) who linewords.Finish (λ call. StepsToEnd call None) more
+are_finishing w log who c run is more f =
+    let it = is_held w log who c run is in
+    subst (λ (o : Option CallState). AreSteps o who linewords.Finish (λ call. StepsToEnd call None) more) (sym it.stepped)
+    (subst (λ (call : CallId). StepsToEnd call None more) (sym it.call_is) (subst (λ (o : Option InHand). IsFinish o more) it.held f))
+
+-- the word that answers where nothing is in hand
+idle_label : (who : Who) (finish : Bool) (old new : World) (label : Label) → IsIdleWord who finish old new label → label ≡ labels.Word who (step_word finish) Idle
+idle_label who finish old new (labels.Word whose word said) is = λ i. labels.Word (is.0 i) (is.1 i) (is.2 i)
+idle_label who finish old new label is = absurd is
+
+idle_answers : (who : Who) (finish : Bool) (old new : World) (label : Label) → client_in_hand who old ≡ None → Answers (happenings.Step who finish) old new label → label ≡ labels.Word who (step_word finish) Idle
+idle_answers (Actor (Client d)) finish old new label none answers = by_hand (hand_at old.hands d) none answers
+  where
+    by_hand : (o : Option InHand) → client_where o d ≡ None → AnswersStep (Client d) finish o old new label → label ≡ labels.Word (Actor (Client d)) (step_word finish) Idle
+    by_hand None none answers = idle_label (Actor (Client d)) finish old new label answers
+    by_hand (Some hand) none answers = absurd (cc none)
+idle_answers (Actor (Node r)) finish old new label none answers = idle_label (Actor (Node r)) finish old new label answers
+idle_answers (Call call) finish old new label none answers = idle_label (Call call) finish old new label answers
+
+-- is what the line is answered with
+pub idle_alone : (who : Who) (finish : Bool) (steps : CallId → List Label → Type 0) (old new : World) (log longer : List Label) → IsRunTo old log → client_in_hand who old ≡ None → Happens (happenings.Step who finish) old new log longer
+    → GrowsBy log longer (AreSteps (stepped_call (last log) who) who (step_word finish) steps)
+idle_alone who finish steps old new log longer run none h =
+    (h.label ∷ [], h.grows, subst (λ (o : Option CallState). AreSteps o who (step_word finish) steps (h.label ∷ [])) (sym (none_stepped old log who run none)) (ap (λ l. l ∷ []) (idle_answers who finish old new h.label none h.answers)))
+
 -- a label more
 pub GrowsBy-label : {P : List Label → Type 0} (old log new : List Label) (l : Label) (more : List Label) → new ≡ log ++ l ∷ [] → GrowsBy old (log ++ (l ∷ more)) P → GrowsBy old (new ++ more) P
 GrowsBy-label old log new l more e f = (f.0, ap (λ xs. xs ++ more) e ∙ (append_assoc log (l ∷ []) more ∙ f.1), f.2)
@@ -65,6 +189,10 @@ GrowsBy-label old log new l more e f = (f.0, ap (λ xs. xs ++ more) e ∙ (appen
 -- at the end of the labels
 pub GrowsBy-end : {P : List Label → Type 0} (old log : List Label) → GrowsBy old (log ++ []) P → GrowsBy old log P
 GrowsBy-end old log f = (f.0, sym (append-nil log) ∙ f.1, f.2)
+
+-- of which something else holds besides
+pub GrowsBy-map : {P Q : List Label → Type 0} (old new : List Label) → GrowsBy old new P → ((more : List Label) → P more → Q more) → GrowsBy old new Q
+GrowsBy-map old new f goes = (f.0, f.1, goes f.0 f.2)
 
 -- the label that answered a beginning, and then the steps
 pub GrowsBy-begin : {P Q : List Label → Type 0} (old middle new : List Label) (l : Label) → middle ≡ old ++ l ∷ [] → GrowsBy middle new P → ((more : List Label) → P more → Q (l ∷ more)) → GrowsBy old new Q
@@ -79,13 +207,6 @@ none_if_not (Some h) e = absurd cc
 pub finish_of_none : (o : Option InHand) → o ≡ None → IsFinish o []
 finish_of_none o e = subst (λ (o : Option InHand). IsFinish o []) (sym e) refl
 
--- with the client's own call ended, none is in hand
-pub none_with : (c : ℕ) (w : World) → NoneBut c w → hand_at w.hands c ≡ None → NoneInHand w
-none_with c w others own d = by (eqb d c) refl where
-  by : (b : Bool) → eqb d c ≡ b → hand_at w.hands d ≡ None
-  by true e = ap (hand_at w.hands) (eqb-true d c e) ∙ own
-  by false e = others d (eqb-false d c e)
-
 -- the state after two lists of labels is the state after the second from the state after the first
 last_from-append : (m : Machine) (xs ys : List Label) → last_from m (xs ++ ys) ≡ last_from (last_from m xs) ys
 last_from-append m [] ys = refl
@@ -93,7 +214,7 @@ last_from-append m (x ∷ xs) ys = last_from-append (after m x) xs ys
 
 -- one line more
 pub follows_line : (script rest : List Line) (line : Line) (others : List Line) (old new : List Label) → rest ≡ line ∷ others → GrowsBy old new (AnswersLine (last old) line) →
-    length new ≤ length old + one_node_labels → ((more : List Label) → FollowsFrom (last old) rest more → Follows script (old ++ more)) → (more : List Label) → FollowsFrom (last new) others more → Follows script (new ++ more)
+    length new ≤ length old + built_line_labels → ((more : List Label) → FollowsFrom (last old) rest more → Follows script (old ++ more)) → (more : List Label) → FollowsFrom (last new) others more → Follows script (new ++ more)
 follows_line script rest line others old new e f few goes more h =
     let then : last new ≡ last_from (last old) f.0 = ap last f.1 ∙ last_from-append empty_cluster old f.0 in
     let later : FollowsFrom (last_from (last old) f.0) others more = subst (λ (m : Machine). FollowsFrom m others more) then h in

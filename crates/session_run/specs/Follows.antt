@@ -1,22 +1,24 @@
 -- A log follows a script: the lines in order, each with its labels.
-use Rattle.std.specs.Prelude.{◌≡◌, ℕ, ◌≤◌, List, [], ◌∷◌, ◌++◌, length, Option, Some, None, false}
+use Rattle.std.specs.Prelude.{◌≡◌, ℕ, zero, suc, ◌≤◌, List, [], ◌∷◌, ◌++◌, length, Option, Some, None, false}
 use Rattle.ckpt_types.specs.declared.answers.Outcome.{Outcome}
 use Rattle.ckpt_types.specs.declared.identities.ActorName.{ActorName}
 use Rattle.ckpt_types.specs.declared.identities.ActorName.TheVariants.{Client}
 use Rattle.ckpt_types.specs.declared.identities.CallId.{CallId}
-use Rattle.ckpt_types.specs.declared.identities.Who.TheVariants.{Actor}
+use Rattle.ckpt_types.specs.declared.identities.Who.{Who}
+use Rattle.ckpt_types.specs.declared.identities.Who.TheVariants.{Actor, Call}
 use Rattle.ckpt_types.specs.declared.operation.Op.{Op}
 use Rattle.ckpt_types.specs.declared.operation.Op.TheVariants as ops
 use Rattle.run_labels.specs.declared.labels.Label.{Label}
 use Rattle.run_labels.specs.declared.labels.Label.TheVariants as labels
+use Rattle.run_labels.specs.declared.words.LineWord.{LineWord}
 use Rattle.run_labels.specs.declared.words.LineWord.TheVariants as linewords
 use Rattle.run_labels.specs.declared.words.Said.{Said}
-use Rattle.run_labels.specs.declared.words.Said.TheVariants.{Down}
+use Rattle.run_labels.specs.declared.words.Said.TheVariants.{Down, Idle}
 use Rattle.run_labels.specs.OpWord.{word_of_op}
 use Rattle.script_lang.specs.declared.lines.Line.{Line}
 use Rattle.script_lang.specs.declared.lines.Line.TheVariants as lines
 use Rattle.cluster_record.specs.RecordState.{is_up}
-use Rattle.ckpt_machine.specs.Machine.{Machine, empty_cluster}
+use Rattle.ckpt_machine.specs.Machine.{Machine, CallState, empty_cluster}
 use Rattle.ckpt_machine.specs.Runs.{last_from}
 
 -- the steps of a call to its end, and nothing else; none where it has ended
@@ -39,11 +41,43 @@ IsWholeCall m a op (labels.Began call begun end ∷ rest) = (call.actor ≡ a) �
 IsWholeCall m a op (labels.Word who word said ∷ rest) = (who ≡ Actor a) × (word ≡ linewords.Op (word_of_op op)) × SaysTrueIn op said m × (rest ≡ [])
 IsWholeCall m a op log = ⊥
 
+-- the beginning of a call of this actor with this operation, and no step; or the one word that answers its line, and is true in the state before it
+abbrev pub IsBegunCall : Machine → ActorName → Op → List Label → Type 0
+IsBegunCall m a op (labels.Began call begun end ∷ rest) = (call.actor ≡ a) × (begun ≡ op) × (rest ≡ [])
+IsBegunCall m a op (labels.Word who word said ∷ rest) = (who ≡ Actor a) × (word ≡ linewords.Op (word_of_op op)) × SaysTrueIn op said m × (rest ≡ [])
+IsBegunCall m a op log = ⊥
+
+-- so many steps of a call and nothing else, fewer only where the last one ends it; none where it has ended
+abbrev pub StepsUpTo : CallId → ℕ → Option Outcome → List Label → Type 0
+StepsUpTo call n (Some end) rest = rest ≡ []
+StepsUpTo call zero None rest = rest ≡ []
+StepsUpTo call (suc n) None (labels.Stepped other op verb k r reply end details ∷ rest) = (other ≡ call) × StepsUpTo call n end rest
+StepsUpTo call (suc n) None rest = ⊥
+
+-- the call of which a line asks for steps: the one that the actor has in hand, or the unfinished asynchronous operation
+abbrev pub stepped_call : Machine → Who → Option CallState
+stepped_call m (Actor a) = m.in_hand a
+stepped_call m (Call call) = m.operations call
+
+-- such steps of this call; where there is none, the word IDLE
+abbrev pub AreSteps : Option CallState → Who → LineWord → (CallId → List Label → Type 0) → List Label → Type 0
+AreSteps None who word steps log = log ≡ labels.Word who word Idle ∷ []
+AreSteps (Some s) who word steps log = steps s.call log
+
+-- the replicas of a checkpoint, which the run says
+abbrev pub IsListing : ℕ → List Label → Type 0
+IsListing k (labels.Shown other replicas ∷ rest) = (other ≡ k) × (rest ≡ [])
+IsListing k log = ⊥
+
 -- in this state the labels answer the line; the other lines are not built yet
 abbrev pub AnswersLine : Machine → Line → List Label → Type 0
 AnswersLine m (lines.Nodes n) log = log ≡ labels.Nodes n ∷ []
 AnswersLine m (lines.Call c op) log = IsWholeCall m (Client c) op log
+AnswersLine m (lines.Begin a op) log = IsBegunCall m a op log
+AnswersLine m (lines.Step who n) log = AreSteps (stepped_call m who) who linewords.Step (λ call. StepsUpTo call n None) log
+AnswersLine m (lines.Finish who) log = AreSteps (stepped_call m who) who linewords.Finish (λ call. StepsToEnd call None) log
 AnswersLine m (lines.At t) log = log ≡ labels.Moved t ∷ []
+AnswersLine m (lines.Show k) log = IsListing k log
 AnswersLine m line log = ⊥
 
 -- the most labels that a line gives

@@ -1,17 +1,21 @@
 -- How a log grows while a line is played.
-use Rattle.std.specs.Prelude.{◌≡◌, ◌≢◌, ◌≤◌, ℕ, zero, suc, List, [], ◌++◌, length, Option, Some, None, ℤ}
+use Rattle.std.specs.Prelude.{◌≡◌, ◌<◌, ◌≤◌, ℕ, zero, suc, List, [], ◌++◌, length, Option, Some, None, ℤ}
+use Rattle.ckpt_types.specs.declared.identities.ActorName.TheVariants.{Client}
+use Rattle.ckpt_types.specs.declared.identities.Who.{Who}
+use Rattle.ckpt_types.specs.declared.identities.Who.TheVariants.{Actor}
+use Rattle.ckpt_types.specs.Limits.{nodes_max}
 use Rattle.script_lang.specs.declared.lines.Line.{Line}
 use Rattle.script_lang.specs.declared.lines.Line.TheVariants as lines
 use Rattle.run_labels.specs.declared.labels.Label.{Label}
 use Rattle.world_core.specs.declared.hands.InHand.{InHand}
 use Rattle.world_core.specs.declared.world.World.{World}
 use Rattle.world_core.specs.Shows.{hand_at}
-use Rattle.session_run.specs.Follows.{StepsToEnd}
+use Rattle.session_run.specs.Follows.{StepsToEnd, StepsUpTo}
 use Rattle.session_run.specs.Playable.{IsPlayableLine, ArePlayable, IsPlayable}
 
--- the most labels that a line gives on one node
-abbrev pub one_node_labels : ℕ
-one_node_labels = 40
+-- the most labels that a line gives, of the lines that are built
+abbrev pub built_line_labels : ℕ
+built_line_labels = 40
 
 -- the log is longer by labels that have this
 abbrev pub GrowsBy : List Label → List Label → (List Label → Type 0) → Type 0
@@ -26,16 +30,26 @@ abbrev pub IsFinish : Option InHand → List Label → Type 0
 IsFinish None more = more ≡ []
 IsFinish (Some h) more = StepsToEnd h.call None more
 
--- no other client has a call in hand
-abbrev pub NoneBut : ℕ → World → Type 0
-NoneBut c w = (d : ℕ) → d ≢ c → hand_at w.hands d ≡ None
+-- so many steps of a call in hand, if there is one
+abbrev pub IsStepping : ℕ → Option InHand → List Label → Type 0
+IsStepping n None more = more ≡ []
+IsStepping n (Some h) more = StepsUpTo h.call n None more
 
--- the lines that are left behind so many, at a moment: all of a script, or those that come with the node up
+-- the client that is named, where it has a call in hand
+abbrev pub client_where : Option InHand → ℕ → Option ℕ
+client_where None c = None
+client_where (Some h) c = Some c
+
+abbrev pub client_in_hand : Who → World → Option ℕ
+client_in_hand (Actor (Client c)) w = client_where (hand_at w.hands c) c
+client_in_hand who w = None
+
+-- the lines that are left behind so many, at a moment: all of a script, or those that come with the nodes up
 abbrev pub AreLeft : ℕ → ℤ → List Line → Type 0
 AreLeft zero t lines = IsPlayable lines
 AreLeft (suc i) t lines = ArePlayable t lines
 
 -- the line can be played at a moment, after a log
 abbrev pub CanPlay : ℤ → List Label → Line → Type 0
-CanPlay t log (lines.Nodes n) = (n ≡ 1) × (log ≡ [])
+CanPlay t log (lines.Nodes n) = (0 < n) × (n ≤ nodes_max) × (log ≡ [])
 CanPlay t log line = IsPlayableLine t line

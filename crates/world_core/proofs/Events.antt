@@ -71,7 +71,7 @@ step_others c d old new label step apart =
     ap (λ hands. hand_at hands d) step.hands ∙ hand_other old.hands c d (left step.end step.next) (Some step.hand) (place_of_hand old.hands c step.hand step.held) apart
 
 idle_hands : (whose : Who) (finish : Bool) (old new : World) (label : Label) → IsIdleWord whose finish old new label → new.hands ≡ old.hands
-idle_hands whose finish old new (labels.Word who word said) is = is.2
+idle_hands whose finish old new (labels.Word who word said) is = is.3
 idle_hands whose finish old new (labels.Began call op end) is = absurd is
 idle_hands whose finish old new (labels.Stepped call op verb k r reply end details) is = absurd is
 idle_hands whose finish old new (labels.Failed node failed) is = absurd is

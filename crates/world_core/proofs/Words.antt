@@ -72,7 +72,7 @@ idle_of_none w who finish none = record {
 
 -- and its answer
 pub is_idle_of_none : (w : World) (who : Who) (finish : Bool) → NamesNoClient who → IsIdle who finish w w (Word who (step_word finish) Idle)
-is_idle_of_none w who finish none = record { none = nothing who none; word = (refl, refl, refl); does = idle_of_none w who finish none } where
+is_idle_of_none w who finish none = record { none = nothing who none; word = (refl, refl, refl, refl); does = idle_of_none w who finish none } where
   nothing : (who : Who) → NamesNoClient who → HasNothingToStep who w
   nothing (Actor (Client c)) none = absurd none
   nothing (Actor (Node r)) none = refl

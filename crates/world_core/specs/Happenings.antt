@@ -26,7 +26,7 @@ use Rattle.cluster_record.specs.RecordState.{empty_record, IsMomentFrom}
 use Rattle.ckpt_machine.specs.Driving.{driver_next}
 use Rattle.ckpt_machine.specs.Beginning.{IsBuilt}
 use Rattle.world_core.specs.Shows.{Does, handles_in, iterations_in, handle_in_place, handle_over_place, hand_at}
-use Rattle.world_core.specs.Runs.{AnswersBegin, IsStepped, HasNothingToStep, IsIdleWord, IsShownOf}
+use Rattle.world_core.specs.Runs.{AnswersBegin, MayBeStepped, HasNothingToStep, IsIdleWord, IsShownOf}
 
 -- the log has one label more, of which this holds
 pub record Adds (old new : Kept) (holds : Label → Type 0) : Type 0 where
@@ -122,7 +122,7 @@ pub record SetsMoment (t : ℤ) (old new : World) (label : Label) : Type 0 where
 abbrev pub ComesNow : World → Event → Type 0
 ComesNow w (happenings.Nodes n) = (0 < n) × (n ≤ nodes_max) × (w.cluster ≡ empty_record)
 ComesNow w (happenings.Begin (Client c) op) = (c < client_numbers) × IsBuilt op
-ComesNow w (happenings.Step who finish) = IsStepped who
+ComesNow w (happenings.Step who finish) = MayBeStepped who
 ComesNow w (happenings.Show k) = Unit {0}
 ComesNow w (happenings.At t) = IsMomentFrom w.cluster.moment t
 ComesNow w event = ⊥

@@ -14,7 +14,7 @@ use Rattle.run_labels.specs.declared.labels.Label.TheVariants as labels
 use Rattle.run_labels.specs.declared.words.LineWord.{LineWord}
 use Rattle.run_labels.specs.declared.words.LineWord.TheVariants as linewords
 use Rattle.run_labels.specs.declared.words.Said.{Said}
-use Rattle.run_labels.specs.declared.words.Said.TheVariants.{Down}
+use Rattle.run_labels.specs.declared.words.Said.TheVariants.{Down, Idle}
 use Rattle.run_labels.specs.OpWord.{word_of_op}
 use Rattle.client_handles.specs.ClientState.{new_client}
 use Rattle.world_core.specs.declared.hands.InHand.{InHand}
@@ -51,9 +51,9 @@ IsScriptClient (Client c) = c < client_numbers
 IsScriptClient a = ⊥
 
 -- a client that a script may name, a node, or an asynchronous operation
-abbrev pub IsStepped : Who → Type 0
-IsStepped (whos.Actor (Client c)) = c < client_numbers
-IsStepped who = Unit {0}
+abbrev pub MayBeStepped : Who → Type 0
+MayBeStepped (whos.Actor (Client c)) = c < client_numbers
+MayBeStepped who = Unit {0}
 
 -- no client has a call in hand
 abbrev pub NoneInHand : World → Type 0
@@ -63,7 +63,7 @@ NoneInHand w = (d : ℕ) → hand_at w.hands d ≡ None
 abbrev pub Comes : World → List Label → Event → Type 0
 Comes w log (happenings.Nodes n) = (0 < n) × (n ≤ nodes_max) × (log ≡ [])
 Comes w log (happenings.Begin a op) = IsScriptClient a × IsBuilt op
-Comes w log (happenings.Step who finish) = IsStepped who
+Comes w log (happenings.Step who finish) = MayBeStepped who
 Comes w log (happenings.At t) = IsMomentFrom w.cluster.moment t
 Comes w log (happenings.Show k) = Unit {0}
 
@@ -100,7 +100,7 @@ step_word true = linewords.Finish
 step_word false = linewords.Step
 
 abbrev pub IsIdleWord : Who → Bool → World → World → Label → Type 0
-IsIdleWord whose finish old new (labels.Word who word said) = (who ≡ whose) × (word ≡ step_word finish) × (new.hands ≡ old.hands)
+IsIdleWord whose finish old new (labels.Word who word said) = (who ≡ whose) × (word ≡ step_word finish) × (said ≡ Idle) × (new.hands ≡ old.hands)
 IsIdleWord whose finish old new label = ⊥
 
 abbrev pub AnswersStep : ActorName → Bool → Option InHand → World → World → Label → Type 0

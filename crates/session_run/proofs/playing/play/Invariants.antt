@@ -3,13 +3,13 @@ use Rattle.run_labels.specs.declared.labels.Label.{Label}
 use Rattle.ckpt_machine.specs.Runs.{last}
 use Rattle.world_core.specs.Runs.{IsRunTo, NoneInHand}
 use Rattle.session_run.specs.Follows.{FollowsFrom, Follows}
-use Rattle.session_run.specs.Growing.{one_node_labels, AreLeft}
+use Rattle.session_run.specs.Growing.{built_line_labels, AreLeft}
 use Rattle.session_run.proofs.playing.play.Given as goal
 
 abbrev pub invariant-loop-line : goal.invariant-loop-line
 invariant-loop-line l = record {
   run : IsRunTo l.world l.log.labels;
-  few : length l.log.labels ≤ one_node_labels * l.line-index;
+  few : length l.log.labels ≤ built_line_labels * l.line-index;
   idle : NoneInHand l.world;
   form : AreLeft l.line-index l.world.cluster.moment (drop l.line-index l.lines);
   start : l.line-index ≡ 0 → l.world.cluster.moment ≡ pos 0;

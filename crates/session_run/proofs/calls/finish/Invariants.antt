@@ -5,7 +5,7 @@ use Rattle.world_core.specs.Runs.{IsRunTo}
 use Rattle.world_core.specs.StepsLeft.{left_of}
 use Rattle.world_core.specs.Shows.{hand_at}
 use Rattle.session_run.specs.Growing.{GrowsBy, IsFinish, NoneBut}
-use Rattle.session_run.proofs.playing.finish.Given as goal
+use Rattle.session_run.proofs.calls.finish.Given as goal
 
 abbrev pub invariant-stepping : goal.invariant-stepping
 invariant-stepping l = record {

@@ -4,7 +4,7 @@ use Rattle.world_core.specs.Shows.{hand_at}
 use Rattle.world_core.specs.StepsLeft.{left_of}
 use Rattle.session_run.proofs.Following.{IfSome-held, step_grows, GrowsBy-label, GrowsBy-end, none_if_not, finish_of_none}
 use Rattle.session_run.proofs.Fronts.{towards_end, towards_finish}
-use Rattle.session_run.proofs.playing.finish.Goals as goal
+use Rattle.session_run.proofs.calls.finish.Goals as goal
 
 pub step-requires-clause-room : goal.step-requires-clause-room
 step-requires-clause-room c = omega (arith, c.stepping.invariant.few, c.requires.room)

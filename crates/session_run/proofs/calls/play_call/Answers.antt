@@ -3,7 +3,7 @@ use Rattle.script_lang.specs.declared.lines.Line.TheVariants.{Call}
 use Rattle.session_run.proofs.Following.{begin_grows, GrowsBy-begin, OnOk-map}
 use Rattle.world_core.proofs.Running.{few_left}
 use Rattle.session_run.proofs.Fronts.{towards_begin, towards_one, could_answer}
-use Rattle.session_run.proofs.playing.play_call.Goals as goal
+use Rattle.session_run.proofs.calls.play_call.Goals as goal
 
 pub finish-requires-clause-alone : goal.finish-requires-clause-alone
 finish-requires-clause-alone c = λ d apart. c.in_ok-begin.ensures.happens.others d apart ∙ c.requires.idle d

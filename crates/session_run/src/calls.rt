@@ -1,0 +1,181 @@
+//! The lines of calls: a call begins, is stepped, and is finished.
+ghost use Rattle.std.specs.Prelude.{◌≡◌, ◌≢◌, ◌+◌, ◌-◌, ◌<◌, ◌≤◌, ◌^◌, length, None, OnOk, OnErr, false};
+ghost use Rattle.ckpt_types.specs.declared.identities.ActorName.TheVariants.{Client};
+ghost use Rattle.ckpt_types.specs.declared.identities.Who.TheVariants.{Actor};
+ghost use Rattle.ckpt_types.specs.Limits.{client_numbers};
+ghost use Rattle.run_labels.specs.declared.words.LineWord.TheVariants as linewords;
+ghost use Rattle.ckpt_machine.specs.Beginning.{IsBuilt};
+ghost use Rattle.ckpt_machine.specs.Runs.{last};
+ghost use Rattle.world_core.specs.declared.world.Event.TheVariants as happenings;
+ghost use Rattle.world_core.specs.Runs.{IsRunTo, Happens, MayBeStepped};
+ghost use Rattle.world_core.specs.StepsLeft.{ComesNearer, left_of};
+ghost use Rattle.world_core.specs.Shows.{hand_at};
+ghost use Rattle.session_run.specs.Follows.{AreSteps, IsBegunCall, IsWholeCall, StepsToEnd, StepsUpTo, stepped_call};
+ghost use Rattle.session_run.specs.Growing.{built_line_labels, client_in_hand, GrowsBy, GrowsTowards, IsFinish, IsStepping};
+
+use ckpt_types::{ActorName, Op, Who};
+use run_labels::RunLog;
+use std::alloc::{AllocError, Global};
+use world_core::{Event, World};
+
+/// A call of a client, from its beginning to its end; where it has one in hand, the word that says so.
+pub(crate) fn play_call(
+    alloc: Global,
+    client: u8,
+    op: &Op,
+    log: &mut RunLog,
+    world: &mut World,
+) -> Result<(), AllocError>
+    requires run { IsRunTo world.old log.old.labels }
+    requires client { client < client_numbers }
+    requires built { IsBuilt op.now }
+    requires room { length log.old.labels + built_line_labels < 2 ^ 32 - 2 }
+    ensures run { IsRunTo world.new log.new.labels }
+    ensures few { length log.new.labels ≤ length log.old.labels + built_line_labels }
+    ensures moment { OnOk result (world.new.cluster.moment ≡ world.old.cluster.moment) }
+    ensures answers { OnOk result (GrowsBy log.old.labels log.new.labels (IsWholeCall (last log.old.labels) (Client client) op.now)) }
+    ensures front { GrowsTowards log.old.labels log.new.labels (IsWholeCall (last log.old.labels) (Client client) op.now) }
+{
+    if world.in_hand(client) {
+        return begin(alloc, client, op, log, world);
+    }
+    begin(alloc, client, op, log, world)?;
+    finish(alloc, client, log, world)
+}
+
+/// The beginning of a call, or the word that answers its line.
+pub(crate) fn begin(
+    alloc: Global,
+    client: u8,
+    op: &Op,
+    log: &mut RunLog,
+    world: &mut World,
+) -> Result<(), AllocError>
+    requires run { IsRunTo world.old log.old.labels }
+    requires client { client < client_numbers }
+    requires built { IsBuilt op.now }
+    requires room { length log.old.labels < 2 ^ 32 - 2 }
+    ensures run { IsRunTo world.new log.new.labels }
+    ensures happens { OnOk result (Happens (happenings.Begin (Client client) op.now) world.old world.new log.old.labels log.new.labels) }
+    ensures err { OnErr result (log.new.labels ≡ log.old.labels) }
+{
+    let event = Event::Begin(ActorName::Client(client), op.clone()?);
+    world.event(alloc, event, log)
+}
+
+/// At most so many steps of the call in hand that is named, fewer where it ends; where there is none, the word that says
+/// so.
+pub(crate) fn steps_of(
+    alloc: Global,
+    who: Who,
+    most: u32,
+    log: &mut RunLog,
+    world: &mut World,
+) -> Result<(), AllocError>
+    requires run { IsRunTo world.old log.old.labels }
+    requires comes { MayBeStepped who }
+    requires room { length log.old.labels + built_line_labels < 2 ^ 32 - 2 }
+    ensures run { IsRunTo world.new log.new.labels }
+    ensures few { length log.new.labels ≤ length log.old.labels + built_line_labels }
+    ensures moment { OnOk result (world.new.cluster.moment ≡ world.old.cluster.moment) }
+    ensures answers { OnOk result (GrowsBy log.old.labels log.new.labels (AreSteps (stepped_call (last log.old.labels) who) who linewords.Step (λ call. StepsUpTo call most None))) }
+    ensures front { GrowsTowards log.old.labels log.new.labels (AreSteps (stepped_call (last log.old.labels) who) who linewords.Step (λ call. StepsUpTo call most None)) }
+{
+    match client_in_hand(who, world) {
+        Some(client) => steps(alloc, client, most, log, world),
+        None => world.event(alloc, Event::Step(who, false), log),
+    }
+}
+
+/// The steps of the call in hand that is named, to its end; where there is none, the word that says so.
+pub(crate) fn finish_of(
+    alloc: Global,
+    who: Who,
+    log: &mut RunLog,
+    world: &mut World,
+) -> Result<(), AllocError>
+    requires run { IsRunTo world.old log.old.labels }
+    requires comes { MayBeStepped who }
+    requires room { length log.old.labels + built_line_labels < 2 ^ 32 - 2 }
+    ensures run { IsRunTo world.new log.new.labels }
+    ensures few { length log.new.labels ≤ length log.old.labels + built_line_labels }
+    ensures moment { OnOk result (world.new.cluster.moment ≡ world.old.cluster.moment) }
+    ensures answers { OnOk result (GrowsBy log.old.labels log.new.labels (AreSteps (stepped_call (last log.old.labels) who) who linewords.Finish (λ call. StepsToEnd call None))) }
+    ensures front { GrowsTowards log.old.labels log.new.labels (AreSteps (stepped_call (last log.old.labels) who) who linewords.Finish (λ call. StepsToEnd call None)) }
+{
+    match client_in_hand(who, world) {
+        Some(client) => finish(alloc, client, log, world),
+        None => world.event(alloc, Event::Step(who, true), log),
+    }
+}
+
+// The client that is named, where it has a call in hand.
+fn client_in_hand(who: Who, world: &World) -> Option<u8>
+    ensures { result ≡ client_in_hand who world.now }
+{
+    let Who::Actor(ActorName::Client(client)) = who else {
+        return None;
+    };
+    if world.in_hand(client) {
+        Some(client)
+    } else {
+        None
+    }
+}
+
+// At most so many steps of the client's call in hand, fewer where it ends.
+fn steps(
+    alloc: Global,
+    client: u8,
+    most: u32,
+    log: &mut RunLog,
+    world: &mut World,
+) -> Result<(), AllocError>
+    requires run { IsRunTo world.old log.old.labels }
+    requires client { client < client_numbers }
+    requires room { length log.old.labels + left_of world.old (Client client) < 2 ^ 32 - 2 }
+    ensures run { IsRunTo world.new log.new.labels }
+    ensures few { length log.new.labels ≤ length log.old.labels + left_of world.old (Client client) }
+    ensures moment { OnOk result (world.new.cluster.moment ≡ world.old.cluster.moment) }
+    ensures steps { OnOk result (GrowsBy log.old.labels log.new.labels (IsStepping most (hand_at world.old.hands client))) }
+    ensures front { GrowsTowards log.old.labels log.new.labels (IsStepping most (hand_at world.old.hands client)) }
+{
+    for _done in 0..most {
+        if !world.in_hand(client) {
+            return Ok(());
+        }
+        step(alloc, client, log, world)?;
+    }
+    Ok(())
+}
+
+// The steps of the client's call in hand, to its end.
+fn finish(alloc: Global, client: u8, log: &mut RunLog, world: &mut World) -> Result<(), AllocError>
+    requires run { IsRunTo world.old log.old.labels }
+    requires client { client < client_numbers }
+    requires room { length log.old.labels + left_of world.old (Client client) < 2 ^ 32 - 2 }
+    ensures run { IsRunTo world.new log.new.labels }
+    ensures few { length log.new.labels ≤ length log.old.labels + left_of world.old (Client client) }
+    ensures moment { OnOk result (world.new.cluster.moment ≡ world.old.cluster.moment) }
+    ensures steps { OnOk result (GrowsBy log.old.labels log.new.labels (IsFinish (hand_at world.old.hands client))) }
+    ensures front { GrowsTowards log.old.labels log.new.labels (IsFinish (hand_at world.old.hands client)) }
+{
+    'stepping: while world.in_hand(client) {
+        step(alloc, client, log, world)?;
+    }
+    Ok(())
+}
+
+// The next step of the client's call in hand.
+fn step(alloc: Global, client: u8, log: &mut RunLog, world: &mut World) -> Result<(), AllocError>
+    requires run { IsRunTo world.old log.old.labels }
+    requires client { client < client_numbers }
+    requires room { length log.old.labels < 2 ^ 32 - 2 }
+    ensures run { IsRunTo world.new log.new.labels }
+    ensures happens { OnOk result (Happens (happenings.Step (Actor (Client client)) false) world.old world.new log.old.labels log.new.labels) }
+    ensures nearer { OnOk result (ComesNearer (happenings.Step (Actor (Client client)) false) world.old world.new) }
+    ensures err { OnErr result (log.new.labels ≡ log.old.labels) }
+{
+    let event = Event::Step(Who::Actor(ActorName::Client(client)), false);
+    world.event(alloc, event, log)
+}
