@@ -3,6 +3,8 @@ ghost use Rattle.std.specs.Io.KnownBytes.{Appends};
 ghost use Rattle.outside_io.specs.Causes.{Rose};
 ghost use Rattle.script_lang.specs.Grammar.{script_of};
 ghost use Rattle.script_lang.specs.declared.faults.ScriptFault.{ScriptFault};
+ghost use Rattle.ckpt_machine.specs.AllOrNone.{IsAllOrNoneThroughout};
+ghost use Rattle.ckpt_machine.specs.Refusals.{EachRefusalLeaves};
 ghost use Rattle.world_core.specs.Runs.{IsNew, IsRunTo};
 ghost use Rattle.ckptsim.specs.Headline.{IsCommand, asks_steps, HasFault, HasPlayed, PlayedNothing, WritesPart, RanOrNoMemory, printed, status_number};
 
@@ -110,6 +112,11 @@ pub fn ckpt_run<R: Threads + Wait + Sync, S: Source, K: Sink, G: Gate>(
 
     // Whatever the answer, the log is a run of the checkpoint machine, and the world shows its last state.
     ensures run { IsRunTo world.new log.new.labels }
+
+    // Each refusal leaves all but the making of its own call as it was, and its call has nothing then; and after each
+    // front of the log an update is on all complete replicas of its checkpoint or on none.
+    ensures refused { EachRefusalLeaves log.new.labels }
+    ensures all_or_none { IsAllOrNoneThroughout log.new.labels }
 
     // The log follows the script that was read, all of it or a front; or nothing was played.
     ensures played { HasPlayed result (S.left source.old) (S.left source.new) log.new.labels }

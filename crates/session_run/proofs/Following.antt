@@ -25,11 +25,11 @@ use Rattle.ckpt_machine.specs.Runs.{last, last_from, IsRun}
 use Rattle.ckpt_machine.specs.Driving.{Kept}
 use Rattle.cluster_record.specs.StepDone.{StepDone}
 use Rattle.ckpt_machine.proofs.Runs.{run_before}
-use Rattle.world_core.specs.Runs.{GoesOn, IsRunTo, SaysTrue, Answers, AnswersBegin, AnswersStep, IsIdleWord, Happens, step_word}
+use Rattle.world_core.specs.Runs.{GoesOn, IsRunTo, SaysTrue, Answers, AnswersBegin, AnswersStep, IsIdleWord, IsShownOf, Happens, step_word}
 use Rattle.world_core.specs.declared.world.Event.TheVariants as happenings
 use Rattle.world_core.proofs.Held.{state_in}
 use Rattle.world_core.specs.Shows.{hand_at, shown_hand}
-use Rattle.session_run.specs.Follows.{StepsToEnd, StepsUpTo, SaysTrueIn, IsWholeCall, IsBegunCall, AreSteps, stepped_call, AnswersLine, FollowsFrom, Follows}
+use Rattle.session_run.specs.Follows.{StepsToEnd, StepsUpTo, SaysTrueIn, IsWholeCall, IsBegunCall, IsListing, AreSteps, stepped_call, AnswersLine, FollowsFrom, Follows}
 use Rattle.session_run.specs.Growing.{built_line_labels, GrowsBy, IsFinish, IsStepping, client_where, client_in_hand}
 
 -- what is left of a call that goes on are the steps of the call in hand
@@ -112,6 +112,11 @@ pub busy_alone : (c : ℕ) (op : Op) (old new : World) (log longer : List Label)
 busy_alone c op old new log longer (labels.Began call begun end) run later grows answers held = absurd (not_begun c old new log longer call begun end run later grows answers.0 held)
 busy_alone c op old new log longer (labels.Word who word said) run later grows answers held = begin_alone c op old new log (labels.Word who word said) run answers
 busy_alone c op old new log longer l run later grows answers held = absurd answers
+
+-- the label that answers a show
+pub listing_alone : (k : ℕ) (l : Label) → IsShownOf k l → IsListing k (l ∷ [])
+listing_alone k (labels.Shown other replicas) is = (is, refl)
+listing_alone k l is = absurd is
 
 -- ---- the call of which a line asks for steps
 

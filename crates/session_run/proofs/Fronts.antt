@@ -33,7 +33,7 @@ use Rattle.session_run.specs.Playable.{IsPlayableLine, ArePlayable}
 -- ---- labels that could come
 
 -- a call of this client and operation that ends at once
-abbrev could_begin : ℕ → Op → Label
+abbrev pub could_begin : ℕ → Op → Label
 could_begin c op = labels.Began (record { actor = Client c; number = 0 }) op (Some NoMemory)
 
 -- a step by which a call could end
@@ -69,7 +69,7 @@ could_step-finishes (Some s) who = (refl, refl)
 could_answer-answers : (m : Machine) (t : ℤ) (line : Line) → IsPlayableLine t line → AnswersLine m line (could_answer m line ∷ [])
 could_answer-answers m t (lines.Call c op) playable = (refl, refl, refl)
 could_answer-answers m t (lines.Begin (Client c) op) playable = (refl, refl, refl)
-could_answer-answers m t (lines.Begin (Node r) op) playable = absurd playable
+could_answer-answers m t (lines.Begin (Node r) op) playable = absurd playable.0
 could_answer-answers m t (lines.Step who n) playable = could_step-steps (stepped_call m who) who n playable.1
 could_answer-answers m t (lines.Finish who) playable = could_step-finishes (stepped_call m who) who
 could_answer-answers m t (lines.At u) playable = refl
@@ -121,6 +121,16 @@ towards_one old new l same p = (l ∷ [], omega arith, (l ∷ [], ap (λ xs. xs 
 pub towards_label : {P : List Label → Type 0} {X E : Type 0} (A : Type 0) (r : Result X E) (old new : List Label) (l : Label) → P (l ∷ []) → OnOk r (new ≡ old ++ l ∷ []) → OnErr r (A × (new ≡ old)) → GrowsTowards old new P
 towards_label A (Ok x) old new l p ok err = towards_end old new (l ∷ [], ok, p)
 towards_label A (Err e) old new l p ok err = towards_one old new l err.1 p
+
+-- what follows from a fault, of what it leaves besides
+pub fault_leaves : {X E : Type 0} (P Q : Type 0) (r : Result X E) → OnErr r (P × Q) → OnErr r Q
+fault_leaves P Q (Ok x) err = tt
+fault_leaves P Q (Err e) err = err.1
+
+-- it is answered by labels as they are, or nothing came yet and one could answer it
+pub towards_begun : {P : List Label → Type 0} {X E : Type 0} (r : Result X E) (old new : List Label) (l : Label) → P (l ∷ []) → OnErr r (new ≡ old) → OnOk r (GrowsBy old new P) → GrowsTowards old new P
+towards_begun (Ok x) old new l p err ok = towards_end old new ok
+towards_begun (Err e) old new l p err ok = towards_one old new l err p
 
 -- a step of the call in hand could end it
 pub towards_finish : {P : List Label → Type 0} (old log new : List Label) (o : Option InHand) → new ≡ log → ((more : List Label) → IsFinish o more → GrowsBy old (log ++ more) P) → GrowsTowards old new P

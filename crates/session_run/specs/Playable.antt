@@ -1,13 +1,12 @@
 -- Which scripts can be played so far: calls of clients in any order, of up to eight nodes.
 use Rattle.std.specs.Prelude.{ℕ, List, [], ◌∷◌, ◌<◌, ℤ, pos}
-use Rattle.ckpt_types.specs.declared.identities.ActorName.TheVariants.{Client}
 use Rattle.ckpt_types.specs.Limits.{client_numbers}
 use Rattle.script_lang.specs.declared.lines.Line.{Line}
 use Rattle.script_lang.specs.declared.lines.Line.TheVariants as lines
 use Rattle.script_lang.specs.BuiltScripts.{AreFirstNodes, moment_behind}
 use Rattle.ckpt_machine.specs.Beginning.{IsBuilt}
 use Rattle.cluster_record.specs.RecordState.{IsMomentFrom}
-use Rattle.world_core.specs.Runs.{MayBeStepped}
+use Rattle.world_core.specs.Runs.{IsScriptClient, MayBeStepped}
 
 -- the most lines of a script that is played
 abbrev pub played_lines_max : ℕ
@@ -16,7 +15,7 @@ played_lines_max = 2000000
 -- at this moment the line can be played with the nodes up: a call of a client, whole or only begun; steps of a call; a moment that does not go back; or a show
 abbrev pub IsPlayableLine : ℤ → Line → Type 0
 IsPlayableLine t (lines.Call c op) = (c < client_numbers) × IsBuilt op
-IsPlayableLine t (lines.Begin (Client c) op) = (c < client_numbers) × IsBuilt op
+IsPlayableLine t (lines.Begin a op) = IsScriptClient a × IsBuilt op
 IsPlayableLine t (lines.Step who steps) = MayBeStepped who × (0 < steps)
 IsPlayableLine t (lines.Finish who) = MayBeStepped who
 IsPlayableLine t (lines.At u) = IsMomentFrom t u

@@ -7,7 +7,7 @@ ghost use Rattle.run_labels.specs.declared.words.LineWord.TheVariants as linewor
 ghost use Rattle.ckpt_machine.specs.Beginning.{IsBuilt};
 ghost use Rattle.ckpt_machine.specs.Runs.{last};
 ghost use Rattle.world_core.specs.declared.world.Event.TheVariants as happenings;
-ghost use Rattle.world_core.specs.Runs.{IsRunTo, Happens, MayBeStepped};
+ghost use Rattle.world_core.specs.Runs.{IsRunTo, IsScriptClient, Happens, MayBeStepped};
 ghost use Rattle.world_core.specs.StepsLeft.{ComesNearer, left_of};
 ghost use Rattle.world_core.specs.Shows.{hand_at};
 ghost use Rattle.session_run.specs.Follows.{AreSteps, IsBegunCall, IsWholeCall, StepsToEnd, StepsUpTo, stepped_call};
@@ -43,8 +43,31 @@ pub(crate) fn play_call(
     finish(alloc, client, log, world)
 }
 
-/// The beginning of a call, or the word that answers its line.
-pub(crate) fn begin(
+/// The beginning of a call, or the word that answers its line. Only clients begin calls yet.
+pub(crate) fn begin_of(
+    alloc: Global,
+    actor: ActorName,
+    op: &Op,
+    log: &mut RunLog,
+    world: &mut World,
+) -> Result<(), AllocError>
+    requires run { IsRunTo world.old log.old.labels }
+    requires client { IsScriptClient actor }
+    requires built { IsBuilt op.now }
+    requires room { length log.old.labels + built_line_labels < 2 ^ 32 - 2 }
+    ensures run { IsRunTo world.new log.new.labels }
+    ensures few { length log.new.labels ≤ length log.old.labels + built_line_labels }
+    ensures moment { OnOk result (world.new.cluster.moment ≡ world.old.cluster.moment) }
+    ensures answers { OnOk result (GrowsBy log.old.labels log.new.labels (IsBegunCall (last log.old.labels) actor op.now)) }
+    ensures front { GrowsTowards log.old.labels log.new.labels (IsBegunCall (last log.old.labels) actor op.now) }
+{
+    let ActorName::Client(client) = actor else {
+        unreachable!()
+    };
+    begin(alloc, client, op, log, world)
+}
+
+fn begin(
     alloc: Global,
     client: u8,
     op: &Op,

@@ -8,8 +8,7 @@ ghost use Rattle.session_run.specs.Follows.{AnswersLine, Follows, FollowsFront};
 ghost use Rattle.session_run.specs.Growing.{CanPlay, built_line_labels, GrowsBy, GrowsTowards};
 ghost use Rattle.session_run.specs.Playable.{IsPlayable, played_lines_max};
 
-use crate::calls::{begin, finish_of, play_call, steps_of};
-use ckpt_types::ActorName;
+use crate::calls::{begin_of, finish_of, play_call, steps_of};
 use outside_io::Gate;
 use run_labels::RunLog;
 use script_lang::{Line, Script};
@@ -88,7 +87,7 @@ fn play_line(
     match line {
         Line::Nodes(count) => world.event(alloc, Event::Nodes(*count), log),
         Line::Call(client, op) => play_call(alloc, *client, op, log, world),
-        Line::Begin(ActorName::Client(client), op) => begin(alloc, *client, op, log, world),
+        Line::Begin(actor, op) => begin_of(alloc, *actor, op, log, world),
         Line::Step(who, most) => steps_of(alloc, *who, *most, log, world),
         Line::Finish(who) => finish_of(alloc, *who, log, world),
         Line::At(t) => world.event(alloc, Event::At(*t), log),

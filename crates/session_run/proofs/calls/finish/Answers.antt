@@ -21,7 +21,6 @@ stepping-preserved c =
     let longer : length c.step.new.log.labels ≡ length c.stepping.log.labels + 1 = ap length h.grows ∙ length-append c.stepping.log.labels (h.label ∷ []) in
     record {
       run = c.step.ensures.run;
-      alone = λ d apart. h.others d apart ∙ c.stepping.invariant.alone d apart;
       few = omega (arith, c.stepping.invariant.few, nearer);
       moment = h.moment ∙ c.stepping.invariant.moment;
       steps = λ more f. GrowsBy-label c.args.log.now.labels c.stepping.log.labels c.step.new.log.labels h.label more h.grows (c.stepping.invariant.steps (h.label ∷ more) (grows more f));

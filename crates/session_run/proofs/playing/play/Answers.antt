@@ -16,7 +16,6 @@ pub loop-line-init : goal.loop-line-init
 loop-line-init c = record {
   run = subst (IsRunTo c.args.world.now) (sym c.requires.log) (new_run c.args.world.now c.requires.world);
   few = omega (arith, ap length c.requires.log);
-  idle = c.requires.world.hands;
   form = c.requires.form;
   start = λ e. ap (λ (R : RecordState). R.moment) c.requires.world.cluster;
   first = λ e. c.requires.log;
@@ -42,7 +41,6 @@ loop-line-preserved c =
     record {
       run = c.play_line.ensures.run;
       few = omega (arith, c.play_line.ensures.few, c.loop-line.invariant.few);
-      idle = done.idle;
       form = AreLeft-next i c.loop-line.world.cluster.moment c.play_line.new.world.cluster.moment c.line-item.result (drop (i + 1) c.args.lines.now) left c.loop-line.invariant.start done.moment;
       start = λ e. absurd (omega (arith, e));
       first = λ e. absurd (omega (arith, e));

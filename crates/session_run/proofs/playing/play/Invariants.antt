@@ -1,7 +1,7 @@
 use Rattle.std.proofs.Common.{◌≡◌, ◌*◌, ◌≤◌, List, [], ◌++◌, length, drop, pos}
 use Rattle.run_labels.specs.declared.labels.Label.{Label}
 use Rattle.ckpt_machine.specs.Runs.{last}
-use Rattle.world_core.specs.Runs.{IsRunTo, NoneInHand}
+use Rattle.world_core.specs.Runs.{IsRunTo}
 use Rattle.session_run.specs.Follows.{FollowsFrom, Follows}
 use Rattle.session_run.specs.Growing.{built_line_labels, AreLeft}
 use Rattle.session_run.proofs.playing.play.Given as goal
@@ -10,7 +10,6 @@ abbrev pub invariant-loop-line : goal.invariant-loop-line
 invariant-loop-line l = record {
   run : IsRunTo l.world l.log.labels;
   few : length l.log.labels ≤ built_line_labels * l.line-index;
-  idle : NoneInHand l.world;
   form : AreLeft l.line-index l.world.cluster.moment (drop l.line-index l.lines);
   start : l.line-index ≡ 0 → l.world.cluster.moment ≡ pos 0;
   first : l.line-index ≡ 0 → l.log.labels ≡ [];

@@ -1,14 +1,15 @@
-use Rattle.std.proofs.Common.{rules, w64, ◌++◌, [], ◌∷◌, refl, sym, ap, subst, ◌∙◌}
+use Rattle.std.proofs.Common.{rules, w64, ◌≡◌, ◌++◌, [], ◌∷◌, refl, sym, ap, subst, ◌∙◌}
 use Rattle.std.proofs.lemmas.Int.{to_z-of_z}
 use Rattle.std.specs.Int.RustNames.{FitsSigned}
+use Rattle.std.specs.Prelude.{None}
 use Rattle.run_labels.specs.declared.labels.Label.{Label}
 use Rattle.run_labels.specs.declared.labels.Label.TheVariants as labels
 use Rattle.script_lang.specs.declared.lines.Line.{Line}
 use Rattle.ckpt_machine.specs.Runs.{last}
 use Rattle.session_run.specs.Follows.{AnswersLine}
 use Rattle.session_run.specs.Growing.{GrowsTowards}
-use Rattle.session_run.proofs.Following.{OnOk-map}
-use Rattle.session_run.proofs.Fronts.{towards_label}
+use Rattle.session_run.proofs.Following.{OnOk-map, listing_alone}
+use Rattle.session_run.proofs.Fronts.{towards_label, towards_begun, fault_leaves}
 use Rattle.session_run.proofs.playing.play_line.Goals as goal
 
 pub returns-in-Nodes-clause-front : goal.returns-in-Nodes-clause-front
@@ -32,3 +33,16 @@ returns-in-At-clause-front c =
     let grows = OnOk-map c.event-in-At.result c.event-in-At.ensures.happens (λ h. h.grows ∙ ap (λ (l : Label). old ++ l ∷ []) h.answers.0) in
     subst (λ (line : Line). GrowsTowards old c.event-in-At.new.log.labels (AnswersLine (last old) line)) (sym c.in-At.is)
     (towards_label _ c.event-in-At.result old c.event-in-At.new.log.labels label refl (simp to_z-of_z at grows) c.event-in-At.ensures.err)
+
+pub returns-in-Begin-clause-front : goal.returns-in-Begin-clause-front
+returns-in-Begin-clause-front c =
+    let old = c.args.log.now.labels in
+    subst (λ (line : Line). GrowsTowards old c.begin_of.new.log.labels (AnswersLine (last old) line)) (sym c.in-Begin.is) c.begin_of.ensures.front
+
+pub returns-in-Show-clause-front : goal.returns-in-Show-clause-front
+returns-in-Show-clause-front c =
+    let old = c.args.log.now.labels in
+    let k = c.in-Show.ckpt in
+    subst (λ (line : Line). GrowsTowards old c.event-in-Show.new.log.labels (AnswersLine (last old) line)) (sym c.in-Show.is)
+    (towards_begun c.event-in-Show.result old c.event-in-Show.new.log.labels (labels.Shown k None) (refl, refl) (fault_leaves _ _ c.event-in-Show.result c.event-in-Show.ensures.err)
+    (OnOk-map c.event-in-Show.result c.event-in-Show.ensures.happens (λ h. (h.label ∷ [], h.grows, listing_alone k h.label h.answers.0))))

@@ -1,0 +1,9 @@
+use Rattle.ckpt_machine.proofs.AllOrNone.{on_all_or_none}
+use Rattle.ckpt_machine.proofs.RefusedRuns.{run_leaves}
+use Rattle.session_run.proofs.playing.session.Goals as goal
+
+pub returns-clause-refused : goal.returns-clause-refused
+returns-clause-refused g c = run_leaves c.play.new.log.labels c.play.ensures.run.run
+
+pub returns-clause-all_or_none : goal.returns-clause-all_or_none
+returns-clause-all_or_none g c = on_all_or_none c.play.new.log.labels c.play.ensures.run.run
