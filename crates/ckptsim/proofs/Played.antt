@@ -5,6 +5,11 @@ use Rattle.ckpt_types.specs.Limits.{script_bytes_max}
 use Rattle.run_labels.specs.declared.labels.Label.{Label}
 use Rattle.script_words.specs.declared.reason.Reason.TheVariants.{Length}
 use Rattle.script_lang.specs.Grammar.{script_of, text_lines, start, steps, finished, fault, and_then}
+use Rattle.ckpt_machine.specs.AllOrNone.{IsAllOrNoneThroughout}
+use Rattle.ckpt_machine.specs.Refusals.{EachRefusalLeaves}
+use Rattle.ckpt_machine.specs.Runs.{IsRun}
+use Rattle.ckpt_machine.proofs.AllOrNone.{on_all_or_none}
+use Rattle.ckpt_machine.proofs.RefusedRuns.{run_leaves}
 use Rattle.world_core.specs.declared.world.World.{World}
 use Rattle.world_core.specs.Runs.{IsNew, IsRunTo}
 use Rattle.world_core.proofs.Running.{new_run}
@@ -30,3 +35,10 @@ read_too_long Q (Some input) (Some rest) bytes read = λ is_script.
     let size : length input ≡ length bytes + length rest = ap length read.0 ∙ length-append bytes rest in
     let is_none : is_ok (script_of input) ≡ false = too_long input (omega (arith, size, read.1)) in
     absurd (cc)
+
+-- in a log without labels nothing is refused, and no checkpoint is there
+pub none_refused : (log : List Label) → log ≡ [] → EachRefusalLeaves log
+none_refused log none = run_leaves log (subst IsRun (sym none) tt)
+
+pub all_of_none : (log : List Label) → log ≡ [] → IsAllOrNoneThroughout log
+all_of_none log none = on_all_or_none log (subst IsRun (sym none) tt)

@@ -4,7 +4,7 @@ use Rattle.run_labels.specs.declared.labels.Label.{Label}
 use Rattle.session_run.proofs.Playable.{playable}
 use Rattle.ckptsim.specs.Headline.{asks_steps, printed}
 use Rattle.ckptsim.specs.Reading.{Reads}
-use Rattle.ckptsim.proofs.Played.{read_too_long}
+use Rattle.ckptsim.proofs.Played.{read_too_long, none_refused, all_of_none}
 use Rattle.ckptsim.proofs.Written.{part_of_all}
 use Rattle.ckptsim.proofs.running.ckpt_run.Goals as goal
 
@@ -32,3 +32,41 @@ returns-in-TooLong-clause-complete g c =
     let bytes = c.in-Ok.read.0.items in
     λ command. read_too_long _ (left c.args.source.now) (left c.read_all.new.source) bytes
     (subst (Reads (left c.args.source.now) (left c.read_all.new.source) bytes) c.in-TooLong.is c.in-Ok.ensures.read)
+
+-- ---- nothing was played
+
+pub returns-then-not-is_command-clause-refused : goal.returns-then-not-is_command-clause-refused
+returns-then-not-is_command-clause-refused g c = none_refused c.args.log.now.labels c.requires.log
+
+pub returns-then-not-is_command-clause-all_or_none : goal.returns-then-not-is_command-clause-all_or_none
+returns-then-not-is_command-clause-all_or_none g c = all_of_none c.args.log.now.labels c.requires.log
+
+pub returns-in-Err-Failed-clause-refused : goal.returns-in-Err-Failed-clause-refused
+returns-in-Err-Failed-clause-refused g c = none_refused c.args.log.now.labels c.requires.log
+
+pub returns-in-Err-Failed-clause-all_or_none : goal.returns-in-Err-Failed-clause-all_or_none
+returns-in-Err-Failed-clause-all_or_none g c = all_of_none c.args.log.now.labels c.requires.log
+
+pub returns-in-Err-Memory-clause-refused : goal.returns-in-Err-Memory-clause-refused
+returns-in-Err-Memory-clause-refused g c = none_refused c.args.log.now.labels c.requires.log
+
+pub returns-in-Err-Memory-clause-all_or_none : goal.returns-in-Err-Memory-clause-all_or_none
+returns-in-Err-Memory-clause-all_or_none g c = all_of_none c.args.log.now.labels c.requires.log
+
+pub returns-in-TooLong-clause-refused : goal.returns-in-TooLong-clause-refused
+returns-in-TooLong-clause-refused g c = none_refused c.args.log.now.labels c.requires.log
+
+pub returns-in-TooLong-clause-all_or_none : goal.returns-in-TooLong-clause-all_or_none
+returns-in-TooLong-clause-all_or_none g c = all_of_none c.args.log.now.labels c.requires.log
+
+pub returns-in-Err-Fault-clause-refused : goal.returns-in-Err-Fault-clause-refused
+returns-in-Err-Fault-clause-refused g c = none_refused c.args.log.now.labels c.requires.log
+
+pub returns-in-Err-Fault-clause-all_or_none : goal.returns-in-Err-Fault-clause-all_or_none
+returns-in-Err-Fault-clause-all_or_none g c = all_of_none c.args.log.now.labels c.requires.log
+
+pub returns-in-Err-NoMemory-clause-refused : goal.returns-in-Err-NoMemory-clause-refused
+returns-in-Err-NoMemory-clause-refused g c = none_refused c.args.log.now.labels c.requires.log
+
+pub returns-in-Err-NoMemory-clause-all_or_none : goal.returns-in-Err-NoMemory-clause-all_or_none
+returns-in-Err-NoMemory-clause-all_or_none g c = all_of_none c.args.log.now.labels c.requires.log
