@@ -4,13 +4,14 @@ ghost use Rattle.script_lang.specs.declared.faults.ParseError.TheVariants as par
 ghost use Rattle.script_lang.specs.Faults.{Parses, Misses};
 ghost use Rattle.script_lang.specs.BuiltScripts.{IsBuiltScript};
 ghost use Rattle.script_lang.specs.Scripts.{IsScript};
-ghost use Rattle.script_lang.specs.Grammar.{start, step, steps, script_of, finished, if_allowed, fault_of, text_lines};
+ghost use Rattle.script_lang.specs.Grammar.{start, step, steps, script_of, finished, if_allowed, fault_of, text_lines, after_reading, some_line, line_of, words_of};
 
 use crate::faults::{ParseError, ScriptFault};
 use crate::lines::{Line, Script};
 use crate::marks::{Marks, is_race, next_marks};
+use crate::quick::{Quick, quick_line};
 use crate::reading::{first_line, read_line, says_nothing};
-use ckpt_types::{SCRIPT_BYTES_MAX, SCRIPT_LINES_MAX, Vector};
+use ckpt_types::{Op, SCRIPT_BYTES_MAX, SCRIPT_LINES_MAX, Vector};
 use script_words::{LineError, Reason};
 use std::alloc::{AllocError, Global};
 use std::marker::Model;
@@ -116,6 +117,24 @@ impl Reader {
             self.skip();
             return Ok(());
         }
+        match quick_line(alloc, text)? {
+            Quick::Write(client, place, update) => {
+                self.add(Line::Call(client, Op::Write(place, update)))
+            }
+            Quick::Read(client, place, elements) => {
+                self.add(Line::Call(client, Op::Read(place, elements)))
+            }
+            Quick::Other => self.take_any(alloc, text),
+        }
+    }
+
+    // One more line that says something, of any form.
+    #[inline(never)]
+    fn take_any(&mut self, alloc: Global, text: &[u8]) -> Result<(), ParseError>
+        requires { self.old.number < script_lines_max }
+        ensures ok { OnOk result (after_reading self.old (some_line (line_of (words_of text.now))) ≡ Ok self.new) }
+        ensures err { IfErr result (λ e. Misses e (after_reading self.old (some_line (line_of (words_of text.now))))) }
+    {
         match read_line(alloc, text) {
             Ok(line) => self.add(line),
             Err(LineError::NoMemory) => Err(ParseError::NoMemory),
@@ -142,6 +161,7 @@ impl Reader {
     }
 
     // One more line that says something.
+    #[inline(always)]
     #[tactic(auto, using(crate::proofs::Marking::marks_more))]
     fn add(&mut self, line: Line) -> Result<(), ParseError>
         requires { self.old.number < script_lines_max }
@@ -164,9 +184,7 @@ impl Reader {
         } else {
             self.race
         };
-        let Ok(()) = self.lines.push(line) else {
-            unreachable!()
-        };
+        self.lines.push_reserved(line);
         self.number += 1;
         self.race = race;
         self.marks = marks;
