@@ -1,5 +1,5 @@
 -- A line that is read at once.
-use Rattle.std.proofs.Common.{◌≡◌, refl, sym, ◌∙◌, ap, ℕ, ◌-◌, ◌^◌, ◌≤◌, Bool, true, false, not, ◌&&◌, ◌==◌, if◌then◌else◌, List, [], ◌∷◌, ◌++◌, length, take, drop, Option, Some, None, option_and_then, Ok, IfSome, arith, nat_le, codes, bytes_eq}
+use Rattle.std.proofs.Common.{◌≡◌, refl, sym, ◌∙◌, ap, ℕ, ◌+◌, ◌-◌, ◌^◌, ◌≤◌, Bool, true, false, not, ◌&&◌, ◌==◌, if◌then◌else◌, List, [], ◌∷◌, ◌++◌, length, take, drop, Option, Some, None, option_and_then, Ok, IfSome, arith, nat_le, codes, bytes_eq, nat_lt, sum_by}
 use Rattle.std.specs.Char.{is_ascii_digit}
 use Rattle.std.specs.Str.{all_ascii_digits}
 use Rattle.std.specs.Str.Parse.{digits_value}
@@ -19,8 +19,11 @@ use Rattle.script_lang.specs.declared.quick.Front.{Front}
 use Rattle.script_lang.specs.declared.quick.Quick.{Quick}
 use Rattle.script_lang.specs.declared.quick.Quick.TheVariants as quicks
 use Rattle.script_lang.specs.Table.{any_number, said_by, groups, word_of, word_of_first, is_later}
-use Rattle.script_lang.specs.Grammar.{is_space, is_empty, words_of, line_of}
-use Rattle.script_lang.specs.Plain.{SaysFirst, SaysFront, SaysBehind, SaysLine}
+use Rattle.ckpt_types.specs.declared.update.ReadElement.{ReadElement}
+use Rattle.ckpt_types.specs.declared.update.Update.{Update}
+use Rattle.ckpt_types.specs.Limits.{script_reads_max}
+use Rattle.script_lang.specs.Grammar.{is_space, is_empty, words_of, line_of, fault_after, order_fault, limit_fault, marks_after}
+use Rattle.script_lang.specs.Plain.{SaysFirst, SaysFront, SaysBehind, SaysLine, OnlyAsks}
 use Rattle.script_lang.proofs.Groups.{from_there}
 
 digit_no_space : (d : ℕ) → is_ascii_digit d ≡ true → is_space d ≡ false
@@ -117,10 +120,8 @@ quoted w bytes h = go (list_all is_graphic w) (not (length w == 0)) h
 quoted_alone : (w : List ℕ) (bytes : List ℕ) → read some_bytes (39 ∷ w) ≡ Ok bytes → words_of (39 ∷ w) ≡ (39 ∷ w) ∷ []
 quoted_alone w bytes h = rw (one_word is_graphic graphic_no_space w (quoted w bytes h)) refl
 
-pub quoted_word : (text w : List ℕ) (bytes : List ℕ) → text ≡ 39 ∷ w → read some_bytes text ≡ Ok bytes → words_of text ≡ text ∷ []
-quoted_word text w bytes is h =
-    let told : read some_bytes (39 ∷ w) ≡ Ok bytes = rw is at h in
-    rw is (quoted_alone w bytes told)
+pub quoted_word : (text w : List ℕ) (bytes : List ℕ) → text ≡ 39 ∷ w → read some_bytes (39 ∷ w) ≡ Ok bytes → (read some_bytes text ≡ Ok bytes) × (words_of text ≡ text ∷ [])
+quoted_word text w bytes is h = rw is (h, quoted_alone w bytes h)
 
 -- a number to the end is one word
 pub number_alone : (w : List ℕ) (n : ℕ) → read any_number w ≡ Ok n → words_of w ≡ w ∷ []
@@ -180,12 +181,32 @@ line_behind k first ws x other named built some none said = rw (other, named, bu
 
 pub begins_write : (text rest : List ℕ) (quick : Quick) → text ≡ codes "write" ++ 32 ∷ rest → SaysBehind word.Write rest quick → SaysLine text quick
 unfolding word_of word_of_first
-begins_write text rest (quicks.Write c p u) is h = rw is (line_behind word.Write (codes "write") (words_of rest) _ refl refl refl refl h.0 h.1)
-begins_write text rest (quicks.Read c p e) is h = rw is (line_behind word.Write (codes "write") (words_of rest) _ refl refl refl refl h.0 h.1)
-begins_write text rest quicks.Other is h = tt
+begins_write text rest (quicks.Write c p u) is h = (rw is (line_behind word.Write (codes "write") (words_of rest) _ refl refl refl refl h.0.0 h.0.1), tt)
+begins_write text rest (quicks.Read c p e asked) is h = (rw is (line_behind word.Write (codes "write") (words_of rest) _ refl refl refl refl h.0.0 h.0.1), h.1)
+begins_write text rest quicks.Other is h = (tt, tt)
 
 pub begins_read : (text rest : List ℕ) (quick : Quick) → text ≡ codes "read" ++ 32 ∷ rest → SaysBehind word.Read rest quick → SaysLine text quick
 unfolding word_of word_of_first
-begins_read text rest (quicks.Write c p u) is h = rw is (line_behind word.Read (codes "read") (words_of rest) _ refl refl refl refl h.0 h.1)
-begins_read text rest (quicks.Read c p e) is h = rw is (line_behind word.Read (codes "read") (words_of rest) _ refl refl refl refl h.0 h.1)
-begins_read text rest quicks.Other is h = tt
+begins_read text rest (quicks.Write c p u) is h = (rw is (line_behind word.Read (codes "read") (words_of rest) _ refl refl refl refl h.0.0 h.0.1), tt)
+begins_read text rest (quicks.Read c p e asked) is h = (rw is (line_behind word.Read (codes "read") (words_of rest) _ refl refl refl refl h.0.0 h.0.1), h.1)
+begins_read text rest quicks.Other is h = (tt, tt)
+
+-- THE MARKS BEHIND SUCH LINES
+
+no_more : (asked room : ℕ) → asked ≤ room → nat_lt room asked ≡ false
+no_more asked room le = grind (arith, le)
+
+pub write_asks : (c p : ℕ) (u : Update) → OnlyAsks (lines.Call c (ops.Write p u)) 0
+unfolding fault_after order_fault limit_fault marks_after
+write_asks c p u m some none le =
+    let room : nat_lt script_reads_max (m.asked + 0) ≡ false = no_more (m.asked + 0) script_reads_max le in
+    let same : m.asked + 0 ≡ m.asked = omega arith in
+    let front : 0 + m.asked ≡ m.asked = omega arith in
+    (rw (some, none, room) refl, rw (some, none, same, front) refl)
+
+pub read_asks : (c p asked : ℕ) (es : List ReadElement) → sum_by (λ e. e.len) es ≡ asked → OnlyAsks (lines.Call c (ops.Read p es)) asked
+unfolding fault_after order_fault limit_fault marks_after
+read_asks c p asked es is m some none le =
+    let room : nat_lt script_reads_max (m.asked + asked) ≡ false = no_more (m.asked + asked) script_reads_max le in
+    let same : asked + m.asked ≡ m.asked + asked = omega arith in
+    (rw (is, some, none, room) refl, rw (is, some, none, same) refl)

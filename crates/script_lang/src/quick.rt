@@ -17,8 +17,8 @@ use std::alloc::{AllocError, Global};
 pub(crate) enum Quick {
     /// A write of one element.
     Write(u8, u8, SharedUpdate),
-    /// A read of one element.
-    Read(u8, u8, SharedReads),
+    /// A read of one element, which asks for so many bytes.
+    Read(u8, u8, SharedReads, u64),
     /// It may be another line, or none.
     Other,
 }
@@ -78,14 +78,14 @@ fn quick_write(alloc: Global, text: &[u8]) -> Result<Quick, AllocError>
     let Some(front) = front_of(text) else {
         return Ok(Quick::Other);
     };
-    let [b'\'', ..] = front.last else {
+    let [b'\'', quoted @ ..] = front.last else {
         return Ok(Quick::Other);
     };
     let id = match script_words::id(alloc, front.id) {
         Ok(id) => id,
         Err(error) => return given_up(error),
     };
-    let bytes = match script_words::bytes(alloc, front.last) {
+    let bytes = match script_words::quoted(alloc, quoted) {
         Ok(bytes) => bytes,
         Err(error) => return given_up(error),
     };
@@ -119,7 +119,7 @@ fn quick_read(alloc: Global, text: &[u8]) -> Result<Quick, AllocError>
         len,
     };
     let elements = Shared::new(alloc, ReadVector::one(element))?;
-    Ok(Quick::Read(front.client, front.place, elements))
+    Ok(Quick::Read(front.client, front.place, elements, len))
 }
 
 // A word is at fault, which is told when all are read; or memory was refused.

@@ -128,14 +128,21 @@ pub fn bytes(alloc: Global, word: &[u8]) -> Result<Bytes, LineError>
             Some(items) => Ok(Bytes::from_vec(items)),
             None => Err(LineError::Fault(Reason::Bytes)),
         },
-        [b'\'', text @ ..] => {
-            if !may_be_quoted(text) {
-                return Err(LineError::Fault(Reason::Bytes));
-            }
-            Ok(Bytes::from_slice(alloc, text)?)
-        }
+        [b'\'', text @ ..] => quoted(alloc, text),
         _ => Err(LineError::Fault(Reason::Bytes)),
     }
+}
+
+/// The bytes of a word, from what stands behind its quote.
+#[inline(always)]
+#[tactic(auto, unfolding(crate::specs::Words::read, crate::specs::Words::bytes_of))]
+pub fn quoted(alloc: Global, text: &[u8]) -> Result<Bytes, LineError>
+    ensures { Reads result (read some_bytes (39 ∷ text.now)) }
+{
+    if !may_be_quoted(text) {
+        return Err(LineError::Fault(Reason::Bytes));
+    }
+    Ok(Bytes::from_slice(alloc, text)?)
 }
 
 // Whether the bytes may stand behind a quote.
