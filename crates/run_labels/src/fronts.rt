@@ -4,11 +4,10 @@ ghost use Rattle.run_labels.specs.Texts.{actor_text, call_text};
 use crate::digits::{push_hundreds, push_thousands};
 use ckpt_types::{ActorName, CallId};
 
-/// The least number of a call whose digits are more than `FRONT_ROOM` has room for.
+/// The least number of a call that has more than four digits.
 pub(crate) const LONG_NUMBER: u32 = 10_000;
 
-/// The front of a result line of a write or a read has no more bytes, as `c99.9999 write OK`, nor with the end of the
-/// line.
+/// So many bytes are the most of a call with a lesser number, ` write OK` and the end of the line.
 pub(crate) const FRONT_ROOM: usize = 19;
 
 /// Adds a call, where there is room for nine bytes.
