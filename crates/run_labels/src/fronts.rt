@@ -1,14 +1,16 @@
-ghost use Rattle.std.specs.Prelude.{◌≡◌, ◌<◌, ◌≤◌, ◌+◌, ◌++◌, codes, vec_len, vec_capacity};
+ghost use Rattle.std.specs.Prelude.{◌≡◌, ◌<◌, ◌≤◌, ◌+◌, ◌++◌, codes, length, vec_len, vec_capacity};
+ghost use Rattle.run_labels.specs.OpWord.{op_text};
 ghost use Rattle.run_labels.specs.Texts.{actor_text, call_text};
 
 use crate::digits::{push_hundreds, push_thousands};
+use crate::words::OpWord;
 use ckpt_types::{ActorName, CallId};
 
 /// The least number of a call that has more than four digits.
 pub(crate) const LONG_NUMBER: u32 = 10_000;
 
-/// So many bytes are the most of a call with a lesser number, ` write OK` and the end of the line.
-pub(crate) const FRONT_ROOM: usize = 19;
+/// So many bytes are the most of a call with a lesser number, ` openasync OK` and the end of the line.
+pub(crate) const FRONT_ROOM: usize = 23;
 
 /// Adds a call, where there is room for nine bytes.
 #[inline(always)]
@@ -73,6 +75,31 @@ pub(crate) fn push_read(out: &mut Vec<u8>)
     out.push_reserved(b'e');
     out.push_reserved(b'a');
     out.push_reserved(b'd');
+}
+
+/// Adds a space and the first word of a line, where there is room.
+#[inline(always)]
+pub(crate) fn push_word(out: &mut Vec<u8>, op: OpWord)
+    requires { vec_len out.old + 10 ≤ vec_capacity out.old }
+    ensures items { out.new.items ≡ out.old.items ++ (codes " " ++ op_text op) }
+    ensures len { vec_len out.new ≤ vec_len out.old + 10 }
+    ensures capacity { vec_capacity out.new ≡ vec_capacity out.old }
+{
+    out.push_reserved(b' ');
+    push_letters(out, op.word().as_bytes());
+}
+
+/// Adds some bytes, where there is room.
+#[inline(always)]
+fn push_letters(out: &mut Vec<u8>, letters: &[u8])
+    requires { vec_len out.old + length letters.now ≤ vec_capacity out.old }
+    ensures items { out.new.items ≡ out.old.items ++ letters.now }
+    ensures len { vec_len out.new ≡ vec_len out.old + length letters.now }
+    ensures capacity { vec_capacity out.new ≡ vec_capacity out.old }
+{
+    for letter in letters {
+        out.push_reserved(*letter);
+    }
 }
 
 /// Adds that a call was done, where there is room.

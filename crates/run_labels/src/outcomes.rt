@@ -5,7 +5,9 @@ ghost use Rattle.run_labels.specs.Texts.{time_text};
 ghost use Rattle.run_labels.specs.Outcomes.{version_text, cause_text, told_version, piece_text, facts_text, section_text, attributes_text, status_text, details_text, answer_text, answered_text, head_text, done_line, refusal_line, result_line, end_text, stepped_end_text, is_async};
 
 use crate::details::Details;
-use crate::fronts::{FRONT_ROOM, LONG_NUMBER, push_call, push_ok, push_read, push_write};
+use crate::fronts::{
+    FRONT_ROOM, LONG_NUMBER, push_call, push_ok, push_read, push_word, push_write,
+};
 use crate::texts::{
     append_call, append_ckpt, append_line_end, append_number, append_spaced, append_spaced_bytes,
     append_spaced_state, append_spaced_time, append_text,
@@ -104,8 +106,8 @@ fn append_done(
             push_answered(out, answer, details)
         }
         _ => {
-            append_word(out, op)?;
-            append_answered(out, answer, details)
+            push_word(out, op);
+            push_answered(out, answer, details)
         }
     }
 }

@@ -131,7 +131,7 @@ impl Reader {
     }
 
     // One more line that says something, of any form.
-    #[inline(never)]
+    #[inline(always)]
     fn take_any(&mut self, alloc: Global, text: &[u8]) -> Result<(), ParseError>
         requires { self.old.number < script_lines_max }
         ensures ok { OnOk result (after_reading self.old (some_line (line_of (words_of text.now))) ≡ Ok self.new) }
@@ -173,7 +173,7 @@ impl Reader {
         ensures err { IfErr result (λ e. Misses e (if_allowed self.old line (fault_of self.old.earlier line))) }
     {
         if !takes(&self.marks, asked) {
-            return self.add(line);
+            return self.add_apart(line);
         }
         if self.lines.reserve(1).is_err() {
             let_go(line);
@@ -185,8 +185,18 @@ impl Reader {
         Ok(())
     }
 
-    // One more line that says something.
+    // One more line that says something, apart from the reading of those that are most used.
     #[inline(never)]
+    fn add_apart(&mut self, line: Line) -> Result<(), ParseError>
+        requires { self.old.number < script_lines_max }
+        ensures ok { OnOk result (if_allowed self.old line (fault_of self.old.earlier line) ≡ Ok self.new) }
+        ensures err { IfErr result (λ e. Misses e (if_allowed self.old line (fault_of self.old.earlier line))) }
+    {
+        self.add(line)
+    }
+
+    // One more line that says something.
+    #[inline(always)]
     #[tactic(auto, using(crate::proofs::Marking::marks_more))]
     fn add(&mut self, line: Line) -> Result<(), ParseError>
         requires { self.old.number < script_lines_max }
