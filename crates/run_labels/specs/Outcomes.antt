@@ -96,9 +96,13 @@ answer_text (answers.Dispatched given) details = codes " " ++ decimal given.give
 abbrev pub head_text : CallId → OpWord → List ℕ
 head_text call op = call_text call ++ codes " " ++ op_text op
 
+-- that a call was done, and its answer, to the end of the line
+abbrev pub answered_text : Answer → Details → List ℕ
+answered_text answer details = codes " OK" ++ answer_text answer details ++ codes "\n"
+
 -- the result line of a call that was done
 abbrev pub done_line : CallId → OpWord → Answer → Details → List ℕ
-done_line call op answer details = head_text call op ++ codes " OK" ++ answer_text answer details ++ codes "\n"
+done_line call op answer details = head_text call op ++ answered_text answer details
 
 -- the result line of a call that was refused
 abbrev pub refusal_line : CallId → OpWord → AisError → Cause → List ℕ

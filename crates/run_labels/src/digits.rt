@@ -7,6 +7,8 @@ pub(crate) fn push_thousands(out: &mut Vec<u8>, number: u64)
     requires number { number < 10000 }
     requires room { vec_len out.old + 4 ≤ vec_capacity out.old }
     ensures items { out.new.items ≡ out.old.items ++ decimal number }
+    ensures len { vec_len out.new ≤ vec_len out.old + 4 }
+    ensures capacity { vec_capacity out.new ≡ vec_capacity out.old }
 {
     if number < 1000 {
         push_hundreds(out, number);
@@ -18,7 +20,7 @@ pub(crate) fn push_thousands(out: &mut Vec<u8>, number: u64)
 
 /// Adds a number below 1,000, where there is room for three digits.
 #[inline(always)]
-fn push_hundreds(out: &mut Vec<u8>, number: u64)
+pub(crate) fn push_hundreds(out: &mut Vec<u8>, number: u64)
     requires number { number < 1000 }
     requires room { vec_len out.old + 3 ≤ vec_capacity out.old }
     ensures items { out.new.items ≡ out.old.items ++ decimal number }

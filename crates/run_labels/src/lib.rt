@@ -4,6 +4,7 @@
 mod details;
 mod digits;
 mod events;
+mod fronts;
 mod labels;
 mod lines;
 mod log;

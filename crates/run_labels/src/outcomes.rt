@@ -1,9 +1,13 @@
-ghost use Rattle.std.specs.Prelude.{◌≡◌, ◌++◌, OnOk, Some, codes, decimal};
+ghost use Rattle.std.specs.Prelude.{◌≡◌, ◌+◌, ◌≤◌, ◌++◌, OnOk, Some, codes, decimal, vec_len, vec_capacity};
 ghost use Rattle.std.specs.List.{flat_map};
+ghost use Rattle.run_labels.specs.OpWord.{op_text};
 ghost use Rattle.run_labels.specs.Texts.{time_text};
-ghost use Rattle.run_labels.specs.Outcomes.{version_text, cause_text, told_version, piece_text, facts_text, section_text, attributes_text, status_text, details_text, answer_text, head_text, done_line, refusal_line, result_line, end_text, stepped_end_text, is_async};
+ghost use Rattle.run_labels.specs.Outcomes.{version_text, cause_text, told_version, piece_text, facts_text, section_text, attributes_text, status_text, details_text, answer_text, answered_text, head_text, done_line, refusal_line, result_line, end_text, stepped_end_text, is_async};
 
 use crate::details::Details;
+use crate::fronts::{
+    FRONT_ROOM, LONG_NUMBER, push_call, push_ok, push_read, push_word, push_write,
+};
 use crate::texts::{
     append_call, append_ckpt, append_line_end, append_number, append_spaced, append_spaced_bytes,
     append_spaced_state, append_spaced_time, append_text,
@@ -86,8 +90,49 @@ fn append_done(
 ) -> Result<(), AllocError>
     ensures { OnOk result (out.new.items ≡ out.old.items ++ done_line call.now op answer.now details.now) }
 {
-    append_head(out, call, op)?;
+    if call.number >= LONG_NUMBER {
+        append_head(out, call, op)?;
+        return append_answered(out, answer, details);
+    }
+    out.reserve(FRONT_ROOM)?;
+    push_call(out, call);
+    match op {
+        OpWord::Write => {
+            push_write(out);
+            push_answered(out, answer, details)
+        }
+        OpWord::Read => {
+            push_read(out);
+            push_answered(out, answer, details)
+        }
+        _ => {
+            push_word(out, op);
+            push_answered(out, answer, details)
+        }
+    }
+}
+
+/// The answer of a call that was done, to the end of the line.
+#[inline(never)]
+fn append_answered(out: &mut Vec<u8>, answer: &Answer, details: &Details) -> Result<(), AllocError>
+    ensures { OnOk result (out.new.items ≡ out.old.items ++ answered_text answer.now details.now) }
+{
     append_text(out, " OK")?;
+    append_answer(out, answer, details)?;
+    append_line_end(out)
+}
+
+/// The same, where there is room for an answer that tells nothing.
+#[inline(always)]
+fn push_answered(out: &mut Vec<u8>, answer: &Answer, details: &Details) -> Result<(), AllocError>
+    requires { vec_len out.old + 4 ≤ vec_capacity out.old }
+    ensures { OnOk result (out.new.items ≡ out.old.items ++ answered_text answer.now details.now) }
+{
+    push_ok(out);
+    if let Answer::Nothing = answer {
+        out.push_reserved(b'\n');
+        return Ok(());
+    }
     append_answer(out, answer, details)?;
     append_line_end(out)
 }
@@ -116,6 +161,13 @@ fn append_head(out: &mut Vec<u8>, call: &CallId, op: OpWord) -> Result<(), Alloc
     ensures { OnOk result (out.new.items ≡ out.old.items ++ head_text call.now op) }
 {
     append_call(out, *call)?;
+    append_word(out, op)
+}
+
+/// A space and the first word of a line.
+fn append_word(out: &mut Vec<u8>, op: OpWord) -> Result<(), AllocError>
+    ensures { OnOk result (out.new.items ≡ out.old.items ++ codes " " ++ op_text op) }
+{
     append_text(out, " ")?;
     append_text(out, op.word())
 }

@@ -4,6 +4,7 @@ mod Canonical
 mod Fitting
 mod Groups
 mod Marking
+mod Plain
 mod Rows
 mod Saying
 mod Steps

@@ -10,6 +10,7 @@ mod lines;
 mod marks;
 mod parser;
 mod printing;
+mod quick;
 mod reading;
 
 pub use faults::{ParseError, ScriptFault};

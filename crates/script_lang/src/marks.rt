@@ -25,6 +25,7 @@ pub(crate) struct Marks {
 }
 
 /// The fault of the line behind such lines, or what they tell with it.
+#[inline(always)]
 #[tactic(auto, unfolding(crate::specs::Grammar::fault_after, crate::specs::Grammar::order_fault, crate::specs::Grammar::limit_fault, crate::specs::Grammar::marks_after))]
 pub fn next_marks(marks: Marks, line: &Line) -> Result<Marks, Reason>
     requires { IsSmall marks }
@@ -86,6 +87,7 @@ fn is_show_line(line: &Line) -> bool
 }
 
 // Whether the moment would fall.
+#[inline(always)]
 fn falls(line: &Line, now: Moment) -> bool
     ensures { result ≡ goes_back line.now now }
 {
@@ -96,6 +98,7 @@ fn falls(line: &Line, now: Moment) -> bool
 }
 
 // Whether the line may not stand where it does: in the block, or where none is open.
+#[inline(always)]
 fn breaks(line: &Line, block: Option<u32>) -> bool
     ensures { result ≡ breaks_block line.now block }
 {
@@ -106,6 +109,7 @@ fn breaks(line: &Line, block: Option<u32>) -> bool
 }
 
 // Whether the line may stand in a block, or ends it.
+#[inline(always)]
 fn may_race(line: &Line) -> bool
     ensures { result ≡ spec_may_race line.now }
 {
@@ -131,6 +135,7 @@ fn may_race_op(op: &Op) -> bool
 }
 
 // What is left of the room behind the line.
+#[inline(always)]
 fn room_after(line: &Line, room: u64) -> Option<u64>
     ensures some { IfSome result (λ left. left + asked_in line.now ≡ room) }
     ensures none { IfNone result (room < asked_in line.now) }
@@ -145,6 +150,7 @@ fn room_after(line: &Line, room: u64) -> Option<u64>
 }
 
 // What is left of the room behind these reads.
+#[inline(always)]
 fn room_behind(elements: &[ReadElement], room: u64) -> Option<u64>
     ensures some { IfSome result (λ left. left + sum_by (λ e. e.len) elements.now ≡ room) }
     ensures none { IfNone result (room < sum_by (λ e. e.len) elements.now) }
@@ -188,6 +194,7 @@ fn shows_behind(line: &Line, shows: u32) -> u32
 }
 
 // Whether the form of the line, narrower than its first word tells, is not built yet.
+#[inline(always)]
 fn is_later_line(line: &Line) -> bool
     ensures { result ≡ spec_is_later_line line.now }
 {
@@ -198,6 +205,7 @@ fn is_later_line(line: &Line) -> bool
     }
 }
 
+#[inline(always)]
 fn is_later_op(op: &Op) -> bool
     ensures { result ≡ spec_is_later_op op.now }
 {

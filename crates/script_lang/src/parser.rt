@@ -1,16 +1,19 @@
-ghost use Rattle.std.specs.Prelude.{◌≡◌, ◌<◌, ◌≤◌, ◌+◌, OnOk, IfErr, IfOk, Ok};
-ghost use Rattle.ckpt_types.specs.Limits.{script_lines_max};
+ghost use Rattle.std.specs.Prelude.{◌≡◌, ◌<◌, ◌≤◌, ◌+◌, OnOk, IfErr, IfOk, Ok, None, false};
+ghost use Rattle.std.specs.Bool.{OnTrue};
+ghost use Rattle.ckpt_types.specs.Limits.{script_lines_max, script_reads_max};
 ghost use Rattle.script_lang.specs.declared.faults.ParseError.TheVariants as parse_errors;
 ghost use Rattle.script_lang.specs.Faults.{Parses, Misses};
 ghost use Rattle.script_lang.specs.BuiltScripts.{IsBuiltScript};
 ghost use Rattle.script_lang.specs.Scripts.{IsScript};
-ghost use Rattle.script_lang.specs.Grammar.{start, step, steps, script_of, finished, if_allowed, fault_of, text_lines};
+ghost use Rattle.script_lang.specs.Grammar.{start, step, steps, script_of, finished, if_allowed, fault_of, text_lines, after_reading, some_line, line_of, words_of, is_race as spec_is_race, IsSmall};
+ghost use Rattle.script_lang.specs.Plain.{OnlyAsks};
 
 use crate::faults::{ParseError, ScriptFault};
 use crate::lines::{Line, Script};
 use crate::marks::{Marks, is_race, next_marks};
+use crate::quick::{Quick, quick_line};
 use crate::reading::{first_line, read_line, says_nothing};
-use ckpt_types::{SCRIPT_BYTES_MAX, SCRIPT_LINES_MAX, Vector};
+use ckpt_types::{Op, SCRIPT_BYTES_MAX, SCRIPT_LINES_MAX, SCRIPT_READS_MAX, Vector};
 use script_words::{LineError, Reason};
 use std::alloc::{AllocError, Global};
 use std::marker::Model;
@@ -116,6 +119,24 @@ impl Reader {
             self.skip();
             return Ok(());
         }
+        match quick_line(alloc, text)? {
+            Quick::Write(client, place, update) => {
+                self.add_access(Line::Call(client, Op::Write(place, update)), 0)
+            }
+            Quick::Read(client, place, elements, len) => {
+                self.add_access(Line::Call(client, Op::Read(place, elements)), len)
+            }
+            Quick::Other => self.take_any(alloc, text),
+        }
+    }
+
+    // One more line that says something, of any form.
+    #[inline(always)]
+    fn take_any(&mut self, alloc: Global, text: &[u8]) -> Result<(), ParseError>
+        requires { self.old.number < script_lines_max }
+        ensures ok { OnOk result (after_reading self.old (some_line (line_of (words_of text.now))) ≡ Ok self.new) }
+        ensures err { IfErr result (λ e. Misses e (after_reading self.old (some_line (line_of (words_of text.now))))) }
+    {
         match read_line(alloc, text) {
             Ok(line) => self.add(line),
             Err(LineError::NoMemory) => Err(ParseError::NoMemory),
@@ -141,7 +162,41 @@ impl Reader {
         self.number += 1;
     }
 
+    // One more write or read, which asks for so many bytes.
+    #[inline(always)]
+    #[tactic(auto, using(crate::proofs::Marking::marks_more))]
+    fn add_access(&mut self, line: Line, asked: u64) -> Result<(), ParseError>
+        requires number { self.old.number < script_lines_max }
+        requires race { spec_is_race line ≡ false }
+        requires marks { OnlyAsks line asked }
+        ensures ok { OnOk result (if_allowed self.old line (fault_of self.old.earlier line) ≡ Ok self.new) }
+        ensures err { IfErr result (λ e. Misses e (if_allowed self.old line (fault_of self.old.earlier line))) }
+    {
+        if !takes(&self.marks, asked) {
+            return self.add_apart(line);
+        }
+        if self.lines.reserve(1).is_err() {
+            let_go(line);
+            return Err(ParseError::NoMemory);
+        }
+        self.lines.push_reserved(line);
+        self.number += 1;
+        self.marks.asked += asked;
+        Ok(())
+    }
+
+    // One more line that says something, apart from the reading of those that are most used.
+    #[inline(never)]
+    fn add_apart(&mut self, line: Line) -> Result<(), ParseError>
+        requires { self.old.number < script_lines_max }
+        ensures ok { OnOk result (if_allowed self.old line (fault_of self.old.earlier line) ≡ Ok self.new) }
+        ensures err { IfErr result (λ e. Misses e (if_allowed self.old line (fault_of self.old.earlier line))) }
+    {
+        self.add(line)
+    }
+
     // One more line that says something.
+    #[inline(always)]
     #[tactic(auto, using(crate::proofs::Marking::marks_more))]
     fn add(&mut self, line: Line) -> Result<(), ParseError>
         requires { self.old.number < script_lines_max }
@@ -164,9 +219,7 @@ impl Reader {
         } else {
             self.race
         };
-        let Ok(()) = self.lines.push(line) else {
-            unreachable!()
-        };
+        self.lines.push_reserved(line);
         self.number += 1;
         self.race = race;
         self.marks = marks;
@@ -185,6 +238,21 @@ impl Reader {
             }));
         }
         Ok(Vector::from_vec(self.lines))
+    }
+}
+
+// Whether a line stands in no block, and may ask for so many bytes.
+#[inline(always)]
+fn takes(marks: &Marks, asked: u64) -> bool
+    requires { IsSmall marks.now }
+    ensures { OnTrue result ((marks.now.none ≡ false) × (marks.now.block ≡ None) × (marks.now.asked + asked ≤ script_reads_max)) }
+{
+    if marks.none {
+        return false;
+    }
+    match marks.block {
+        Some(_) => false,
+        None => asked <= SCRIPT_READS_MAX - marks.asked,
     }
 }
 

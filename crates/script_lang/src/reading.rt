@@ -140,8 +140,9 @@ fn few_words<'a>(line: &'a [u8], words: &mut [&'a [u8]]) -> Option<usize>
     None
 }
 
-// The word in front of the first space, and what lies behind it; none where there is no space.
-fn first_word(line: &[u8]) -> Option<(&[u8], &[u8])>
+/// The word in front of the first space, and what lies behind it; none where there is no space.
+#[inline(always)]
+pub fn first_word(line: &[u8]) -> Option<(&[u8], &[u8])>
     ensures some { IfSome result (λ p. words_of line.now ≡ p.0.now ∷ words_of p.1.now) }
     ensures none { IfNone result (words_of line.now ≡ line.now ∷ []) }
 {

@@ -7,8 +7,8 @@ mod reason;
 mod writing;
 
 pub use reading::{
-    bytes, callbacks, ckpt, client, id, iteration, moment, new_id, node, number, place, time,
-    version, who,
+    bytes, callbacks, ckpt, client, id, iteration, moment, new_id, node, number, place, quoted,
+    time, version, who,
 };
 pub use reason::{LineError, Reason};
 pub use writing::{

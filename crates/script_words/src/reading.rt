@@ -19,6 +19,7 @@ const CKPT_NUMBERS: u64 = 10_000;
 const ALWAYS_FIT: usize = 19;
 
 /// A client, `c` and its number.
+#[inline(always)]
 #[tactic(auto, unfolding(crate::specs::Words::read))]
 pub fn client(word: &[u8]) -> Result<u8, LineError>
     ensures { Reads result (read a_client word.now) }
@@ -41,6 +42,7 @@ pub fn node(word: &[u8]) -> Result<NodeId, LineError>
 }
 
 /// The place of a handle, `h` and a number.
+#[inline(always)]
 #[tactic(auto, unfolding(crate::specs::Words::read))]
 pub fn place(word: &[u8]) -> Result<u8, LineError>
     ensures { Reads result (read a_place word.now) }
@@ -74,6 +76,7 @@ pub fn ckpt(word: &[u8]) -> Result<CkptId, LineError>
 }
 
 /// A number from `low` to `high`.
+#[inline(always)]
 #[tactic(auto, unfolding(crate::specs::Words::read))]
 pub fn number(low: u64, high: u64, word: &[u8]) -> Result<u64, LineError>
     ensures exact { Reads result (read (a_number low high) word.now) }
@@ -125,14 +128,21 @@ pub fn bytes(alloc: Global, word: &[u8]) -> Result<Bytes, LineError>
             Some(items) => Ok(Bytes::from_vec(items)),
             None => Err(LineError::Fault(Reason::Bytes)),
         },
-        [b'\'', text @ ..] => {
-            if !may_be_quoted(text) {
-                return Err(LineError::Fault(Reason::Bytes));
-            }
-            Ok(Bytes::from_slice(alloc, text)?)
-        }
+        [b'\'', text @ ..] => quoted(alloc, text),
         _ => Err(LineError::Fault(Reason::Bytes)),
     }
+}
+
+/// The bytes of a word, from what stands behind its quote.
+#[inline(always)]
+#[tactic(auto, unfolding(crate::specs::Words::read, crate::specs::Words::bytes_of))]
+pub fn quoted(alloc: Global, text: &[u8]) -> Result<Bytes, LineError>
+    ensures { Reads result (read some_bytes (39 ∷ text.now)) }
+{
+    if !may_be_quoted(text) {
+        return Err(LineError::Fault(Reason::Bytes));
+    }
+    Ok(Bytes::from_slice(alloc, text)?)
 }
 
 // Whether the bytes may stand behind a quote.
@@ -154,6 +164,7 @@ fn all_graphic(text: &[u8]) -> bool
 }
 
 /// The identifier of a section: a bytes word of no more than `SECTION_ID_MAX` bytes.
+#[inline(always)]
 #[tactic(auto, unfolding(crate::specs::Words::read, crate::specs::Words::id_of, crate::specs::Words::bytes_of))]
 pub fn id(alloc: Global, word: &[u8]) -> Result<Bytes, LineError>
     ensures { Reads result (read an_id word.now) }
@@ -274,6 +285,7 @@ fn call_named(word: &[u8]) -> Option<CallId>
 }
 
 // A letter and a number from `low` on, below `end`.
+#[inline(always)]
 #[tactic(auto, unfolding(crate::specs::Words::lettered))]
 fn lettered_of(letter: u8, low: u64, end: u64, word: &[u8]) -> Option<u64>
     requires { 0 < end }
@@ -293,6 +305,7 @@ fn lettered_of(letter: u8, low: u64, end: u64, word: &[u8]) -> Option<u64>
 }
 
 // The number that a word says, where it is from `low` to `high`.
+#[inline(always)]
 fn number_of(low: u64, high: u64, word: &[u8]) -> Option<u64>
     ensures exact { result ≡ spec_number low high word.now }
     ensures within { IfSome result (λ n. (low ≤ n) × (n ≤ high)) }
@@ -318,6 +331,7 @@ fn one_digit(low: u64, high: u64, digit: u8) -> Option<u64>
 }
 
 // The same of any word.
+#[inline(always)]
 #[tactic(auto, using(crate::proofs::Numbers::badly_begun, crate::proofs::Numbers::past_all))]
 fn any_number(low: u64, high: u64, word: &[u8]) -> Option<u64>
     ensures exact { result ≡ spec_number low high word.now }
@@ -331,6 +345,7 @@ fn any_number(low: u64, high: u64, word: &[u8]) -> Option<u64>
 }
 
 // Whether the word has a first byte, which is no zero in front of others.
+#[inline(always)]
 fn begins_well(word: &[u8]) -> bool
     ensures { result ≡ starts_well word.now }
 {
@@ -342,6 +357,7 @@ fn begins_well(word: &[u8]) -> bool
 }
 
 // The number that decimal digits say, where it is below 2^64.
+#[inline(always)]
 fn value_of(digits: &[u8]) -> Option<u64>
     ensures some { IfSome result (λ n. AllDigits 10 digits.now × (n ≡ digits_value 10 digits.now)) }
     ensures none { IfNone result (AllDigits 10 digits.now → 2 ^ 64 ≤ digits_value 10 digits.now) }
@@ -354,6 +370,7 @@ fn value_of(digits: &[u8]) -> Option<u64>
 }
 
 // The same of digits that are so few that no number is too large.
+#[inline(always)]
 fn short_value(digits: &[u8]) -> Option<u64>
     requires { length digits.now ≤ 19 }
     ensures some { IfSome result (λ n. AllDigits 10 digits.now × (n ≡ digits_value 10 digits.now)) }
