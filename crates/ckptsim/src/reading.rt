@@ -1,3 +1,4 @@
+//! The script is read from its source.
 ghost use Rattle.std.specs.Prelude.{◌≡◌, ◌+◌, ◌≤◌, ◌++◌, length, IfOk, OnErr, Err, vec_len, vec_capacity};
 ghost use Rattle.outside_io.specs.Causes.{Rose};
 ghost use Rattle.ckptsim.specs.Reading.{Reads, TakesFew};

@@ -1,3 +1,4 @@
+//! The top call: from the words of the command to the status.
 ghost use Rattle.std.specs.Prelude.{◌≡◌, [], IsTrue, ◌↔◌, codes, bytes_eq, IfSome, IsOk};
 ghost use Rattle.std.specs.Io.KnownBytes.{Appends};
 ghost use Rattle.outside_io.specs.Causes.{Rose};

@@ -1,3 +1,4 @@
+//! Runs of the whole program.
 mod command_line;
 mod failing;
 mod lengths;

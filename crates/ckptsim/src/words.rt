@@ -1,3 +1,4 @@
+//! The words of the command line.
 use crate::running::Status;
 use std::alloc::Global;
 use std::env::{Env, FillError};

@@ -1,3 +1,4 @@
+//! What a call is told beside its outcome.
 use ckpt_types::{Apart, CheckpointDescriptor, Pieces, SectionDescriptor};
 
 /// What a call is told beside its outcome: the details of its answer.

@@ -1,3 +1,4 @@
+//! Numbers in decimal digits, where there is room for them.
 ghost use Rattle.std.specs.Prelude.{◌≡◌, ◌<◌, ◌≤◌, ◌+◌, ◌*◌, ◌%◌, [], ◌∷◌, ◌++◌, decimal, length, take, slice_index, vec_len, vec_capacity};
 ghost use Rattle.hex.specs.Hex.{encode_lower, lower_digits};
 

@@ -1,3 +1,4 @@
+//! The lines of failures, joins, pulls, puts and words.
 ghost use Rattle.std.specs.Prelude.{◌≡◌, ◌++◌, OnOk};
 ghost use Rattle.run_labels.specs.Events.{failed_text, fail_line, joined_text, join_line, pulled_text, pull_line, put_text, put_line, word_line};
 

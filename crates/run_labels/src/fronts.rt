@@ -1,3 +1,4 @@
+//! The front of a result line in one piece, where the call has a small number.
 ghost use Rattle.std.specs.Prelude.{◌≡◌, ◌<◌, ◌≤◌, ◌+◌, ◌++◌, codes, length, vec_len, vec_capacity};
 ghost use Rattle.run_labels.specs.OpWord.{op_text};
 ghost use Rattle.run_labels.specs.Texts.{actor_text, call_text};

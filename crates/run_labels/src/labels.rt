@@ -1,3 +1,4 @@
+//! The labels of a run: one for each event.
 use crate::details::Details;
 use crate::shown::ShownReplicas;
 use crate::words::{LineWord, OpWord, Said};

@@ -1,3 +1,4 @@
+//! The lines that one label prints.
 ghost use Rattle.std.specs.Prelude.{◌≡◌, ◌++◌, IfOk, OnOk};
 ghost use Rattle.run_labels.specs.declared.details.Details.TheVariants.{Nothing};
 ghost use Rattle.run_labels.specs.OpWord.{word_of_op};

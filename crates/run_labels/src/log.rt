@@ -1,3 +1,4 @@
+//! The log: the labels of a run in order.
 ghost use Rattle.std.specs.Prelude.{◌≡◌, ◌+◌, ◌≤◌, ◌<◌, [], ◌∷◌, ◌++◌, OnOk, Some, IsTrue, ◌↔◌, length, slice_get, take};
 
 use crate::labels::Label;

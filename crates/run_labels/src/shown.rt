@@ -1,3 +1,4 @@
+//! The replicas of a checkpoint, as a `show` line tells them.
 use ckpt_types::{Bytes, CallId, NodeId, SectionDescriptor, Vector};
 
 /// What stands on a replica for a call.

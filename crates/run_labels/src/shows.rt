@@ -1,3 +1,4 @@
+//! The lines of a `show`.
 ghost use Rattle.std.specs.Prelude.{◌≡◌, ◌++◌, OnOk};
 ghost use Rattle.std.specs.List.{flat_map};
 ghost use Rattle.run_labels.specs.Shows.{slot_text, star_text, shown_section_text, replica_front, replica_counts, replica_line, shown_lines};

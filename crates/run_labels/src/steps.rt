@@ -1,3 +1,4 @@
+//! The lines of beginnings, steps and moments, which begin with `+`.
 ghost use Rattle.std.specs.Prelude.{◌≡◌, ◌++◌, OnOk};
 ghost use Rattle.run_labels.specs.Steps.{reply_text, step_ckpt_text, step_node_text, step_place_text, step_front, step_line, begin_line, moment_line};
 

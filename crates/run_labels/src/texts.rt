@@ -1,3 +1,4 @@
+//! The words of lines: numbers, times, bytes, names of calls, checkpoints and nodes.
 ghost use Rattle.std.specs.Prelude.{◌≡◌, ◌<◌, ◌++◌, OnOk, codes, decimal};
 ghost use Rattle.run_labels.specs.Texts.{node_text, ckpt_text, actor_text, call_text, who_text, time_text, bytes_text, state_text};
 

@@ -1,3 +1,4 @@
+//! How operations, verbs and the words that answer a line are spelled.
 ghost use Rattle.std.specs.Prelude.{◌≡◌};
 ghost use Rattle.run_labels.specs.Words.{verb_text};
 

@@ -1,3 +1,4 @@
+//! The form of each call line: what its words say.
 ghost use Rattle.std.specs.Prelude.{◌≡◌, ◌<◌, ◌≤◌, ◌*◌, ◌/◌, ◌%◌, ◌^◌, length, drop};
 ghost use Rattle.ckpt_types.specs.Limits.{line_elements_max};
 ghost use Rattle.script_words.specs.Reasons.{Reads};

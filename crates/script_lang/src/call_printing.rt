@@ -1,3 +1,4 @@
+//! How each call line is spelled.
 ghost use Rattle.std.specs.Prelude.{◌≡◌, ◌++◌, ◌∷◌, [], OnOk, codes, decimal, map, option_map, flat_map};
 ghost use Rattle.script_lang.specs.Spelling.{spell_all, spell_more, tail_text, update_text, call_text, attributes_values, io_values, read_values};
 ghost use Rattle.script_words.specs.Spelling.{bytes_text, spell};

@@ -1,3 +1,4 @@
+//! What is told of bytes that are no script.
 ghost use Rattle.std.specs.Prelude.{◌≡◌};
 ghost use Rattle.script_lang.specs.declared.faults.ParseError.TheVariants as parse_errors;
 

@@ -1,3 +1,4 @@
+//! The form of a line by its first word, and which forms are not built yet.
 ghost use Rattle.std.specs.Prelude.{◌≡◌, bytes_eq};
 ghost use Rattle.script_words.specs.Reasons.{Reads};
 ghost use Rattle.script_lang.specs.Table.{texts, word_of, word_of_first, word_of_second, word_of_third, is_later as spec_is_later, may_begin as spec_may_begin, begun as spec_begun, said_by, plain, begun_by, begin};

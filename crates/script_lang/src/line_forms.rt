@@ -1,3 +1,4 @@
+//! The form of each line that is no call.
 ghost use Rattle.std.specs.Prelude.{◌≡◌};
 ghost use Rattle.script_words.specs.Reasons.{Reads};
 ghost use Rattle.script_lang.specs.declared.forms.LineWord.TheVariants as word;

@@ -1,3 +1,4 @@
+//! The lines of a script.
 use ckpt_types::{ActorName, CkptId, Moment, NodeId, Op, Vector, Who};
 
 /// A line of a script that is neither empty nor a comment.

@@ -1,3 +1,4 @@
+//! From bytes to a script, line by line, or to the first fault.
 ghost use Rattle.std.specs.Prelude.{◌≡◌, ◌<◌, ◌≤◌, ◌+◌, OnOk, IfErr, IfOk, Ok, None, false};
 ghost use Rattle.std.specs.Bool.{OnTrue};
 ghost use Rattle.ckpt_types.specs.Limits.{script_lines_max, script_reads_max};

@@ -1,3 +1,4 @@
+//! From a script to its one spelling.
 ghost use Rattle.std.specs.Prelude.{◌≡◌, ◌≤◌, ◌++◌, ◌∷◌, [], OnOk, IfOk, Ok, ℕ, List, length, flat_map};
 ghost use Rattle.ckpt_types.specs.Limits.{script_bytes_max};
 ghost use Rattle.script_lang.specs.declared.lines.Line.{Line};

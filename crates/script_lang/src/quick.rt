@@ -1,3 +1,4 @@
+//! A write or a read of one element, word by word: the lines that are most used.
 ghost use Rattle.std.specs.Prelude.{◌≡◌, ◌-◌, ◌++◌, ◌∷◌, IfOk, IfSome, true, codes};
 ghost use Rattle.std.specs.Char.{is_ascii_digit};
 ghost use Rattle.script_words.specs.Words.{a_client, a_place};

@@ -1,3 +1,4 @@
+//! A line of bytes into words, and the line that they say.
 ghost use Rattle.std.specs.Prelude.{◌≡◌, ◌<◌, ◌≤◌, ◌-◌, ◌∷◌, [], IfOk, IfSome, IfNone, length, take, drop, ◌==◌, Ok, None};
 ghost use Rattle.script_lang.specs.FewWords.{HasWords};
 ghost use Rattle.std.specs.Bool.{OnTrue, OnFalse};

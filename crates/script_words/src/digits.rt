@@ -1,3 +1,4 @@
+//! Bytes that are spelled in hexadecimal digits.
 ghost use Rattle.std.specs.Prelude.{◌≡◌, ◌*◌, ◌<◌, ◌≤◌, Some, None, Ok, IfOk, length, option_map};
 ghost use Rattle.std.specs.Bool.{OnTrue, OnFalse};
 ghost use Rattle.std.specs.Result.{result_ok};

@@ -1,3 +1,4 @@
+//! The reader of each class of words.
 ghost use Rattle.std.specs.Prelude.{◌≡◌, ◌<◌, ◌≤◌, ◌^◌, [], ◌∷◌, Ok, Some, None, IfOk, IfSome, IfNone, length, ◌==◌, bytes_eq, codes, not, ◌&&◌};
 ghost use Rattle.std.specs.List.{list_all, position_or_len, before_first, after_first};
 ghost use Rattle.std.specs.Str.Parse.{AllDigits, digits_value};

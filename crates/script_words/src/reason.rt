@@ -1,3 +1,4 @@
+//! The reasons for which bytes are no script.
 ghost use Rattle.std.specs.Prelude.{◌≡◌};
 ghost use Rattle.script_words.specs.declared.reason.LineError.TheVariants as line_errors;
 

@@ -1,3 +1,4 @@
+//! A script is played line by line.
 ghost use Rattle.std.specs.Prelude.{◌≡◌, ◌+◌, ◌-◌, ◌*◌, ◌<◌, ◌≤◌, ◌^◌, [], length, OnOk};
 ghost use Rattle.script_lang.specs.BuiltScripts.{moment_behind};
 ghost use Rattle.ckpt_machine.specs.AllOrNone.{IsAllOrNoneThroughout};

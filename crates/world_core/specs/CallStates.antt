@@ -10,7 +10,7 @@ use Rattle.cluster_record.specs.DueOpen.{OpenState}
 use Rattle.cluster_record.specs.DueUpdate.{UpdateState}
 use Rattle.world_core.specs.declared.open_call.OpenCall.TheInside as opening
 use Rattle.world_core.specs.declared.open_call.SharedAsk.TheInside as asked
-use Rattle.world_core.specs.declared.reading.ActiveCall.TheInside as asking
+use Rattle.world_core.specs.declared.active_call.ActiveCall.TheInside as asking
 use Rattle.world_core.specs.declared.update_call.UpdateCall.TheInside as updating
 
 abbrev pub update_state : updating.Inside → UpdateState

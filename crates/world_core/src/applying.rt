@@ -1,3 +1,4 @@
+//! What a step of a call does to the record.
 ghost use Rattle.std.specs.Prelude.{◌≡◌, IfOk, OnOk, OnErr, IsTrue};
 ghost use Rattle.cluster_record.specs.Opening.{open_answer, after_open};
 ghost use Rattle.world_core.specs.RecordReady.{CanAsk, IsGranted, IsOpenReady, IsRecordReady};

@@ -1,3 +1,4 @@
+//! What a call answers at its beginning, and the places that its operation names.
 ghost use Rattle.std.specs.Prelude.{◌≡◌, None, false, not, if◌then◌else◌, pos, int_lt};
 ghost use Rattle.ckpt_types.specs.declared.ais_error.AisError.TheVariants as errors;
 ghost use Rattle.ckpt_types.specs.Attributes.{has_flag, has_bad_open_flags, is_malformed};

@@ -1,3 +1,4 @@
+//! The events by which the nodes come up and a call begins.
 ghost use Rattle.std.specs.Prelude.{◌≡◌, ◌<◌, ◌≤◌, None, IfOk, OnOk, OnErr};
 ghost use Rattle.ckpt_types.specs.declared.identities.ActorName.TheVariants.{Client};
 ghost use Rattle.ckpt_types.specs.declared.identities.Who.TheVariants.{Actor};

@@ -1,3 +1,4 @@
+//! What drives a call: what it does next, and how it ends.
 ghost use Rattle.std.specs.Prelude.{◌≡◌, ◌-◌, ◌^◌, ◌<◌, Some, IfOk};
 ghost use Rattle.ckpt_types.specs.Limits.{nodes_max};
 ghost use Rattle.node_msgs.specs.Requests.{ckpt_of};
@@ -17,7 +18,7 @@ ghost use Rattle.ckpt_machine.specs.Drivers.{Close, Retain};
 use crate::beginning::{choice_of, ckpt_of_handle};
 use crate::one_step::{close_next, retain_next, unlink_next};
 use crate::open_call::{OpenCall, SharedAsk};
-use crate::reading::ActiveCall;
+use crate::active_call::ActiveCall;
 use crate::update_call::UpdateCall;
 use ckpt_types::{
     AisError, Answer, Bytes, CLIENTS_MAX, CallId, Cause, CkptId, NodeId, Op, Outcome,

@@ -1,3 +1,4 @@
+//! The calls in hand, and what they lend to the nodes.
 ghost use Rattle.std.specs.Prelude.{◌≡◌, ◌≢◌, ◌<◌, ◌≤◌, [], length, replicate, Some, None, is_some, IfOk, IfSome, IsSome, MatchOption, OnOk, slice_set, vec_capacity};
 ghost use Rattle.run_labels.specs.OpWord.{word_of_op};
 ghost use Rattle.cluster_record.specs.Calls.{left};

@@ -1,3 +1,4 @@
+//! The steps by which an iteration starts and goes on.
 ghost use Rattle.std.specs.Prelude.{◌≡◌, ◌<◌, ◌≤◌, OnOk, OnErr};
 ghost use Rattle.ckpt_types.specs.Limits.{client_numbers};
 ghost use Rattle.node_msgs.specs.declared.next.Next.TheVariants as nexts;

@@ -1,3 +1,4 @@
+//! What becomes of the tables of one client that has its room.
 ghost use Rattle.std.specs.Prelude.{◌≡◌, ◌+◌, ◌-◌, ◌^◌, ◌<◌, ◌≤◌, [], true, IfOk, IsSome, length};
 ghost use Rattle.ckpt_types.specs.Limits.{places_max, nodes_max};
 ghost use Rattle.client_handles.specs.ClientState.{ClientState, handle_numbered, has_handle_room, has_iteration_room, iteration_at, new_client, added, bound, dropped, emptied, ended, taken};

@@ -1,6 +1,7 @@
 //! The cluster: its record, the nodes, the clients' tables and the calls in hand, one event at a time.
 #![tactic(auto)]
 
+mod active_call;
 mod applying;
 mod beginning;
 mod begins;
@@ -13,7 +14,6 @@ mod moments;
 mod nodes;
 mod one_step;
 mod open_call;
-mod reading;
 mod replica;
 mod showing;
 mod steps;

@@ -1,3 +1,4 @@
+//! How a look is told.
 ghost use Rattle.std.specs.Prelude.{◌≡◌};
 ghost use Rattle.ckpt_machine.specs.Steps.{look_word};
 

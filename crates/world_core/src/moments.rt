@@ -1,3 +1,4 @@
+//! The event that sets the moment.
 ghost use Rattle.std.specs.Prelude.{◌≤◌};
 ghost use Rattle.cluster_record.specs.RecordState.{IsMomentFrom};
 ghost use Rattle.world_core.specs.Happenings.{Adds, SetsMoment};

@@ -1,3 +1,4 @@
+//! The nodes, each with its replicas, and what a request makes of them.
 ghost use Rattle.std.specs.Prelude.{◌≡◌, ◌<◌, ◌≤◌, [], ◌++◌, ◌∷◌, false, Option, Some, None, IfOk, IfSome, IsSomeAnd, MatchOption, OnOk, OnErr, filter, length, replicate, slice_get};
 ghost use Rattle.section_iter.specs.Next.{kept_after};
 ghost use Rattle.section_iter.specs.Room.{IsRoomFor};

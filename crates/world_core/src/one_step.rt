@@ -1,3 +1,4 @@
+//! What closes, unlinks and settings of a retention do next.
 ghost use Rattle.std.specs.Prelude.{◌≡◌, Some};
 ghost use Rattle.ckpt_types.specs.declared.answers.Cause.TheVariants.{Plain};
 ghost use Rattle.ckpt_types.specs.declared.answers.Outcome.TheVariants.{Refused};

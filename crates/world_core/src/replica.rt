@@ -1,3 +1,4 @@
+//! One replica of a checkpoint: what it answers, and what becomes of it.
 ghost use Rattle.std.specs.Prelude.{◌≡◌, ◌-◌, ◌^◌, ◌<◌, ◌≤◌, length, IsSome, IsSomeAnd, IfErr, IfOk, IsOk, OnOk, [], None, Some, false};
 ghost use Rattle.ckpt_types.specs.Attributes.{is_malformed};
 ghost use Rattle.ckpt_types.specs.declared.answers.Answer.TheVariants as answers;

@@ -1,3 +1,4 @@
+//! What all clients keep: numbers, handles, iterations and places.
 ghost use Rattle.std.specs.Prelude.{◌≡◌, ◌-◌, ◌^◌, ◌<◌, ◌≤◌, [], true, IfOk, IfSome, IsSome, IsSomeAnd, OnErr, OnOk, length, nat_lt, slice_get, slice_set, replicate};
 ghost use Rattle.ckpt_types.specs.Limits.{iterations_max, handles_max, places_max, nodes_max, client_numbers};
 ghost use Rattle.client_handles.specs.ClientState.{handle_at, handle_numbered, has_handle_room, has_iteration_room, iteration_at};

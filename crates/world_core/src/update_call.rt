@@ -1,3 +1,4 @@
+//! The driver of an update on all replicas.
 ghost use Rattle.std.specs.Prelude.{◌≡◌, ◌<◌, Some};
 ghost use Rattle.ckpt_types.specs.Limits.{nodes_max};
 ghost use Rattle.node_msgs.specs.declared.steps.StepReply.TheVariants as words;

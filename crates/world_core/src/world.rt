@@ -1,3 +1,4 @@
+//! The cluster, and the events that may happen to it.
 ghost use Rattle.std.specs.Prelude.{◌≡◌, ◌≤◌, IfOk, OnOk, OnErr, is_some};
 ghost use Rattle.world_core.specs.Shows.{IsShown, HasNumbersLeft};
 ghost use Rattle.world_core.specs.Parts.{record_in, call_in_hand};

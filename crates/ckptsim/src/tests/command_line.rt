@@ -1,3 +1,4 @@
+//! The words of the command line are read.
 use crate::running::Status;
 use crate::words::words;
 use std::alloc::Global;

@@ -1,3 +1,4 @@
+//! Sources and sinks that fail.
 use crate::running::Status;
 use crate::tests::played::{LINES, SCRIPT, played};
 use crate::tests::small_pieces::{ByteByByte, ThreeByThree};

@@ -1,3 +1,4 @@
+//! Scripts round the greatest length.
 use crate::running::Status;
 use crate::tests::played::played;
 use ckpt_types::SCRIPT_BYTES_MAX;

@@ -1,3 +1,4 @@
+//! A script is played and printed.
 use crate::running::{Status, ckpt_run};
 use outside_io::{OpenGate, Sink, Source};
 use run_labels::RunLog;

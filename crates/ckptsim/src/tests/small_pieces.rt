@@ -1,3 +1,4 @@
+//! Sources and sinks that take and give few bytes at a time.
 ghost use Rattle.std.specs.Prelude.{Some};
 
 use outside_io::{Failed, MemSink, MemSource, Sink, Source};

@@ -1,3 +1,4 @@
+//! Which words are a command.
 use crate::running::Status;
 use crate::tests::played::{LINES, SCRIPT, STEPPED_LINES, played};
 use outside_io::{MemSink, MemSource, Source};

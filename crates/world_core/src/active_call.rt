@@ -1,3 +1,4 @@
+//! The driver of the calls to the active replica alone.
 ghost use Rattle.std.specs.Prelude.{◌≡◌};
 ghost use Rattle.cluster_record.specs.DueActive.{active_begun, on_active, active_next, active_request, starts_iteration};
 
