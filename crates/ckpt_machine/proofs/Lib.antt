@@ -3,6 +3,7 @@ pub mod Deadlines
 pub mod NextOf
 pub mod Calls
 pub mod Refusing
+pub mod Endings
 pub mod Begun
 pub mod Commit
 pub mod Finished

@@ -24,7 +24,7 @@ use Rattle.ckpt_machine.specs.Invariant.{IsGoodIn, Invariant}
 use Rattle.ckpt_machine.specs.Machine.{Machine, ReplicaState, CallState}
 use Rattle.ckpt_machine.specs.Owned.{OwnsNothing, HasNoEffect, HasNothing}
 use Rattle.ckpt_machine.specs.Refusals.{IsRefused, IsRefusal, LeavesAll, UndoesOwn, LeavesBy, unmade, unmade_swept, Refuses, call_of}
-use Rattle.ckpt_machine.specs.Runs.{last_from, last, IsRunFrom, IsRun}
+use Rattle.ckpt_machine.specs.Runs.{last}
 use Rattle.ckpt_machine.specs.Serving.{update_of, update_answer}
 use Rattle.ckpt_machine.specs.Shape.{IsCompleteOn}
 use Rattle.ckpt_machine.specs.Steps.{Told, IsDone, IsDue, due, begun, begun_call, with_ended, changed, stepped, step_of, after, replica_under, replicas_under, reservation_under, opened_state}

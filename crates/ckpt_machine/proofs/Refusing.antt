@@ -12,6 +12,7 @@ use Rattle.ckpt_types.specs.declared.answers.Outcome.TheVariants.{Done, Refused,
 use Rattle.ckpt_types.specs.declared.attributes.CreationAttributes.{CreationAttributes}
 use Rattle.ckpt_types.specs.declared.operation.Op.{Op}
 use Rattle.ckpt_types.specs.declared.operation.Op.TheVariants as ops
+use Rattle.ckpt_types.specs.declared.update.ReadElement.{ReadElement}
 use Rattle.node_msgs.specs.declared.steps.Verb.{Verb}
 use Rattle.node_msgs.specs.declared.steps.Verb.TheVariants as verbs
 use Rattle.node_msgs.specs.declared.steps.StepReply.{StepReply}
@@ -29,14 +30,14 @@ use Rattle.ckpt_machine.specs.Serving.{update_of, update_answer}
 use Rattle.ckpt_machine.specs.Machine.{Machine, ReplicaState, CallState}
 use Rattle.ckpt_machine.specs.Steps.{changed, stepped, step_of, after, with_ended, begun_call, ids_asked, Told, driver_of, with_record, event_done, without_making}
 use Rattle.ckpt_machine.specs.Complete.{complete_replicas}
-use Rattle.ckpt_machine.specs.Guards.{AtCkpt, AtNode, AtNodeAlone, OfOpen, OfUpdate, OfClient, OnReplica, CommitOk, Row, Allowed, ends_update, OfIter, OfNext, IterOk, NextOk, NextAnswer, AtNone, OfFinalize, OfClose, OfUnlink, OfRetain, LookRow, UndoRow, IsOwnMaking}
+use Rattle.ckpt_machine.specs.Guards.{AtCkpt, AtNode, AtNodeAlone, OfOpen, OfUpdate, OfRead, OfStatus, OfClient, OnReplica, CommitOk, Row, Allowed, ends_update, OfIter, OfNext, IterOk, NextOk, NextAnswer, AtNone, OfFinalize, OfClose, OfUnlink, OfRetain, LookRow, UndoRow, IsOwnMaking}
 use Rattle.ckpt_machine.specs.Driving.{making_in, event_after}
 use Rattle.ckpt_machine.specs.Refusals.{IsRefused, IsRefusal, LeavesAll, UndoesOwn, LeavesBy, number_taken, unmade_swept}
 use Rattle.ckpt_machine.proofs.ReplicaSteps.{put_actor-here, put_actor-other}
 
 -- ---- what is not so
 
-at_ckpt : (k r : Option ℕ) (P : ℕ → Type 0) → AtCkpt k r P → ((k : ℕ) → P k → ⊥) → ⊥
+pub at_ckpt : (k r : Option ℕ) (P : ℕ → Type 0) → AtCkpt k r P → ((k : ℕ) → P k → ⊥) → ⊥
 at_ckpt (Some k) None P p not_so = not_so k p
 at_ckpt (Some k) (Some r) P p not_so = p
 at_ckpt None r P p not_so = p
@@ -46,17 +47,17 @@ at_node (Some k) (Some r) P p not_so = not_so k r p
 at_node (Some k) None P p not_so = p
 at_node None r P p not_so = p
 
-at_none : (k r : Option ℕ) (P : Type 0) → AtNone k r P → (P → ⊥) → ⊥
+pub at_none : (k r : Option ℕ) (P : Type 0) → AtNone k r P → (P → ⊥) → ⊥
 at_none None None P p not_so = not_so p
 at_none None (Some r) P p not_so = p
 at_none (Some k) r P p not_so = p
 
-at_node_alone : (k r : Option ℕ) (P : ℕ → Type 0) → AtNodeAlone k r P → ((r : ℕ) → P r → ⊥) → ⊥
+pub at_node_alone : (k r : Option ℕ) (P : ℕ → Type 0) → AtNodeAlone k r P → ((r : ℕ) → P r → ⊥) → ⊥
 at_node_alone None (Some r) P p not_so = not_so r p
 at_node_alone None None P p not_so = p
 at_node_alone (Some k) r P p not_so = p
 
-of_open : (op : Op) (P : List ℕ → Option CreationAttributes → Type 0) → OfOpen op P → ((name : List ℕ) (a : Option CreationAttributes) → P name a → ⊥) → ⊥
+pub of_open : (op : Op) (P : List ℕ → Option CreationAttributes → Type 0) → OfOpen op P → ((name : List ℕ) (a : Option CreationAttributes) → P name a → ⊥) → ⊥
 of_open (ops.Open place name flags timeout a) P p not_so = not_so name a p
 of_open op P p not_so = absurd p
 
@@ -68,31 +69,39 @@ of_update (ops.Write place update) P p not_so = not_so p
 of_update (ops.Over place update) P p not_so = not_so p
 of_update op P p not_so = absurd p
 
-of_iter : (op : Op) (P : Type 0) → OfIter op P → (P → ⊥) → ⊥
+pub of_read : (op : Op) (P : List ReadElement → Type 0) → OfRead op P → ((elements : List ReadElement) → P elements → ⊥) → ⊥
+of_read (ops.Read place elements) P p not_so = not_so elements p
+of_read op P p not_so = absurd p
+
+pub of_status : (op : Op) (P : Type 0) → OfStatus op P → (P → ⊥) → ⊥
+of_status (ops.Status place) P p not_so = not_so p
+of_status op P p not_so = absurd p
+
+pub of_iter : (op : Op) (P : Type 0) → OfIter op P → (P → ⊥) → ⊥
 of_iter (ops.Iter iteration place chosen time) P p not_so = not_so p
 of_iter op P p not_so = absurd p
 
-of_next : (op : Op) (P : Type 0) → OfNext op P → (P → ⊥) → ⊥
+pub of_next : (op : Op) (P : Type 0) → OfNext op P → (P → ⊥) → ⊥
 of_next (ops.Next iteration) P p not_so = not_so p
 of_next op P p not_so = absurd p
 
-of_finalize : (op : Op) (P : Type 0) → OfFinalize op P → (P → ⊥) → ⊥
+pub of_finalize : (op : Op) (P : Type 0) → OfFinalize op P → (P → ⊥) → ⊥
 of_finalize ops.Finalize P p not_so = not_so p
 of_finalize op P p not_so = absurd p
 
-of_close : (op : Op) (P : Type 0) → OfClose op P → (P → ⊥) → ⊥
+pub of_close : (op : Op) (P : Type 0) → OfClose op P → (P → ⊥) → ⊥
 of_close (ops.Close place) P p not_so = not_so p
 of_close op P p not_so = absurd p
 
-of_unlink : (op : Op) (P : List ℕ → Type 0) → OfUnlink op P → ((name : List ℕ) → P name → ⊥) → ⊥
+pub of_unlink : (op : Op) (P : List ℕ → Type 0) → OfUnlink op P → ((name : List ℕ) → P name → ⊥) → ⊥
 of_unlink (ops.Unlink name) P p not_so = not_so name p
 of_unlink op P p not_so = absurd p
 
-of_retain : (op : Op) (P : Type 0) → OfRetain op P → (P → ⊥) → ⊥
+pub of_retain : (op : Op) (P : Type 0) → OfRetain op P → (P → ⊥) → ⊥
 of_retain (ops.Retain place duration) P p not_so = not_so p
 of_retain op P p not_so = absurd p
 
-of_client : (op : Op) (q : ℕ) (P : Type 0) → OfClient op q P → (P → ⊥) → ⊥
+pub of_client : (op : Op) (q : ℕ) (P : Type 0) → OfClient op q P → (P → ⊥) → ⊥
 of_client (ops.Client r version callbacks) q P p not_so = not_so p.1
 of_client op q P p not_so = absurd p
 

@@ -30,7 +30,7 @@ use Rattle.run_labels.specs.declared.labels.Label.TheVariants as labels
 use Rattle.run_labels.specs.OpWord.{word_of_op}
 use Rattle.cluster_record.specs.declared.entries.Entry.{Entry}
 use Rattle.cluster_record.specs.Calls.{same_call, client_of}
-use Rattle.cluster_record.specs.RecordState.{entry_of, complete_of, named, attributes_now, is_live, is_live_client, is_up, IsMomentFrom}
+use Rattle.cluster_record.specs.RecordState.{entry_of, named, attributes_now, is_live, is_live_client, is_up, IsMomentFrom}
 use Rattle.cluster_record.specs.DueOpen.{IsBefore, accepts}
 use Rattle.ckpt_machine.specs.BeginRows.{IsAllowedBegin, IsAllowedWord}
 use Rattle.ckpt_machine.specs.Complete.{complete_replicas}

@@ -11,6 +11,7 @@ use Rattle.cluster_record.specs.StepDone.{done_of}
 use Rattle.ckpt_machine.specs.AllOrNone.{IsAllOrNoneThroughout}
 use Rattle.ckpt_machine.specs.Invariant.{Invariant}
 use Rattle.ckpt_machine.specs.Driving.{driver_taken}
+use Rattle.ckpt_machine.specs.Endings.{EndsKnown}
 use Rattle.ckpt_machine.specs.Facts.{Facts}
 use Rattle.ckpt_machine.specs.Guards.{Allowed}
 use Rattle.ckpt_machine.specs.Left.{steps_left}
@@ -51,6 +52,10 @@ RefusalsLeave = (m : Machine) (l : Label) → Allowed m l → IsRefusal l → Le
 -- in a run it does so, where nothing but the making is undone, and the call has nothing then: no slot, no marks, no making and no hold, and no replica has an effect of it
 abbrev pub RefusedHasNothing : Type 0
 RefusedHasNothing = (log : List Label) → IsRun log → EachRefusalLeaves log
+
+-- a call that is allowed to end was answered OK, was refused by a row that names its cause, or lacked the memory that it takes
+abbrev pub EndsAsItMay : Type 0
+EndsAsItMay = (m : Machine) (l : Label) → Allowed m l → EndsKnown l
 
 -- at every time of a run, an update is on all complete replicas of its checkpoint, or on none
 abbrev pub IsOnAllOrNone : Type 0

@@ -2,12 +2,13 @@
 //! that what is due is allowed. All of it is in `specs/` and `proofs/`.
 #![tactic(auto)]
 
-ghost use Rattle.ckpt_machine.specs.Laws.{Starts, IsLawful, EachRunHas, GivesFacts, CountsUp, BringsNearer, RefusalsLeave, RefusedHasNothing, IsOnAllOrNone};
+ghost use Rattle.ckpt_machine.specs.Laws.{Starts, IsLawful, EachRunHas, GivesFacts, CountsUp, BringsNearer, RefusalsLeave, RefusedHasNothing, EndsAsItMay, IsOnAllOrNone};
 
 /// Of any number of nodes up to eight, and any number of calls in hand: what is due is allowed and keeps the invariant,
 /// which gives all that the code relies on; a call in hand comes nearer to its end by each of its steps; what is refused
 /// leaves all but the making of its own call as it was, and in a run its call has nothing then, and no replica an effect
-/// of it; and an update is on all replicas of its checkpoint or on none.
+/// of it; a call ends only with an answer that it may have; and an update is on all replicas of its checkpoint or on
+/// none.
 pub fn machine_law()
     ensures starts { Starts }
     ensures lawful { IsLawful }
@@ -17,5 +18,6 @@ pub fn machine_law()
     ensures nearer { BringsNearer }
     ensures refusals { RefusalsLeave }
     ensures refused { RefusedHasNothing }
+    ensures ends { EndsAsItMay }
     ensures all_or_none { IsOnAllOrNone }
 {}

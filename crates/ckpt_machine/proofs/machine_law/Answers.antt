@@ -1,4 +1,5 @@
 use Rattle.ckpt_machine.proofs.Counting.{counts_empty, counts_up}
+use Rattle.ckpt_machine.proofs.Endings.{ends_as_it_may}
 use Rattle.ckpt_machine.proofs.Facts.{facts}
 use Rattle.ckpt_machine.proofs.Lawful.{lawful}
 use Rattle.ckpt_machine.proofs.Nearer.{step_nearer}
@@ -32,6 +33,9 @@ returns-clause-refusals c = refusal_leaves
 
 pub returns-clause-refused : goal.returns-clause-refused
 returns-clause-refused c = run_leaves
+
+pub returns-clause-ends : goal.returns-clause-ends
+returns-clause-ends c = ends_as_it_may
 
 pub returns-clause-all_or_none : goal.returns-clause-all_or_none
 returns-clause-all_or_none c = on_all_or_none
