@@ -10,8 +10,8 @@ use Rattle.ckpt_types.specs.declared.identities.CallId.{CallId}
 use Rattle.run_labels.specs.declared.shown.ShownReplica.{ShownReplica}
 use Rattle.run_labels.specs.declared.labels.Label.TheVariants.{Shown}
 use Rattle.cluster_record.specs.declared.entries.Entry.{Entry}
-use Rattle.cluster_record.specs.RecordState.{RecordState, entry_of, complete_of}
-use Rattle.ckpt_machine.specs.Complete.{with_replica, replicas_from, complete_replicas}
+use Rattle.cluster_record.specs.RecordState.{entry_of, complete_of}
+use Rattle.ckpt_machine.specs.Complete.{with_replica, replicas_from}
 use Rattle.ckpt_machine.specs.Listing.{slot_listed, section_listed, replica_listed, listing_made, listing_of, listing_at}
 use Rattle.ckpt_machine.specs.Machine.{Machine, Effect, ReplicaState}
 use Rattle.ckpt_machine.specs.Replicas.{Replica, Slot}
@@ -19,7 +19,7 @@ use Rattle.ckpt_machine.specs.Serving.{replica_in}
 use Rattle.world_core.specs.declared.world.World.{World}
 use Rattle.world_core.specs.Happenings.{TellsReplicas}
 use Rattle.world_core.specs.Listing.{kept_slot_listed, kept_replica_listed, kept_listed, node_listed, nodes_listed, made_listed, entry_listed, world_listing}
-use Rattle.world_core.specs.Shows.{Does, History, Fits, FitsReplica, machine_of, shown_slot, shown_replica, where_complete, complete_replica}
+use Rattle.world_core.specs.Shows.{History, Fits, FitsReplica, machine_of, shown_slot, shown_replica, where_complete, complete_replica}
 
 -- ---- the sections of a replica
 

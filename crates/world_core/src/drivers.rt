@@ -15,10 +15,10 @@ ghost use Rattle.world_core.specs.CallStates.{driver_in};
 ghost use Rattle.node_msgs.specs.declared.steps.StepReply.TheVariants as words;
 ghost use Rattle.ckpt_machine.specs.Drivers.{Close, Retain};
 
+use crate::active_call::ActiveCall;
 use crate::beginning::{choice_of, ckpt_of_handle};
 use crate::one_step::{close_next, retain_next, unlink_next};
 use crate::open_call::{OpenCall, SharedAsk};
-use crate::active_call::ActiveCall;
 use crate::update_call::UpdateCall;
 use ckpt_types::{
     AisError, Answer, Bytes, CLIENTS_MAX, CallId, Cause, CkptId, NodeId, Op, Outcome,

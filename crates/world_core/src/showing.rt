@@ -17,7 +17,9 @@ use ckpt_types::{
 };
 use cluster_record::Entry;
 use moment_rules::expired;
-use run_labels::{Label, RunLog, ShownReplica, ShownReplicas, ShownSection, ShownSections, ShownSlot};
+use run_labels::{
+    Label, RunLog, ShownReplica, ShownReplicas, ShownSection, ShownSections, ShownSlot,
+};
 use section_store::Store;
 use std::alloc::{AllocError, Global};
 

@@ -1,5 +1,4 @@
 use Rattle.std.proofs.Common.{◌≡◌, ◌+◌, [], ◌∷◌, length, refl, sym, ap, ◌∙◌, arith, length-append}
-use Rattle.script_lang.specs.declared.lines.Line.TheVariants.{Call}
 use Rattle.world_core.specs.Shows.{hand_at}
 use Rattle.session_run.proofs.Following.{begin_grows, busy_alone, GrowsBy-begin, OnOk-map, none_if_not}
 use Rattle.world_core.proofs.Running.{few_left}

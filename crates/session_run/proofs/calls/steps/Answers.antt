@@ -1,9 +1,8 @@
-use Rattle.std.proofs.Common.{◌≡◌, ℕ, suc, ◌+◌, ◌-◌, ◌<◌, List, [], ◌∷◌, ◌++◌, length, sym, ap, subst, ◌∙◌, arith, length-append, append-nil}
+use Rattle.std.proofs.Common.{◌≡◌, ℕ, suc, ◌+◌, ◌-◌, ◌<◌, [], ◌∷◌, length, sym, ap, subst, ◌∙◌, arith, length-append}
 use Rattle.ckpt_types.specs.declared.identities.ActorName.TheVariants.{Client}
-use Rattle.run_labels.specs.declared.labels.Label.{Label}
 use Rattle.world_core.specs.Shows.{hand_at}
 use Rattle.world_core.specs.StepsLeft.{left_of}
-use Rattle.session_run.specs.Growing.{GrowsBy, IsStepping}
+use Rattle.session_run.specs.Growing.{IsStepping}
 use Rattle.session_run.proofs.Following.{IfSome-held, stepping_grows, stepping_of_none, stepping_zero, GrowsBy-label, GrowsBy-end, none_if_not}
 use Rattle.session_run.proofs.Fronts.{towards_end, towards_stepping}
 use Rattle.session_run.proofs.calls.steps.Goals as goal

@@ -1,4 +1,4 @@
-use Rattle.std.proofs.Common.{◌≡◌, ◌+◌, ◌≤◌, false, length, sym, ◌∙◌, arith}
+use Rattle.std.proofs.Common.{◌≤◌, false, sym, ◌∙◌, arith}
 use Rattle.ckpt_types.specs.declared.identities.ActorName.TheVariants.{Client}
 use Rattle.world_core.specs.StepsLeft.{left_of}
 use Rattle.world_core.proofs.Running.{few_left}
