@@ -55,7 +55,7 @@ module _ (m : Machine) (k : ℕ) (z : Shape) (e : Entry) (found : entry_of k m.c
       })
 
 -- wherever the invariant holds
-all_or_none : (m : Machine) → Invariant m → AllOrNone m
+pub all_or_none : (m : Machine) → Invariant m → AllOrNone m
 all_or_none m inv k e found none = together m k (inv.shapes k) e found (subst (λ maker. IsGoodIn m k (inv.shapes k) e maker) none (inv.holds.entries k e found))
 
 -- so after each front of a run

@@ -90,7 +90,7 @@ reserved_under None r old n is = absurd (cc is)
 reserved_under (Some e) r old n is = elim (slice_index e.complete r == 0) as (λ b. cond b old None ≡ Some n → b ≡ true) [ true ↦ λ is. refl | false ↦ λ none. absurd (cc none) ] is
 
 -- one effect more is the new one, or was there
-effect_more : (d : CallId) (xs : List Effect) (new : Effect) → HasEffect d (xs ++ new ∷ []) → HasEffect d xs ⊎ IsEffectOf d new
+pub effect_more : (d : CallId) (xs : List Effect) (new : Effect) → HasEffect d (xs ++ new ∷ []) → HasEffect d xs ⊎ IsEffectOf d new
 effect_more d [] new (inl is) = inr is
 effect_more d [] new (inr none) = absurd none
 effect_more d (x ∷ xs) new (inl is) = inl (inl is)

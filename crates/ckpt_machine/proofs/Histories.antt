@@ -101,7 +101,7 @@ making_incomplete m inv call k r by =
 
 -- ---- a step of a call that commits
 
-of_update-is : (op : Op) (P : Type 0) → OfUpdate op P → P
+pub of_update-is : (op : Op) (P : Type 0) → OfUpdate op P → P
 of_update-is (ops.Create place update) P p = p
 of_update-is (ops.Delete place update) P p = p
 of_update-is (ops.Expire place update) P p = p

@@ -26,6 +26,7 @@ pub mod PlainCalls
 pub mod EndedTables
 pub mod OneStepCalls
 pub mod Enter
+pub mod Acknowledged
 pub mod Active
 pub mod Beginnings
 pub mod BeginRows

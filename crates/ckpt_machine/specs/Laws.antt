@@ -8,6 +8,7 @@ use Rattle.run_labels.specs.declared.labels.Label.{Label}
 use Rattle.run_labels.specs.declared.labels.Label.TheVariants as labels
 use Rattle.run_labels.specs.declared.words.OpWord.{OpWord}
 use Rattle.cluster_record.specs.StepDone.{done_of}
+use Rattle.ckpt_machine.specs.Acknowledged.{AcknowledgedStay}
 use Rattle.ckpt_machine.specs.AllOrNone.{IsAllOrNoneThroughout}
 use Rattle.ckpt_machine.specs.Invariant.{Invariant}
 use Rattle.ckpt_machine.specs.Driving.{driver_taken}
@@ -60,3 +61,7 @@ EndsAsItMay = (m : Machine) (l : Label) → Allowed m l → EndsKnown l
 -- at every time of a run, an update is on all complete replicas of its checkpoint, or on none
 abbrev pub IsOnAllOrNone : Type 0
 IsOnAllOrNone = (log : List Label) → IsRun log → IsAllOrNoneThroughout log
+
+-- what was answered OK is on each complete replica of its checkpoint from then on
+abbrev pub AcknowledgedStays : Type 0
+AcknowledgedStays = (log : List Label) → IsRun log → AcknowledgedStay log

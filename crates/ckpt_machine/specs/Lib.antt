@@ -21,4 +21,5 @@ pub mod InHand
 pub mod Invariant
 pub mod Later
 pub mod AllOrNone
+pub mod Acknowledged
 pub mod Laws

@@ -2,7 +2,7 @@
 //! that what is due is allowed. All of it is in `specs/` and `proofs/`.
 #![tactic(auto)]
 
-ghost use Rattle.ckpt_machine.specs.Laws.{Starts, IsLawful, EachRunHas, GivesFacts, CountsUp, BringsNearer, RefusalsLeave, RefusedHasNothing, EndsAsItMay, IsOnAllOrNone};
+ghost use Rattle.ckpt_machine.specs.Laws.{Starts, IsLawful, EachRunHas, GivesFacts, CountsUp, BringsNearer, RefusalsLeave, RefusedHasNothing, EndsAsItMay, IsOnAllOrNone, AcknowledgedStays};
 
 /// Of any number of nodes up to eight, and any number of calls in hand: what is due is allowed and keeps the invariant,
 /// which gives all that the code relies on; a call in hand comes nearer to its end by each of its steps; what is refused
@@ -20,4 +20,5 @@ pub fn machine_law()
     ensures refused { RefusedHasNothing }
     ensures ends { EndsAsItMay }
     ensures all_or_none { IsOnAllOrNone }
+    ensures acknowledged { AcknowledgedStays }
 {}

@@ -1,0 +1,489 @@
+-- What was answered OK is on every complete replica of its checkpoint, and stays there.
+use Rattle.std.proofs.Common.{◌≡◌, ◌⊎◌, ℕ, zero, suc, ◌+◌, ◌-◌, ◌≤◌, inl, inr, List, [], ◌∷◌, ◌++◌, filter, Option, Some, None, Bool, true, false, cond, not, ◌==◌, ◌&&◌, ℤ, refl, sym, ap, subst, ◌∙◌, append_assoc, arith}
+use Rattle.std.specs.Prelude.{IsSomeAnd, slice_index, slice_set}
+use Rattle.std.proofs.lemmas.Bool.{eqb-true, eq-eqb, and_parts}
+use Rattle.std.proofs.lemmas.Option.{same_Some}
+use Rattle.ckpt_types.specs.declared.answers.Answer.{Answer}
+use Rattle.ckpt_types.specs.declared.answers.Outcome.{Outcome}
+use Rattle.ckpt_types.specs.declared.answers.Outcome.TheVariants.{Done}
+use Rattle.ckpt_types.specs.declared.attributes.CreationAttributes.{CreationAttributes}
+use Rattle.ckpt_types.specs.declared.identities.CallId.{CallId}
+use Rattle.ckpt_types.specs.Reads.{NextGiven}
+use Rattle.section_iter.specs.KeptIds.{KeptIds}
+use Rattle.client_handles.specs.declared.handle_view.HandleView.{HandleView}
+use Rattle.node_msgs.specs.declared.next.RecordStep.{RecordStep}
+use Rattle.node_msgs.specs.declared.next.RecordStep.TheVariants as events
+use Rattle.node_msgs.specs.declared.steps.Verb.{Verb}
+use Rattle.node_msgs.specs.declared.steps.Verb.TheVariants as verbs
+use Rattle.node_msgs.specs.declared.steps.StepReply.{StepReply}
+use Rattle.node_msgs.specs.declared.steps.StepReply.TheVariants as words
+use Rattle.run_labels.specs.declared.details.Details.{Details}
+use Rattle.run_labels.specs.declared.labels.Label.{Label}
+use Rattle.run_labels.specs.declared.labels.Label.TheVariants as labels
+use Rattle.run_labels.specs.declared.words.OpWord.{OpWord}
+use Rattle.cluster_record.specs.declared.entries.Entry.{Entry}
+use Rattle.cluster_record.specs.Calls.{client_of, number_of}
+use Rattle.cluster_record.specs.DueOpen.{OpenState, making_ckpt, open_event}
+use Rattle.cluster_record.specs.Identities.{IdentitiesRise, AllUpTo}
+use Rattle.cluster_record.specs.LookUps.{at_ckpt}
+use Rattle.cluster_record.specs.Places.{change_key, put2}
+use Rattle.cluster_record.specs.RecordState.{RecordState, entry_of, identity_of, complete_of, stays, swept, moved, created_as, new_entry, referred, made_with, released, released_all, unnamed, retaining, is_call_of, departed, undone, has_references}
+use Rattle.cluster_record.proofs.IdentityLaws.{KeepsIdentity, IdentitiesRise-change_key, IdentitiesRise-filter, IdentitiesRise-map, IdentitiesRise-push}
+use Rattle.ckpt_machine.specs.Acknowledged.{Acknowledges, IsOnEvery}
+use Rattle.ckpt_machine.specs.AllOrNone.{OneUpdate, IsOfOne}
+use Rattle.ckpt_machine.specs.Beginning.{opened_place, started_place, iteration_place, closed_place, ended_place}
+use Rattle.ckpt_machine.specs.Complete.{with_replica, replicas_from, complete_replicas}
+use Rattle.ckpt_machine.specs.Drivers.{Driver}
+use Rattle.ckpt_machine.specs.Drivers as drivers
+use Rattle.ckpt_machine.specs.Driving.{making_in, event_ckpt, event_change, event_after}
+use Rattle.ckpt_machine.specs.Guards.{OnEach, OnReplica, IsOwnMaking, CommitOk, Allowed, ends_update}
+use Rattle.ckpt_machine.specs.Invariant.{Invariant}
+use Rattle.ckpt_machine.specs.Laws.{AcknowledgedStays}
+use Rattle.ckpt_machine.specs.Machine.{Machine, Applied, Effect, ReplicaState, Staged, CallState}
+use Rattle.ckpt_machine.specs.Owned.{OwnsNothing, HasEffect, IsEffectOf}
+use Rattle.ckpt_machine.specs.Runs.{last_from, last, IsRunFrom}
+use Rattle.ckpt_machine.specs.Serving.{update_of, update_answer}
+use Rattle.ckpt_machine.specs.Shape.{IsCompleteOn}
+use Rattle.ckpt_machine.specs.Steps.{IsDue, driver_of, with_record, with_opened, with_handle_at, with_iteration, with_next, with_ended, without_handle, change_replica, with_committed, committed_slot, with_slot, effect_of, begun_call, changed, event_done, on_ok, on_look, without_making, at_some, new_handle, handle_in, replica_under, opened_state, stepped, step_of, staged_moment, after}
+use Rattle.ckpt_machine.proofs.AllOrNone.{all_or_none}
+use Rattle.ckpt_machine.proofs.Entries.{ComesOf-filter, ComesOf-change_key, ComesOf-map, ComesOf-then}
+use Rattle.ckpt_machine.proofs.EntryLists.{find_key-key, find_key-change_key, entry_of-given}
+use Rattle.ckpt_machine.proofs.Facts.{facts}
+use Rattle.ckpt_machine.proofs.Follows.{IsBare, effect_more}
+use Rattle.ckpt_machine.proofs.Histories.{HasHistory, of_update-is, making_incomplete, keeps_history, run_history}
+use Rattle.ckpt_machine.proofs.Lawful.{lawful}
+use Rattle.ckpt_machine.proofs.OptionLemmas.{IsSomeAnd-at, IsSomeAnd-from}
+use Rattle.ckpt_machine.proofs.Owning.{same_call-true}
+use Rattle.ckpt_machine.proofs.References.{released-identity, released_all-identity}
+use Rattle.ckpt_machine.proofs.RefusedRuns.{owns_nothing}
+use Rattle.ckpt_machine.proofs.ReplicaSteps.{put_actor-here}
+use Rattle.ckpt_machine.proofs.Runs.{last_from-append, run_before, run_front, IsRunFrom-back}
+
+-- ---- effects
+
+-- one effect more takes none away
+has_more : (d : CallId) (xs ys : List Effect) → HasEffect d xs → HasEffect d (xs ++ ys)
+has_more d [] ys has = absurd has
+has_more d (x ∷ xs) ys (inl is) = inl is
+has_more d (x ∷ xs) ys (inr has) = inr (has_more d xs ys has)
+
+-- the new one is there
+has_new : (d : CallId) (xs : List Effect) (new : Effect) → IsEffectOf d new → HasEffect d (xs ++ new ∷ [])
+has_new d [] new is = inl is
+has_new d (x ∷ xs) new is = inr (has_new d xs new is)
+
+-- a commit takes none away
+committed_has : (o : Option Entry) (x : ReplicaState) (d : CallId) → HasEffect d x.effects → HasEffect d (with_committed o x).effects
+committed_has None x d has = has
+committed_has (Some e) x d has = by_slot x.slot
+  where
+    by_slot : (o : Option Staged) → HasEffect d (committed_slot e.attributes x o).effects
+    by_slot None = has
+    by_slot (Some slot) = has_more d x.effects (effect_of slot ∷ []) has
+
+-- ---- a checkpoint that is made
+
+-- it stays made, on the same nodes
+abbrev StaysMade : Entry → Entry → Type 0
+StaysMade e f = e.making ≡ None → (f.making ≡ None) × (f.complete ≡ e.complete)
+
+StaysMade-same : (e : Entry) → StaysMade e e
+StaysMade-same e made = (made, refl)
+
+StaysMade-then : (e f g : Entry) → StaysMade e f → StaysMade f g → StaysMade e g
+StaysMade-then e f g first second made =
+    let (between, same) = first made in
+    let (later, again) = second between in
+    (later, again ∙ same)
+
+-- whether any references are left or not
+left_made : (e : Entry) (t : ℤ) (references : List ℕ) (none left : Bool) → StaysMade e (cond none e (cond left (record e { references = references }) (record e { references = references; idle = t })))
+left_made e t references true left made = (made, refl)
+left_made e t references false true made = (made, refl)
+left_made e t references false false made = (made, refl)
+
+released_made : (c : ℕ) (t : ℤ) (e : Entry) → StaysMade e (released c t e)
+released_made c t e = left_made e t (slice_set e.references c (slice_index e.references c - 1)) (slice_index e.references c == 0) (has_references (record e { references = slice_set e.references c (slice_index e.references c - 1) }))
+
+released_all_made : (c : ℕ) (t : ℤ) (e : Entry) → StaysMade e (released_all c t e)
+released_all_made c t e = left_made e t (slice_set e.references c 0) (slice_index e.references c == 0) (has_references (record e { references = slice_set e.references c 0 }))
+
+-- what a step makes of the record, of this checkpoint
+record MadeOn (k : ℕ) (R S : RecordState) : Type 0 where
+  last : R.last_identity ≤ S.last_identity
+  rises : IdentitiesRise S.entries
+  made : (f : Entry) → entry_of k S.entries ≡ Some f → (e : Entry) × (entry_of k R.entries ≡ Some e) × StaysMade e f
+
+MadeOn-swept : (k : ℕ) (R S : RecordState) → MadeOn k R S → MadeOn k R (swept S)
+MadeOn-swept k R S on = record {
+  last = on.last;
+  rises = IdentitiesRise-filter (stays S.moment) S.entries on.rises;
+  made = λ f found.
+      let (g, between, same) = ComesOf-filter (λ e f. e ≡ f) (λ e. refl) (stays S.moment) S.entries on.rises k f found in
+      let (e, was, keeps) = on.made g between in
+      (e, was, subst (StaysMade e) same keeps);
+}
+
+-- what a call is making is its own
+abbrev OwnsMaking : RecordState → CallId → Option ℕ → Type 0
+OwnsMaking R call None = Unit {0}
+OwnsMaking R call (Some j) = IsSomeAnd (entry_of j R.entries) (λ e. e.making ≡ Some call)
+
+module _ (k : ℕ) (R : RecordState) (given : k ≤ R.last_identity) (rises : IdentitiesRise R.entries) (up_to : AllUpTo R.last_identity R.entries) where
+  same_on : MadeOn k R R
+  same_on = record { last = omega arith; rises = rises; made = λ f found. (f, found, StaysMade-same f) }
+
+  changed_on : (j : ℕ) (f : Entry → Entry) → KeepsIdentity f → ((e : Entry) → StaysMade e (f e)) → MadeOn k R (record R { entries = change_key identity_of j f R.entries })
+  changed_on j f keeps made = record {
+    last = omega arith;
+    rises = IdentitiesRise-change_key f keeps j R.entries rises;
+    made = ComesOf-change_key StaysMade StaysMade-same f keeps made j R.entries k;
+  }
+
+  filter_on : (p : Entry → Bool) → MadeOn k R (record R { entries = filter p R.entries })
+  filter_on p = record { last = omega arith; rises = IdentitiesRise-filter p R.entries rises; made = ComesOf-filter StaysMade StaysMade-same p R.entries rises k }
+
+  departed_on : (c : ℕ) → MadeOn k R (departed c R)
+  departed_on c = record {
+    last = omega arith;
+    rises = IdentitiesRise-map (released_all c R.moment) (released_all-identity c R.moment) (filter others R.entries) (IdentitiesRise-filter others R.entries rises);
+    made = ComesOf-then StaysMade StaysMade StaysMade StaysMade-then R.entries (filter others R.entries) (departed c R).entries (ComesOf-filter StaysMade StaysMade-same others R.entries rises)
+        (ComesOf-map StaysMade (released_all c R.moment) (released_all-identity c R.moment) (released_all_made c R.moment) (filter others R.entries)) k;
+  }
+    where
+      others : Entry → Bool
+      others e = not (is_call_of c e.making)
+
+  -- an entry that is found was there, or is the new one
+  found_push : (es : List Entry) (new e : Entry) → entry_of k (es ++ new ∷ []) ≡ Some e → (entry_of k es ≡ Some e) ⊎ (new ≡ e)
+  found_push [] new e found = elim (new.identity == k) as (λ b. cond b (Some new) None ≡ Some e → (entry_of k [] ≡ Some e) ⊎ (new ≡ e)) [ true ↦ λ here. inr (same_Some new e here) | false ↦ λ none. absurd (cc none) ] found
+  found_push (x ∷ xs) new e found = elim (x.identity == k) as (λ b. cond b (Some x) (entry_of k (xs ++ new ∷ [])) ≡ Some e → (cond b (Some x) (entry_of k xs) ≡ Some e) ⊎ (new ≡ e)) [
+    | true ↦ λ here. inl here
+    | false ↦ λ there. found_push xs new e there
+  ] found
+
+  -- a new one has another identity
+  created_on : (call : CallId) (name : List ℕ) (a : Option CreationAttributes) → MadeOn k R (created_as call name a R)
+  created_on call name None = same_on
+  created_on call name (Some a) = record {
+    last = omega arith;
+    rises = IdentitiesRise-push R.last_identity R.entries (new_entry call name a R) rises up_to (omega arith);
+    made = λ f found. elim (found_push R.entries (new_entry call name a R) f found) [
+      | inl was ↦ (f, was, StaysMade-same f)
+      | inr new ↦ absurd (
+          let is : R.last_identity + 1 ≡ k = ap (λ (e : Entry). e.identity) new ∙ find_key-key identity_of k (R.entries ++ new_entry call name a R ∷ []) f found in
+          omega (arith, is, given))
+    ];
+  }
+
+  -- what was in the making is not this one
+  finished_on : (call : CallId) (j c : ℕ) → IsSomeAnd (entry_of j R.entries) (λ e. e.making ≡ Some call) → MadeOn k R (record R { entries = change_key identity_of j (made_with R.up c) R.entries })
+  finished_on call j c by = record {
+    last = omega arith;
+    rises = IdentitiesRise-change_key (made_with R.up c) (λ e. refl) j R.entries rises;
+    made = λ f found.
+        let (x, there, making) = IsSomeAnd-at (entry_of j R.entries) (λ e. e.making ≡ Some call) by in
+        elim (k == j) as (λ b. (k == j) ≡ b → cond b (Some (made_with R.up c x)) (entry_of k R.entries) ≡ Some f → (e : Entry) × (entry_of k R.entries ≡ Some e) × StaysMade e f) [
+          | true ↦ λ same here. (x, subst (λ i. entry_of i R.entries ≡ Some x) (sym (eqb-true k j same)) there, λ none. absurd (let w : Some call ≡ None = sym making ∙ none in cc w))
+          | false ↦ λ other here. (f, here, StaysMade-same f)
+        ] refl (sym (find_key-change_key identity_of j k (made_with R.up c) (λ e. refl) R.entries x there) ∙ found);
+  }
+
+  at_ckpt_on : (j : Option ℕ) (change : ℕ → RecordState) → ((j : ℕ) → MadeOn k R (change j)) → MadeOn k R (at_ckpt j R change)
+  at_ckpt_on None change on = same_on
+  at_ckpt_on (Some j) change on = on j
+
+  at_making_on : (call : CallId) (c : ℕ) (j : Option ℕ) → OwnsMaking R call j → MadeOn k R (at_ckpt j R (λ j. record R { entries = change_key identity_of j (made_with R.up c) R.entries }))
+  at_making_on call c None own = same_on
+  at_making_on call c (Some j) own = finished_on call j c own
+
+  open_on : (call : CallId) (o : OpenState) → OwnsMaking R call (making_ckpt o.making) → (step : RecordStep) → MadeOn k R (open_event call o (event_ckpt R (drivers.Open o) step) step R)
+  open_on call o own events.Create = created_on call o.ask.name o.ask.attrs
+  open_on call o own events.Open = at_ckpt_on _ _ (λ j. changed_on j (referred o.ask.client) (λ e. refl) (λ e made. (made, refl)))
+  open_on call o own events.Finish = at_making_on call o.ask.client (making_ckpt o.making) own
+  open_on call o own events.Undo = at_ckpt_on _ _ (λ j. filter_on (λ e. not (e.identity == j)))
+  open_on call o own step = same_on
+
+  change_on : (call : CallId) (d : Driver) → OwnsMaking R call (making_in d) → (step : RecordStep) → MadeOn k R (event_change call d step R)
+  change_on call (drivers.Enter r) own step = record { last = omega arith; rises = rises; made = same_on.made }
+  change_on call (drivers.Open o) own step = open_on call o own step
+  change_on call (drivers.Update u) own step = same_on
+  change_on call (drivers.Active a) own step = same_on
+  change_on call drivers.Leave own step = departed_on (client_of call)
+  change_on call (drivers.Close j) own step = changed_on j (released (client_of call) R.moment) (released-identity (client_of call) R.moment) (released_made (client_of call) R.moment)
+  change_on call (drivers.Unlink name) own step = at_ckpt_on _ _ (λ j. changed_on j unnamed (λ e. refl) (λ e made. (made, refl)))
+  change_on call (drivers.Retain j duration) own step = changed_on j (retaining duration) (λ e. refl) (λ e made. (made, refl))
+
+-- ---- the update stays
+
+-- the checkpoint was given and is made, if it is there, and each of its replicas has the update
+record StaysIn (k : ℕ) (call : CallId) (R : RecordState) (replicas : ℕ → ℕ → Option ReplicaState) : Type 0 where
+  given : k ≤ R.last_identity
+  made : (e : Entry) → entry_of k R.entries ≡ Some e → e.making ≡ None
+  every : (r : ℕ) (x : ReplicaState) → replicas k r ≡ Some x → HasEffect call x.effects
+
+abbrev Stays : ℕ → CallId → Machine → Type 0
+Stays k call m = StaysIn k call m.cluster m.replicas
+
+module _ (k : ℕ) (call : CallId) (m : Machine) (stay : Stays k call m) where
+  -- of a node that was complete the replica is as it was
+  kept : (b : Bool) (new : ReplicaState) (old : Option ReplicaState) (y : ReplicaState) → cond b None (cond b (Some new) old) ≡ Some y → old ≡ Some y
+  kept true new old y is = absurd (cc is)
+  kept false new old y is = is
+
+  -- a step of the record
+  record_stays : (R : RecordState) → MadeOn k m.cluster R → Stays k call (with_record m R)
+  record_stays R on = record {
+    given = (let a = on.last in let b = stay.given in omega (arith, a, b));
+    made = λ f found. (let (e, was, keeps) = on.made f found in (keeps (stay.made e was)).0);
+    every = λ r y is. stay.every r y (came (entry_of k R.entries) refl r y is);
+  }
+    where
+      came : (o : Option Entry) → entry_of k R.entries ≡ o → (r : ℕ) (y : ReplicaState) → replica_under o (slice_index (complete_of (entry_of k m.cluster.entries)) r) r (m.replicas k r) ≡ Some y → m.replicas k r ≡ Some y
+      came None found r y is = absurd (cc is)
+      came (Some f) found r y is =
+          let (e, was, keeps) = on.made f found in
+          let same : complete_of (entry_of k m.cluster.entries) ≡ f.complete = ap complete_of was ∙ sym ((keeps (stay.made e was)).1) in
+          kept (slice_index f.complete r == 0) (opened_state f) (m.replicas k r) y (subst (λ (nodes : List ℕ). cond (slice_index f.complete r == 0) None (cond (slice_index nodes r == 0) (Some (opened_state f)) (m.replicas k r)) ≡ Some y) same is)
+
+  -- one replica changed, whose effects stay
+  replica_stays : (j q : ℕ) (o : Option ReplicaState) → m.replicas j q ≡ o → (change : ReplicaState → ReplicaState) → ((x : ReplicaState) → HasEffect call x.effects → HasEffect call (change x).effects) → Stays k call (change_replica m j q o change)
+  replica_stays j q None there change more = stay
+  replica_stays j q (Some x) there change more = record { given = stay.given; made = stay.made; every = every }
+    where
+      every : (r : ℕ) (y : ReplicaState) → put2 m.replicas j q (Some (change x)) k r ≡ Some y → HasEffect call y.effects
+      every r y is = elim ((k == j) && (r == q)) as (λ b. ((k == j) && (r == q)) ≡ b → cond b (Some (change x)) (m.replicas k r) ≡ Some y → HasEffect call y.effects) [
+        | true ↦ λ at here.
+            let (ckpt, node) = and_parts (k == j) (r == q) at in
+            let was : m.replicas k q ≡ Some x = subst (λ i. m.replicas i q ≡ Some x) (sym (eqb-true k j ckpt)) there in
+            subst (λ (z : ReplicaState). HasEffect call z.effects) (same_Some (change x) y here) (more x (stay.every q x was))
+        | false ↦ λ at other. stay.every r y other
+      ] refl is
+
+  module _ (rises : IdentitiesRise m.cluster.entries) (up_to : AllUpTo m.cluster.last_identity m.cluster.entries) (s : CallState) (own : OwnsMaking m.cluster s.call (making_in (driver_of s))) where
+    event_stays : (step : RecordStep) → Stays k call (event_done m s step)
+    event_stays step = record_stays (event_after s.call (driver_of s) step m.cluster) (MadeOn-swept k m.cluster (event_change s.call (driver_of s) step m.cluster) (change_on k m.cluster stay.given rises up_to s.call (driver_of s) own step))
+
+    undone_stays : (j : Option ℕ) → Stays k call (without_making m j)
+    undone_stays None = stay
+    undone_stays (Some j) = record_stays (swept (undone j m.cluster)) (MadeOn-swept k m.cluster (undone j m.cluster) (filter_on k m.cluster stay.given rises up_to (λ e. not (e.identity == j))))
+
+    -- what is done on OK alone, and at a checkpoint and a node that are named
+    ok_stays : (reply : StepReply) (n : Machine) → Stays k call n → Stays k call (on_ok reply m n)
+    ok_stays words.Ok n then = then
+    ok_stays reply n then = stay
+
+    look_stays : (reply : StepReply) (done refused : Machine) → Stays k call done → Stays k call refused → Stays k call (on_look reply m done refused)
+    look_stays words.Done done refused after_done after_refused = after_done
+    look_stays words.Refused done refused after_done after_refused = after_refused
+    look_stays reply done refused after_done after_refused = stay
+
+    both_stay : (j q : Option ℕ) (change : ℕ → ℕ → Machine) → ((j q : ℕ) → Stays k call (change j q)) → Stays k call (at_some j m (λ j. at_some q m (change j)))
+    both_stay None q change each = stay
+    both_stay (Some j) None change each = stay
+    both_stay (Some j) (Some q) change each = each j q
+
+    -- a client's tables
+    handle_stays : (n : Machine) (c : ℕ) (h : HandleView) (place : Option ℕ) → Stays k call n → Stays k call (with_handle_at n c h place)
+    handle_stays n c h None then = then
+    handle_stays n c h (Some place) then = then
+
+    opened_stays : (n : Machine) (j : Option ℕ) → Stays k call n → Stays k call (with_opened s j n)
+    opened_stays n None then = then
+    opened_stays n (Some j) then = handle_stays n (client_of s.call) (new_handle n.cluster (n.last_handles (client_of s.call)) s.op j) (opened_place s.op) then
+
+    closed_stays : (n : Machine) (c : ℕ) (h : Option HandleView) → Stays k call n → Stays k call (without_handle n c h)
+    closed_stays n c None then = then
+    closed_stays n c (Some h) then = then
+
+    started_stays : (c : ℕ) (h : Option HandleView) (place : Option ℕ) (ids : KeptIds) → Stays k call (with_iteration m c h place ids)
+    started_stays c (Some h) (Some place) ids = stay
+    started_stays c (Some h) None ids = stay
+    started_stays c None place ids = stay
+
+    next_stays : (c : ℕ) (place : Option ℕ) (ids : Option KeptIds) (next : Option NextGiven) → Stays k call (with_next m c place ids next)
+    next_stays c (Some place) (Some ids) (Some next) = stay
+    next_stays c (Some place) (Some ids) None = stay
+    next_stays c (Some place) None next = stay
+    next_stays c None ids next = stay
+
+    -- any step
+    changed_stays : (verb : Verb) (j q : Option ℕ) (reply : StepReply) → Stays k call (changed m s verb j q reply)
+    changed_stays verbs.Enter j q reply = ok_stays reply _ (event_stays events.Enter)
+    changed_stays verbs.Open j q reply = ok_stays reply _ (opened_stays _ j (event_stays events.Open))
+    changed_stays verbs.Create j q reply = ok_stays reply _ (event_stays events.Create)
+    changed_stays verbs.Reserve j q reply = ok_stays reply _ (both_stay j q _ (λ j q. record { given = stay.given; made = stay.made; every = stay.every }))
+    changed_stays verbs.Finish j q reply = ok_stays reply _ (opened_stays _ j (event_stays events.Finish))
+    changed_stays verbs.Undo j q reply = ok_stays reply _ (event_stays events.Undo)
+    changed_stays verbs.Stage j q reply = ok_stays reply _ (both_stay j q _ (λ j q. replica_stays j q (m.replicas j q) refl (with_slot s.call (update_of s.op) (staged_moment m j)) (λ x has. has)))
+    changed_stays verbs.Commit j q reply = ok_stays reply _ (both_stay j q _ (λ j q. replica_stays j q (m.replicas j q) refl (with_committed (entry_of j m.cluster.entries)) (λ x has. committed_has (entry_of j m.cluster.entries) x call has)))
+    changed_stays verbs.Iter j q reply = ok_stays reply _ (both_stay j q _ (λ j q. started_stays (client_of s.call) _ (started_place s.op) _))
+    changed_stays verbs.Next j q reply = ok_stays reply _ (both_stay j q _ (λ j q. next_stays (client_of s.call) (iteration_place s.op) _ _))
+    changed_stays verbs.Leave j q reply = ok_stays reply _ (event_stays events.Leave)
+    changed_stays verbs.Close j q reply = ok_stays reply _ (closed_stays _ (client_of s.call) _ (event_stays events.Close))
+    changed_stays verbs.Unlink j q reply = ok_stays reply _ (event_stays events.Unlink)
+    changed_stays verbs.Retain j q reply = ok_stays reply _ (event_stays events.Retain)
+    changed_stays verbs.Look j q reply = look_stays reply _ _ (closed_stays m (client_of s.call) (handle_in m (client_of s.call) (closed_place s.op)) stay) (undone_stays (making_in (driver_of s)))
+    changed_stays verb j q reply = stay
+
+  ended_stays : (n : Machine) (c : ℕ) (place : Option ℕ) → Stays k call n → Stays k call (with_ended c place n)
+  ended_stays n c None then = then
+  ended_stays n c (Some place) then = then
+
+  -- what a call in hand is making is its own
+  owns : Invariant m → (s : CallState) → m.in_hand s.call.actor ≡ Some s → OwnsMaking m.cluster s.call (making_in (driver_of s))
+  owns inv s held = by_driver (driver_of s) refl
+    where
+      own_of : (j : Option ℕ) → IsOwnMaking m s.call j → OwnsMaking m.cluster s.call j
+      own_of None own = tt
+      own_of (Some j) own = own
+
+      by_driver : (d : Driver) → driver_of s ≡ d → OwnsMaking m.cluster s.call (making_in d)
+      by_driver (drivers.Open o) is = own_of (making_ckpt o.making) ((facts m inv).opens s.call.actor s o held is).3
+      by_driver (drivers.Enter r) is = tt
+      by_driver (drivers.Update u) is = tt
+      by_driver (drivers.Active a) is = tt
+      by_driver drivers.Leave is = tt
+      by_driver (drivers.Close j) is = tt
+      by_driver (drivers.Unlink name) is = tt
+      by_driver (drivers.Retain j duration) is = tt
+
+  -- any label that is due
+  after_stays : Invariant m → (l : Label) → IsDue m l → Stays k call (after m l)
+  after_stays inv (labels.Began d op end) is = ended_stays (begun_call m d op end) (number_of d.actor) (ended_place end op) (record { given = stay.given; made = stay.made; every = stay.every })
+  after_stays inv (labels.Stepped d op verb j q reply end details) is =
+      let held : m.in_hand is.state.call.actor ≡ Some is.state = ap (λ (c : CallId). m.in_hand c.actor) is.call_is ∙ is.in_hand in
+      let then = changed_stays inv.holds.rises inv.holds.up_to is.state (owns inv is.state held) verb j q reply in
+      subst (λ o. Stays k call (step_of m o verb j q reply end)) (sym is.in_hand) (record { given = then.given; made = then.made; every = then.every })
+  after_stays inv (labels.Word who line said) is = stay
+  after_stays inv (labels.Nodes n) is = record { given = stay.given; made = stay.made; every = stay.every }
+  after_stays inv (labels.Moved t) is = record_stays (moved t m.cluster) (record { last = omega arith; rises = IdentitiesRise-filter (stays t) m.cluster.entries inv.holds.rises; made = ComesOf-filter StaysMade StaysMade-same (stays t) m.cluster.entries inv.holds.rises k })
+  after_stays inv (labels.Shown j replicas) is = stay
+  after_stays inv l is = absurd is
+
+-- and at every time from then on
+stays_from : (k : ℕ) (call : CallId) (m : Machine) (log : List Label) → Invariant m → IsRunFrom m log → Stays k call m → Stays k call (last_from m log)
+stays_from k call m [] inv run stay = stay
+stays_from k call m (l ∷ log) inv run stay = stays_from k call (after m l) log (lawful m l inv run.1).1 run.2 (after_stays k call m stay inv l run.1)
+
+-- ---- the label that answers OK
+
+-- what holds of each complete replica holds of that of a node
+module _ (P : ReplicaState → Type 0) where
+  rest_of : (n : ℕ) (rest : List (ℕ × ReplicaState)) (b : Bool) (o : Option ReplicaState) → OnEach P (cond b rest (with_replica n o rest)) → OnEach P rest
+  rest_of n rest true o each = each
+  rest_of n rest false None each = each
+  rest_of n rest false (Some x) each = each.1
+
+  first_of : (n : ℕ) (rest : List (ℕ × ReplicaState)) (b : Bool) (o : Option ReplicaState) (y : ReplicaState) → b ≡ false → o ≡ Some y → OnEach P (cond b rest (with_replica n o rest)) → P y
+  first_of n rest true o y some at each = absurd (cc some)
+  first_of n rest false None y some at each = absurd (cc at)
+  first_of n rest false (Some x) y some at each = subst P (same_Some x y at) each.0
+
+  each_at : (f : ℕ → Option ReplicaState) (n : ℕ) (cs : List ℕ) → OnEach P (replicas_from f n cs) → (d : ℕ) (y : ReplicaState) → (slice_index cs d == 0) ≡ false → f (n + d) ≡ Some y → P y
+  each_at f n [] each d y some at = absurd (cc some)
+  each_at f n (c ∷ cs) each zero y some at = first_of n (replicas_from f (n + 1) cs) (c == 0) (f n) y some (ap f (let here : n ≡ n + 0 = omega arith in here) ∙ at) each
+  each_at f n (c ∷ cs) each (suc d) y some at = each_at f (n + 1) cs (rest_of n (replicas_from f (n + 1) cs) (c == 0) (f n) each) d y some (ap f (let there : n + 1 + d ≡ n + suc d = omega arith in there) ∙ at)
+
+-- where one replica has the update and nothing staged, and the call owns nothing, all have it
+module _ (m : Machine) (inv : Invariant m) (bare : IsBare m) (k r : ℕ) (call : CallId) (e : Entry) (found : entry_of k m.cluster.entries ≡ Some e) (made : e.making ≡ None) (x : ReplicaState) (there : m.replicas k r ≡ Some x) (free : x.slot ≡ None) (has : HasEffect call x.effects) (owns : OwnsNothing m call) where
+  on_each : (P : ReplicaState → Type 0) → OnEach P (complete_replicas m k) → (q : ℕ) (y : ReplicaState) → m.replicas k q ≡ Some y → P y
+  on_each P each q y at =
+      let (f, is, complete) = IsSomeAnd-at (entry_of k m.cluster.entries) (λ e. IsCompleteOn e q) (bare.complete k q y at) in
+      each_at P (m.replicas k) 0 f.complete (subst (λ o. OnEach P (replicas_from (m.replicas k) 0 (complete_of o))) is each) q y complete (ap (m.replicas k) (let same : 0 + q ≡ q = omega arith in same) ∙ at)
+
+  of_one : (one : OneUpdate) (done : Bool) → IsOfOne one done x None → (q : ℕ) (y : ReplicaState) → m.replicas k q ≡ Some y → (o : Option Staged) → y.slot ≡ o → IsOfOne one done y o → HasEffect call y.effects
+  of_one one true first q y at None none second = subst (HasEffect call) (first.1 ∙ sym second.1) has
+  of_one one false first q y at None none second = subst (HasEffect call) (first.1 ∙ sym second.1) has
+  of_one one false first q y at (Some slot) staged second = subst (HasEffect call) (first.1 ∙ sym second.4) has
+  of_one one true first q y at (Some slot) staged second =
+      elim (effect_more call one.effects (Applied one.origin one.update one.moment) (subst (HasEffect call) first.1 has)) [
+        | inl was ↦ subst (HasEffect call) (sym second.4) was
+        | inr new ↦ absurd ((owns.slots k q y slot at staged).1 (second.0 ∙ new))
+      ]
+
+  on_every : IsOnEvery m k call
+  on_every q y at = elim (all_or_none m inv k e found made) [
+    | inl equal ↦
+        let first = on_each (λ z. (z.slot ≡ None) × (z.sections ≡ equal.sections) × (z.effects ≡ equal.effects)) equal.each r x there in
+        let second = on_each (λ z. (z.slot ≡ None) × (z.sections ≡ equal.sections) × (z.effects ≡ equal.effects)) equal.each q y at in
+        subst (HasEffect call) (first.2 ∙ sym second.2) has
+    | inr of ↦
+        let first = subst (IsOfOne of.one of.done x) free (on_each (λ z. IsOfOne of.one of.done z z.slot) of.each r x there) in
+        of_one of.one of.done first q y at y.slot refl (on_each (λ z. IsOfOne of.one of.done z z.slot) of.each q y at)
+  ]
+
+-- an end that is there was due
+ends_if : (b : Bool) (o p : Outcome) → Some o ≡ cond b (Some p) None → b ≡ true
+ends_if true o p is = refl
+ends_if false o p is = absurd (cc is)
+
+-- what a commit leaves of a replica with a slot
+committed_free : (a : CreationAttributes) (x : ReplicaState) (o : Option Staged) (slot : Staged) → o ≡ Some slot → (committed_slot a x o).slot ≡ None
+committed_free a x None slot is = absurd (cc is)
+committed_free a x (Some other) slot is = refl
+
+committed_new : (a : CreationAttributes) (x : ReplicaState) (o : Option Staged) (slot : Staged) (d : CallId) → o ≡ Some slot → slot.origin ≡ d → HasEffect d (committed_slot a x o).effects
+committed_new a x None slot d is origin = absurd (cc is)
+committed_new a x (Some other) slot d is origin = has_new d x.effects (effect_of other) (ap (λ (z : Staged). z.origin) (same_Some other slot is) ∙ origin)
+
+put2-here : (f : ℕ → ℕ → Option ReplicaState) (k r : ℕ) (x : Option ReplicaState) → put2 f k r x k r ≡ x
+put2-here f k r x = ap (λ b. cond (b && (r == r)) x (f k r)) (eq-eqb k k refl) ∙ ap (λ b. cond b x (f k r)) (eq-eqb r r refl)
+
+-- the checkpoint on which a node is complete is made
+is_made : (m : Machine) (inv : Invariant m) (bare : IsBare m) (k r : ℕ) (e : Entry) (x : ReplicaState) → entry_of k m.cluster.entries ≡ Some e → m.replicas k r ≡ Some x → e.making ≡ None
+is_made m inv bare k r e x found there = by_making e.making refl
+  where
+    by_making : (o : Option CallId) → e.making ≡ o → e.making ≡ None
+    by_making None is = is
+    by_making (Some c) is =
+        let (f, at, complete) = IsSomeAnd-at (entry_of k m.cluster.entries) (λ e. IsCompleteOn e r) (bare.complete k r x there) in
+        let (g, here, incomplete) = IsSomeAnd-at (entry_of k m.cluster.entries) (λ e. (slice_index e.complete r == 0) ≡ true) (making_incomplete m inv c k r (IsSomeAnd-from (entry_of k m.cluster.entries) (λ e. e.making ≡ Some c) e found is)) in
+        let same : g ≡ f = same_Some g f (sym here ∙ at) in
+        absurd (let w : true ≡ false = sym incomplete ∙ ap (λ (z : Entry). slice_index z.complete r == 0) same ∙ complete in cc w)
+
+module _ (m : Machine) (inv : Invariant m) (history : HasHistory m) (d : CallId) (op : OpWord) (j r : ℕ) (answer : Answer) (details : Details) where
+  abbrev label : Label
+  label = labels.Stepped d op verbs.Commit (Some j) (Some r) words.Ok (Some (Done answer)) details
+
+  committed_stays : Allowed m label → IsDue m label → Stays j d (after m label)
+  committed_stays allowed due =
+      let s = allowed.state in
+      let row : OnReplica m j r (λ e x. CommitOk m s.call (update_of s.op) j r (Some (Done answer)) details x) = of_update-is s.op _ allowed.row in
+      let (e, found, on) = IsSomeAnd-at (entry_of j m.cluster.entries) (λ e. IsSomeAnd (m.replicas j r) (λ x. CommitOk m s.call (update_of s.op) j r (Some (Done answer)) details x)) row in
+      let (x, there, ok) = IsSomeAnd-at (m.replicas j r) (λ x. CommitOk m s.call (update_of s.op) j r (Some (Done answer)) details x) on in
+      let ends : ends_update s.call r ok.slot (complete_replicas m j) ≡ true = ends_if (ends_update s.call r ok.slot (complete_replicas m j)) (Done answer) (Done (update_answer (update_of s.op))) ok.answer in
+      let origin : ok.slot.origin ≡ s.call = same_call-true ok.slot.origin s.call ((and_parts _ _ ends).0) in
+      let y = with_committed (entry_of j m.cluster.entries) x in
+      let y_is : y ≡ committed_slot e.attributes x x.slot = ap (λ o. with_committed o x) found in
+      let n = stepped (record m { replicas = put2 m.replicas j r (Some y) }) s verbs.Commit (Some j) (Some r) words.Ok (Some (Done answer)) in
+      let is : after m label ≡ n = ap (λ o. step_of m o verbs.Commit (Some j) (Some r) words.Ok (Some (Done answer))) allowed.in_hand ∙ ap (λ o. stepped (change_replica m j r o (with_committed (entry_of j m.cluster.entries))) s verbs.Commit (Some j) (Some r) words.Ok (Some (Done answer))) there in
+      let inv_n : Invariant n = subst Invariant is (lawful m label inv due).1 in
+      let bare_n : IsBare n = subst IsBare is (keeps_history m label inv history allowed due).bare in
+      let none : n.in_hand s.call.actor ≡ None = put_actor-here m.in_hand s.call.actor None in
+      let owns = owns_nothing n inv_n bare_n s.call none in
+      let free : y.slot ≡ None = ap (λ (z : ReplicaState). z.slot) y_is ∙ committed_free e.attributes x x.slot ok.slot ok.staged in
+      let has : HasEffect s.call y.effects = subst (λ (z : ReplicaState). HasEffect s.call z.effects) (sym y_is) (committed_new e.attributes x x.slot ok.slot s.call ok.staged origin) in
+      let made = is_made m inv history.bare j r e x found there in
+      subst (λ c. Stays j c (after m label)) allowed.call_is (subst (Stays j s.call) (sym is) (record {
+        given = entry_of-given m.cluster.last_identity j m.cluster.entries e inv.holds.up_to found;
+        made = λ f at. subst (λ (z : Entry). z.making ≡ None) (same_Some e f (sym found ∙ at)) made;
+        every = on_every n inv_n bare_n j r s.call e found made y (put2-here m.replicas j r (Some y)) free has owns;
+      }))
+
+acknowledged : (m : Machine) (l : Label) → Invariant m → HasHistory m → Allowed m l → IsDue m l → (call : CallId) (k : ℕ) → Acknowledges l call k → Stays k call (after m l)
+acknowledged m (labels.Stepped d op verbs.Commit (Some j) (Some r) words.Ok (Some (Done answer)) details) inv history allowed due call k acks =
+    let stay = committed_stays m inv history d op j r answer details allowed due in
+    subst (λ c. Stays k c (after m (labels.Stepped d op verbs.Commit (Some j) (Some r) words.Ok (Some (Done answer)) details))) acks.0
+    (subst (λ i. Stays i d (after m (labels.Stepped d op verbs.Commit (Some j) (Some r) words.Ok (Some (Done answer)) details))) acks.1 stay)
+acknowledged m l inv history allowed due call k acks = absurd acks
+
+-- THE LAW: what was answered OK stays
+pub acknowledged_stay : AcknowledgedStays
+acknowledged_stay log run front more back l call k is acks =
+    let (before, allowed, due) = run_before _ front l (run_front log (front ++ l ∷ []) (more ++ back) (is ∙ sym (append_assoc front (l ∷ []) (more ++ back))) run) in
+    let (inv, history) = run_history front before in
+    let stay = acknowledged (last front) l inv history allowed due call k acks in
+    let then = IsRunFrom-back _ front (l ∷ more) (run_front log (front ++ l ∷ more) back (is ∙ sym (append_assoc front (l ∷ more) back)) run) in
+    let all = stays_from k call (after (last front) l) more (lawful (last front) l inv due).1 then.2 stay in
+    subst (λ (m : Machine). IsOnEvery m k call) (sym (last_from-append _ front (l ∷ more))) all.every
