@@ -4,6 +4,7 @@ ghost use Rattle.std.specs.Io.KnownBytes.{Appends};
 ghost use Rattle.outside_io.specs.Causes.{Rose};
 ghost use Rattle.script_lang.specs.Grammar.{script_of};
 ghost use Rattle.script_lang.specs.declared.faults.ScriptFault.{ScriptFault};
+ghost use Rattle.ckpt_machine.specs.Acknowledged.{AcknowledgedStay};
 ghost use Rattle.ckpt_machine.specs.AllOrNone.{IsAllOrNoneThroughout};
 ghost use Rattle.ckpt_machine.specs.Refusals.{EachRefusalLeaves};
 ghost use Rattle.world_core.specs.Runs.{IsNew, IsRunTo};
@@ -118,6 +119,9 @@ pub fn ckpt_run<R: Threads + Wait + Sync, S: Source, K: Sink, G: Gate>(
     // front of the log an update is on all complete replicas of its checkpoint or on none.
     ensures refused { EachRefusalLeaves log.new.labels }
     ensures all_or_none { IsAllOrNoneThroughout log.new.labels }
+
+    // What was answered OK is on each complete replica from then on.
+    ensures acknowledged { AcknowledgedStay log.new.labels }
 
     // The log follows the script that was read, all of it or a front; or nothing was played.
     ensures played { HasPlayed result (S.left source.old) (S.left source.new) log.new.labels }

@@ -24,7 +24,7 @@ use Rattle.ckpt_machine.specs.Steps.{after}
 use Rattle.ckpt_machine.specs.Runs.{last, last_from, IsRun}
 use Rattle.ckpt_machine.specs.Driving.{Kept}
 use Rattle.cluster_record.specs.StepDone.{StepDone}
-use Rattle.ckpt_machine.proofs.Runs.{run_before}
+use Rattle.ckpt_machine.proofs.Runs.{last_from-append, run_before}
 use Rattle.world_core.specs.Runs.{GoesOn, IsRunTo, SaysTrue, Answers, AnswersBegin, AnswersStep, IsIdleWord, IsShownOf, Happens, step_word}
 use Rattle.world_core.specs.declared.world.Event.TheVariants as happenings
 use Rattle.world_core.proofs.Held.{state_in}
@@ -211,11 +211,6 @@ none_if_not (Some h) e = absurd cc
 -- of no call, no steps are left
 pub finish_of_none : (o : Option InHand) → o ≡ None → IsFinish o []
 finish_of_none o e = subst (λ (o : Option InHand). IsFinish o []) (sym e) refl
-
--- the state after two lists of labels is the state after the second from the state after the first
-last_from-append : (m : Machine) (xs ys : List Label) → last_from m (xs ++ ys) ≡ last_from (last_from m xs) ys
-last_from-append m [] ys = refl
-last_from-append m (x ∷ xs) ys = last_from-append (after m x) xs ys
 
 -- one line more
 pub follows_line : (script rest : List Line) (line : Line) (others : List Line) (old new : List Label) → rest ≡ line ∷ others → GrowsBy old new (AnswersLine (last old) line) →

@@ -1,6 +1,7 @@
 //! A script is played line by line.
 ghost use Rattle.std.specs.Prelude.{◌≡◌, ◌+◌, ◌-◌, ◌*◌, ◌<◌, ◌≤◌, ◌^◌, [], length, OnOk};
 ghost use Rattle.script_lang.specs.BuiltScripts.{moment_behind};
+ghost use Rattle.ckpt_machine.specs.Acknowledged.{AcknowledgedStay};
 ghost use Rattle.ckpt_machine.specs.AllOrNone.{IsAllOrNoneThroughout};
 ghost use Rattle.ckpt_machine.specs.Refusals.{EachRefusalLeaves};
 ghost use Rattle.ckpt_machine.specs.Runs.{last};
@@ -43,6 +44,9 @@ pub fn session<R: Threads + Wait + Sync, G: Gate>(
     // all replicas of its checkpoint or on none.
     ensures refused { EachRefusalLeaves log.new.labels }
     ensures all_or_none { IsAllOrNoneThroughout log.new.labels }
+
+    // What was answered OK is on each complete replica from then on.
+    ensures acknowledged { AcknowledgedStay log.new.labels }
 {
     // Where room is refused at once, it is asked for again as it is needed.
     let _ = log.reserve(LABELS_A_LINE * script.as_slice().len());

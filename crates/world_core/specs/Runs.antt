@@ -55,10 +55,6 @@ abbrev pub MayBeStepped : Who → Type 0
 MayBeStepped (whos.Actor (Client c)) = c < client_numbers
 MayBeStepped who = Unit {0}
 
--- no client has a call in hand
-abbrev pub NoneInHand : World → Type 0
-NoneInHand w = (d : ℕ) → hand_at w.hands d ≡ None
-
 -- the events that may come: up to eight nodes first, then calls of clients that begin and are stepped in any order, moments, and shows
 abbrev pub Comes : World → List Label → Event → Type 0
 Comes w log (happenings.Nodes n) = (0 < n) × (n ≤ nodes_max) × (log ≡ [])

@@ -4,6 +4,7 @@ ghost use Rattle.world_core.specs.Shows.{IsShown, HasNumbersLeft};
 ghost use Rattle.world_core.specs.Parts.{record_in, call_in_hand};
 ghost use Rattle.world_core.specs.Happenings.{Adds, ComesNow, IsAnswered};
 ghost use Rattle.world_core.specs.Runs.{IsNew, IsRunTo, MayHappen, Happens};
+ghost use Rattle.ckpt_machine.specs.Acknowledged.{AcknowledgedStay};
 ghost use Rattle.ckpt_machine.specs.AllOrNone.{IsAllOrNoneThroughout};
 ghost use Rattle.ckpt_machine.specs.Refusals.{EachRefusalLeaves};
 ghost use Rattle.world_core.specs.StepsLeft.{ComesNearer};
@@ -87,6 +88,9 @@ impl World {
 
         // An update is on all replicas of its checkpoint or on none, after each front of the log.
         ensures all_or_none { IsAllOrNoneThroughout log.new.labels }
+
+        // What was answered OK is on each complete replica from then on.
+        ensures acknowledged { AcknowledgedStay log.new.labels }
         ensures err { OnErr result ((self.new ≡ self.old) × (log.new.labels ≡ log.old.labels)) }
 
         // For whoever steps a call to its end.

@@ -4,7 +4,7 @@ use Rattle.run_labels.specs.declared.labels.Label.{Label}
 use Rattle.session_run.proofs.Playable.{playable}
 use Rattle.ckptsim.specs.Headline.{asks_steps, printed}
 use Rattle.ckptsim.specs.Reading.{Reads}
-use Rattle.ckptsim.proofs.Played.{read_too_long, none_refused, all_of_none}
+use Rattle.ckptsim.proofs.Played.{read_too_long, none_refused, all_of_none, stays_of_none}
 use Rattle.ckptsim.proofs.Written.{part_of_all}
 use Rattle.ckptsim.proofs.running.ckpt_run.Goals as goal
 
@@ -70,3 +70,21 @@ returns-in-Err-NoMemory-clause-refused g c = none_refused c.args.log.now.labels 
 
 pub returns-in-Err-NoMemory-clause-all_or_none : goal.returns-in-Err-NoMemory-clause-all_or_none
 returns-in-Err-NoMemory-clause-all_or_none g c = all_of_none c.args.log.now.labels c.requires.log
+
+pub returns-then-not-is_command-clause-acknowledged : goal.returns-then-not-is_command-clause-acknowledged
+returns-then-not-is_command-clause-acknowledged g c = stays_of_none c.args.log.now.labels c.requires.log
+
+pub returns-in-Err-Failed-clause-acknowledged : goal.returns-in-Err-Failed-clause-acknowledged
+returns-in-Err-Failed-clause-acknowledged g c = stays_of_none c.args.log.now.labels c.requires.log
+
+pub returns-in-Err-Memory-clause-acknowledged : goal.returns-in-Err-Memory-clause-acknowledged
+returns-in-Err-Memory-clause-acknowledged g c = stays_of_none c.args.log.now.labels c.requires.log
+
+pub returns-in-TooLong-clause-acknowledged : goal.returns-in-TooLong-clause-acknowledged
+returns-in-TooLong-clause-acknowledged g c = stays_of_none c.args.log.now.labels c.requires.log
+
+pub returns-in-Err-Fault-clause-acknowledged : goal.returns-in-Err-Fault-clause-acknowledged
+returns-in-Err-Fault-clause-acknowledged g c = stays_of_none c.args.log.now.labels c.requires.log
+
+pub returns-in-Err-NoMemory-clause-acknowledged : goal.returns-in-Err-NoMemory-clause-acknowledged
+returns-in-Err-NoMemory-clause-acknowledged g c = stays_of_none c.args.log.now.labels c.requires.log

@@ -1,7 +1,9 @@
 use Rattle.std.proofs.Common.{ap, sym, subst, ◌∙◌, ◌++◌, ◌∷◌, []}
+use Rattle.ckpt_machine.specs.Acknowledged.{AcknowledgedStay}
 use Rattle.ckpt_machine.specs.AllOrNone.{IsAllOrNoneThroughout}
 use Rattle.ckpt_machine.specs.Refusals.{EachRefusalLeaves}
 use Rattle.world_core.proofs.Events.{run_with, happens_with, nearer_with}
+use Rattle.ckpt_machine.proofs.Acknowledged.{acknowledged_stay}
 use Rattle.ckpt_machine.proofs.AllOrNone.{on_all_or_none}
 use Rattle.ckpt_machine.proofs.RefusedRuns.{run_leaves}
 use Rattle.world_core.proofs.Running.{shown, roomy}
@@ -41,6 +43,13 @@ returns-clause-all_or_none c =
     (run_with c.args.event c.args.self.now c.happen.new.self c.args.log.now.labels c.happen.new.log.labels added.label c.requires added.is
     (added.labels ∙ ap (λ labels. labels ++ added.label ∷ []) c.reserve.ensures.labels)).run
 
+pub returns-clause-acknowledged : goal.returns-clause-acknowledged
+returns-clause-acknowledged c =
+    let added = c.in_ok-happen.ensures.ok in
+    acknowledged_stay c.happen.new.log.labels
+    (run_with c.args.event c.args.self.now c.happen.new.self c.args.log.now.labels c.happen.new.log.labels added.label c.requires added.is
+    (added.labels ∙ ap (λ labels. labels ++ added.label ∷ []) c.reserve.ensures.labels)).run
+
 -- what is not done leaves the log as it was
 pub returns-in_err-reserve-clause-refused : goal.returns-in_err-reserve-clause-refused
 returns-in_err-reserve-clause-refused c = subst EachRefusalLeaves (sym c.reserve.ensures.labels) (run_leaves c.args.log.now.labels c.requires.run.run)
@@ -48,11 +57,17 @@ returns-in_err-reserve-clause-refused c = subst EachRefusalLeaves (sym c.reserve
 pub returns-in_err-reserve-clause-all_or_none : goal.returns-in_err-reserve-clause-all_or_none
 returns-in_err-reserve-clause-all_or_none c = subst IsAllOrNoneThroughout (sym c.reserve.ensures.labels) (on_all_or_none c.args.log.now.labels c.requires.run.run)
 
+pub returns-in_err-reserve-clause-acknowledged : goal.returns-in_err-reserve-clause-acknowledged
+returns-in_err-reserve-clause-acknowledged c = subst AcknowledgedStay (sym c.reserve.ensures.labels) (acknowledged_stay c.args.log.now.labels c.requires.run.run)
+
 pub returns-in_err-happen-clause-refused : goal.returns-in_err-happen-clause-refused
 returns-in_err-happen-clause-refused c = subst EachRefusalLeaves (sym (c.in_err-happen.ensures.err.1 ∙ c.reserve.ensures.labels)) (run_leaves c.args.log.now.labels c.requires.run.run)
 
 pub returns-in_err-happen-clause-all_or_none : goal.returns-in_err-happen-clause-all_or_none
 returns-in_err-happen-clause-all_or_none c = subst IsAllOrNoneThroughout (sym (c.in_err-happen.ensures.err.1 ∙ c.reserve.ensures.labels)) (on_all_or_none c.args.log.now.labels c.requires.run.run)
+
+pub returns-in_err-happen-clause-acknowledged : goal.returns-in_err-happen-clause-acknowledged
+returns-in_err-happen-clause-acknowledged c = subst AcknowledgedStay (sym (c.in_err-happen.ensures.err.1 ∙ c.reserve.ensures.labels)) (acknowledged_stay c.args.log.now.labels c.requires.run.run)
 
 pub returns-clause-nearer : goal.returns-clause-nearer
 returns-clause-nearer c =
