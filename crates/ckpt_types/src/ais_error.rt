@@ -1,3 +1,4 @@
+//! The codes that calls answer, with the standard's numbers and the words of result lines.
 ghost use Rattle.std.specs.Prelude.{◌≡◌};
 ghost use Rattle.ckpt_types.specs.AisError.{code_of, word_of};
 

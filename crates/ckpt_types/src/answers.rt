@@ -1,3 +1,4 @@
+//! How a call ends: what it answers when it was done, and what shows that a refusal is right.
 use crate::ais_error::AisError;
 use crate::identities::{CallId, CkptId, Moment};
 

@@ -1,3 +1,4 @@
+//! Large parts of a value that is moved often lie apart from it.
 ghost use Rattle.std.specs.Prelude.{◌≡◌, IfOk};
 
 use std::alloc::{AllocError, Global};

@@ -1,3 +1,4 @@
+//! The attributes of a checkpoint, and which of them are malformed.
 ghost use Rattle.std.specs.Prelude.{◌≡◌, ◌↔◌, IsTrue};
 ghost use Rattle.ckpt_types.specs.Attributes.{has_flag, has_malformed_flags, has_malformed_sizes, checked, same_but_retention};
 

@@ -1,3 +1,4 @@
+//! Strings of bytes, of which the short ones take no memory; and the names of checkpoints.
 ghost use Rattle.std.specs.Prelude.{◌≡◌, ◌≤◌, ◌↔◌, List, [], ℕ, IfOk, IsTrue, length, nat_eq};
 ghost use Rattle.std.specs.Hash as fed;
 ghost use Rattle.std.specs.Cmp.Lexicographic.{pointwise, nat_list_eq_equiv};

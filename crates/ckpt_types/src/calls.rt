@@ -1,3 +1,4 @@
+//! What calls carry along, what holds them off, and the calls of a race.
 use crate::attributes::CreationAttributes;
 use crate::bytes::Bytes;
 use crate::identities::{CallId, NodeId};

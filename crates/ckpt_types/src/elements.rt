@@ -1,3 +1,4 @@
+//! The elements of a vector, of which most have one alone.
 ghost use Rattle.std.specs.Prelude.{◌≡◌, ◌<◌, ◌^◌, [], ◌∷◌, length};
 
 use std::marker::Model;

@@ -1,3 +1,5 @@
+//! How moments, nodes, checkpoints, clients and calls are named.
+
 /// A moment, or a time: a count of nanoseconds. The cluster has one moment, from 0 to 2^63-2, which
 /// never falls.
 pub type Moment = i64;

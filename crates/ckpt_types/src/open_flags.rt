@@ -1,3 +1,4 @@
+//! What the flags of an open allow to its handle.
 ghost use Rattle.std.specs.Prelude.{◌≡◌};
 
 use crate::ais_error::AisError;

@@ -1,3 +1,4 @@
+//! The operations: what each call line of a script asks for.
 use crate::attributes::SharedAttributes;
 use crate::bytes::{Bytes, SharedName};
 use crate::calls::{CallbackSet, Version};

@@ -1,3 +1,4 @@
+//! The bytes that a read gives: the room for them while it goes, and the pieces that a log keeps.
 ghost use Rattle.std.specs.Prelude.{◌≡◌, ◌+◌, ◌-◌, ◌≤◌, ◌<◌, [], ◌∷◌, ◌++◌, IfOk, length, slice_get, slice_index, Some, vec_capacity};
 ghost use Rattle.ckpt_types.specs.Buffer.{with_piece};
 ghost use Rattle.ckpt_types.specs.Ends.{pieces_between, start_before, ends_of, AreEnds};

@@ -1,3 +1,4 @@
+//! The identifiers of sections, and their order.
 ghost use Rattle.std.specs.Prelude.{◌≡◌, ◌+◌, ◌-◌, ◌≤◌, ◌++◌, List, [], ℕ, SomeIff, Some, length, take, drop, replicate, nat_eq, refl};
 ghost use Rattle.std.specs.Hash as fed;
 ghost use Rattle.std.specs.Cmp;

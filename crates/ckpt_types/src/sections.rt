@@ -1,3 +1,4 @@
+//! What calls see of the sections of a checkpoint, whoever keeps them.
 ghost use Rattle.std.specs.Prelude.{◌≡◌, ◌<◌, ◌-◌, ◌^◌, List, length, slice_get, Option, Some, None, MatchOption};
 
 use crate::attributes::CreationAttributes;

@@ -1,3 +1,4 @@
+//! Values that several owners read, and none changes.
 ghost use Rattle.std.specs.Prelude.{◌≡◌, IfOk};
 
 use std::alloc::{AllocError, Global};

@@ -1,3 +1,4 @@
+//! The updates that calls make of a checkpoint's sections, and the elements of reads.
 use crate::bytes::Bytes;
 use crate::elements::Elements;
 use crate::identities::Moment;

@@ -1,3 +1,4 @@
+//! Lists whose length fits the standard's number of elements.
 ghost use Rattle.std.specs.Prelude.{◌≡◌, ◌<◌, ◌^◌, length};
 
 use std::marker::Model;

@@ -1,3 +1,4 @@
+//! The iterations that a client has begun, each of which may be lent.
 ghost use Rattle.std.specs.Prelude.{◌≡◌, ◌<◌, ◌≤◌, [], None, Some, IfNone, IfOk, IfSome, IsSomeAnd, length, slice_get, slice_set, vec_capacity};
 ghost use Rattle.std.specs.Option.{option_map};
 ghost use Rattle.ckpt_types.specs.Limits.{iterations_max};

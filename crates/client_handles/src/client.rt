@@ -1,3 +1,4 @@
+//! One client: its callbacks, its handles, its iterations and its places.
 ghost use Rattle.std.specs.Prelude.{◌≡◌, ◌<◌, IfOk, OnOk, OnErr, IsSome, IsTrue};
 ghost use Rattle.ckpt_types.specs.Limits.{places_max};
 ghost use Rattle.client_handles.specs.ClientState.{handle_numbered, named_handle, has_handle_room, has_handle_numbers, new_client, taken, taken_number, released, bound, dropped, emptied, IsValid};

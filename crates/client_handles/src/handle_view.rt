@@ -1,3 +1,4 @@
+//! What is told of an open handle.
 use ckpt_types::{CkptId, OpenFlags};
 
 /// An open handle, as it was taken.

@@ -1,3 +1,4 @@
+//! How a handle is found again, by its place or by its number, in the slab that keeps it.
 ghost use Rattle.std.specs.Prelude.{◌≡◌, ◌≢◌, ◌≤◌, ℕ, None, Some, replicate, slice_index, slice_index_or, IfNone, IfOk, IfSome, IsSomeAnd};
 ghost use Rattle.ckpt_types.specs.Limits.{places_max};
 ghost use Rattle.slab.specs.Slab.{get, slab_len};

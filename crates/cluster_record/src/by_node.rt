@@ -1,3 +1,4 @@
+//! At which node a call that goes from node to node is next.
 ghost use Rattle.std.specs.Prelude.{◌≡◌, ◌<◌, Some, None, IfSome, if◌then◌else◌};
 ghost use Rattle.ckpt_types.specs.Limits.{nodes_max};
 ghost use Rattle.cluster_record.specs.StepDone.{lacks, has, first_lacking, last_having};

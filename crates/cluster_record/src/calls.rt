@@ -1,3 +1,4 @@
+//! How far a call is that takes several steps, as its driver keeps it.
 use ckpt_types::{Choice, CkptId, NODES_MAX};
 
 /// How far an all-replicas update is.

@@ -1,3 +1,4 @@
+//! The clients that are live, and on which node.
 ghost use Rattle.std.specs.Prelude.{◌≡◌, ◌≤◌, filter, not, ◌==◌, IfOk, vec_capacity};
 ghost use Rattle.ckpt_types.specs.Limits.{clients_max};
 ghost use Rattle.cluster_record.specs.Calls.{number_of};

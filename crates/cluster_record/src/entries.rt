@@ -1,3 +1,4 @@
+//! What the record keeps of each checkpoint, what a step makes of it, and when it is due to go.
 ghost use Rattle.std.specs.Prelude.{◌≡◌, ◌+◌, ◌-◌, ◌^◌, ◌<◌, ◌≤◌, Some, None, IfSome, IfOk, MatchOption, length, filter, map, not, ◌==◌, slice_index, slice_set, vec_capacity};
 ghost use Rattle.std.specs.List.{list_any, list_all};
 ghost use Rattle.ckpt_types.specs.Limits.{name_max, checkpoints_max};

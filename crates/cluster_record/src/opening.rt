@@ -1,3 +1,4 @@
+//! What an open gets of a checkpoint that is there.
 ghost use Rattle.std.specs.Prelude.{◌≡◌};
 ghost use Rattle.cluster_record.specs.DueOpen.{accepts};
 ghost use Rattle.cluster_record.specs.Opening.{answer_of};

@@ -1,3 +1,4 @@
+//! The record: what all nodes agree on, and each step that may be made on it.
 ghost use Rattle.std.specs.Prelude.{◌≡◌, ℕ, List, ◌-◌, ◌^◌, ◌≤◌, ◌<◌, None, Some, true, slice_get, IfSome, IfOk, OnOk, OnErr, IfErr, MatchOption, length, nat_lt, pos, ◌≤ℤ◌, if◌then◌else◌};
 ghost use Rattle.moment_rules.specs.Times.{sum_until_end};
 ghost use Rattle.cluster_record.specs.LookUps.{node_in, life_of, up_as, declared_in, identity_in, at_ckpt};

@@ -1,3 +1,4 @@
+//! Times in nanoseconds, compared and added exactly up to the end of time.
 ghost use Rattle.std.specs.Prelude.{◌≡◌, ◌↔◌, pos, ◌+ℤ◌, ◌≤ℤ◌, ◌<ℤ◌, IsTrue, IsFalse};
 ghost use Rattle.moment_rules.specs.Times.{never, is_expired, sum_until_end, is_reached};
 

@@ -1,3 +1,4 @@
+//! Names are moved from one map into another, so that a name that goes gives its place back.
 ghost use Rattle.std.specs.Prelude.{◌≡◌, ◌+◌, ◌≤◌, ◌<◌, ◌++◌, ◌∷◌, [], None, not, nat_eq};
 ghost use Rattle.std.specs.Cmp.Lexicographic.{pointwise};
 ghost use Rattle.indexmap.specs.IndexMap.{index_map_len, get, spare, IsEmpty};

@@ -1,3 +1,4 @@
+//! The table of names, whose places are taken beforehand.
 ghost use Rattle.std.specs.Prelude.{◌≡◌, ◌<◌, ◌≤◌, [], length, Some, None, IfOk};
 ghost use Rattle.name_table.specs.Table.{found, linked, unlinked, EachOnce, OthersStay, places};
 

@@ -1,3 +1,4 @@
+//! What a node does of its own for a step of the record.
 use ckpt_types::{CallId, CkptId, Moment};
 
 /// A node's part of a step of the record.

@@ -1,3 +1,4 @@
+//! What a driver answers when it is asked what its call does next.
 ghost use Rattle.std.specs.Prelude.{◌≡◌};
 
 use crate::requests::Request;

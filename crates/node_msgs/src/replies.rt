@@ -1,3 +1,4 @@
+//! The replies of nodes, and the words by which steps tell them.
 ghost use Rattle.std.specs.Prelude.{◌≡◌};
 
 use crate::steps::StepReply;

@@ -1,3 +1,4 @@
+//! The requests to nodes: the replica that each asks, and the word of its step.
 ghost use Rattle.std.specs.Prelude.{◌≡◌};
 
 use crate::steps::Verb;

@@ -1,3 +1,4 @@
+//! The words of a step: what it did, and how it was answered.
 use ckpt_types::CallId;
 
 /// What a step of a call does.

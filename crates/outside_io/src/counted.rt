@@ -1,3 +1,4 @@
+//! A read or a write of any stream of std, whose failures are counted.
 ghost use Rattle.std.specs.Prelude.{◌≡◌, ◌≤◌, length, IfOk};
 ghost use Rattle.std.specs.Io.KnownBytes.{ReadConsumes, WriteAppends};
 ghost use Rattle.outside_io.specs.Causes.{HasCause, faults_after};

@@ -1,3 +1,4 @@
+//! How sources and sinks in memory copy bytes: as many as fit.
 ghost use Rattle.std.specs.Prelude.{◌≡◌, ◌+◌, ◌<◌, ◌≤◌, ◌++◌, [], length, take, drop, min, vec_len, vec_capacity};
 
 // Copies the bytes from `given` on to the front of the buffer, as many as fit, and returns how many.

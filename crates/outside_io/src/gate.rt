@@ -1,3 +1,5 @@
+//! Where the threads of a race may be held up.
+
 /// What the threads of a race call on their way. It can hold a thread up, and answers nothing.
 pub trait Gate: Sync {
     /// Called by a client's thread before each of its steps, which are counted from 0. A beginning is a step.

@@ -1,3 +1,4 @@
+//! What every sink promises of the bytes that it takes and of its faults.
 ghost use Rattle.std.specs.Prelude.{◌≤◌, ℕ, List, length, Option, IfOk};
 ghost use Rattle.std.specs.Io.KnownBytes.{WriteAppends};
 ghost use Rattle.outside_io.specs.Causes.{HasCause};

@@ -1,3 +1,4 @@
+//! A source with which nothing can go wrong.
 ghost use Rattle.std.specs.Prelude.{◌≡◌, ◌≤◌, length, drop, Some, IfOk, IsOk};
 ghost use Rattle.std.specs.Io.KnownBytes.{ReadConsumes};
 ghost use Rattle.outside_io.specs.Causes.{HasCause};

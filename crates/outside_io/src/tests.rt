@@ -1,3 +1,4 @@
+//! Sources, sinks and gates at work, and streams that fail.
 use super::*;
 use crate::counted::{read_counted, write_counted};
 use std::io;

@@ -1,3 +1,4 @@
+//! Which sections an iteration goes over, by the choice that it was begun with.
 ghost use Rattle.std.specs.Prelude.{◌≡◌, ◌*◌, ◌^◌, ◌<◌, ◌≤◌, ◌&&◌, All, length, vec_capacity};
 ghost use Rattle.ckpt_types.specs.Reads.{chooses, chosen, is_corrupted};
 ghost use Rattle.ckpt_types.specs.Sections.{section_of, is_present};

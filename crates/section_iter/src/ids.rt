@@ -1,3 +1,4 @@
+//! The identifiers that an iteration keeps, one behind another in bytes taken beforehand.
 ghost use Rattle.std.specs.Prelude.{◌≡◌, ◌+◌, ◌*◌, ◌^◌, ◌<◌, ◌≤◌, [], ◌∷◌, ◌++◌, length, slice_get, Some, IfOk, IfSome, vec_capacity};
 ghost use Rattle.ckpt_types.specs.Ends.{start_before};
 ghost use Rattle.ckpt_types.specs.Limits.{section_id_max};

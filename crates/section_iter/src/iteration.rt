@@ -1,3 +1,4 @@
+//! One iteration: it begins, gives a section at a time, and can be copied.
 ghost use Rattle.std.specs.Prelude.{◌≡◌, ◌≤◌, [], All, length, IfOk};
 ghost use Rattle.ckpt_types.specs.Reads.{chosen, given};
 ghost use Rattle.section_iter.specs.Room.{room_declared};

@@ -1,3 +1,4 @@
+//! The room that an iteration takes before it begins.
 ghost use Rattle.std.specs.Prelude.{◌≡◌};
 ghost use Rattle.section_iter.specs.Room.{room_declared};
 

@@ -1,3 +1,4 @@
+//! Sections that have expired are let go, and leave their buffers to others.
 ghost use Rattle.std.specs.Prelude.{◌≡◌, ◌+◌, ◌≤◌, ℕ, length, take, vec_capacity};
 ghost use Rattle.ckpt_types.specs.Sections.{present};
 ghost use Rattle.section_store.specs.Stored.{sections_of, HaveRoom};

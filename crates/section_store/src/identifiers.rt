@@ -1,3 +1,4 @@
+//! The identifiers that the service makes for new sections: the least number that is free.
 ghost use Rattle.std.specs.Prelude.{◌≡◌, ◌<◌, ◌≤◌, ℕ, length, insert, remove, is_some, IfSome};
 ghost use Rattle.ckpt_types.specs.Limits.{section_id_max};
 ghost use Rattle.ckpt_types.specs.Sections.{Section, Rises, is_taken, place_of, present};

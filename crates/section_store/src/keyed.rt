@@ -1,3 +1,4 @@
+//! Identifiers beside a number of their first bytes, by which they are compared fast.
 ghost use Rattle.std.specs.Prelude.{◌≡◌, ◌<◌, get_or, nat_eq};
 ghost use Rattle.std.specs.Cmp.Lexicographic.{pointwise};
 ghost use Rattle.ckpt_types.specs.Sections.{id_cmp};

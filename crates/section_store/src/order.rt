@@ -1,3 +1,4 @@
+//! The list of sections in the order of their identifiers, and each change of it within its buffers.
 ghost use Rattle.std.specs.Prelude.{◌≡◌, ◌+◌, ◌≤◌, ◌<◌, ℕ, List, [], length, take, vec_capacity, insert, remove, All, IfOk, IfSome};
 ghost use Rattle.ckpt_types.specs.Sections.{Rises, place_of, size_of, memory_used, section_of as lent_section};
 ghost use Rattle.ckpt_types.specs.Updates.{written};

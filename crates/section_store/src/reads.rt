@@ -1,3 +1,4 @@
+//! What reads and counts give of the sections, which stay as they are.
 ghost use Rattle.std.specs.Prelude.{◌≡◌, ◌+◌, ◌<◌, ◌≤◌, ◌^◌, Ok, IfOk, IsOk, length, take, drop, sum_by};
 ghost use Rattle.ckpt_types.specs.Reads.{piece_read, pieces_read};
 ghost use Rattle.ckpt_types.specs.Sections.{Rises, present, memory_used};

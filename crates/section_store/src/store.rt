@@ -1,3 +1,4 @@
+//! The store: each update, read and count of one replica's sections.
 ghost use Rattle.std.specs.Prelude.{◌≡◌, ◌+◌, ◌≤◌, ◌<◌, [], ◌∷◌, Ok, IfOk, IsOk, false, length, sum_by};
 ghost use Rattle.ckpt_types.specs.Attributes.{is_malformed};
 ghost use Rattle.ckpt_types.specs.Reads.{read, status};

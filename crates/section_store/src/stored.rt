@@ -1,3 +1,4 @@
+//! One section as a store keeps it, in a buffer of its own.
 ghost use Rattle.std.specs.Prelude.{◌≡◌, ◌+◌, ◌≤◌, ◌++◌, length, take, drop, vec_capacity};
 ghost use Rattle.ckpt_types.specs.Sections.{is_present};
 ghost use Rattle.ckpt_types.specs.Updates.{padded, written};

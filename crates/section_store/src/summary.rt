@@ -1,3 +1,4 @@
+//! What is known of all sections together, so that an update need not look at each.
 ghost use Rattle.std.specs.Prelude.{◌≡◌, ◌<◌, ◌^◌};
 ghost use Rattle.ckpt_types.specs.Sections.{memory_used};
 ghost use Rattle.section_store.specs.Stored.{sections_of};

@@ -1,3 +1,4 @@
+//! The record of the cluster at work: its clients, nodes, checkpoints and retentions.
 ghost use Rattle.std.specs.Prelude.{◌≡◌, IfSome, true};
 ghost use Rattle.ckpt_types.specs.Attributes.{IsWellFormed};
 ghost use Rattle.ckpt_types.specs.declared.identities.ActorName.TheVariants.{Client};

@@ -1,3 +1,4 @@
+//! The handles and the places of one client at work.
 mod iterations;
 
 use ckpt_types::{AisError, CallbackSet, CkptId, Count, OpenFlags, PLACES_MAX, WR_ALL_REPLICAS};

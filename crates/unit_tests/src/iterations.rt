@@ -1,3 +1,4 @@
+//! Iterations at work, over sections that change between two answers.
 use crate::listed::{Given, Listed, are_short, sections_of};
 use ckpt_types::{
     Choice, CreationAttributes, Moment, NEVER, SECTIONS_ANY, SECTIONS_CORRUPTED, SECTIONS_FOREVER,

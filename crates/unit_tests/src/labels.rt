@@ -1,3 +1,4 @@
+//! Each form of label beside the lines that it prints.
 use ckpt_types::{
     ActorName, AisError, Answer, Apart, Bytes, CallId, Cause, CheckpointDescriptor, CkptId,
     CreationAttributes, Given, NEVER, Op, Outcome, Pieces, ReadBuf, SectionDescriptor, SectionId,

@@ -1,3 +1,4 @@
+//! Sections in a plain list, over which the rules and iterations are tried.
 ghost use Rattle.std.specs.Prelude.{◌≡◌, ◌-◌, ◌*◌, ◌^◌, ◌<◌, ◌≤◌, All, length, IfSome, slice_get, Some};
 ghost use Rattle.std.specs.Bool.{OnTrue};
 ghost use Rattle.ckpt_types.specs.Sections.{IsBelowAll, Rises, place_of, section_of, present, memory_used};

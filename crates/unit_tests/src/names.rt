@@ -1,3 +1,4 @@
+//! The table of names at work, up to its last place.
 ghost use Rattle.std.specs.Prelude.{◌≤◌};
 
 use crate::values::long;

@@ -1,3 +1,4 @@
+//! Updates and reads that are refused or not, in tables of words.
 use crate::listed::{Given, Listed, sections_of};
 use crate::values::bytes_of;
 use ckpt_types::{

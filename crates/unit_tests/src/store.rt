@@ -1,3 +1,4 @@
+//! A store at work: gaps, sections that have expired, and the identifiers that it makes.
 use ckpt_types::{
     Bytes, CreationAttributes, IoElement, IoVector, Moment, NEVER, NewId, ReadBuf, ReadElement,
     SectionState, Sections, Update, WR_ALL_REPLICAS,

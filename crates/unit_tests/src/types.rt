@@ -1,3 +1,4 @@
+//! The types of calls at work: copies and shares, buffers, attributes, flags, identifiers and codes.
 use ckpt_types::{
     AisError, Bytes, CHECKPOINT_COLLOCATED, CreationAttributes, IoElement, IoVector, Op, OpenFlags,
     Pieces, ReadBuf, ReadElement, ReadVector, SectionId, SharedReads, SharedUpdate, Update,

@@ -1,3 +1,4 @@
+//! Identifiers, bytes and names that several tests use.
 use ckpt_types::{Bytes, SectionId};
 use std::alloc::{AllocError, Global};
 

@@ -1,3 +1,4 @@
+//! Each class of words at work, at the ends of its range.
 use ckpt_types::{ActorName, CallId, CallbackSet, NEVER, NewId, Version, Who};
 use script_words::{
     LineError, bytes, callbacks, ckpt, client, id, iteration, moment, new_id, node, number, place,

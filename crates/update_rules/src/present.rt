@@ -1,3 +1,4 @@
+//! The sections that a rule sees: those that are present at the moment.
 ghost use Rattle.std.specs.Prelude.{◌≡◌};
 ghost use Rattle.ckpt_types.specs.Sections.{Rises, section_of, is_present, present};
 ghost use Rattle.update_rules.specs.Present.{size_at};

@@ -1,3 +1,4 @@
+//! When a read is refused, and at which element.
 ghost use Rattle.std.specs.Prelude.{◌≡◌, ◌^◌, ◌<◌, length};
 ghost use Rattle.ckpt_types.specs.Reads.{read};
 ghost use Rattle.update_rules.specs.Told.{told};

@@ -1,3 +1,4 @@
+//! What is told of an update or a read that is refused.
 ghost use Rattle.std.specs.Prelude.{◌≡◌, Err};
 
 use ckpt_types::AisError;

@@ -1,3 +1,4 @@
+//! When an update is refused, rule by rule.
 ghost use Rattle.std.specs.Prelude.{◌≡◌, ◌+◌, ◌^◌, ◌<◌, ◌||◌, nat_le, nat_lt, length};
 ghost use Rattle.ckpt_types.specs.Sections.{Rises, is_taken, present, memory_used};
 ghost use Rattle.ckpt_types.specs.Updates.{outcome, created, deleted, expiration_set, overwritten, is_bad_id, new_id};

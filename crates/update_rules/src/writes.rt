@@ -1,3 +1,4 @@
+//! When a write is refused, whose elements are written one after another.
 ghost use Rattle.std.specs.Prelude.{◌≡◌, ◌-◌, ◌^◌, ◌<◌, max, length, IfOk};
 ghost use Rattle.ckpt_types.specs.Sections.{Rises, present, memory_used};
 ghost use Rattle.ckpt_types.specs.Updates.{element_written, elements_written};

@@ -1,3 +1,4 @@
+//! The iterations of one client at work: begun, lent, and ended with their handles.
 use super::{NO_CALLBACKS, bind, take};
 use ckpt_types::{AisError, Count, CreationAttributes, PLACES_MAX, WR_ALL_REPLICAS};
 use client_handles::Client;
