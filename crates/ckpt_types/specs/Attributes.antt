@@ -41,6 +41,7 @@ has_malformed_sizes a =
     || nat_lt sections_max a.max_sections
     || nat_lt declared_id_max a.max_section_id_size
 
+-- attributes that no checkpoint may be made with: for their flags, their sizes, or a retention below 0
 abbrev pub is_malformed : CreationAttributes → Bool
 is_malformed a = has_malformed_flags a.creation_flags || has_malformed_sizes a || int_lt a.retention_duration (pos 0)
 

@@ -3,6 +3,7 @@ use Rattle.std.specs.Prelude.{◌≡◌, ◌≤◌, ⊤, ℕ, List, length, take
 use Rattle.ckpt_types.specs.declared.bytes.Text.{Text}
 use Rattle.ckpt_types.specs.declared.bytes.Text.TheVariants.{Short, Long}
 
+-- the string that is kept
 abbrev pub bytes_in : Text → List ℕ
 bytes_in (Short len front) = take len front
 bytes_in (Long items) = items.items

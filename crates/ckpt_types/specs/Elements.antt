@@ -3,6 +3,7 @@ use Rattle.std.specs.Prelude.{◌≡◌, ◌<◌, ◌^◌, List, length}
 use Rattle.ckpt_types.specs.declared.elements.Items.{Items}
 use Rattle.ckpt_types.specs.declared.elements.Items.TheVariants.{One, Many}
 
+-- the elements that are kept, in their order
 abbrev pub elements_in : {T : Type 0} → Items T → List T
 elements_in (One element) = element
 elements_in (Many items) = items.items

@@ -78,6 +78,7 @@ release = 66
 abbrev pub major_min : ℕ
 major_min = 1
 
+-- the last of them, which is also the one that is answered
 abbrev pub major_max : ℕ
 major_max = 2
 

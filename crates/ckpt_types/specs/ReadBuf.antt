@@ -12,6 +12,7 @@ pub record IsRoomy (b : Inside) : Type 0 where
   pub bytes_taken : b.max_bytes ≤ vec_capacity b.bytes
   pub breaks_taken : b.max_pieces - 1 ≤ vec_capacity b.breaks
 
+-- the buffer as contracts see it: its pieces, and for how many more pieces and bytes there is room
 abbrev pub buffer_of : Inside → Buffer
 buffer_of b = record {
   pieces = pieces_in b.count b.breaks.items b.bytes.items;

@@ -20,6 +20,7 @@ piece_read place e sections =
     if nat_lt (size_of s) e.offset then refuse_at place InvalidParam
     else Ok (take e.len (drop e.offset s.bytes)))
 
+-- the bytes of each element, or the first refusal; the elements are numbered from a place on
 abbrev pub pieces_read : ℕ → List ReadElement → List Section → Result (List (List ℕ)) Refusal
 pieces_read place [] sections = Ok []
 pieces_read place (e ∷ elements) sections =
@@ -29,6 +30,7 @@ pieces_read place (e ∷ elements) sections =
 abbrev pub read : List ReadElement → ℤ → List Section → Result (List (List ℕ)) Refusal
 read elements t sections = pieces_read 0 elements (present t sections)
 
+-- a write into the section was cut short
 abbrev pub is_corrupted : SectionState → Bool
 is_corrupted Valid = false
 is_corrupted Corrupted = true
@@ -51,6 +53,7 @@ pub record NextGiven : Type 0 where
   pub section : Section
   pub rest : List (List ℕ)
 
+-- this section where it is present, and the identifiers behind it; else what a later identifier gives
 abbrev pub given_first : List (List ℕ) → Option Section → Option NextGiven → Option NextGiven
 given_first rest None later = later
 given_first rest (Some s) later = Some (record { section = s; rest = rest })

@@ -18,6 +18,7 @@ pub record Refusal : Type 0 where
   pub error : AisError
   pub index : ℕ
 
+-- a refusal that is about no element of a vector
 abbrev pub refuse : {A : Type 0} → AisError → Result A Refusal
 refuse error = Err (record { error = error; index = 0 })
 
@@ -54,6 +55,7 @@ numbers_from n (suc count) = n ∷ numbers_from (n + 1) count
 abbrev pub free_number : List Section → ℕ
 free_number sections = unwrap_or (find (λ n. not (is_taken (numbered_id n) sections)) (numbers_from 1 (length sections + 1))) 0
 
+-- the identifier that the service makes for a new section
 abbrev pub generated_id : List Section → List ℕ
 generated_id sections = numbered_id (free_number sections)
 
