@@ -24,6 +24,7 @@ text_lines (b ∷ bs) = if b == 10 then [] ∷ text_lines bs else onto_first b (
 abbrev pub is_space : ℕ → Bool
 is_space b = b == 32
 
+-- a word with no byte, which no line may have
 abbrev pub is_empty : List ℕ → Bool
 is_empty w = length w == 0
 
@@ -67,6 +68,7 @@ abbrev pub moment_after : Line → ℤ → ℤ
 moment_after (lines.At t) now = t
 moment_after _ now = now
 
+-- the moment behind these lines: 0 where none sets one
 abbrev pub moment_of : List Line → ℤ
 moment_of [] = pos 0
 moment_of (x ∷ earlier) = moment_after x (moment_of earlier)
@@ -77,10 +79,12 @@ block_after lines.Race block = Some 0
 block_after lines.End block = None
 block_after _ block = option_map (λ n. n + 1) block
 
+-- the number of lines so far of the block that is open behind these lines, if one is
 abbrev pub block_of : List Line → Option ℕ
 block_of [] = None
 block_of (x ∷ earlier) = block_after x (block_of earlier)
 
+-- that number, and 0 where no block is open
 abbrev pub block_size : Option ℕ → ℕ
 block_size None = 0
 block_size (Some n) = n
@@ -90,26 +94,32 @@ abbrev pub asked_by : Op → ℕ
 asked_by (ops.Read place elements) = sum_by (λ e. e.len) elements
 asked_by _ = 0
 
+-- how many bytes a line asks to read, by a call that is plain or behind `begin`
 abbrev pub asked_in : Line → ℕ
 asked_in (lines.Call client op) = asked_by op
 asked_in (lines.Begin actor op) = asked_by op
 asked_in _ = 0
 
+-- how many bytes these lines ask to read together
 abbrev pub asked_of : List Line → ℕ
 asked_of [] = 0
 asked_of (x ∷ earlier) = asked_in x + asked_of earlier
 
+-- a line that lists the replicas of a checkpoint
 abbrev pub is_show : Line → Bool
 is_show (lines.Show k) = true
 is_show _ = false
 
+-- the number of such lines so far, behind a line
 abbrev pub shows_after : Line → ℕ → ℕ
 shows_after x n = if is_show x then n + 1 else n
 
+-- how many of these lines are such
 abbrev pub shows_of : List Line → ℕ
 shows_of [] = 0
 shows_of (x ∷ earlier) = shows_after x (shows_of earlier)
 
+-- no line was before, so that the next is to bring the nodes up
 abbrev pub no_lines : List Line → Bool
 no_lines [] = true
 no_lines (x ∷ earlier) = false
@@ -122,6 +132,7 @@ marks_of earlier = record { none = no_lines earlier; moment = moment_of earlier;
 unfoldable pub marks_after : Line → Marks → Marks
 marks_after x m = record { none = false; moment = moment_after x m.moment; block = block_after x m.block; asked = asked_in x + m.asked; shows = shows_after x m.shows }
 
+-- the line that brings the nodes up
 abbrev pub is_nodes : Line → Bool
 is_nodes (lines.Nodes n) = true
 is_nodes _ = false
@@ -147,6 +158,7 @@ may_race (lines.Fail n) = true
 may_race lines.End = true
 may_race _ = false
 
+-- the line that ends a block
 abbrev pub is_end : Line → Bool
 is_end lines.End = true
 is_end _ = false
@@ -177,10 +189,12 @@ limit_fault m x =
 abbrev pub is_later_declared : CreationAttributes → Bool
 is_later_declared a = a.creation_flags == wr_active_replica || a.creation_flags == wr_active_replica_weak || a.creation_flags == wr_active_replica + checkpoint_collocated || a.creation_flags == wr_active_replica_weak + checkpoint_collocated
 
+-- attributes that are given, with such flags
 abbrev pub is_later_attributes : Option CreationAttributes → Bool
 is_later_attributes None = false
 is_later_attributes (Some a) = is_later_declared a
 
+-- a call that wants callbacks, or attributes with such flags
 abbrev pub is_later_op : Op → Bool
 is_later_op (ops.Client node version set) = set.opens || set.syncs
 is_later_op (ops.Open place name flags timeout attributes) = is_later_attributes attributes
@@ -193,6 +207,7 @@ is_later_line (lines.Call client op) = is_later_op op
 is_later_line (lines.Begin actor op) = is_later_op op
 is_later_line _ = false
 
+-- the fault of a line whose form is not built
 abbrev pub form_fault : Line → Option Reason
 form_fault x = if is_later_line x then Some reasons.NotBuilt else None
 
@@ -200,6 +215,7 @@ form_fault x = if is_later_line x then Some reasons.NotBuilt else None
 unfoldable pub fault_after : Marks → Line → Option Reason
 fault_after m x = or_else (order_fault m x) (or_else (limit_fault m x) (form_fault x))
 
+-- the first fault of a line behind these lines
 abbrev pub fault_of : List Line → Line → Option Reason
 fault_of earlier x = fault_after (marks_of earlier) x
 
@@ -213,12 +229,15 @@ pub record Progress : Type 0 where
   pub race : ℕ
   pub earlier : List Line
 
+-- nothing is read yet
 abbrev pub start : Progress
 start = record { number = 0; race = 0; earlier = [] }
 
+-- the line of that number is at fault; 0 is the script as a whole
 abbrev pub fault : {X : Type 0} → ℕ → Reason → Result X ScriptFault
 fault n r = Err (record { line = n; reason = r })
 
+-- the line that opens a block
 abbrev pub is_race : Line → Bool
 is_race lines.Race = true
 is_race _ = false
@@ -227,10 +246,12 @@ is_race _ = false
 abbrev pub with_line : Progress → Line → Progress
 with_line p x = record { number = p.number + 1; race = if is_race x then p.number + 1 else p.race; earlier = x ∷ p.earlier }
 
+-- a line is taken, unless it has a fault
 abbrev pub if_allowed : Progress → Line → Option Reason → Result Progress ScriptFault
 if_allowed p x None = Ok (with_line p x)
 if_allowed p x (Some r) = fault (p.number + 1) r
 
+-- what a line of the text makes: one that is empty or a comment is counted, and says nothing
 abbrev pub after_reading : Progress → Result (Option Line) Reason → Result Progress ScriptFault
 after_reading p (Err r) = fault (p.number + 1) r
 after_reading p (Ok None) = Ok (record p { number = p.number + 1 })
@@ -245,6 +266,7 @@ abbrev pub and_then : {A B : Type 0} → Result A ScriptFault → (A → Result 
 and_then (Ok x) f = f x
 and_then (Err e) f = Err e
 
+-- the lines of the text in order, up to the first that is at fault
 unfoldable pub steps : Progress → List (List ℕ) → Result Progress ScriptFault
 steps p [] = Ok p
 steps p (text ∷ rest) = and_then (step p text) (λ q. steps q rest)

@@ -13,10 +13,12 @@ abbrev pub FitAll : (cs : List Class) → Values cs → Type 0
 FitAll [] v = ⊤
 FitAll (c ∷ cs) v = Fits c v.0 × FitAll cs v.1
 
+-- the values that a line may have or lack are, where it has them, ones that words of their classes can say
 abbrev pub FitMore : (ds : List Class) → Option (Values ds) → Type 0
 FitMore ds None = ⊤
 FitMore ds (Some v) = FitAll ds v
 
+-- each element of a line has values that words of their classes can say
 abbrev pub FitGroups : (ds : List Class) → List (Values ds) → Type 0
 FitGroups ds [] = ⊤
 FitGroups ds (v ∷ vs) = FitAll ds v × FitGroups ds vs

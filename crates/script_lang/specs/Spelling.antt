@@ -23,6 +23,7 @@ abbrev pub spell_all : (cs : List Class) → Values cs → List (List ℕ)
 spell_all [] v = []
 spell_all (c ∷ cs) v = spell c v.0 ∷ spell_all cs v.1
 
+-- the words that a line may have or lack, where it has them
 abbrev pub spell_more : (ds : List Class) → Option (Values ds) → List (List ℕ)
 spell_more ds None = []
 spell_more ds (Some v) = spell_all ds v
@@ -37,12 +38,15 @@ spell_told (times cs ds) v = spell_all cs v.0 ++ flat_map (spell_all ds) v.1
 abbrev pub Parts : Type 0
 Parts = (k : LineWord) × Told (form k).shape
 
+-- what the six words of these attributes say
 abbrev pub attributes_values : CreationAttributes → Values attributes
 attributes_values a = (a.creation_flags, (a.checkpoint_size, (a.retention_duration, (a.max_sections, (a.max_section_size, (a.max_section_id_size, tt))))))
 
+-- what the three words of an element of a write say
 abbrev pub io_values : IoElement → Values io_group
 io_values e = (e.id, (e.offset, (e.bytes, tt)))
 
+-- what the three words of an element of a read say
 abbrev pub read_values : ReadElement → Values read_group
 read_values e = (e.id, (e.offset, (e.len, tt)))
 
@@ -103,9 +107,11 @@ parts (lines.Show k) = (word.Show, (k, tt))
 parts lines.Race = (word.Race, tt)
 parts lines.End = (word.End, tt)
 
+-- the words that these parts make, with the first
 abbrev pub words_by : Parts → List (List ℕ)
 words_by p = letters p.0 ∷ spell_told (form p.0).shape p.1
 
+-- a line with `begin` in front, whose call is only begun
 abbrev pub is_begin : Line → Bool
 is_begin (lines.Begin a o) = true
 is_begin _ = false
@@ -127,6 +133,7 @@ abbrev pub tail_text : List (List ℕ) → List ℕ
 tail_text [] = []
 tail_text (w ∷ ws) = 32 ∷ w ++ tail_text ws
 
+-- the words with one space between two, stated word after word as they are written
 abbrev pub joined : List (List ℕ) → List ℕ
 joined [] = []
 joined (w ∷ ws) = w ++ tail_text ws
@@ -135,8 +142,10 @@ joined (w ∷ ws) = w ++ tail_text ws
 unfoldable pub update_text : ℕ → ℕ → Update → List ℕ
 update_text c h u = joined (words_by (update_parts c h u))
 
+-- the text of a call, word after word
 unfoldable pub call_text : ℕ → Op → List ℕ
 call_text c o = joined (words_by (call_parts c o))
 
+-- the text of a line, word after word
 unfoldable pub text_of : Line → List ℕ
 text_of x = joined (line_words x)

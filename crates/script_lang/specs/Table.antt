@@ -58,6 +58,7 @@ flags = a_number 0 (2 ^ 32 - 1)
 abbrev pub attributes : List Class
 attributes = flags ∷ any_number ∷ a_time ∷ flags ∷ any_number ∷ any_number ∷ []
 
+-- the attributes that these words say
 abbrev pub attributes_of : Values attributes → CreationAttributes
 attributes_of v = record { creation_flags = v.0; checkpoint_size = v.1.0; retention_duration = v.1.1.0; max_sections = v.1.1.1.0; max_section_size = v.1.1.1.1.0; max_section_id_size = v.1.1.1.1.1.0 }
 
@@ -65,6 +66,7 @@ attributes_of v = record { creation_flags = v.0; checkpoint_size = v.1.0; retent
 abbrev pub io_group : List Class
 io_group = an_id ∷ any_number ∷ some_bytes ∷ []
 
+-- the element of a write that these words say
 abbrev pub io_element : Values io_group → IoElement
 io_element v = record { id = v.0; offset = v.1.0; bytes = v.1.1.0 }
 
@@ -72,6 +74,7 @@ io_element v = record { id = v.0; offset = v.1.0; bytes = v.1.1.0 }
 abbrev pub read_group : List Class
 read_group = an_id ∷ any_number ∷ any_number ∷ []
 
+-- the element of a read that these words say
 abbrev pub read_element : Values read_group → ReadElement
 read_element v = record { id = v.0; offset = v.1.0; len = v.1.1.0 }
 

@@ -25,10 +25,12 @@ IsMoment (negsuc n) = ⊥
 abbrev pub IsVersion : Version → Type 0
 IsVersion v = (65 ≤ v.release) × (v.release ≤ 90) × (v.major ≤ 255) × (v.minor ≤ 255)
 
+-- an identifier that is not too long, or that the service is to make one
 abbrev pub IsNewId : NewId → Type 0
 IsNewId (new_ids.Given id) = IsBytes id × (length id ≤ section_id_max)
 IsNewId new_ids.Generated = ⊤
 
+-- a client or a node that a script may name
 abbrev pub IsActor : ActorName → Type 0
 IsActor (actor.Client c) = c < client_numbers
 IsActor (actor.Node n) = n < nodes_max
@@ -38,6 +40,7 @@ abbrev pub IsCaller : ActorName → Type 0
 IsCaller (actor.Client c) = c < client_numbers
 IsCaller (actor.Node n) = ⊥
 
+-- what a line may name to be stepped: an actor, or a call of a client
 abbrev pub IsWho : Who → Type 0
 IsWho (whose.Actor name) = IsActor name
 IsWho (whose.Call call) = IsCaller call.actor × (1 ≤ call.number) × (call.number < 2 ^ 32)

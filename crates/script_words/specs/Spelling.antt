@@ -20,17 +20,21 @@ time_text (negsuc n) = 45 ∷ decimal (n + 1)
 abbrev pub bytes_text : List ℕ → List ℕ
 bytes_text bytes = 120 ∷ encode_lower bytes
 
+-- the bytes of an identifier, or `gen` where the service is to make one
 abbrev pub new_id_text : NewId → List ℕ
 new_id_text (new_ids.Given id) = bytes_text id
 new_id_text new_ids.Generated = codes "gen"
 
+-- one word for the callbacks that are registered: `none`, `open`, `sync` or `both`
 abbrev pub callbacks_text : CallbackSet → List ℕ
 callbacks_text set = cond set.opens (cond set.syncs (codes "both") (codes "open")) (cond set.syncs (codes "sync") (codes "none"))
 
+-- `c` or `n`, and the number
 abbrev pub actor_text : ActorName → List ℕ
 actor_text (actor.Client c) = 99 ∷ decimal c
 actor_text (actor.Node n) = 110 ∷ decimal n
 
+-- an actor, or a call: its actor, a dot and its number
 abbrev pub who_text : Who → List ℕ
 who_text (whose.Actor name) = actor_text name
 who_text (whose.Call call) = actor_text call.actor ++ 46 ∷ decimal call.number

@@ -68,6 +68,7 @@ id_of w = option_and_then (λ bytes. if nat_le (length bytes) section_id_max the
 unfoldable pub new_id_of : List ℕ → Option NewId
 new_id_of w = if bytes_eq w (codes "gen") then Some new_ids.Generated else option_map new_ids.Given (id_of w)
 
+-- the byte `.`, which parts a word into its parts
 abbrev pub is_dot : ℕ → Bool
 is_dot b = b == 46
 
