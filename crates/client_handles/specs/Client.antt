@@ -13,6 +13,7 @@ abbrev pub number_of : Option Bound → ℕ
 number_of None = 0
 number_of (Some set) = set.number
 
+-- the client as contracts see it
 abbrev pub client_of : Inside → ClientState
 client_of c = record {
   callbacks = c.callbacks;

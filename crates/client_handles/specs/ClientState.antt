@@ -13,6 +13,7 @@ use Rattle.client_handles.specs.Numbered.{numbered, without, stands_for, RiseWit
 use Rattle.client_handles.specs.declared.begun.BegunIteration.{BegunIteration}
 use Rattle.client_handles.specs.declared.handle_view.HandleView.{HandleView}
 
+-- the callbacks, handles and iterations of one client, and what its places were set to
 pub record ClientState : Type 0 where
   pub callbacks : CallbackSet
   -- the number of the handle last taken, or 0
@@ -44,6 +45,7 @@ new_client callbacks = record {
 abbrev pub handle_number : HandleView → ℕ
 handle_number h = h.handle
 
+-- the number by which iterations are told apart
 abbrev pub iteration_number : BegunIteration → ℕ
 iteration_number it = it.number
 

@@ -15,6 +15,7 @@ kept_numbered number [] = None
 kept_numbered number (None ∷ slots) = kept_numbered number slots
 kept_numbered number (Some h ∷ slots) = if h.handle == number then Some h else kept_numbered number slots
 
+-- the handle that was found, as a list of one, and nothing where none was
 abbrev pub listed : Option HandleView → List HandleView
 listed None = []
 listed (Some h) = h ∷ []

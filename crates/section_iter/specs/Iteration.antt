@@ -12,5 +12,6 @@ pub record IsRoomy (it : Inside) : Type 0 where
   pub bytes_taken : it.room.ids * it.room.id_size ≤ vec_capacity it.bytes
   pub small : it.room.ids * it.room.id_size < 2 ^ 32
 
+-- the iteration as contracts see it: the identifiers that it may still give, and its room
 abbrev pub kept_ids : Inside → KeptIds
 kept_ids it = record { ids = drop it.first (ids_in it.ends.items it.bytes.items); room = it.room }

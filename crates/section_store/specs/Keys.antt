@@ -7,6 +7,7 @@ key_from number zero bytes = number
 key_from number (suc count) [] = key_from (number * 256) count []
 key_from number (suc count) (b ∷ bytes) = key_from (number * 256 + b) count bytes
 
+-- the key of an identifier; where two keys differ, their identifiers stand in the same order
 abbrev pub key_of : List ℕ → ℕ
 key_of id = key_from 0 8 id
 

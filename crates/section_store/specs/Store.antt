@@ -7,6 +7,7 @@ use Rattle.section_store.specs.Stored.{sections_of, HaveRoom}
 use Rattle.section_store.specs.Summary.{IsSummary}
 use Rattle.section_store.specs.declared.store.Store.TheInside.{Inside}
 
+-- the store as contracts see it: the attributes, and the sections in their order
 abbrev pub state_of : Inside → StoreState
 state_of s = record { attributes = s.attributes; sections = sections_of s.kept.items }
 
