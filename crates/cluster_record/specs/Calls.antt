@@ -5,12 +5,14 @@ use Rattle.ckpt_types.specs.declared.identities.ActorName.TheVariants.{Client, N
 use Rattle.ckpt_types.specs.declared.identities.CallId.{CallId}
 use Rattle.ckpt_types.specs.Limits.{client_numbers}
 
+-- two names of one client, or of one node
 abbrev pub same_actor : ActorName → ActorName → Bool
 same_actor (Client a) (Client b) = a == b
 same_actor (Node a) (Node b) = a == b
 same_actor (Client a) (Node b) = false
 same_actor (Node a) (Client b) = false
 
+-- two names of one call
 abbrev pub same_call : CallId → CallId → Bool
 same_call a b = same_actor a.actor b.actor && (a.number == b.number)
 

@@ -6,6 +6,7 @@ use Rattle.cluster_record.specs.declared.entries.Change.TheVariants.{Made, Refer
 use Rattle.cluster_record.specs.RecordReady.{CanRefer}
 use Rattle.cluster_record.specs.RecordState.{made_with, referred, released, unnamed, retaining}
 
+-- what each change makes of an entry
 abbrev pub changed_by : Change → Entry → Entry
 changed_by (Made up c) = made_with up c
 changed_by (Referred c) = referred c

@@ -33,6 +33,7 @@ request_by call k kinds.Status = requests.Status k
 request_by call k (kinds.Iterate choice) = requests.Iterate call k choice
 request_by call k kinds.Next = requests.Next call k
 
+-- the request with which the active is asked
 abbrev pub active_request : ActiveState → Request
 active_request a = request_by a.call a.ckpt a.kind
 
@@ -41,13 +42,16 @@ abbrev pub starts_iteration : ActiveKind → Bool
 starts_iteration (kinds.Iterate choice) = true
 starts_iteration kind = false
 
+-- the active is asked, where there is one; an iteration starts only where its client has room for one more
 abbrev pub on_active : Bool → ActiveState → Option ℕ → Next
 on_active room a None = End (Refused NotExist Plain)
 on_active room a (Some r) = if starts_iteration a.kind && not room then End (Refused NoResources (Count iterations_max)) else Serve r (active_request a)
 
+-- what is next by the checkpoint's entry; a checkpoint that is gone is refused with NOT_EXIST
 abbrev pub active_on : Bool → ActiveState → Option Entry → Next
 active_on room a None = End (Refused NotExist Plain)
 active_on room a (Some e) = on_active room a e.active
 
+-- what is next of a call to the active, by the record and by whether its client has room for an iteration
 abbrev pub active_next : RecordState → Bool → ActiveState → Next
 active_next R room a = active_on room a (entry_of a.ckpt R.entries)

@@ -16,6 +16,7 @@ abbrev pub close_of : Option Entry → Next
 close_of None = End (Done answers.Nothing)
 close_of (Some e) = Event events.Close
 
+-- what is next of a close of this checkpoint
 abbrev pub close_next : RecordState → ℕ → Next
 close_next R k = close_of (entry_of k R.entries)
 
@@ -24,10 +25,12 @@ abbrev pub unlink_of_making : Option CallId → Next
 unlink_of_making None = Event events.Unlink
 unlink_of_making (Some call) = End (Refused TryAgain (Holder call))
 
+-- a name that no checkpoint has is refused
 abbrev pub unlink_of : Option Entry → Next
 unlink_of None = End (Refused NotExist Plain)
 unlink_of (Some e) = unlink_of_making e.making
 
+-- what is next of an unlink of this name
 abbrev pub unlink_next : RecordState → List ℕ → Next
 unlink_next R name = unlink_of (named name R.entries)
 
@@ -36,5 +39,6 @@ abbrev pub retain_of : Option Entry → Next
 retain_of None = End (Refused NotExist Plain)
 retain_of (Some e) = if is_some e.name then Event events.Retain else End (Refused BadOperation Plain)
 
+-- what is next of a setting of this checkpoint's retention
 abbrev pub retain_next : RecordState → ℕ → Next
 retain_next R k = retain_of (entry_of k R.entries)

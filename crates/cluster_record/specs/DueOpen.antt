@@ -67,6 +67,7 @@ entry_by None room a e =
     else if not room then End (Refused NoResources (Count handles_max))
     else Event events.Open
 
+-- what an open does next at a checkpoint that is there
 abbrev pub entry_next : Bool → Option CreationAttributes → Entry → Next
 entry_next room a e = entry_by e.making room a e
 
@@ -80,6 +81,7 @@ abbrev pub on_named : RecordState → Bool → Option ℤ → Option CreationAtt
 on_named R room deadline a None = on_free_name R room deadline a
 on_named R room deadline a (Some e) = in_time deadline R.moment (entry_next room a e)
 
+-- the next node reserves; where none is left to reserve, the making is finished
 abbrev pub reserve_or_finish : ℕ → Option ℕ → Next
 reserve_or_finish k (Some r) = Serve r (requests.Reserve k)
 reserve_or_finish k None = Event events.Finish
@@ -88,35 +90,43 @@ reserve_or_finish k None = Event events.Finish
 abbrev pub on_making : RecordState → Making → Next
 on_making R m = if m.refused then Event events.Undo else reserve_or_finish m.ckpt (first_lacking 0 R.up m.reserved)
 
+-- an open that is making nothing looks for its name; one that is making a checkpoint goes on with that until its deadline
 abbrev pub by_making : RecordState → Bool → OpenState → Option Making → Next
 by_making R room o None = on_named R room o.deadline o.ask.attrs (named o.ask.name R.entries)
 by_making R room o (Some m) = in_time o.deadline R.moment (on_making R m)
 
+-- what is next of an open, by the record and by whether its client has room for a handle
 abbrev pub open_next : RecordState → Bool → OpenState → Next
 open_next R room o = by_making R room o o.making
 
+-- the making of a checkpoint that was just created: no node has reserved yet
 abbrev pub made_of : Option ℕ → Option Making
 made_of None = None
 made_of (Some k) = Some (record { ckpt = k; reserved = no_nodes; refused = false })
 
+-- what the open keeps behind its `create` step: what it is making, where the step was done
 abbrev pub create_taken : StepDone → OpenState → StepReply → OpenState
 create_taken d o words.Ok = record o { making = made_of d.ckpt }
 create_taken d o _ = o
 
+-- the open with a change of what it is making, where it is making something
 abbrev pub with_making : OpenState → Option Making → (Making → Making) → OpenState
 with_making o None change = o
 with_making o (Some m) change = record o { making = Some (change m) }
 
+-- behind a `reserve` step: that the node has reserved in this life, or that its memory was refused
 abbrev pub reserve_taken : StepDone → OpenState → StepReply → OpenState
 reserve_taken d o words.Ok = with_making o o.making (λ m. record m { reserved = set_node d.node m.reserved (incarnation_of d.node d.up) })
 reserve_taken d o words.Memory = with_making o o.making (λ m. record m { refused = true })
 reserve_taken d o _ = o
 
+-- what the open keeps behind a step of this kind: only `create` and `reserve` change it
 abbrev pub open_taken_by : StepDone → OpenState → Verb → OpenState
 open_taken_by d o verbs.Create = create_taken d o d.reply
 open_taken_by d o verbs.Reserve = reserve_taken d o d.reply
 open_taken_by d o _ = o
 
+-- what the open keeps behind a step
 abbrev pub open_taken : StepDone → OpenState → OpenState
 open_taken d o = open_taken_by d o d.verb
 

@@ -39,6 +39,7 @@ abbrev pub kept_moment : Option ℕ → ℤ → ℤ → ℤ
 kept_moment None now kept = now
 kept_moment (Some r) now kept = kept
 
+-- it commits at the highest node with a slot of the call; where no slot is left, it is done
 abbrev pub commit_at : UpdateState → Option ℕ → Next
 commit_at u None = End (Done answers.Nothing)
 commit_at u (Some r) = Serve r (requests.Commit u.call u.ckpt)
@@ -53,29 +54,36 @@ abbrev pub by_phase : UpdateState → ℤ → Option ℕ → Option ℕ → Upda
 by_phase u now first last Staging = stage_at u now first last
 by_phase u now first last Committing = commit_at u last
 
+-- what is next by the checkpoint's entry; a checkpoint that is gone is refused with NOT_EXIST
 abbrev pub update_on : UpdateState → ℤ → Option Entry → Next
 update_on u now None = End (Refused NotExist Plain)
 update_on u now (Some e) = by_phase u now (first_lacking 0 e.complete u.owned) (last_having 0 e.complete u.owned) u.phase
 
+-- what is next of an all-replicas update, by the record
 abbrev pub update_next : RecordState → UpdateState → Next
 update_next R u = update_on u R.moment (entry_of u.ckpt R.entries)
 
+-- behind a stage: it owns a slot there, and all its slots are of one moment
 abbrev pub stage_taken : StepDone → UpdateState → StepReply → UpdateState
 stage_taken d u words.Ok = record u { owned = set_node d.node u.owned (incarnation_of d.node d.complete); moment = kept_moment (last_having 0 d.complete u.owned) d.moment u.moment; phase = Staging }
 stage_taken d u _ = u
 
+-- behind a commit: its slot there is gone, and it stages no more
 abbrev pub commit_taken : StepDone → UpdateState → StepReply → UpdateState
 commit_taken d u words.Ok = record u { owned = set_node d.node u.owned 0; phase = Committing }
 commit_taken d u _ = u
 
+-- what the update keeps behind a step of this kind: only a stage and a commit change it
 abbrev pub update_taken_by : StepDone → UpdateState → Verb → UpdateState
 update_taken_by d u verbs.Stage = stage_taken d u d.reply
 update_taken_by d u verbs.Commit = commit_taken d u d.reply
 update_taken_by d u _ = u
 
+-- what the update keeps behind a step
 abbrev pub update_taken : StepDone → UpdateState → UpdateState
 update_taken d u = update_taken_by d u d.verb
 
+-- it is done with this answer, unless a node is left
 abbrev pub done_if_none : Answer → Option ℕ → Option Outcome
 done_if_none answer None = Some (Done answer)
 done_if_none answer (Some r) = None

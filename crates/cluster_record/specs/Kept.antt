@@ -57,6 +57,7 @@ pub record IsKeptClient (live : LiveClient) : Type 0 where
 abbrev pub EachClientOnce : List LiveClient → Type 0
 EachClientOnce clients = AllPairs (λ a b. a.client ≢ b.client) clients
 
+-- what is so of all live clients
 pub record AreKeptClients (clients : List LiveClient) : Type 0 where
   pub each : All IsKeptClient clients
   pub each_once : EachClientOnce clients

@@ -10,6 +10,7 @@ abbrev pub making_call : Option Entry → Option CallId
 making_call None = None
 making_call (Some e) = e.making
 
+-- the making of a checkpoint is finished for the client of this call; nothing changes where there is no call
 abbrev pub finished_by : Option CallId → ℕ → RecordState → RecordState
 finished_by None k R = R
 finished_by (Some call) k R = finished k (client_of call) R
@@ -18,6 +19,7 @@ finished_by (Some call) k R = finished k (client_of call) R
 abbrev pub making_finished : ℕ → RecordState → RecordState
 making_finished k R = finished_by (making_call (entry_of k R.entries)) k R
 
+-- the making of a checkpoint is undone, if a call is making it
 abbrev pub undone_by : Option CallId → ℕ → RecordState → RecordState
 undone_by None k R = R
 undone_by (Some call) k R = undone k R

@@ -6,6 +6,7 @@ use Rattle.cluster_record.specs.declared.entries.Staying.{Staying}
 use Rattle.cluster_record.specs.declared.entries.Staying.TheVariants.{Swept, AllBut, NotMadeBy}
 use Rattle.cluster_record.specs.RecordState.{stays, is_call_of}
 
+-- what the table has of a checkpoint: its name, or nothing once it is unlinked
 abbrev pub linked_name : Option (List ℕ) → ℕ → List NamedCkpt
 linked_name None k = []
 linked_name (Some name) k = record { name = name; identity = k } ∷ []
@@ -21,6 +22,7 @@ stays_by (Swept t) = stays t
 stays_by (AllBut k) = λ e. not (e.identity == k)
 stays_by (NotMadeBy c) = λ e. not (is_call_of c e.making)
 
+-- a table without this name, where there is one
 abbrev pub without_name : Option (List ℕ) → List NamedCkpt → List NamedCkpt
 without_name None table = table
 without_name (Some name) table = unlinked name table

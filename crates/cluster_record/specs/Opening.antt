@@ -17,6 +17,7 @@ abbrev pub answer_unless : Option CallId → Option CreationAttributes → Entry
 answer_unless (Some call) a e = Refused (held_by call)
 answer_unless None a e = if not (accepts a e) then Refused (plainly Exist) else Opened e.identity false
 
+-- what an open gets of the checkpoint that has its name
 abbrev pub answer_of : Option CreationAttributes → Entry → OpenAnswer
 answer_of a e = answer_unless e.making a e
 
@@ -25,6 +26,7 @@ abbrev pub answer_free : RecordState → Option CreationAttributes → OpenAnswe
 answer_free R None = Refused (plainly NotExist)
 answer_free R (Some a) = if nat_le checkpoints_max (length R.entries) then Refused (all_taken checkpoints_max) else Made (R.last_identity + 1)
 
+-- what an open gets of its name, whether a checkpoint has it or not
 abbrev pub answer_named : RecordState → Option CreationAttributes → Option Entry → OpenAnswer
 answer_named R a None = answer_free R a
 answer_named R a (Some e) = answer_of a e
@@ -33,6 +35,7 @@ answer_named R a (Some e) = answer_of a e
 abbrev pub open_answer : RecordState → OpenAsk → OpenAnswer
 open_answer R ask = answer_named R ask.attrs (named ask.name R.entries)
 
+-- what the record becomes by the answer of an open; a refusal leaves it as it was
 abbrev pub after_answer : CallId → OpenAsk → RecordState → OpenAnswer → RecordState
 after_answer call ask R (Opened k added) = opened k ask.client R
 after_answer call ask R (Made k) = created call ask R

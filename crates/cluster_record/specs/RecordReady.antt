@@ -32,6 +32,7 @@ abbrev pub CanRefer : ℕ → Option Entry → Type 0
 CanRefer c None = Unit {0}
 CanRefer c (Some e) = slice_index e.references c < 2 ^ 32 - 1
 
+-- the client's count of references to this checkpoint is not at its end, where a checkpoint is meant
 abbrev pub CanReferAt : ℕ → List Entry → Option ℕ → Type 0
 CanReferAt c entries None = Unit {0}
 CanReferAt c entries (Some k) = CanRefer c (entry_of k entries)

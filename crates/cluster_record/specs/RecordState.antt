@@ -13,6 +13,7 @@ use Rattle.cluster_record.specs.declared.entries.Entry.{Entry}
 use Rattle.cluster_record.specs.declared.clients.LiveClient.{LiveClient}
 use Rattle.cluster_record.specs.Places.{find_key, change_key}
 
+-- which nodes are up, which clients are live, which checkpoints there are, and the moment
 pub record RecordState : Type 0 where
   -- by node, the incarnation with which it is up, or 0
   pub up : List ℕ
@@ -27,6 +28,7 @@ pub record RecordState : Type 0 where
   -- in rising order of identity
   pub entries : List Entry
 
+-- by node, 0 for each: none is up, or complete, or has reserved
 abbrev pub no_nodes : List ℕ
 no_nodes = replicate nodes_max 0
 
@@ -36,12 +38,15 @@ empty_record = record { up = no_nodes; first_calls = no_nodes; last_incarnations
 
 -- ---- look-ups
 
+-- by what an entry is looked up
 abbrev pub identity_of : Entry → ℕ
 identity_of e = e.identity
 
+-- the entry of a checkpoint, as long as the checkpoint is there
 abbrev pub entry_of : ℕ → List Entry → Option Entry
 entry_of k entries = find_key identity_of k entries
 
+-- the name of a checkpoint is this one; one that is unlinked has none
 abbrev pub is_name : List ℕ → Option (List ℕ) → Bool
 is_name name None = false
 is_name name (Some other) = pointwise nat_eq other name
@@ -55,12 +60,15 @@ abbrev pub complete_of : Option Entry → List ℕ
 complete_of None = no_nodes
 complete_of (Some e) = e.complete
 
+-- by what a live client is looked up
 abbrev pub client_key : LiveClient → ℕ
 client_key live = live.client
 
+-- the client is live, as it is from its Initialize to its Finalize
 abbrev pub is_live_client : ℕ → RecordState → Bool
 is_live_client c R = is_some (find_key client_key c R.clients)
 
+-- it is one of the nodes of a cluster, and is up
 abbrev pub is_up : ℕ → RecordState → Bool
 is_up r R = nat_lt r nodes_max && not (slice_index R.up r == 0)
 
@@ -83,6 +91,7 @@ first_complete n (c ∷ cs) = if c == 0 then first_complete (n + 1) cs else Some
 
 -- ---- the sweep
 
+-- some client has the checkpoint open
 abbrev pub has_references : Entry → Bool
 has_references e = list_any (λ n. not (n == 0)) e.references
 
@@ -94,6 +103,7 @@ retained_until e = sum_until_end e.idle e.retention
 abbrev pub stays : ℤ → Entry → Bool
 stays t e = is_some e.making || has_references e || (is_some e.name && not (is_reached (retained_until e) t))
 
+-- the record without the checkpoints that are over at its moment
 abbrev pub swept : RecordState → RecordState
 swept R = record R { entries = filter (stays R.moment) R.entries }
 
@@ -151,6 +161,7 @@ abbrev pub created_as : CallId → List ℕ → Option CreationAttributes → Re
 created_as call name None R = R
 created_as call name (Some a) R = record R { last_identity = R.last_identity + 1; entries = R.entries ++ new_entry call name a R ∷ [] }
 
+-- a checkpoint gets the next identity and is in the making, with the name and the attributes that an open asks for
 abbrev pub created : CallId → OpenAsk → RecordState → RecordState
 created call ask R = created_as call ask.name ask.attrs R
 
@@ -162,6 +173,7 @@ referred c e = record e { references = slice_set e.references c (slice_index e.r
 abbrev pub made_with : List ℕ → ℕ → Entry → Entry
 made_with up c e = referred c (record e { making = None; complete = up; active = first_complete 0 up; generation = 1 })
 
+-- the making of a checkpoint is finished, for a client
 abbrev pub finished : ℕ → ℕ → RecordState → RecordState
 finished k c R = record R { entries = change_key identity_of k (made_with R.up c) R.entries }
 

@@ -10,6 +10,7 @@ use Rattle.cluster_record.specs.NamesOf.{names_of}
 use Rattle.cluster_record.specs.RecordState.{RecordState, IsMomentFrom}
 use Rattle.cluster_record.specs.declared.record.Record.TheInside.{Inside}
 
+-- the record as contracts see it
 abbrev pub record_of : Inside → RecordState
 record_of r = record { up = r.up; first_calls = r.first_calls; last_incarnations = r.last_incarnations; last_identity = r.last_identity; moment = r.moment; clients = r.clients.items; entries = r.entries.items }
 
@@ -21,6 +22,7 @@ pub record AreKeptEntries (t : ℤ) (last : ℕ) (entries : List Entry) : Type 0
   pub given : AllUpTo last entries
   pub each_once : EachOnce (names_of entries)
 
+-- what always holds of the fields of a record
 pub record IsKept (r : Inside) : Type 0 where
   pub clients_room : clients_max ≤ vec_capacity r.clients
   pub entries_room : checkpoints_max ≤ vec_capacity r.entries

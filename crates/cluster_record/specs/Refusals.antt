@@ -35,6 +35,7 @@ abbrev pub unlinkable : Option Entry → Result ℕ RecordRefused
 unlinkable None = Err (plainly NotExist)
 unlinkable (Some e) = unless_making e.making e.identity
 
+-- what an unlink answers: that it was done, or why the checkpoint keeps its name
 abbrev pub unlink_answer : Option Entry → Result (Unit {0}) RecordRefused
 unlink_answer None = Err (plainly NotExist)
 unlink_answer (Some e) = unless_making e.making tt

@@ -5,6 +5,7 @@ use Rattle.node_msgs.specs.declared.steps.StepReply.{StepReply}
 use Rattle.node_msgs.specs.declared.steps.StepReply.TheVariants as words
 use Rattle.cluster_record.specs.RecordState.{RecordState, entry_of, complete_of, is_live, no_nodes}
 
+-- a step that was made, as its driver is told of it
 pub record StepDone : Type 0 where
   pub verb : Verb
   pub ckpt : Option ℕ
@@ -17,10 +18,12 @@ pub record StepDone : Type 0 where
   -- whether the call that the reply names was live
   pub live : Bool
 
+-- by node, the incarnation with which it is complete for the step's checkpoint, or 0
 abbrev pub complete_at : RecordState → Option ℕ → List ℕ
 complete_at R None = no_nodes
 complete_at R (Some k) = complete_of (entry_of k R.entries)
 
+-- the reply names a call as holder, which is live
 abbrev pub names_live : RecordState → StepReply → Bool
 names_live R (words.Held by) = is_live R by
 names_live R _ = false
@@ -33,6 +36,7 @@ done_of R verb k r reply = record { verb = verb; ckpt = k; node = r; reply = rep
 abbrev pub lacks : ℕ → ℕ → Bool
 lacks incarnation own = not (incarnation == 0) && not (incarnation == own)
 
+-- the node is among the first, with the incarnation that the second has there
 abbrev pub has : ℕ → ℕ → Bool
 has incarnation own = not (incarnation == 0) && (incarnation == own)
 
@@ -42,6 +46,7 @@ first_lacking n [] own = None
 first_lacking n (c ∷ cs) [] = None
 first_lacking n (c ∷ cs) (o ∷ os) = if lacks c o then Some n else first_lacking (n + 1) cs os
 
+-- the higher node, where one was found; else this one, where it counts
 abbrev pub or_here : Option ℕ → Bool → ℕ → Option ℕ
 or_here (Some r) here n = Some r
 or_here None here n = if here then Some n else None
@@ -57,6 +62,7 @@ abbrev pub set_node : Option ℕ → List ℕ → ℕ → List ℕ
 set_node None own incarnation = own
 set_node (Some r) own incarnation = slice_set own r incarnation
 
+-- the incarnation that such a list has of a node, and 0 where there is no node
 abbrev pub incarnation_of : Option ℕ → List ℕ → ℕ
 incarnation_of None nodes = 0
 incarnation_of (Some r) nodes = slice_index nodes r
