@@ -13,15 +13,19 @@ use Rattle.world_core.specs.declared.open_call.SharedAsk.TheInside as asked
 use Rattle.world_core.specs.declared.active_call.ActiveCall.TheInside as asking
 use Rattle.world_core.specs.declared.update_call.UpdateCall.TheInside as updating
 
+-- what an all-replicas update keeps, as contracts see it
 abbrev pub update_state : updating.Inside → UpdateState
 update_state u = record { call = u.call; ckpt = u.ckpt; owned = u.owned; moment = u.moment; phase = u.phase }
 
+-- what an open asks of the record
 abbrev pub ask_of : asked.Inside → OpenAsk
 ask_of a = record { name = a.name; attrs = a.attributes; client = a.client; node = a.node }
 
+-- what an open keeps, as contracts see it
 abbrev pub open_state : opening.Inside → OpenState
 open_state o = record { call = o.call; ask = o.ask; deadline = o.deadline; making = o.making }
 
+-- what a call to the active keeps, as contracts see it
 abbrev pub active_state : asking.Inside → ActiveState
 active_state a = record { call = a.call; ckpt = a.ckpt; kind = a.kind }
 
@@ -36,8 +40,10 @@ driver_in (kinds.Close k) = drivers.Close k
 driver_in (kinds.Unlink name) = drivers.Unlink name
 driver_in (kinds.Retain k duration) = drivers.Retain k duration
 
+-- what a client has room for, as contracts see it
 abbrev pub rooms_shown : roomy.Inside → Rooms
 rooms_shown r = record { handles = r.handles; iterations = r.iterations }
 
+-- the fields in which that is kept
 abbrev pub rooms_from : Rooms → roomy.Inside
 rooms_from r = record { handles = r.handles; iterations = r.iterations }

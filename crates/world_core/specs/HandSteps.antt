@@ -6,6 +6,7 @@ use Rattle.world_core.specs.declared.hands.InHand.{InHand}
 use Rattle.cluster_record.specs.StepDone.{StepDone}
 use Rattle.ckpt_machine.specs.Driving.{driver_taken, driver_end}
 
+-- a call in hand behind a step: its driver keeps what it needs of it
 abbrev pub hand_taken : StepDone → InHand → InHand
 hand_taken d h = record h { driver = driver_taken d h.driver }
 

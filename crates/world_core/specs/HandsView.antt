@@ -8,6 +8,7 @@ use Rattle.world_core.specs.declared.hands.Hands.TheInside.{Inside}
 abbrev pub hands_in : List (Option InHand) → List (Option InHand)
 hands_in list = list ++ replicate (client_numbers - length list) None
 
+-- by client, the call that each has in hand
 abbrev pub hands_of : Inside → List (Option InHand)
 hands_of hands = hands_in hands.list.items
 

@@ -92,6 +92,7 @@ pub record IsBeginning (c : ℕ) (op : Op) (old new : World) (call : CallId) (be
   pub within : c < length old.hands
   pub hands : new.hands ≡ slice_set old.hands c (left end hand)
 
+-- the label is the beginning of this client's call, or a word that answers its line
 abbrev pub BeginsOrSays : ℕ → Op → World → World → Label → Type 0
 BeginsOrSays c op old new (labels.Began call begun end) = IsBeginning c op old new call begun end
 BeginsOrSays c op old new label = AnswersBegin (Client c) op old new label
@@ -101,6 +102,7 @@ pub record Begins (c : ℕ) (op : Op) (old new : World) (label : Label) : Type 0
   pub begins : BeginsOrSays c op old new label
   pub does : Does old new label
 
+-- the first nodes come up, and no call in hand changes
 pub record BringsUp (n : ℕ) (old new : World) (label : Label) : Type 0 where
   pub label_is : label ≡ labels.Nodes n
   pub hands : new.hands ≡ old.hands

@@ -42,6 +42,7 @@ pub record IsLentId (new : NewId) (read : Buffer) : Type 0 where
   pub places : 1 ≤ read.spare_pieces
   pub bytes : id_length new ≤ read.spare_bytes
 
+-- a commit of a creation is lent room for the identifier that it tells; any other commit needs none
 abbrev pub IsLentFor : Update → Buffer → Type 0
 IsLentFor (updates.Create new expiration bytes) read = IsLentId new read
 IsLentFor update read = Unit {0}
@@ -54,6 +55,7 @@ IsLent (requests.Read k) op lent = IsLentRead (elements_of op) lent
 IsLent (requests.Status k) op lent = IsSome lent.status
 IsLent request op lent = Unit {0}
 
+-- the status that came back from the active, as it is told beside the answer
 abbrev pub status_told : Option CheckpointDescriptor → Details
 status_told None = beside.Nothing
 status_told (Some status) = beside.Status status

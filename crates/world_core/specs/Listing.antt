@@ -47,6 +47,7 @@ abbrev pub made_listed : List (List Replica) → ℕ → Entry → ℤ → Optio
 made_listed nodes k e t (Some maker) = None
 made_listed nodes k e t None = Some (nodes_listed nodes k e t (length e.complete))
 
+-- the list of a checkpoint that is there; of one that is gone there is none
 abbrev pub entry_listed : List (List Replica) → ℕ → ℤ → Option Entry → Option (List ShownReplica)
 entry_listed nodes k t None = None
 entry_listed nodes k t (Some e) = made_listed nodes k e t e.making

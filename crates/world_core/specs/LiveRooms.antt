@@ -8,5 +8,6 @@ abbrev pub room_is_taken : Option TableState → Bool
 room_is_taken None = false
 room_is_taken (Some t) = t.roomy
 
+-- each client that is live has taken its room
 abbrev pub LiveHaveRoom : RecordState → List TableState → Type 0
 LiveHaveRoom R tables = (c : ℕ) → is_live_client c R ≡ true → room_is_taken (slice_get tables c) ≡ true

@@ -70,6 +70,7 @@ GoesOn call op (Some end) (Some h) = ⊥
 GoesOn call op None None = ⊥
 GoesOn call op None (Some h) = (h.call ≡ call) × (h.op ≡ op)
 
+-- an actor has this call in hand just where the label did not end it; no node has calls yet
 abbrev pub GoesOnAt : World → CallId → Op → Option Outcome → ActorName → Type 0
 GoesOnAt w call op end (Client c) = GoesOn call op end (hand_at w.hands c)
 GoesOnAt w call op end a = ⊥
@@ -91,14 +92,17 @@ abbrev pub IsStepOf : ActorName → Option InHand → World → World → Label 
 IsStepOf a (Some h) old new (labels.Stepped call op verb k r reply end details) = (call ≡ h.call) × GoesOnAt new h.call h.op end a
 IsStepOf a hand old new label = ⊥
 
+-- the first word of the line that steps a call: `finish` to its end, else `step`
 abbrev pub step_word : Bool → LineWord
 step_word true = linewords.Finish
 step_word false = linewords.Step
 
+-- the label answers a line that steps a call with IDLE, and the calls in hand are as they were
 abbrev pub IsIdleWord : Who → Bool → World → World → Label → Type 0
 IsIdleWord whose finish old new (labels.Word who word said) = (who ≡ whose) × (word ≡ step_word finish) × (said ≡ Idle) × (new.hands ≡ old.hands)
 IsIdleWord whose finish old new label = ⊥
 
+-- the label that answers a line which steps a call: IDLE where the actor has none in hand, else its next step
 abbrev pub AnswersStep : ActorName → Bool → Option InHand → World → World → Label → Type 0
 AnswersStep a finish None old new label = IsIdleWord (whos.Actor a) finish old new label
 AnswersStep a finish (Some h) old new label = IsStepOf a (Some h) old new label

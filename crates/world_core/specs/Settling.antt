@@ -21,6 +21,7 @@ abbrev pub table_changed : ℕ → (TableState → TableState) → List TableSta
 table_changed c f tables None = tables
 table_changed c f tables (Some t) = slice_set tables c (f t)
 
+-- the tables with that of this client changed
 abbrev pub at_client : ℕ → (TableState → TableState) → List TableState → List TableState
 at_client c f tables = table_changed c f tables (slice_get tables c)
 
@@ -62,6 +63,7 @@ pub record CanGive (c : ℕ) (op : Op) (k : Option ℕ) (tables : List TableStat
   pub room : nat_lt (length (handles_in (slice_get tables c))) handles_max ≡ true
   pub number : last_in (slice_get tables c) < 2 ^ 32 - 1
 
+-- what a step asks of its client's table: only a step that gives a handle asks anything
 abbrev pub CanSettle : ℕ → Op → RecordStep → Option ℕ → List TableState → Type 0
 CanSettle c op events.Open k tables = CanGive c op k tables
 CanSettle c op events.Finish k tables = CanGive c op k tables

@@ -29,6 +29,7 @@ use Rattle.ckpt_machine.specs.Steps.{IsDue, after, handle_over}
 
 -- ---- what the machine keeps and the code does not
 
+-- the effects and the origins of replicas, and what each call in hand kept of its beginning and of its steps
 pub record History : Type 0 where
   -- by checkpoint and node
   pub effects : ℕ → ℕ → List Effect
@@ -39,6 +40,7 @@ pub record History : Type 0 where
 
 -- ---- the replicas
 
+-- a slot as the machine has it, with the call whose update it is
 abbrev pub shown_slot : CallId → Option Slot → Option Staged
 shown_slot origin None = None
 shown_slot origin (Some s) = Some (record { owner = s.owner; origin = origin; update = s.update; moment = s.moment })
@@ -48,6 +50,7 @@ abbrev pub shown_replica : List Effect → CallId → Option Replica → Option 
 shown_replica effects origin None = None
 shown_replica effects origin (Some x) = Some (record { sections = x.sections; effects = effects; generation = x.generation; slot = shown_slot origin x.slot; marks = None })
 
+-- a replica counts where its node is complete for the checkpoint
 abbrev pub where_complete : ℕ → Option Replica → Option Replica
 where_complete incarnation x = if incarnation == 0 then None else x
 
@@ -55,10 +58,12 @@ where_complete incarnation x = if incarnation == 0 then None else x
 abbrev pub complete_replica : RecordState → List (List Replica) → ℕ → ℕ → Option Replica
 complete_replica R nodes k r = where_complete (slice_index (complete_of (entry_of k R.entries)) r) (replica_in nodes k r)
 
+-- a replica that stands is a reservation, in the incarnation in which its node is up
 abbrev pub shown_reservation : ℕ → Option Replica → Option ℕ
 shown_reservation incarnation None = None
 shown_reservation incarnation (Some x) = Some incarnation
 
+-- a reservation counts while the checkpoint is there and the node is not complete for it
 abbrev pub where_not_complete : Option Entry → ℕ → Option ℕ → Option ℕ
 where_not_complete None r reservation = None
 where_not_complete (Some e) r reservation = if slice_index e.complete r == 0 then reservation else None
@@ -69,10 +74,12 @@ reserved_in R nodes k r = where_not_complete (entry_of k R.entries) r (shown_res
 
 -- ---- the clients
 
+-- the number of the client's next call
 abbrev pub next_in : Option TableState → ℕ
 next_in None = 1
 next_in (Some t) = t.next
 
+-- the client's open handles, in the order in which they were taken
 abbrev pub handles_in : Option TableState → List HandleView
 handles_in None = []
 handles_in (Some t) = t.client.handles
@@ -81,6 +88,7 @@ handles_in (Some t) = t.client.handles
 abbrev pub numbered_or_none : ℕ → Option ℕ
 numbered_or_none n = if n == 0 then None else Some n
 
+-- the number of the handle to which a place was set, if it was set
 abbrev pub place_in : Option TableState → ℕ → Option ℕ
 place_in None p = None
 place_in (Some t) p = numbered_or_none (slice_index t.client.places p)
@@ -94,6 +102,7 @@ last_in (Some t) = t.client.last_number
 abbrev pub iterations_of : ClientState → IterationTable
 iterations_of client = record { last = client.last_iteration; begun = client.iterations; places = client.iteration_places }
 
+-- what a client's table keeps of iterations
 abbrev pub iterations_in : Option TableState → IterationTable
 iterations_in None = no_iterations
 iterations_in (Some t) = iterations_of t.client
@@ -108,25 +117,30 @@ abbrev pub handle_in_place : Option TableState → ℕ → Option HandleView
 handle_in_place None p = None
 handle_in_place (Some t) p = handle_at p t.client
 
+-- the number of an actor's next call; no node has begun one yet
 abbrev pub next_of : List TableState → ActorName → ℕ
 next_of tables (Client c) = next_in (slice_get tables c)
 next_of tables (Node r) = 1
 
 -- ---- the calls in hand
 
+-- the call that a client has in hand, if it has one
 abbrev pub hand_at : List (Option InHand) → ℕ → Option InHand
 hand_at hands c = or_none (slice_get hands c)
 
+-- a call in hand as the machine has it: with what it kept of its beginning, and with its steps
 abbrev pub shown_hand : Kept → List StepDone → Option InHand → Option CallState
 shown_hand kept steps None = None
 shown_hand kept steps (Some h) = Some (record { call = h.call; op = h.op; kept = kept; steps = steps; snapshot = None })
 
+-- the call that an actor has in hand, as the machine has it; no node has one yet
 abbrev pub hand_of : History → List (Option InHand) → ActorName → Option CallState
 hand_of h hands (Client c) = shown_hand (h.kept c) (h.steps c) (hand_at hands c)
 hand_of h hands (Node r) = None
 
 -- ---- the machine's state, as the world shows it with a history
 
+-- the state of the machine that a world and a history make together
 abbrev pub machine_of : World → History → Machine
 machine_of w h = record {
   cluster = w.cluster;
@@ -143,6 +157,7 @@ machine_of w h = record {
   operations = λ call. None;
 }
 
+-- the replica has the attributes of its checkpoint, where the checkpoint is there
 abbrev pub HasAttributes : Option Entry → Replica → Type 0
 HasAttributes None x = Unit {0}
 HasAttributes (Some e) x = x.attributes ≡ e.attributes
@@ -162,6 +177,7 @@ abbrev pub FitsHand : Kept → List StepDone → Option InHand → Type 0
 FitsHand kept steps None = Unit {0}
 FitsHand kept steps (Some h) = (h.driver ≡ driver_state h.call h.op kept steps) × (h.iteration ≡ room_for h.op kept.room)
 
+-- the history fits the world: replicas have as many effects as they count, and calls are where their steps have led them
 pub record Fits (w : World) (h : History) : Type 0 where
   pub replicas : (k r : ℕ) → FitsReplica k (entry_of k w.cluster.entries) (h.effects k r) (complete_replica w.cluster w.nodes k r)
   pub hands : (c : ℕ) → FitsHand (h.kept c) (h.steps c) (hand_at w.hands c)

@@ -12,6 +12,7 @@ use Rattle.ckpt_machine.specs.Left.{steps_left}
 use Rattle.world_core.specs.Runs.{hand_of_actor}
 use Rattle.world_core.specs.Shows.{hand_at}
 
+-- at most so many steps are left of this call in hand, and none where there is no call
 abbrev pub hand_left : RecordState → Option InHand → ℕ
 hand_left R None = 0
 hand_left R (Some h) = steps_left R h.driver

@@ -8,6 +8,7 @@ use Rattle.section_iter.specs.Next.{kept_after}
 use Rattle.client_handles.specs.ClientState.{ClientState, taken, bound, added, iteration_at, returned, ended, dropped, emptied}
 use Rattle.client_handles.specs.declared.begun.BegunIteration.{BegunIteration}
 
+-- the number of a client's next call, whether its room was taken, its handles, iterations and places
 pub record TableState : Type 0 where
   pub next : ℕ
   -- whether the room for handles and iterations was taken
@@ -31,6 +32,7 @@ with_started_iteration place handle kept t = record t { client = added place han
 abbrev pub kept_of : ℕ → ClientState → Option KeptIds
 kept_of place s = option_and_then (λ (it : BegunIteration). it.kept) (iteration_at place s)
 
+-- what a client's table keeps of the iteration of a place
 abbrev pub kept_at : ℕ → TableState → Option KeptIds
 kept_at place t = kept_of place t.client
 
@@ -39,12 +41,15 @@ abbrev pub gone_on_as : ℕ → Option KeptIds → Option NextGiven → ClientSt
 gone_on_as place (Some kept) (Some next) s = returned place (kept_after kept (Some next)) s
 gone_on_as place kept next s = s
 
+-- the iteration of a place goes on in what a client keeps, behind the section that it gave
 abbrev pub gone_on_of : ℕ → Option NextGiven → ClientState → ClientState
 gone_on_of place next s = gone_on_as place (kept_of place s) next s
 
+-- a client's table behind the section that an iteration gave of which this was kept before
 abbrev pub gone_on_with : ℕ → Option KeptIds → Option NextGiven → TableState → TableState
 gone_on_with place kept next t = record t { client = gone_on_as place kept next t.client }
 
+-- the iteration of a place goes on in a client's table, behind the section that it gave
 abbrev pub gone_on : ℕ → Option NextGiven → TableState → TableState
 gone_on place next t = gone_on_with place (kept_at place t) next t
 

@@ -12,8 +12,10 @@ abbrev pub client_in : Option (Box ClientState) → ClientState
 client_in None = new_client no_callbacks
 client_in (Some client) = client.value
 
+-- a client's table as contracts see it
 abbrev pub table_shown : Inside → TableState
 table_shown t = record { next = t.next; roomy = is_some t.client; client = client_in t.client }
 
+-- what a client keeps is at rest between two calls, whether its room was taken or not
 abbrev pub HasClient : Inside → Type 0
 HasClient t = IsAtRest (client_in t.client)
