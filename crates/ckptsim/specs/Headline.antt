@@ -64,6 +64,7 @@ PlayedNothing Ran = ⊥
 PlayedNothing WriteFault = ⊥
 PlayedNothing NoMemory = ⊥
 
+-- how a command ends whose script is right, where neither the source nor the sink has failed
 abbrev pub RanOrNoMemory : Status → Type 0
 RanOrNoMemory Ran = Unit {0}
 RanOrNoMemory NoMemory = Unit {0}

@@ -40,6 +40,7 @@ abbrev pub client_where : Option InHand → ℕ → Option ℕ
 client_where None c = None
 client_where (Some h) c = Some c
 
+-- the client whose call a line steps, where it has one in hand; a node and an asynchronous operation have none
 abbrev pub client_in_hand : Who → World → Option ℕ
 client_in_hand (Actor (Client c)) w = client_where (hand_at w.hands c) c
 client_in_hand who w = None
