@@ -10,4 +10,5 @@ pub mod KeptLaws
 pub mod EachChanged
 pub mod EntryLaws
 pub mod ClientLaws
+pub mod NoneAbove
 pub mod Rows

@@ -1,5 +1,5 @@
 -- What a call keeps of a step: the step with its reply, and what it read of the record.
-use Rattle.std.specs.Prelude.{ℕ, ◌+◌, List, [], ◌∷◌, Option, Some, None, Bool, false, not, ◌&&◌, ◌==◌, if◌then◌else◌, ℤ, slice_set, slice_index}
+use Rattle.std.specs.Prelude.{ℕ, ◌+◌, List, [], ◌∷◌, Option, Some, None, Bool, false, not, ◌&&◌, ◌==◌, if◌then◌else◌, ℤ, slice_set, slice_index, ◌≡◌, ◌<◌}
 use Rattle.node_msgs.specs.declared.steps.Verb.{Verb}
 use Rattle.node_msgs.specs.declared.steps.StepReply.{StepReply}
 use Rattle.node_msgs.specs.declared.steps.StepReply.TheVariants as words
@@ -56,6 +56,10 @@ abbrev pub last_having : ℕ → List ℕ → List ℕ → Option ℕ
 last_having n [] own = None
 last_having n (c ∷ cs) [] = None
 last_having n (c ∷ cs) (o ∷ os) = or_here (last_having (n + 1) cs os) (has c o) n
+
+-- the call has none of the nodes above this one
+abbrev pub HasNoneAbove : ℕ → List ℕ → Type 0
+HasNoneAbove top own = (r : ℕ) → top < r → slice_index own r ≡ 0
 
 -- a list by node with one node's incarnation set
 abbrev pub set_node : Option ℕ → List ℕ → ℕ → List ℕ

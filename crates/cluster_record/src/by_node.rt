@@ -1,7 +1,7 @@
 //! At which node a call that goes from node to node is next.
-ghost use Rattle.std.specs.Prelude.{◌≡◌, ◌<◌, Some, None, IfSome, if◌then◌else◌};
+ghost use Rattle.std.specs.Prelude.{◌≡◌, ◌<◌, IfSome, is_some};
 ghost use Rattle.ckpt_types.specs.Limits.{nodes_max};
-ghost use Rattle.cluster_record.specs.StepDone.{lacks, has, first_lacking, last_having};
+ghost use Rattle.cluster_record.specs.StepDone.{lacks, has, first_lacking, last_having, HasNoneAbove};
 
 use ckpt_types::{NODES_MAX, NodeId};
 
@@ -18,15 +18,32 @@ pub fn first_lacking(nodes: &[u32; NODES_MAX], own: &[u32; NODES_MAX]) -> Option
     None
 }
 
-/// The highest of these nodes that the call has: with the incarnation that it has there.
-pub fn last_having(nodes: &[u32; NODES_MAX], own: &[u32; NODES_MAX]) -> Option<NodeId>
+/// The highest of these nodes that the call has, which has none above `top`.
+pub fn last_having(nodes: &[u32; NODES_MAX], own: &[u32; NODES_MAX], top: NodeId) -> Option<NodeId>
+    requires top { top < nodes_max }
+    requires none { HasNoneAbove top own.now }
     ensures { result ≡ last_having 0 nodes.now own.now }
 {
-    let mut last = None;
-    for r in 0..NODES_MAX as u8 {
-        last = later(last, r, has(nodes[r as usize], own[r as usize]));
+    for r in (0..top + 1).rev() {
+        if has(nodes[r as usize], own[r as usize]) {
+            return Some(r);
+        }
     }
-    last
+    None
+}
+
+/// Whether the call has any of these nodes, which has none above `top`.
+pub fn has_any(nodes: &[u32; NODES_MAX], own: &[u32; NODES_MAX], top: NodeId) -> bool
+    requires top { top < nodes_max }
+    requires none { HasNoneAbove top own.now }
+    ensures { result ≡ is_some (last_having 0 nodes.now own.now) }
+{
+    for r in 0..top + 1 {
+        if has(nodes[r as usize], own[r as usize]) {
+            return true;
+        }
+    }
+    false
 }
 
 fn lacks(incarnation: u32, own: u32) -> bool
@@ -39,10 +56,4 @@ fn has(incarnation: u32, own: u32) -> bool
     ensures { result ≡ has incarnation own }
 {
     incarnation != 0 && incarnation == own
-}
-
-fn later(last: Option<NodeId>, r: NodeId, here: bool) -> Option<NodeId>
-    ensures { result ≡ (if here then Some r else last) }
-{
-    if here { Some(r) } else { last }
 }

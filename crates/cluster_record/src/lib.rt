@@ -8,7 +8,7 @@ mod entries;
 mod opening;
 mod record;
 
-pub use by_node::{first_lacking, last_having};
+pub use by_node::{first_lacking, has_any, last_having};
 pub use calls::{ActiveKind, Making, UpdatePhase};
 pub use clients::{LiveClient, number_of};
 pub use entries::{Entry, KeptName};
