@@ -1,13 +1,15 @@
 -- What each driver keeps, as its fields have it.
-use Rattle.ckpt_machine.specs.Drivers.{Driver, Rooms}
+use Rattle.ckpt_machine.specs.Drivers.{Driver}
 use Rattle.ckpt_machine.specs.Drivers as drivers
 use Rattle.world_core.specs.declared.drivers.DriverKind.{DriverKind}
 use Rattle.world_core.specs.declared.drivers.DriverKind.TheVariants as kinds
-use Rattle.world_core.specs.declared.drivers.Rooms.TheInside as roomy
 use Rattle.ckpt_types.specs.declared.calls.OpenAsk.{OpenAsk}
 use Rattle.cluster_record.specs.DueActive.{ActiveState}
 use Rattle.cluster_record.specs.DueOpen.{OpenState}
 use Rattle.cluster_record.specs.DueUpdate.{UpdateState}
+use Rattle.cluster_record.specs.StepDone.{HasNoneAbove}
+use Rattle.ckpt_types.specs.Limits.{nodes_max}
+use Rattle.std.specs.Prelude.{◌<◌}
 use Rattle.world_core.specs.declared.open_call.OpenCall.TheInside as opening
 use Rattle.world_core.specs.declared.open_call.SharedAsk.TheInside as asked
 use Rattle.world_core.specs.declared.active_call.ActiveCall.TheInside as asking
@@ -29,6 +31,11 @@ open_state o = record { call = o.call; ask = o.ask; deadline = o.deadline; makin
 abbrev pub active_state : asking.Inside → ActiveState
 active_state a = record { call = a.call; ckpt = a.ckpt; kind = a.kind }
 
+-- the call owns nothing above the node that it keeps as the highest
+pub record HasNoneAboveTop (u : updating.Inside) : Type 0 where
+  pub top : u.top < nodes_max
+  pub none : HasNoneAbove u.top u.owned
+
 -- what drives a call, by its kind
 abbrev pub driver_in : DriverKind → Driver
 driver_in (kinds.Enter r) = drivers.Enter r
@@ -39,11 +46,3 @@ driver_in kinds.Leave = drivers.Leave
 driver_in (kinds.Close k) = drivers.Close k
 driver_in (kinds.Unlink name) = drivers.Unlink name
 driver_in (kinds.Retain k duration) = drivers.Retain k duration
-
--- what a client has room for, as contracts see it
-abbrev pub rooms_shown : roomy.Inside → Rooms
-rooms_shown r = record { handles = r.handles; iterations = r.iterations }
-
--- the fields in which that is kept
-abbrev pub rooms_from : Rooms → roomy.Inside
-rooms_from r = record { handles = r.handles; iterations = r.iterations }

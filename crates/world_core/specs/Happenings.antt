@@ -18,6 +18,7 @@ use Rattle.node_msgs.specs.declared.steps.Verb.{Verb}
 use Rattle.client_handles.specs.declared.handle_view.HandleView.{HandleView}
 use Rattle.ckpt_machine.specs.Drivers.{Rooms}
 use Rattle.world_core.specs.declared.hands.InHand.{InHand}
+use Rattle.world_core.specs.TableState.{TableState}
 use Rattle.world_core.specs.declared.world.Event.{Event}
 use Rattle.world_core.specs.declared.world.Event.TheVariants as happenings
 use Rattle.world_core.specs.declared.world.World.{World}
@@ -34,12 +35,16 @@ pub record Adds (old new : Kept) (holds : Label → Type 0) : Type 0 where
   pub labels : new.labels ≡ old.labels ++ label ∷ []
   pub is : holds label
 
+-- what a client's table has a free place for
+abbrev pub rooms_of : Option TableState → Rooms
+rooms_of table = record {
+  handles = nat_lt (length (handles_in table)) handles_max;
+  iterations = nat_lt (length (iterations_in table).begun) iterations_max;
+}
+
 -- what the client's tables have a free place for
 abbrev pub rooms_in : World → ℕ → Rooms
-rooms_in w c = record {
-  handles = nat_lt (length (handles_in (slice_get w.tables c))) handles_max;
-  iterations = nat_lt (length (iterations_in (slice_get w.tables c)).begun) iterations_max;
-}
+rooms_in w c = rooms_of (slice_get w.tables c)
 
 -- the handle of the place of a handle, or else of the place of an iteration
 abbrev pub handle_named : World → ℕ → Option ℕ → Option ℕ → Option HandleView

@@ -47,9 +47,8 @@ abbrev pub IsLentFor : Update → Buffer → Type 0
 IsLentFor (updates.Create new expiration bytes) read = IsLentId new read
 IsLentFor update read = Unit {0}
 
--- a stage is lent the operation's update, a commit room for what it tells, a read its elements and a buffer, and a status a place for it
+-- a commit is lent room for what it tells, a read its elements and a buffer, and a status a place for it
 abbrev pub IsLent : Request → Op → Lent → Type 0
-IsLent (requests.Stage call k t) op lent = lent.update ≡ Some (update_of op)
 IsLent (requests.Commit call k) op lent = IsLentFor (update_of op) lent.read
 IsLent (requests.Read k) op lent = IsLentRead (elements_of op) lent
 IsLent (requests.Status k) op lent = IsSome lent.status

@@ -19,3 +19,4 @@ pub mod Settling
 pub mod Runs
 pub mod StepsLeft
 pub mod Happenings
+pub mod UpdateSteps

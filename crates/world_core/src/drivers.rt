@@ -1,10 +1,10 @@
 //! What drives a call: what it does next, and how it ends.
-ghost use Rattle.std.specs.Prelude.{◌≡◌, ◌-◌, ◌^◌, ◌<◌, Some, IfOk};
-ghost use Rattle.ckpt_types.specs.Limits.{nodes_max};
+ghost use Rattle.std.specs.Prelude.{◌≡◌, ◌-◌, ◌^◌, ◌<◌, Some, IfOk, slice_get};
+ghost use Rattle.ckpt_types.specs.Limits.{client_numbers, nodes_max};
 ghost use Rattle.node_msgs.specs.Requests.{ckpt_of};
 ghost use Rattle.node_msgs.specs.Steps.{verb_of, word_of, event_verb};
 ghost use Rattle.ckpt_machine.specs.Driving.{driver_next, driver_taken, driver_end, driver_start, on_kept, update_start, active_start, done_end, event_ckpt, event_node, event_end, event_refusal, making_in, opened_end, refusal_in, takes_memory, refused_cause};
-ghost use Rattle.cluster_record.specs.StepDone.{done_of};
+ghost use Rattle.cluster_record.specs.StepDone.{done_of, names_live};
 ghost use Rattle.cluster_record.specs.DueOpen.{making_ckpt};
 ghost use Rattle.cluster_record.specs.Calls.{client_of};
 ghost use Rattle.cluster_record.specs.LookUps.{node_of_client};
@@ -13,12 +13,17 @@ ghost use Rattle.cluster_record.specs.RecordState.{client_key};
 ghost use Rattle.ckpt_machine.specs.Steps.{kept_at_beginning};
 ghost use Rattle.world_core.specs.CallStates.{driver_in};
 ghost use Rattle.node_msgs.specs.declared.steps.StepReply.TheVariants as words;
+ghost use Rattle.node_msgs.specs.declared.steps.Verb.TheVariants as verbs;
+ghost use Rattle.ckpt_types.specs.declared.answers.Answer.TheVariants as answers;
+ghost use Rattle.world_core.specs.UpdateSteps.{IsUpdate, end_of_refused, ended_unless};
+ghost use Rattle.world_core.specs.Happenings.{rooms_of};
 ghost use Rattle.ckpt_machine.specs.Drivers.{Close, Retain};
 
 use crate::active_call::ActiveCall;
 use crate::beginning::{choice_of, ckpt_of_handle};
 use crate::one_step::{close_next, retain_next, unlink_next};
 use crate::open_call::{OpenCall, SharedAsk};
+use crate::tables::Tables;
 use crate::update_call::UpdateCall;
 use ckpt_types::{
     AisError, Answer, Bytes, CLIENTS_MAX, CallId, Cause, CkptId, NodeId, Op, Outcome,
@@ -28,27 +33,6 @@ use cluster_record::{ActiveKind, OpenAnswer, Record, number_of};
 use node_msgs::{Next, RecordStep, Reply, Request, StepReply};
 use std::alloc::AllocError;
 use std::marker::Model;
-
-/// What the tables of a client have a free place for.
-#[derive(Clone, Copy, Debug)]
-pub struct Rooms {
-    /// A handle.
-    pub handles: bool,
-    /// An iteration.
-    pub iterations: bool,
-}
-
-impl Model for Rooms {
-    ghost use Rattle.ckpt_machine.specs.Drivers.{Rooms};
-
-    ghost Value = { Rooms };
-
-    ghost use Rattle.world_core.specs.CallStates.{rooms_shown, rooms_from};
-
-    ghost view = { rooms_shown };
-
-    ghost inverse = { rooms_from };
-}
 
 /// What drives a call that is in hand.
 #[derive(Debug, Drop)]
@@ -149,8 +133,9 @@ impl Driver {
     }
 
     /// What the call does next, by the record and by what its client's tables have a free place for.
-    pub fn next(&self, cluster: &Record, rooms: Rooms) -> Next
-        ensures { result ≡ driver_next cluster.now rooms self.now }
+    pub fn next(&self, cluster: &Record, tables: &Tables, c: u8) -> Next
+        requires { c < client_numbers }
+        ensures { result ≡ driver_next cluster.now (rooms_of (slice_get tables.now c)) self.now }
     {
         match &self.kind {
             DriverKind::Enter(_) => {
@@ -163,9 +148,9 @@ impl Driver {
                     Next::Event(RecordStep::Enter)
                 }
             }
-            DriverKind::Open(open_call) => open_call.next(cluster, rooms.handles),
+            DriverKind::Open(open_call) => open_call.next(cluster, tables.has_room(c)),
             DriverKind::Update(update) => update.next(cluster),
-            DriverKind::Active(active) => active.next(cluster, rooms.iterations),
+            DriverKind::Active(active) => active.next(cluster, tables.has_iteration_room(c)),
             DriverKind::Leave => Next::Event(RecordStep::Leave),
             DriverKind::Close(ckpt) => close_next(cluster, *ckpt),
             DriverKind::Unlink(name) => unlink_next(cluster, name),
@@ -186,62 +171,44 @@ impl Driver {
         ensures new { self.new ≡ driver_taken (done_of cluster.now (verb_of request.now) (Some (ckpt_of request.now)) (Some r) (word_of reply.now)) self.old }
         ensures end { result ≡ driver_end op.now (done_of cluster.now (verb_of request.now) (Some (ckpt_of request.now)) (Some r) (word_of reply.now)) reply.now self.new }
     {
-        self.taken(cluster, r, request, reply.word());
-        self.end(op, cluster, r, request, reply)
-    }
-
-    fn taken(&mut self, cluster: &Record, r: NodeId, request: &Request, word: StepReply)
-        requires { r < nodes_max }
-        ensures { self.new ≡ driver_taken (done_of cluster.now (verb_of request.now) (Some (ckpt_of request.now)) (Some r) word) self.old }
-    {
-        match &mut self.kind {
-            DriverKind::Open(open_call) => open_call.take(cluster, r, request, word),
-            DriverKind::Update(update) => update.take(cluster, r, request, word),
-            _ => {}
-        }
-    }
-
-    fn end(
-        &self,
-        op: &Op,
-        cluster: &Record,
-        r: NodeId,
-        request: &Request,
-        reply: &Reply,
-    ) -> Option<Outcome>
-        ensures { result ≡ driver_end op.now (done_of cluster.now (verb_of request.now) (Some (ckpt_of request.now)) (Some r) (word_of reply.now)) reply.now self.now }
-    {
-        match reply {
-            Reply::Done(answer) => self.done_end(cluster, r, request, answer),
-            Reply::Held(by) => {
-                if cluster.live(*by) {
-                    Some(Outcome::Refused(AisError::TryAgain, Cause::Holder(*by)))
-                } else {
-                    None
-                }
+        match (&mut self.kind, reply) {
+            (DriverKind::Update(update), Reply::Done(answer)) => {
+                update.take(cluster, r, request, *answer)
             }
-            Reply::Refused(error, index) => {
-                Some(Outcome::Refused(*error, refused_cause(op, *index)))
+            (DriverKind::Active(_), Reply::Done(answer)) => Some(Outcome::Done(*answer)),
+            (DriverKind::Open(open_call), _) => {
+                open_call.take(cluster, r, request, reply.word());
+                end_of_refused(op, cluster, reply)
             }
-            Reply::NoReplica => Some(Outcome::Refused(AisError::NotExist, Cause::Plain)),
-            _ => None,
+            _ => end_of_refused(op, cluster, reply),
         }
     }
 
-    fn done_end(
-        &self,
-        cluster: &Record,
-        r: NodeId,
-        request: &Request,
-        answer: &Answer,
-    ) -> Option<Outcome>
-        ensures { result ≡ done_end (done_of cluster.now (verb_of request.now) (Some (ckpt_of request.now)) (Some r) words.Ok) answer.now self.now }
+    /// The update takes that a node has staged it.
+    #[inline(always)]
+    pub fn staged(&mut self, cluster: &Record, ckpt: CkptId, r: NodeId)
+        requires update { IsUpdate self.old }
+        requires node { r < nodes_max }
+        ensures { self.new ≡ driver_taken (done_of cluster.now verbs.Stage (Some ckpt) (Some r) words.Ok) self.old }
     {
-        match &self.kind {
-            DriverKind::Update(update) => update.end(cluster, r, request, answer),
-            DriverKind::Active(_) => Some(Outcome::Done(*answer)),
-            _ => None,
-        }
+        let DriverKind::Update(update) = &mut self.kind else {
+            unreachable!()
+        };
+        update.staged(cluster, ckpt, r);
+    }
+
+    /// The update takes that a node has committed it. Whether it goes on, having a slot left.
+    #[inline(always)]
+    pub fn committed(&mut self, cluster: &Record, ckpt: CkptId, r: NodeId) -> bool
+        requires update { IsUpdate self.old }
+        requires node { r < nodes_max }
+        ensures new { self.new ≡ driver_taken (done_of cluster.now verbs.Commit (Some ckpt) (Some r) words.Ok) self.old }
+        ensures end { ended_unless result ≡ done_end (done_of cluster.now verbs.Commit (Some ckpt) (Some r) words.Ok) answers.Nothing self.new }
+    {
+        let DriverKind::Update(update) = &mut self.kind else {
+            unreachable!()
+        };
+        update.committed(cluster, ckpt, r)
     }
 
     /// The call takes that a step of the record was tried.
@@ -258,6 +225,24 @@ impl Driver {
         if let DriverKind::Open(open_call) = &mut self.kind {
             open_call.told(cluster, step, ckpt, node, word);
         }
+    }
+}
+
+// How a call ends by a reply that was not done.
+fn end_of_refused(op: &Op, cluster: &Record, reply: &Reply) -> Option<Outcome>
+    ensures { result ≡ end_of_refused op.now (names_live cluster.now (word_of reply.now)) reply.now }
+{
+    match reply {
+        Reply::Held(by) => {
+            if cluster.live(*by) {
+                Some(Outcome::Refused(AisError::TryAgain, Cause::Holder(*by)))
+            } else {
+                None
+            }
+        }
+        Reply::Refused(error, index) => Some(Outcome::Refused(*error, refused_cause(op, *index))),
+        Reply::NoReplica => Some(Outcome::Refused(AisError::NotExist, Cause::Plain)),
+        _ => None,
     }
 }
 

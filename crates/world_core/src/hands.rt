@@ -6,6 +6,11 @@ ghost use Rattle.node_msgs.specs.Requests.{ckpt_of};
 ghost use Rattle.ckpt_machine.specs.Serving.{update_of, elements_of};
 ghost use Rattle.world_core.specs.Lending.{bytes_asked, IsLentRead, IsLentFor, IsLent};
 ghost use Rattle.ckpt_types.specs.declared.update.Update.TheVariants as updates;
+ghost use Rattle.ckpt_types.specs.declared.answers.Answer.TheVariants as answers;
+ghost use Rattle.node_msgs.specs.declared.replies.Reply.TheVariants as replies;
+ghost use Rattle.node_msgs.specs.declared.steps.StepReply.TheVariants as words;
+ghost use Rattle.node_msgs.specs.declared.steps.Verb.TheVariants as verbs;
+ghost use Rattle.world_core.specs.UpdateSteps.{IsUpdate, is_creation, ended_unless};
 ghost use Rattle.ckpt_types.specs.Limits.{client_numbers, nodes_max};
 ghost use Rattle.node_msgs.specs.Steps.{verb_of, word_of, event_verb};
 ghost use Rattle.cluster_record.specs.StepDone.{done_of};
@@ -76,14 +81,12 @@ impl InHand {
         OpWord::of(&self.op)
     }
 
-    /// Lends what travels beside a request of the call: a share of its update, a buffer with room for the
-    /// identifier of a new section, a share of its elements with a buffer that has room for what they may give, or
-    /// a place for a status.
+    /// Lends what travels beside a request of the call: a buffer with room for the identifier of a new section, a
+    /// share of its elements with a buffer that has room for what they may give, or a place for a status.
     pub fn lend(&self, alloc: Global, request: &Request, lent: &mut Lent) -> Result<(), AllocError>
         ensures { OnOk result (IsLent request.now self.now.op lent.new) }
     {
         match request {
-            Request::Stage(_, _, _) => lend_update(alloc, &self.op, lent),
             Request::Commit(_, _) => lend_identifier(alloc, &self.op, lent),
             Request::Read(_) => lend_read(alloc, &self.op, lent),
             Request::Status(_) => lend_status(alloc, lent),
@@ -158,6 +161,30 @@ impl Hands {
         ensures end { (h : InHand) → hand_at self.old c ≡ Some h → result ≡ hand_end (done_of cluster.now (verb_of request.now) (Some (ckpt_of request.now)) (Some r) (word_of reply.now)) reply.now (hand_taken (done_of cluster.now (verb_of request.now) (Some (ckpt_of request.now)) (Some r) (word_of reply.now)) h) }
     {
         take_at(&mut self.list, c as usize, cluster, r, request, reply)
+    }
+
+    /// The update of a client takes that a node has staged it.
+    #[inline(always)]
+    pub fn staged(&mut self, c: u8, cluster: &Record, ckpt: CkptId, r: NodeId)
+        requires held { hand_at self.old c ≢ None }
+        requires update { (h : InHand) → hand_at self.old c ≡ Some h → IsUpdate h.driver }
+        requires node { r < nodes_max }
+        ensures { (h : InHand) → hand_at self.old c ≡ Some h → self.new ≡ slice_set self.old c (Some (hand_taken (done_of cluster.now verbs.Stage (Some ckpt) (Some r) words.Ok) h)) }
+    {
+        staged_at(&mut self.list, c as usize, cluster, ckpt, r);
+    }
+
+    /// The update of a client takes that a node has committed it, and is in hand no more where it has no slot left.
+    /// Whether it is in hand still.
+    #[inline(always)]
+    pub fn committed(&mut self, c: u8, cluster: &Record, ckpt: CkptId, r: NodeId) -> bool
+        requires held { hand_at self.old c ≢ None }
+        requires update { (h : InHand) → hand_at self.old c ≡ Some h → IsUpdate h.driver }
+        requires node { r < nodes_max }
+        ensures new { (h : InHand) → hand_at self.old c ≡ Some h → self.new ≡ slice_set self.old c (left (ended_unless result) (hand_taken (done_of cluster.now verbs.Commit (Some ckpt) (Some r) words.Ok) h)) }
+        ensures end { (h : InHand) → hand_at self.old c ≡ Some h → ended_unless result ≡ hand_end (done_of cluster.now verbs.Commit (Some ckpt) (Some r) words.Ok) (replies.Done answers.Nothing) (hand_taken (done_of cluster.now verbs.Commit (Some ckpt) (Some r) words.Ok) h) }
+    {
+        committed_at(&mut self.list, c as usize, cluster, ckpt, r)
     }
 
     /// A client's call takes that a step of the record was tried, and is in hand no more where that ends it.
@@ -294,6 +321,69 @@ fn settle(
     end
 }
 
+#[inline(always)]
+fn staged_at(list: &mut Vec<Option<InHand>>, c: usize, cluster: &Record, ckpt: CkptId, r: NodeId)
+    requires held { hand_at list.old.items c ≢ None }
+    requires update { (h : InHand) → hand_at list.old.items c ≡ Some h → IsUpdate h.driver }
+    requires node { r < nodes_max }
+    ensures new { (h : InHand) → hand_at list.old.items c ≡ Some h → list.new.items ≡ slice_set list.old.items c (Some (hand_taken (done_of cluster.now verbs.Stage (Some ckpt) (Some r) words.Ok) h)) }
+    ensures len { length list.new.items ≡ length list.old.items }
+    ensures capacity { vec_capacity list.new ≡ vec_capacity list.old }
+{
+    settle_staged(&mut list[c], cluster, ckpt, r);
+}
+
+#[inline(always)]
+fn settle_staged(slot: &mut Option<InHand>, cluster: &Record, ckpt: CkptId, r: NodeId)
+    requires held { slot.old ≢ None }
+    requires update { (h : InHand) → slot.old ≡ Some h → IsUpdate h.driver }
+    requires node { r < nodes_max }
+    ensures { (h : InHand) → slot.old ≡ Some h → slot.new ≡ Some (hand_taken (done_of cluster.now verbs.Stage (Some ckpt) (Some r) words.Ok) h) }
+{
+    let Some(hand) = slot else { unreachable!() };
+    hand.driver.staged(cluster, ckpt, r);
+}
+
+#[inline(always)]
+fn committed_at(
+    list: &mut Vec<Option<InHand>>,
+    c: usize,
+    cluster: &Record,
+    ckpt: CkptId,
+    r: NodeId,
+) -> bool
+    requires held { hand_at list.old.items c ≢ None }
+    requires update { (h : InHand) → hand_at list.old.items c ≡ Some h → IsUpdate h.driver }
+    requires node { r < nodes_max }
+    ensures new { (h : InHand) → hand_at list.old.items c ≡ Some h → list.new.items ≡ slice_set list.old.items c (left (ended_unless result) (hand_taken (done_of cluster.now verbs.Commit (Some ckpt) (Some r) words.Ok) h)) }
+    ensures end { (h : InHand) → hand_at list.old.items c ≡ Some h → ended_unless result ≡ hand_end (done_of cluster.now verbs.Commit (Some ckpt) (Some r) words.Ok) (replies.Done answers.Nothing) (hand_taken (done_of cluster.now verbs.Commit (Some ckpt) (Some r) words.Ok) h) }
+    ensures len { length list.new.items ≡ length list.old.items }
+    ensures capacity { vec_capacity list.new ≡ vec_capacity list.old }
+{
+    settle_committed(&mut list[c], cluster, ckpt, r)
+}
+
+#[inline(always)]
+fn settle_committed(
+    slot: &mut Option<InHand>,
+    cluster: &Record,
+    ckpt: CkptId,
+    r: NodeId,
+) -> bool
+    requires held { slot.old ≢ None }
+    requires update { (h : InHand) → slot.old ≡ Some h → IsUpdate h.driver }
+    requires node { r < nodes_max }
+    ensures new { (h : InHand) → slot.old ≡ Some h → slot.new ≡ left (ended_unless result) (hand_taken (done_of cluster.now verbs.Commit (Some ckpt) (Some r) words.Ok) h) }
+    ensures end { (h : InHand) → slot.old ≡ Some h → ended_unless result ≡ hand_end (done_of cluster.now verbs.Commit (Some ckpt) (Some r) words.Ok) (replies.Done answers.Nothing) (hand_taken (done_of cluster.now verbs.Commit (Some ckpt) (Some r) words.Ok) h) }
+{
+    let Some(hand) = slot else { unreachable!() };
+    let goes_on = hand.driver.committed(cluster, ckpt, r);
+    if !goes_on {
+        *slot = None;
+    }
+    goes_on
+}
+
 fn told_at(
     list: &mut Vec<Option<InHand>>,
     c: usize,
@@ -368,17 +458,9 @@ impl Lent {
         Ok(Lent {
             read: ReadBuf::reserve(alloc, 0, 0)?,
             vector: None,
-            update: None,
             status: None,
         })
     }
-}
-
-fn lend_update(alloc: Global, op: &Op, lent: &mut Lent) -> Result<(), AllocError>
-    ensures { OnOk result (lent.new.update ≡ Some (update_of op.now)) }
-{
-    lent.update = Some(share_update(alloc, op)?);
-    Ok(())
 }
 
 fn lend_identifier(alloc: Global, op: &Op, lent: &mut Lent) -> Result<(), AllocError>
@@ -417,6 +499,17 @@ pub fn update_in(op: &Op) -> Option<&Update>
         | Op::Write(_, update)
         | Op::Over(_, update) => Some(update.value()),
         _ => None,
+    }
+}
+
+/// Whether an operation asks for a new section.
+#[inline(always)]
+pub fn creates(op: &Op) -> bool
+    ensures { result ≡ is_creation (update_of op.now) }
+{
+    match update_in(op) {
+        Some(Update::Create(_, _, _)) => true,
+        _ => false,
     }
 }
 
@@ -459,7 +552,9 @@ fn bytes_asked(elements: &[ReadElement]) -> Option<usize>
     usize::try_from(total).ok()
 }
 
-fn share_update(alloc: Global, op: &Op) -> Result<SharedUpdate, AllocError>
+/// A share of the update that an operation asks for.
+#[inline(always)]
+pub fn share_update(alloc: Global, op: &Op) -> Result<SharedUpdate, AllocError>
     ensures { IfOk result (λ update. update ≡ update_of op.now) }
 {
     match op {

@@ -1,19 +1,22 @@
 //! The nodes, each with its replicas, and what a request makes of them.
-ghost use Rattle.std.specs.Prelude.{◌≡◌, ◌<◌, ◌≤◌, [], ◌++◌, ◌∷◌, false, Option, Some, None, IfOk, IfSome, IsSomeAnd, MatchOption, OnOk, OnErr, filter, length, replicate, slice_get};
+ghost use Rattle.std.specs.Prelude.{◌≡◌, ◌≢◌, ℕ, ℤ, ◌<◌, ◌≤◌, [], ◌++◌, ◌∷◌, false, Option, Some, None, IfOk, IfSome, IsSomeAnd, MatchOption, OnOk, OnErr, filter, length, replicate, slice_get};
 ghost use Rattle.section_iter.specs.Next.{kept_after};
 ghost use Rattle.section_iter.specs.Room.{IsRoomFor};
 ghost use Rattle.ckpt_types.specs.Attributes.{is_malformed};
 ghost use Rattle.ckpt_types.specs.Limits.{nodes_max};
 ghost use Rattle.cluster_record.specs.Places.{find_key, change_key, place_key};
 ghost use Rattle.node_msgs.specs.Requests.{ckpt_of};
-ghost use Rattle.ckpt_machine.specs.Serving.{record_seen, replica_key, replica_after, replica_in, reply_at, details_at, served, IsReadyAt, opened_replica, with_reserved, reserved_at, chosen_at, given_at, next_details, next_reply_at};
+ghost use Rattle.node_msgs.specs.declared.requests.Request.TheVariants as requests;
+ghost use Rattle.ckpt_types.specs.declared.identities.CallId.{CallId};
+ghost use Rattle.world_core.specs.UpdateSteps.{stage_reply_at, staged_on, staged_at, commit_reply_at, committed_at};
+ghost use Rattle.ckpt_machine.specs.Serving.{committed, record_seen, replica_key, replica_after, replica_in, reply_at, details_at, served, IsReadyAt, opened_replica, with_reserved, reserved_at, chosen_at, given_at, next_details, next_reply_at};
 ghost use Rattle.world_core.specs.Freeing.{is_there, freed};
 ghost use Rattle.world_core.specs.Lending.{IsLent, details_told, status_told, section_told};
 ghost use Rattle.ckpt_machine.specs.Steps.{ended_details};
 
 use crate::replica::Replica;
 use ckpt_types::{
-    Answer, Apart, CheckpointDescriptor, Choice, CkptId, CreationAttributes, Moment, NODES_MAX,
+    Answer, Apart, CallId, CheckpointDescriptor, Choice, CkptId, CreationAttributes, Moment, NODES_MAX,
     NodeId, Op, Outcome, Pieces, ReadBuf, SectionDescriptor, SharedReads, SharedUpdate,
 };
 use cluster_record::Record;
@@ -31,8 +34,6 @@ pub struct Lent {
     pub read: ReadBuf,
     /// The elements of a read.
     pub vector: Option<SharedReads>,
-    /// A share of an update.
-    pub update: Option<SharedUpdate>,
     /// Where a status is told.
     pub status: Option<Apart<CheckpointDescriptor>>,
 }
@@ -92,12 +93,42 @@ impl Nodes {
     ) -> Reply
         requires node { r < nodes_max }
         requires ready { IsReadyAt request.now (replica_in self.old (ckpt_of request.now) r) }
+        requires stages_none { (call : CallId) (k : ℕ) (t : ℤ) → request.now ≢ requests.Stage call k t }
         requires lent { IsLent request.now op.now lent.old }
         ensures reply { result ≡ reply_at request.now op.now (record_seen cluster.now (ckpt_of request.now)) (replica_in self.old (ckpt_of request.now) r) }
         ensures new { self.new ≡ served self.old r request.now op.now }
         ensures details { details_told result lent.new ≡ details_at request.now op.now (record_seen cluster.now (ckpt_of request.now)) (replica_in self.old (ckpt_of request.now) r) }
     {
         serve_node(self.list.as_mut_slice(), r, request, op, cluster, lent)
+    }
+
+    /// A node stages an update of a call on the replica that it has of a checkpoint, at this moment. It takes no
+    /// memory.
+    #[inline(always)]
+    pub fn stage(
+        &mut self,
+        r: NodeId,
+        call: CallId,
+        ckpt: CkptId,
+        update: SharedUpdate,
+        moment: Moment,
+    ) -> Reply
+        requires { r < nodes_max }
+        ensures reply { result ≡ stage_reply_at update moment (replica_in self.old ckpt r) }
+        ensures new { self.new ≡ staged_at self.old r ckpt (record { owner = call; update = update; moment = moment }) }
+    {
+        stage_node(self.list.as_mut_slice(), r, call, ckpt, update, moment)
+    }
+
+    /// A node commits what a call has staged on the replica that it has of a checkpoint. It takes no memory.
+    #[inline(always)]
+    pub fn commit(&mut self, r: NodeId, call: CallId, ckpt: CkptId) -> Reply
+        requires node { r < nodes_max }
+        requires ready { IsReadyAt (requests.Commit call ckpt) (replica_in self.old ckpt r) }
+        ensures reply { result ≡ commit_reply_at (replica_in self.old ckpt r) }
+        ensures new { self.new ≡ committed_at self.old r ckpt }
+    {
+        commit_node(self.list.as_mut_slice(), r, call, ckpt)
     }
 
     /// The replica that a node has of a checkpoint gives what is chosen now to an iteration with room for it. It
@@ -186,12 +217,30 @@ impl Node {
 
     fn serve(&mut self, request: &Request, op: &Op, cluster: &Record, lent: &mut Lent) -> Reply
         requires ready { IsReadyAt request.now (find_key replica_key (ckpt_of request.now) self.old) }
+        requires stages_none { (call : CallId) (k : ℕ) (t : ℤ) → request.now ≢ requests.Stage call k t }
         requires lent { IsLent request.now op.now lent.old }
         ensures reply { result ≡ reply_at request.now op.now (record_seen cluster.now (ckpt_of request.now)) (find_key replica_key (ckpt_of request.now) self.old) }
         ensures new { self.new ≡ change_key replica_key (ckpt_of request.now) (replica_after request.now op.now) self.old }
         ensures details { details_told result lent.new ≡ details_at request.now op.now (record_seen cluster.now (ckpt_of request.now)) (find_key replica_key (ckpt_of request.now) self.old) }
     {
         serve_at(self.replicas.as_mut_slice(), request, op, cluster, lent)
+    }
+
+    #[inline(always)]
+    fn stage(&mut self, call: CallId, ckpt: CkptId, update: SharedUpdate, moment: Moment) -> Reply
+        ensures reply { result ≡ stage_reply_at update moment (find_key replica_key ckpt self.old) }
+        ensures new { self.new ≡ change_key replica_key ckpt (staged_on (record { owner = call; update = update; moment = moment })) self.old }
+    {
+        stage_among(self.replicas.as_mut_slice(), call, ckpt, update, moment)
+    }
+
+    #[inline(always)]
+    fn commit(&mut self, call: CallId, ckpt: CkptId) -> Reply
+        requires { IsReadyAt (requests.Commit call ckpt) (find_key replica_key ckpt self.old) }
+        ensures reply { result ≡ commit_reply_at (find_key replica_key ckpt self.old) }
+        ensures new { self.new ≡ change_key replica_key ckpt (λ x. committed x x.slot) self.old }
+    {
+        commit_among(self.replicas.as_mut_slice(), call, ckpt)
     }
 
     fn reserve(
@@ -297,6 +346,7 @@ fn serve_at(
     lent: &mut Lent,
 ) -> Reply
     requires ready { IsReadyAt request.now (find_key replica_key (ckpt_of request.now) replicas.old) }
+    requires stages_none { (call : CallId) (k : ℕ) (t : ℤ) → request.now ≢ requests.Stage call k t }
     requires lent { IsLent request.now op.now lent.old }
     ensures reply { result ≡ reply_at request.now op.now (record_seen cluster.now (ckpt_of request.now)) (find_key replica_key (ckpt_of request.now) replicas.old) }
     ensures new { replicas.new ≡ change_key replica_key (ckpt_of request.now) (replica_after request.now op.now) replicas.old }
@@ -309,6 +359,66 @@ fn serve_at(
     replica.serve(request, op, cluster, lent)
 }
 
+#[inline(always)]
+fn stage_node(
+    nodes: &mut [Node],
+    r: NodeId,
+    call: CallId,
+    ckpt: CkptId,
+    update: SharedUpdate,
+    moment: Moment,
+) -> Reply
+    requires { r < length nodes.old }
+    ensures reply { result ≡ stage_reply_at update moment (replica_in nodes.old ckpt r) }
+    ensures new { nodes.new ≡ staged_at nodes.old r ckpt (record { owner = call; update = update; moment = moment }) }
+{
+    let node = &mut nodes[r as usize];
+    node.stage(call, ckpt, update, moment)
+}
+
+#[inline(always)]
+fn commit_node(nodes: &mut [Node], r: NodeId, call: CallId, ckpt: CkptId) -> Reply
+    requires node { r < length nodes.old }
+    requires ready { IsReadyAt (requests.Commit call ckpt) (replica_in nodes.old ckpt r) }
+    ensures reply { result ≡ commit_reply_at (replica_in nodes.old ckpt r) }
+    ensures new { nodes.new ≡ committed_at nodes.old r ckpt }
+{
+    let node = &mut nodes[r as usize];
+    node.commit(call, ckpt)
+}
+
+#[inline(always)]
+fn stage_among(
+    replicas: &mut [Replica],
+    call: CallId,
+    ckpt: CkptId,
+    update: SharedUpdate,
+    moment: Moment,
+) -> Reply
+    ensures reply { result ≡ stage_reply_at update moment (find_key replica_key ckpt replicas.old) }
+    ensures new { replicas.new ≡ change_key replica_key ckpt (staged_on (record { owner = call; update = update; moment = moment })) replicas.old }
+{
+    let Some(i) = place_of(replicas, ckpt) else {
+        return Reply::NoReplica;
+    };
+    let replica = &mut replicas[i];
+    replica.stage(call, update, moment)
+}
+
+#[inline(always)]
+fn commit_among(replicas: &mut [Replica], call: CallId, ckpt: CkptId) -> Reply
+    requires { IsReadyAt (requests.Commit call ckpt) (find_key replica_key ckpt replicas.old) }
+    ensures reply { result ≡ commit_reply_at (find_key replica_key ckpt replicas.old) }
+    ensures new { replicas.new ≡ change_key replica_key ckpt (λ x. committed x x.slot) replicas.old }
+{
+    let Some(i) = place_of(replicas, ckpt) else {
+        return Reply::NoReplica;
+    };
+    let replica = &mut replicas[i];
+    replica.commit();
+    Reply::Done(Answer::Nothing)
+}
+
 fn serve_node(
     nodes: &mut [Node],
     r: NodeId,
@@ -319,6 +429,7 @@ fn serve_node(
 ) -> Reply
     requires node { r < length nodes.old }
     requires ready { IsReadyAt request.now (replica_in nodes.old (ckpt_of request.now) r) }
+    requires stages_none { (call : CallId) (k : ℕ) (t : ℤ) → request.now ≢ requests.Stage call k t }
     requires lent { IsLent request.now op.now lent.old }
     ensures reply { result ≡ reply_at request.now op.now (record_seen cluster.now (ckpt_of request.now)) (replica_in nodes.old (ckpt_of request.now) r) }
     ensures new { nodes.new ≡ served nodes.old r request.now op.now }

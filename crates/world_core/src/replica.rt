@@ -1,5 +1,5 @@
 //! One replica of a checkpoint: what it answers, and what becomes of it.
-ghost use Rattle.std.specs.Prelude.{◌≡◌, ◌-◌, ◌^◌, ◌<◌, ◌≤◌, length, IsSome, IsSomeAnd, IfErr, IfOk, IsOk, OnOk, [], None, Some, false};
+ghost use Rattle.std.specs.Prelude.{◌≡◌, ◌≢◌, ℕ, ℤ, ◌-◌, ◌^◌, ◌<◌, ◌≤◌, length, IsSome, IsSomeAnd, IfErr, IfOk, IsOk, OnOk, [], None, Some, false};
 ghost use Rattle.ckpt_types.specs.Attributes.{is_malformed};
 ghost use Rattle.ckpt_types.specs.declared.answers.Answer.TheVariants as answers;
 ghost use Rattle.ckpt_types.specs.declared.identities.CallId.{CallId};
@@ -8,6 +8,7 @@ ghost use Rattle.ckpt_types.specs.Reads.{read, status, chosen, given};
 ghost use Rattle.section_iter.specs.Next.{kept_after};
 ghost use Rattle.section_iter.specs.Room.{IsRoomFor};
 ghost use Rattle.node_msgs.specs.Requests.{ckpt_of};
+ghost use Rattle.node_msgs.specs.declared.requests.Request.TheVariants as requests;
 ghost use Rattle.node_msgs.specs.declared.replies.Reply.TheVariants as replies;
 ghost use Rattle.update_rules.specs.Told.{told};
 ghost use Rattle.ckpt_machine.specs.Serving.{record_seen, update_of, elements_of, stage_reply, stage_slot, committed, update_answer, told_id, slot_id, done_or_refused, reply_of, replica_after, read_details, details_of, next_reply, next_details, IsStaged, IsReady, opened_replica};
@@ -134,13 +135,13 @@ impl Replica {
     /// beside the request is lent.
     pub fn serve(&mut self, request: &Request, op: &Op, cluster: &Record, lent: &mut Lent) -> Reply
         requires ready { IsReady request.now self.old }
+        requires stages_none { (call : CallId) (k : ℕ) (t : ℤ) → request.now ≢ requests.Stage call k t }
         requires lent { IsLent request.now op.now lent.old }
         ensures reply { result ≡ reply_of request.now op.now (record_seen cluster.now (ckpt_of request.now)) self.old }
         ensures new { self.new ≡ replica_after request.now op.now self.old }
         ensures details { details_told result lent.new ≡ details_of request.now op.now (record_seen cluster.now (ckpt_of request.now)) self.old }
     {
         match request {
-            Request::Stage(call, _, moment) => self.stage_lent(*call, op, *moment, lent),
             Request::Commit(_, _) => self.commit_lent(op, lent),
             Request::Read(_) => self.read_lent(op, cluster.now(), lent),
             Request::Status(ckpt) => self.status_lent(record_seen(cluster, *ckpt), lent),
@@ -201,18 +202,8 @@ impl Replica {
         Reply::Done(Answer::Status)
     }
 
-    fn stage_lent(&mut self, call: CallId, op: &Op, moment: Moment, lent: &mut Lent) -> Reply
-        requires { lent.old.update ≡ Some (update_of op.now) }
-        ensures reply { result ≡ stage_reply (outcome self.old.attributes (update_of op.now) moment self.old.sections) self.old.slot }
-        ensures new { self.new ≡ record self.old { slot = stage_slot (outcome self.old.attributes (update_of op.now) moment self.old.sections) (record { owner = call; update = update_of op.now; moment = moment }) self.old.slot } }
-    {
-        let Some(update) = lent.update.take() else {
-            unreachable!()
-        };
-        self.stage(call, update, moment)
-    }
-
-    fn stage(&mut self, call: CallId, update: SharedUpdate, moment: Moment) -> Reply
+    /// Stages the update of a call at this moment, where no slot stands and the sections admit it.
+    pub fn stage(&mut self, call: CallId, update: SharedUpdate, moment: Moment) -> Reply
         ensures reply { result ≡ stage_reply (outcome self.old.attributes update moment self.old.sections) self.old.slot }
         ensures new { self.new ≡ record self.old { slot = stage_slot (outcome self.old.attributes update moment self.old.sections) (record { owner = call; update = update; moment = moment }) self.old.slot } }
     {
@@ -250,8 +241,8 @@ impl Replica {
         Reply::Done(answer)
     }
 
-    // The sections become the outcome of the staged update. It takes no memory.
-    fn commit(&mut self)
+    /// The sections become the outcome of the staged update. It takes no memory.
+    pub fn commit(&mut self)
         requires staged { IsSomeAnd self.old.slot (λ slot. (call : CallId) × IsStaged call self.old slot) }
         requires room { self.old.count < 2 ^ 64 - 1 }
         ensures { self.new ≡ committed self.old self.old.slot }

@@ -1,10 +1,17 @@
 //! The event by which a call takes its next step.
-ghost use Rattle.std.specs.Prelude.{◌≡◌, ◌≢◌, ◌⊎◌, ℕ, ◌<◌, ◌≤◌, Some, None, true, IfSome, IsSomeAnd, OnOk, OnErr, length, slice_get};
+ghost use Rattle.std.specs.Prelude.{◌≡◌, ◌≢◌, ◌⊎◌, ℕ, ℤ, [], ◌∷◌, ◌++◌, ◌<◌, ◌≤◌, Some, None, true, IfSome, IsSomeAnd, OnOk, OnErr, length, slice_get, slice_set};
 ghost use Rattle.ckpt_types.specs.declared.identities.ActorName.TheVariants.{Client};
 ghost use Rattle.ckpt_types.specs.declared.identities.Who.TheVariants as whos;
 ghost use Rattle.node_msgs.specs.declared.next.Next.TheVariants as nexts;
 ghost use Rattle.node_msgs.specs.declared.next.RecordStep.TheVariants as events;
 ghost use Rattle.node_msgs.specs.declared.requests.Request.{Request};
+ghost use Rattle.node_msgs.specs.declared.steps.StepReply.TheVariants as words;
+ghost use Rattle.run_labels.specs.declared.details.Details.TheVariants as beside;
+ghost use Rattle.node_msgs.specs.Requests.{ckpt_of};
+ghost use Rattle.node_msgs.specs.Steps.{verb_of, word_of};
+ghost use Rattle.cluster_record.specs.Calls.{left};
+ghost use Rattle.world_core.specs.HandSteps.{end_by, hand_taken, served_done};
+ghost use Rattle.world_core.specs.UpdateSteps.{IsOfUpdate};
 ghost use Rattle.node_msgs.specs.declared.requests.Request.TheVariants as requests;
 ghost use Rattle.run_labels.specs.declared.labels.Label.TheVariants as labels;
 ghost use Rattle.run_labels.specs.declared.words.Said.TheVariants.{Idle};
@@ -20,22 +27,23 @@ ghost use Rattle.world_core.specs.Reserving.{IsReservedAt};
 ghost use Rattle.world_core.specs.Runs.{step_word};
 ghost use Rattle.ckpt_machine.specs.Facts.{IsReservable};
 ghost use Rattle.world_core.specs.Shows.{IsShown, HasNumbersLeft, hand_at};
-ghost use Rattle.world_core.specs.Happenings.{Adds, rooms_in, IsNext, IsStep, IsIdle, NamesNoClient};
+ghost use Rattle.world_core.specs.Happenings.{Adds, IsNext, IsStep, IsIdle, NamesNoClient};
 ghost use Rattle.ckpt_types.specs.declared.identities.CallId.{CallId};
 ghost use Rattle.ckpt_types.specs.declared.sections.Choice.{Choice};
 ghost use Rattle.ckpt_types.specs.Limits.{client_numbers, nodes_max, places_max};
 
 use crate::applying::apply;
 use crate::beginning::{closed_place, opened_for, opened_place};
-use crate::drivers::{Rooms, event_ckpt, event_end, event_node, event_refusal};
+use crate::drivers::{DriverKind, event_ckpt, event_end, event_node, event_refusal};
+use crate::hands::{creates, share_update};
 use crate::messages::look_word;
 use crate::nodes::{Lent, told_details};
 use crate::tables::Tables;
 use crate::world::World;
-use ckpt_types::{ActorName, Answer, CkptId, NodeId, Op, Outcome, Who};
+use ckpt_types::{ActorName, Answer, CallId, CkptId, Moment, NodeId, Op, Outcome, Who};
 use cluster_record::Record;
 use node_msgs::{Next, RecordStep, Reply, Request, StepReply, Verb};
-use run_labels::{Details, Label, LineWord, RunLog, Said};
+use run_labels::{Details, Label, LineWord, OpWord, RunLog, Said};
 use std::alloc::{AllocError, Global};
 
 impl World {
@@ -55,14 +63,15 @@ impl World {
         ensures ok { OnOk result (Adds log.old log.new (λ label. IsStep c self.old self.new label ⊎ IsIdle (whos.Actor (Client c)) finish self.old self.new label)) }
         ensures err { OnErr result ((self.new ≡ self.old) × (log.new.labels ≡ log.old.labels)) }
     {
-        let next = match self.hands.find(c) {
-            None => {
-                log.push(idle_label(Who::Actor(ActorName::Client(c)), finish));
-                return Ok(());
-            }
-            Some(hand) => hand.driver.next(&self.cluster, self.rooms(c)),
+        let Some(hand) = self.hands.find(c) else {
+            log.push(idle_label(Who::Actor(ActorName::Client(c)), finish));
+            return Ok(());
         };
-        match next {
+        if let DriverKind::Update(update) = &hand.driver.kind {
+            let next = update.next(&self.cluster);
+            return self.update_step(alloc, c, next, log);
+        }
+        match hand.driver.next(&self.cluster, &self.tables, c) {
             Next::Serve(r, Request::Reserve(ckpt)) => self.reserve_step(alloc, c, r, ckpt, log),
             Next::Serve(r, Request::Iterate(call, ckpt, choice)) => {
                 self.iterate_step(c, r, call, ckpt, choice, log);
@@ -96,15 +105,153 @@ impl World {
         log.push(idle_label(who, finish));
     }
 
-    // What the client's tables have a free place for.
-    fn rooms(&self, c: u8) -> Rooms
-        requires { c < client_numbers }
-        ensures { result ≡ rooms_in self.now c }
+    // An update stages at a node or commits there, or the record alone decides how it ends.
+    #[inline(always)]
+    fn update_step(
+        &mut self,
+        alloc: Global,
+        c: u8,
+        next: Next,
+        log: &mut RunLog,
+    ) -> Result<(), AllocError>
+        requires next { IsNext self.old c next }
+        requires is { IsOfUpdate next }
+        requires client { c < client_numbers }
+        requires shown { IsShown self.old }
+        requires roomy { HasNumbersLeft self.old }
+        requires spare { 1 ≤ log.old.spare }
+        ensures ok { OnOk result (Adds log.old log.new (IsStep c self.old self.new)) }
+        ensures err { OnErr result ((self.new ≡ self.old) × (log.new.labels ≡ log.old.labels)) }
     {
-        Rooms {
-            handles: self.tables.has_room(c),
-            iterations: self.tables.has_iteration_room(c),
+        match next {
+            Next::Serve(r, Request::Stage(call, ckpt, moment)) => {
+                self.stage_step(alloc, c, r, call, ckpt, moment, log)
+            }
+            Next::Serve(r, Request::Commit(call, ckpt)) => {
+                self.commit_step(alloc, c, r, call, ckpt, log)
+            }
+            Next::End(end) => {
+                self.look_step(c, end, log);
+                Ok(())
+            }
+            _ => unreachable!(),
         }
+    }
+
+    // A node stages the update of the call.
+    #[inline(always)]
+    fn stage_step(
+        &mut self,
+        alloc: Global,
+        c: u8,
+        r: NodeId,
+        asked: CallId,
+        ckpt: CkptId,
+        moment: Moment,
+        log: &mut RunLog,
+    ) -> Result<(), AllocError>
+        requires next { IsNext self.old c (nexts.Serve r (requests.Stage asked ckpt moment)) }
+        requires client { c < client_numbers }
+        requires shown { IsShown self.old }
+        requires roomy { HasNumbersLeft self.old }
+        requires spare { 1 ≤ log.old.spare }
+        ensures ok { OnOk result (Adds log.old log.new (IsStep c self.old self.new)) }
+        ensures err { OnErr result ((self.new ≡ self.old) × (log.new.labels ≡ log.old.labels)) }
+    {
+        let Some(hand) = self.hands.find(c) else {
+            unreachable!()
+        };
+        let call = hand.call;
+        let op = hand.word();
+        let update = share_update(alloc, &hand.op)?;
+        let reply = self.nodes.stage(r, asked, ckpt, update, moment);
+        if let Reply::Done(_) = reply {
+            self.hands.staged(c, &self.cluster, ckpt, r);
+            log.push(goes_on(call, op, Verb::Stage, ckpt, r));
+        } else {
+            let request = Request::Stage(asked, ckpt, moment);
+            self.refused_step(c, r, call, op, &request, &reply, log);
+        }
+        Ok(())
+    }
+
+    // A node has refused to stage the update of the call, which ends unless the owner of the slot there is gone.
+    #[inline(never)]
+    fn refused_step(
+        &mut self,
+        c: u8,
+        r: NodeId,
+        call: CallId,
+        op: OpWord,
+        request: &Request,
+        reply: &Reply,
+        log: &mut RunLog,
+    )
+        requires held { hand_at self.old.hands c ≢ None }
+        requires node { r < nodes_max }
+        requires spare { 1 ≤ log.old.spare }
+        ensures world { (h : InHand) → hand_at self.old.hands c ≡ Some h → self.new ≡ record self.old { hands = slice_set self.old.hands c (left (end_by (served_done self.old.cluster request.now r reply.now) reply.now h) (hand_taken (served_done self.old.cluster request.now r reply.now) h)) } }
+        ensures label { (h : InHand) → hand_at self.old.hands c ≡ Some h → log.new.labels ≡ log.old.labels ++ labels.Stepped call op (verb_of request.now) (Some (ckpt_of request.now)) (Some r) (word_of reply.now) (end_by (served_done self.old.cluster request.now r reply.now) reply.now h) beside.Nothing ∷ [] }
+    {
+        let end = self.hands.take(c, &self.cluster, r, request, reply);
+        log.push(served(
+            call,
+            op,
+            request.verb(),
+            request.ckpt(),
+            r,
+            reply.word(),
+            end,
+            Details::Nothing,
+        ));
+    }
+
+    // A node commits what the call has staged there. A creation tells the identifier of its section.
+    #[inline(always)]
+    fn commit_step(
+        &mut self,
+        alloc: Global,
+        c: u8,
+        r: NodeId,
+        asked: CallId,
+        ckpt: CkptId,
+        log: &mut RunLog,
+    ) -> Result<(), AllocError>
+        requires next { IsNext self.old c (nexts.Serve r (requests.Commit asked ckpt)) }
+        requires client { c < client_numbers }
+        requires shown { IsShown self.old }
+        requires roomy { HasNumbersLeft self.old }
+        requires spare { 1 ≤ log.old.spare }
+        ensures ok { OnOk result (Adds log.old log.new (IsStep c self.old self.new)) }
+        ensures err { OnErr result ((self.new ≡ self.old) × (log.new.labels ≡ log.old.labels)) }
+    {
+        let Some(hand) = self.hands.find(c) else {
+            unreachable!()
+        };
+        if creates(&hand.op) {
+            return self.serve_step(alloc, c, r, &Request::Commit(asked, ckpt), log);
+        }
+        let call = hand.call;
+        let op = hand.word();
+        let reply = self.nodes.commit(r, asked, ckpt);
+        let Reply::Done(_) = reply else {
+            unreachable!()
+        };
+        if self.hands.committed(c, &self.cluster, ckpt, r) {
+            log.push(goes_on(call, op, Verb::Commit, ckpt, r));
+        } else {
+            log.push(served(
+                call,
+                op,
+                Verb::Commit,
+                ckpt,
+                r,
+                StepReply::Ok,
+                Some(Outcome::Done(Answer::Nothing)),
+                Details::Nothing,
+            ));
+        }
+        Ok(())
     }
 
     // A node reserves the storage of a replica; where its memory is refused, the call goes on to undo.
@@ -131,20 +278,21 @@ impl World {
         let call = hand.call;
         let op = hand.word();
         let end = self.hands.take(c, &self.cluster, r, &request, &reply);
-        log.push(Label::Stepped {
+        log.push(served(
             call,
             op,
-            verb: Verb::Reserve,
-            ckpt: Some(ckpt),
-            node: Some(r),
-            reply: reply.word(),
+            Verb::Reserve,
+            ckpt,
+            r,
+            reply.word(),
             end,
-            details: Details::Nothing,
-        });
+            Details::Nothing,
+        ));
         Ok(())
     }
 
     // A node answers a request of the call.
+    #[inline(never)]
     fn serve_step(
         &mut self,
         alloc: Global,
@@ -157,6 +305,7 @@ impl World {
         requires reserves_none { (k : ℕ) → request.now ≢ requests.Reserve k }
         requires starts_none { (call : CallId) (k : ℕ) (choice : Choice) → request.now ≢ requests.Iterate call k choice }
         requires goes_on_with_none { (call : CallId) (k : ℕ) → request.now ≢ requests.Next call k }
+        requires stages_none { (call : CallId) (k : ℕ) (t : ℤ) → request.now ≢ requests.Stage call k t }
         requires client { c < client_numbers }
         requires shown { IsShown self.old }
         requires roomy { HasNumbersLeft self.old }
@@ -176,16 +325,16 @@ impl World {
             .serve(r, request, &hand.op, &self.cluster, &mut lent);
         let end = self.hands.take(c, &self.cluster, r, request, &reply);
         let details = told_details(&end, &reply, lent);
-        log.push(Label::Stepped {
+        log.push(served(
             call,
             op,
-            verb: request.verb(),
-            ckpt: Some(request.ckpt()),
-            node: Some(r),
-            reply: reply.word(),
+            request.verb(),
+            request.ckpt(),
+            r,
+            reply.word(),
             end,
             details,
-        });
+        ));
         Ok(())
     }
 
@@ -375,6 +524,49 @@ impl World {
             Err(AllocError) => Reply::NoMemory,
         }
     }
+}
+
+// What a node has answered to a request of a call.
+#[inline(always)]
+fn served(
+    call: CallId,
+    op: OpWord,
+    verb: Verb,
+    ckpt: CkptId,
+    r: NodeId,
+    reply: StepReply,
+    end: Option<Outcome>,
+    details: Details,
+) -> Label
+    ensures { result ≡ labels.Stepped call op verb (Some ckpt) (Some r) reply end details }
+{
+    Label::Stepped {
+        call,
+        op,
+        verb,
+        ckpt: Some(ckpt),
+        node: Some(r),
+        reply,
+        end,
+        details,
+    }
+}
+
+// A node has done what a call asked, and the call goes on.
+#[inline(always)]
+fn goes_on(call: CallId, op: OpWord, verb: Verb, ckpt: CkptId, r: NodeId) -> Label
+    ensures { result ≡ labels.Stepped call op verb (Some ckpt) (Some r) words.Ok None beside.Nothing }
+{
+    served(
+        call,
+        op,
+        verb,
+        ckpt,
+        r,
+        StepReply::Ok,
+        None,
+        Details::Nothing,
+    )
 }
 
 fn idle_label(who: Who, finish: bool) -> Label

@@ -1,15 +1,18 @@
 //! The driver of an update on all replicas.
-ghost use Rattle.std.specs.Prelude.{◌≡◌, ◌<◌, Some};
+ghost use Rattle.std.specs.Prelude.{◌≡◌, ◌<◌, Some, is_some};
 ghost use Rattle.ckpt_types.specs.Limits.{nodes_max};
 ghost use Rattle.node_msgs.specs.declared.steps.StepReply.TheVariants as words;
+ghost use Rattle.node_msgs.specs.declared.steps.Verb.TheVariants as verbs;
 ghost use Rattle.node_msgs.specs.Requests.{ckpt_of};
 ghost use Rattle.node_msgs.specs.Steps.{verb_of};
-ghost use Rattle.cluster_record.specs.DueUpdate.{update_begun, commit_at, stage_at, by_phase, update_next, update_taken, commit_end, done_end_by, kept_moment};
-ghost use Rattle.cluster_record.specs.StepDone.{done_of, last_having};
+ghost use Rattle.cluster_record.specs.DueUpdate.{update_begun, commit_at, stage_at, update_next, update_taken, done_end_by};
+ghost use Rattle.cluster_record.specs.RecordState.{entry_of, complete_of};
+ghost use Rattle.cluster_record.specs.StepDone.{done_of, first_lacking, last_having};
+ghost use Rattle.world_core.specs.UpdateSteps.{IsOfUpdate};
 
 use ckpt_types::{AisError, Answer, CallId, Cause, CkptId, Moment, NODES_MAX, NodeId, Outcome};
-use cluster_record::{Record, UpdatePhase, first_lacking, last_having};
-use node_msgs::{Next, Request, StepReply};
+use cluster_record::{Record, UpdatePhase, first_lacking, has_any, last_having};
+use node_msgs::{Next, Request};
 use std::marker::Model;
 
 /// The driver of an update on a checkpoint whose replicas all have it before it is answered.
@@ -19,6 +22,8 @@ pub struct UpdateCall {
     ckpt: CkptId,
     // By node, the incarnation with which the call owns its slot, or 0.
     owned: [u32; NODES_MAX],
+    // It owns none above this node.
+    top: NodeId,
     // The moment of its slots.
     moment: Moment,
     phase: UpdatePhase,
@@ -29,9 +34,11 @@ impl Model for UpdateCall {
 
     ghost Value = { UpdateState };
 
-    ghost use Rattle.world_core.specs.CallStates.{update_state};
+    ghost use Rattle.world_core.specs.CallStates.{update_state, HasNoneAboveTop};
 
     ghost view = { update_state };
+
+    ghost invariant = { HasNoneAboveTop };
 }
 
 impl UpdateCall {
@@ -43,105 +50,124 @@ impl UpdateCall {
             call,
             ckpt,
             owned: [0; NODES_MAX],
+            top: 0,
             moment: 0,
             phase: UpdatePhase::Staging,
         }
     }
 
     /// What it does next.
+    #[inline(always)]
     pub fn next(&self, cluster: &Record) -> Next
-        ensures { result ≡ update_next cluster.now self.now }
+        ensures next { result ≡ update_next cluster.now self.now }
+        ensures is { IsOfUpdate result }
     {
         let Some(entry) = cluster.entry(self.ckpt) else {
             return Next::End(Outcome::Refused(AisError::NotExist, Cause::Plain));
         };
-        let first = first_lacking(&entry.complete, &self.owned);
-        let last = last_having(&entry.complete, &self.owned);
-        self.phase_next(cluster.now(), first, last)
-    }
-
-    fn phase_next(&self, now: Moment, first: Option<NodeId>, last: Option<NodeId>) -> Next
-        ensures { result ≡ by_phase self.now now first last self.now.phase }
-    {
         match self.phase {
-            UpdatePhase::Staging => self.stage_next(now, first, last),
-            UpdatePhase::Committing => self.commit_next(last),
+            UpdatePhase::Staging => self.stage_next(cluster.now(), &entry.complete),
+            UpdatePhase::Committing => self.commit_next(&entry.complete),
         }
     }
 
-    fn stage_next(&self, now: Moment, first: Option<NodeId>, last: Option<NodeId>) -> Next
-        ensures { result ≡ stage_at self.now now first last }
+    // While it stages: the lowest node that it lacks, and then what it commits.
+    #[inline(always)]
+    fn stage_next(&self, now: Moment, complete: &[u32; NODES_MAX]) -> Next
+        ensures next { result ≡ stage_at self.now now (first_lacking 0 complete.now self.now.owned) (last_having 0 complete.now self.now.owned) }
+        ensures is { IsOfUpdate result }
     {
-        match first {
-            None => self.commit_next(last),
-            Some(r) => {
-                let moment = match last {
-                    None => now,
-                    Some(_) => self.moment,
-                };
-                Next::Serve(r, Request::Stage(self.call, self.ckpt, moment))
-            }
-        }
+        let Some(r) = first_lacking(complete, &self.owned) else {
+            return self.commit_next(complete);
+        };
+        let moment = if has_any(complete, &self.owned, self.top) {
+            self.moment
+        } else {
+            now
+        };
+        Next::Serve(r, Request::Stage(self.call, self.ckpt, moment))
     }
 
-    fn commit_next(&self, last: Option<NodeId>) -> Next
-        ensures { result ≡ commit_at self.now last }
+    // While it commits: the highest node that it has.
+    #[inline(always)]
+    fn commit_next(&self, complete: &[u32; NODES_MAX]) -> Next
+        ensures next { result ≡ commit_at self.now (last_having 0 complete.now self.now.owned) }
+        ensures is { IsOfUpdate result }
     {
-        match last {
+        match last_having(complete, &self.owned, self.top) {
             None => Next::End(Outcome::Done(Answer::Nothing)),
             Some(r) => Next::Serve(r, Request::Commit(self.call, self.ckpt)),
         }
     }
 
-    /// It takes a node's answer.
-    pub fn take(&mut self, cluster: &Record, r: NodeId, request: &Request, word: StepReply)
+    /// A node has staged it.
+    #[inline(always)]
+    pub fn staged(&mut self, cluster: &Record, ckpt: CkptId, r: NodeId)
         requires { r < nodes_max }
-        ensures { self.new ≡ update_taken (done_of cluster.now (verb_of request.now) (Some (ckpt_of request.now)) (Some r) word) self.old }
+        ensures { self.new ≡ update_taken (done_of cluster.now verbs.Stage (Some ckpt) (Some r) words.Ok) self.old }
     {
-        let StepReply::Ok = word else {
-            return;
-        };
-        let complete = cluster.complete(request.ckpt());
-        match request {
-            Request::Stage(_, _, _) => {
-                if last_having(&complete, &self.owned).is_none() {
-                    self.moment = cluster.now();
-                }
-                self.owned[r as usize] = complete[r as usize];
-                self.phase = UpdatePhase::Staging;
-            }
-            Request::Commit(_, _) => {
-                self.owned[r as usize] = 0;
-                self.phase = UpdatePhase::Committing;
-            }
-            _ => {}
+        match cluster.entry(ckpt) {
+            None => self.staged_at(cluster.now(), &[0; NODES_MAX], r),
+            Some(entry) => self.staged_at(cluster.now(), &entry.complete, r),
         }
     }
 
-    /// How it ends by a request that was done, being as it is after it.
-    pub fn end(
-        &self,
+    #[inline(always)]
+    fn staged_at(&mut self, now: Moment, complete: &[u32; NODES_MAX], r: NodeId)
+        requires { r < nodes_max }
+    {
+        if !has_any(complete, &self.owned, self.top) {
+            self.moment = now;
+        }
+        self.owned[r as usize] = complete[r as usize];
+        if self.top < r {
+            self.top = r;
+        }
+        self.phase = UpdatePhase::Staging;
+    }
+
+    /// A node has committed it. Whether it has a slot left.
+    #[inline(always)]
+    pub fn committed(&mut self, cluster: &Record, ckpt: CkptId, r: NodeId) -> bool
+        requires { r < nodes_max }
+        ensures new { self.new ≡ update_taken (done_of cluster.now verbs.Commit (Some ckpt) (Some r) words.Ok) self.old }
+        ensures left { result ≡ is_some (last_having 0 (complete_of (entry_of ckpt cluster.now.entries)) self.new.owned) }
+    {
+        self.owned[r as usize] = 0;
+        if self.top == r && r > 0 {
+            self.top = r - 1;
+        }
+        self.phase = UpdatePhase::Committing;
+        match cluster.entry(ckpt) {
+            None => false,
+            Some(entry) => has_any(&entry.complete, &self.owned, self.top),
+        }
+    }
+
+    /// It takes what a node has answered to a request, and how that ends it.
+    pub fn take(
+        &mut self,
         cluster: &Record,
         r: NodeId,
         request: &Request,
-        answer: &Answer,
+        answer: Answer,
     ) -> Option<Outcome>
-        ensures { result ≡ done_end_by (done_of cluster.now (verb_of request.now) (Some (ckpt_of request.now)) (Some r) words.Ok) answer.now self.now (verb_of request.now) }
+        requires { r < nodes_max }
+        ensures new { self.new ≡ update_taken (done_of cluster.now (verb_of request.now) (Some (ckpt_of request.now)) (Some r) words.Ok) self.old }
+        ensures end { result ≡ done_end_by (done_of cluster.now (verb_of request.now) (Some (ckpt_of request.now)) (Some r) words.Ok) answer self.new (verb_of request.now) }
     {
         match request {
-            Request::Commit(_, ckpt) => {
-                let complete = cluster.complete(*ckpt);
-                self.commit_end(*answer, last_having(&complete, &self.owned))
+            Request::Stage(_, ckpt, _) => {
+                self.staged(cluster, *ckpt, r);
+                None
             }
-            _ => None,
-        }
-    }
-
-    fn commit_end(&self, answer: Answer, last: Option<NodeId>) -> Option<Outcome>
-        ensures { result ≡ commit_end self.now.phase answer last }
-    {
-        match (self.phase, last) {
-            (UpdatePhase::Committing, None) => Some(Outcome::Done(answer)),
+            Request::Commit(_, ckpt) => {
+                if self.committed(cluster, *ckpt, r) {
+                    None
+                } else {
+                    Some(Outcome::Done(answer))
+                }
+            }
             _ => None,
         }
     }
