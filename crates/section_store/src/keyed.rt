@@ -63,6 +63,7 @@ impl Keyed {
 }
 
 /// How an identifier, which has this key, compares with another.
+#[inline(always)]
 pub(crate) fn compare(id: &[u8], key: u64, other: &Keyed) -> Ordering
     requires key { key ≡ key_of id.now }
     requires bytes { AreBytes id.now }
@@ -78,6 +79,7 @@ pub(crate) fn compare(id: &[u8], key: u64, other: &Keyed) -> Ordering
 }
 
 /// How two identifiers of one key compare: where both have no more bytes than it tells, the longer one follows.
+#[inline(always)]
 fn compare_equal_keys(id: &[u8], other: &[u8]) -> Ordering
     requires keys { key_of id.now ≡ key_of other.now }
     requires bytes { AreBytes id.now }
