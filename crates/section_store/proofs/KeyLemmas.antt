@@ -1,5 +1,6 @@
 -- Keys tell the order of identifiers, and the key of a number's identifier is that number.
 use Rattle.std.proofs.Common.{◌≡◌, ℕ, zero, suc, ◌+◌, ◌*◌, ◌^◌, ◌<◌, ◌≤◌, List, [], ◌∷◌, length, nat_eq, get_or, drop, Less, Equal, Greater, true, false, sym, ap, ◌∙◌, refl, inl, inr, arith}
+use Rattle.std.specs.Cmp.{nat_cmp_is}
 use Rattle.std.specs.Ordering.{nat_cmp, ordering_then}
 use Rattle.std.proofs.lemmas.Nat.{from_be_bytes-to_be_bytes_8, be_bytes_8}
 use Rattle.std.specs.Cmp.Lexicographic.{pointwise, bytes_decides}
@@ -28,6 +29,10 @@ drop-drop [] zero = refl
 drop-drop [] (suc i) = refl
 drop-drop (b ∷ bytes) zero = refl
 drop-drop (b ∷ bytes) (suc i) = drop-drop bytes i
+
+-- one more of both leaves their order
+nat_cmp-suc : (m n : ℕ) → nat_cmp m n ≡ nat_cmp (suc m) (suc n)
+nat_cmp-suc m n = grind arith
 
 -- so many bytes, and no less
 abbrev AreFirst : ℕ → List ℕ → Type 0
@@ -83,6 +88,32 @@ key_of-less x y are lt = key_from-less 8 0 x y are lt
 
 pub key_of-greater : (x y : List ℕ) → AreBytes x → key_of y < key_of x → id_cmp x y ≡ Greater
 key_of-greater x y are lt = id_cmp_turned y x Less (key_of-less y x are lt)
+
+-- of bytes that make the same number, and are no more than it tells, the shorter stand first
+key_from-equal : (count number : ℕ) (xs ys : List ℕ) → AreFirst count xs → AreFirst count ys → length xs ≤ count → length ys ≤ count → key_from number count xs ≡ key_from number count ys → id_cmp xs ys ≡ nat_cmp (length xs) (length ys)
+key_from-equal count number [] [] firsts others short_xs short_ys same = refl
+key_from-equal count number [] (y ∷ ys) firsts others short_xs short_ys same = nat_cmp_is 0 (suc (length ys)) Less (omega arith)
+key_from-equal count number (x ∷ xs) [] firsts others short_xs short_ys same = nat_cmp_is (suc (length xs)) 0 Greater (omega arith)
+key_from-equal zero number (x ∷ xs) (y ∷ ys) firsts others short_xs short_ys same = absurd (omega arith)
+key_from-equal (suc count) number (x ∷ xs) (y ∷ ys) firsts others short_xs short_ys same =
+    elim (nat_cmp x y) as (λ o. nat_cmp x y ≡ o → ordering_then o (id_cmp xs ys) ≡ nat_cmp (suc (length xs)) (suc (length ys))) [
+      | Less ↦ λ is.
+          let below : x < y = grind arith in
+          let under = key_from-apart count (number * 256 + x) (number * 256 + y) xs ys (AreFirst-tail count x xs firsts) (omega arith) in
+          absurd (omega arith)
+      | Equal ↦ λ is.
+          let equal : x ≡ y = grind arith in
+          let rest = key_from-equal count (number * 256 + y) xs ys (AreFirst-tail count x xs firsts) (AreFirst-tail count y ys others) (omega arith) (omega arith) (ap (λ b. key_from (number * 256 + b) count xs) (sym equal) ∙ same) in
+          rest ∙ nat_cmp-suc (length xs) (length ys)
+      | Greater ↦ λ is.
+          let above : y < x = grind arith in
+          let over = key_from-apart count (number * 256 + y) (number * 256 + x) ys xs (AreFirst-tail count y ys others) (omega arith) in
+          absurd (omega arith)
+    ] refl
+
+-- of two identifiers of one key that have no more bytes than it tells, the shorter stands first
+pub key_of-equal : (x y : List ℕ) → AreBytes x → AreBytes y → length x ≤ 8 → length y ≤ 8 → key_of x ≡ key_of y → id_cmp x y ≡ nat_cmp (length x) (length y)
+key_of-equal x y firsts others short_x short_y same = key_from-equal 8 0 x y firsts others short_x short_y same
 
 -- of eight bytes the key is the number that they are
 key_of-eight : (bytes : List ℕ) → length bytes ≡ 8 → key_of bytes ≡ from_be_bytes w64 bytes

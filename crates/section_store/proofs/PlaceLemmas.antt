@@ -1,11 +1,12 @@
 -- Where an identifier stands among sections that rise, and what a change there makes of them.
-use Rattle.std.proofs.Common.{◌≡◌, ◌≢◌, ℕ, zero, suc, ◌<◌, ◌≤◌, List, [], ◌∷◌, length, take, Option, Some, None, option_map, slice_get, true, false, cond, not, Less, Equal, Greater, sym, ap, ◌∙◌, subst, refl, arith}
+use Rattle.std.proofs.Common.{◌≡◌, ◌≢◌, ℕ, zero, suc, ◌<◌, ◌≤◌, List, [], ◌∷◌, length, take, Option, Some, None, option_map, slice_get, true, false, cond, not, Less, Equal, Greater, sym, ap, ◌∙◌, subst, refl, inl, inr, arith}
 use Rattle.std.specs.Prelude.{insert, remove, MatchOption}
 use Rattle.std.specs.Ordering.{match_ordering}
+use Rattle.std.proofs.lemmas.Bool.{cases_eq}
 use Rattle.std.proofs.lemmas.Cmp.{nat_list_cmp_total, tied_itself}
 use Rattle.std.proofs.lemmas.Option.{none-some, same_Some}
 use Rattle.ckpt_types.specs.Sections.{Section, id_cmp, is_named, section_at, place_of, IsBelowAll, Rises, with_section, without_section}
-use Rattle.ckpt_types.proofs.Presence.{is_named_decides, is_named-by_order, id_cmp_turned, id_cmp_trans, section_at-place_of, section_at-no_place}
+use Rattle.ckpt_types.proofs.Presence.{is_named_decides, is_named-by_order, id_cmp_turned, id_cmp_trans, section_at-place_of, section_at-no_place, section_at-named}
 use Rattle.section_store.specs.Places.{count_below, changed_at}
 
 -- ---- the order
@@ -89,6 +90,22 @@ count_below-place_of id (x ∷ sections) i rises is =
           let here : id_cmp id x.id ≡ Greater = id_cmp_turned x.id id Less (id_cmp-found x id sections j rises.0 at_j) in
           rw here (ap suc (count_below-place_of id sections j rises.1 at_j) ∙ next)
     ] refl is
+
+-- an identifier behind that of the section at a place has its own place behind it
+pub place_of-above : (id : List ℕ) (sections : List Section) (m i : ℕ) (s : Section) → Rises sections → slice_get sections m ≡ Some s → id_cmp id s.id ≡ Greater → place_of id sections ≡ Some i → m < i
+place_of-above id sections m i s rises is above at = omega (arith, count_below-above id sections m s rises is above, count_below-place_of id sections i rises at)
+
+-- an identifier before that of the section at a place has its own place before it
+pub place_of-below : (id : List ℕ) (sections : List Section) (m i : ℕ) (s : Section) → Rises sections → slice_get sections m ≡ Some s → id_cmp id s.id ≡ Less → place_of id sections ≡ Some i → i < m
+place_of-below id sections m i s rises is below at =
+    let low : id_cmp id s.id ≢ Greater = λ above. cc (below, above) in
+    elim (cases_eq i m) [
+      | inl same ↦
+          let found : section_at id sections ≡ Some s = section_at-place_of id sections i at ∙ ap (slice_get sections) same ∙ is in
+          let tie : id_cmp id s.id ≡ Equal = id_cmp_same id s.id (sym (section_at-named id sections s found)) in
+          absurd (cc (below, tie))
+      | inr other ↦ omega (arith, count_below-le id sections m s is low, count_below-place_of id sections i rises at)
+    ]
 
 -- ---- the changes
 

@@ -7,7 +7,7 @@ use Rattle.std.proofs.lemmas.List.Sorted.{All-permutation}
 use Rattle.std.proofs.lemmas.List.Elements.{All-append, All-take, All-drop, All-cons, All-nil}
 use Rattle.std.proofs.lemmas.Option.{slice_get-map, slice_get_read}
 use Rattle.ckpt_types.specs.Sections.{Section, Rises, is_named, is_present, is_taken, place_of, present, section_at, where_present}
-use Rattle.ckpt_types.proofs.Presence.{is_named_decides, place_of-slice_get, place_of-lt, section_at-place_of, section_at-named, section_at-present, section_at-no_place}
+use Rattle.ckpt_types.proofs.Presence.{is_named_decides, place_of-slice_get, section_at-place_of, section_at-present, section_at-no_place}
 use Rattle.section_store.specs.Places.{changed_at}
 use Rattle.section_store.specs.Stored.{section_of, sections_of, HaveRoom}
 use Rattle.section_store.specs.declared.stored.Stored.{Stored}
@@ -54,16 +54,6 @@ HaveRoom-at size kept i s room there is = subst (λ s. size ≤ vec_capacity s.v
 pub place_of-kept : (id : List ℕ) (kept : List (Box Stored)) (i : ℕ) (s : Box Stored) → Rises (sections_of kept) → i < length kept → s ≡ get_or kept i s → is_named id (section_of s.value) ≡ true → place_of id (sections_of kept) ≡ Some i
 place_of-kept id kept i s rises there is named =
     ap (λ x. place_of x (sections_of kept)) (sym ((is_named_decides id (section_of s.value)).0 named)) ∙ place_of-slice_get (sections_of kept) i (section_of s.value) rises (slice_get-sections_of kept i s there is)
-
--- what stands at the place of an identifier has it
-pub is_named-place_of : (id : List ℕ) (kept : List (Box Stored)) (i : ℕ) (s : Box Stored) → place_of id (sections_of kept) ≡ Some i → s ≡ get_or kept i s → is_named id (section_of s.value) ≡ true
-is_named-place_of id kept i s place is =
-    let there : i < length kept = omega (arith, place_of-lt id (sections_of kept) i place, length-sections_of kept) in
-    (is_named_decides id (section_of s.value)).1 (section_at-named id (sections_of kept) (section_of s.value) (section_at-place_of id (sections_of kept) i place ∙ slice_get-sections_of kept i s there is))
-
--- an identifier that has no place anywhere has none
-pub place_of-None : (id : List ℕ) (sections : List Section) → ((i : ℕ) → place_of id sections ≡ Some i → ⊥) → place_of id sections ≡ None
-place_of-None id sections nowhere = elim (place_of id sections) as (λ o. place_of id sections ≡ o → o ≡ None) [ None ↦ λ e. refl | Some i ↦ λ e. absurd (nowhere i e) ] refl
 
 -- where a search found an identifier, over the same records
 pub place_found : (id : List ℕ) (kept shown : List (Box Stored)) (found o : Option ℕ) → shown ≡ kept → found ≡ place_of id (sections_of shown) → found ≡ o → place_of id (sections_of kept) ≡ o

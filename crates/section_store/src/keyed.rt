@@ -47,13 +47,6 @@ impl Keyed {
         &self.id
     }
 
-    /// Whether it has these bytes.
-    pub fn has_bytes(&self, id: &[u8]) -> bool
-        ensures { result ≡ pointwise nat_eq self.now id.now }
-    {
-        self.id.as_slice() == id
-    }
-
     /// Its first bytes as a number, the highest first, with zeros behind a shorter one.
     pub fn key(&self) -> u64
         ensures { result ≡ key_of self.now }
@@ -70,6 +63,7 @@ impl Keyed {
 }
 
 /// How an identifier, which has this key, compares with another.
+#[inline(always)]
 pub(crate) fn compare(id: &[u8], key: u64, other: &Keyed) -> Ordering
     requires key { key ≡ key_of id.now }
     requires bytes { AreBytes id.now }
@@ -80,7 +74,22 @@ pub(crate) fn compare(id: &[u8], key: u64, other: &Keyed) -> Ordering
     } else if key > other.key {
         Ordering::Greater
     } else {
-        id.cmp(other.id.as_slice())
+        compare_equal_keys(id, other.id.as_slice())
+    }
+}
+
+/// How two identifiers of one key compare: where both have no more bytes than it tells, the longer one follows.
+#[inline(always)]
+fn compare_equal_keys(id: &[u8], other: &[u8]) -> Ordering
+    requires keys { key_of id.now ≡ key_of other.now }
+    requires bytes { AreBytes id.now }
+    requires other_bytes { AreBytes other.now }
+    ensures { result ≡ id_cmp id.now other.now }
+{
+    if id.len() <= KEY_BYTES && other.len() <= KEY_BYTES {
+        id.len().cmp(&other.len())
+    } else {
+        id.cmp(other)
     }
 }
 

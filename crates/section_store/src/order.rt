@@ -25,7 +25,8 @@ pub(crate) fn place_for(kept: &[Box<Stored>], id: &[u8]) -> usize
         let middle = low + (high - low) / 2;
         match compare(id, key, &kept[middle].id) {
             Ordering::Greater => low = middle + 1,
-            Ordering::Less | Ordering::Equal => high = middle,
+            Ordering::Less => high = middle,
+            Ordering::Equal => return middle,
         }
     }
     low
@@ -37,12 +38,18 @@ pub(crate) fn find(kept: &[Box<Stored>], id: &[u8]) -> Option<usize>
     ensures place { result ≡ place_of id.now (sections_of kept.now) }
     ensures within { IfSome result (λ place. place < length kept.now) }
 {
-    let place = place_for(kept, id);
-    if place < kept.len() && kept[place].id.has_bytes(id) {
-        Some(place)
-    } else {
-        None
+    let key = key_of(id);
+    let mut low = 0;
+    let mut high = kept.len();
+    while low < high {
+        let middle = low + (high - low) / 2;
+        match compare(id, key, &kept[middle].id) {
+            Ordering::Greater => low = middle + 1,
+            Ordering::Less => high = middle,
+            Ordering::Equal => return Some(middle),
+        }
     }
+    None
 }
 
 /// Writes into the section at a place, and says how many bytes more it has.

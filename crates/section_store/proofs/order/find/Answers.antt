@@ -1,31 +1,50 @@
-use Rattle.std.proofs.Common.{◌≡◌, ℕ, true, Some, get_or, ap, ◌∙◌, sym, arith}
-use Rattle.std.proofs.lemmas.Bool.{true≢false}
-use Rattle.std.specs.Cmp.Lexicographic.{pointwise}
-use Rattle.std.specs.Prelude.{nat_eq}
-use Rattle.ckpt_types.specs.Sections.{is_named, place_of}
-use Rattle.ckpt_types.proofs.Presence.{place_of-lt}
+use Rattle.std.proofs.Common.{◌≡◌, ◌+◌, ◌-◌, ◌/◌, ◌<◌, Less, Equal, Greater, true, ap, ◌∙◌, sym, arith}
+use Rattle.ckpt_types.specs.Sections.{id_cmp, is_named}
+use Rattle.ckpt_types.proofs.Presence.{is_named-by_order, place_of-lt}
 use Rattle.section_store.specs.Stored.{section_of, sections_of}
-use Rattle.section_store.proofs.PlaceLemmas.{count_below-place_of}
-use Rattle.section_store.proofs.StoredLemmas.{length-sections_of, place_of-kept, is_named-place_of, place_of-None}
+use Rattle.section_store.proofs.PlaceLemmas.{place_of-above, place_of-below}
+use Rattle.section_store.proofs.StoredLemmas.{length-sections_of, slice_get-sections_of, place_of-kept}
 use Rattle.section_store.proofs.order.find.Goals as goal
-use Rattle.section_store.proofs.order.find.Goals.{else-place-kept-via-then-place-kept+else-has_bytes, else-place-kept-via-else-place-kept}
 
-pub returns-then-has_bytes-clause-place : goal.returns-then-has_bytes-clause-place
-returns-then-has_bytes-clause-place c =
-    let stored = c.index-kept-place.result in
-    let named : is_named c.args.id.now (section_of stored.value) ≡ true = ap (λ s. pointwise nat_eq s.id c.args.id.now) (sym c.deref.ensures) ∙ sym c.has_bytes.ensures ∙ c.if-has_bytes.true in
-    sym (place_of-kept c.args.id.now c.args.kept.now c.place_for-place.result stored c.requires c.if-place-kept.true c.index-kept-place.is named)
+pub loop-low-init : goal.loop-low-init
+loop-low-init c = record {
+  above = λ i at. omega arith;
+  below = λ i at. omega (arith, place_of-lt c.args.id.now (sections_of c.args.kept.now) i at, length-sections_of c.args.kept.now);
+  within = omega arith;
+}
 
-pub returns-else-place-kept-clause-place : goal.returns-else-place-kept-clause-place
-returns-else-place-kept-clause-place c =
+pub loop-low-preserved-in-Greater : goal.loop-low-preserved-in-Greater
+loop-low-preserved-in-Greater c =
     let id = c.args.id.now in
     let kept = c.args.kept.now in
-    let at : (i : ℕ) → place_of id (sections_of kept) ≡ Some i → c.place_for-place.result ≡ i = λ i place. c.place_for-place.ensures.place ∙ count_below-place_of id (sections_of kept) i c.requires place in
-    sym (place_of-None id (sections_of kept) (λ i place. elim c.else-place-kept.branch [
-      | else-place-kept-via-then-place-kept+else-has_bytes w ↦
-          let stored = w.index-kept-place.result in
-          let here : stored ≡ get_or kept i stored = w.index-kept-place.is ∙ ap (λ n. get_or kept n stored) (at i place) in
-          let named : is_named id (section_of stored.value) ≡ true = is_named-place_of id kept i stored place here in
-          true≢false (sym named ∙ ap (λ s. pointwise nat_eq s.id id) (sym w.deref.ensures) ∙ sym w.has_bytes.ensures ∙ w.if-has_bytes.false)
-      | else-place-kept-via-else-place-kept w ↦ let same = at i place in let lt = place_of-lt id (sections_of kept) i place in omega (arith, length-sections_of kept)
-    ]))
+    let stored = c.index-kept-middle.result in
+    let middle = c.loop-low.low + (c.loop-low.high - c.loop-low.low) / 2 in
+    let greater : id_cmp id stored.value.id ≡ Greater = ap (λ s. id_cmp id s.id) (sym c.deref.ensures) ∙ sym c.compare.ensures ∙ c.in-Greater.is in
+    let here = slice_get-sections_of kept middle stored (omega arith) c.index-kept-middle.is in
+    record {
+      above = λ i at. let behind : middle < i = place_of-above id (sections_of kept) middle i (section_of stored.value) c.requires here greater at in omega arith;
+      below = c.loop-low.invariant.below;
+      within = c.loop-low.invariant.within;
+    }
+
+pub loop-low-preserved : goal.loop-low-preserved
+loop-low-preserved c =
+    let id = c.args.id.now in
+    let kept = c.args.kept.now in
+    let stored = c.index-kept-middle.result in
+    let middle = c.loop-low.low + (c.loop-low.high - c.loop-low.low) / 2 in
+    let less : id_cmp id stored.value.id ≡ Less = ap (λ s. id_cmp id s.id) (sym c.deref.ensures) ∙ sym c.compare.ensures ∙ c.in-Less.is in
+    let here = slice_get-sections_of kept middle stored (omega arith) c.index-kept-middle.is in
+    record {
+      above = c.loop-low.invariant.above;
+      below = λ i at. place_of-below id (sections_of kept) middle i (section_of stored.value) c.requires here less at;
+      within = omega arith;
+    }
+
+pub returns-in-Equal-clause-place : goal.returns-in-Equal-clause-place
+returns-in-Equal-clause-place c =
+    let id = c.args.id.now in
+    let stored = c.index-kept-middle.result in
+    let equal : id_cmp id stored.value.id ≡ Equal = ap (λ s. id_cmp id s.id) (sym c.deref.ensures) ∙ sym c.compare.ensures ∙ c.in-Equal.is in
+    let named : is_named id (section_of stored.value) ≡ true = is_named-by_order id (section_of stored.value) Equal equal in
+    sym (place_of-kept id c.args.kept.now _ stored c.requires (omega arith) c.index-kept-middle.is named)
