@@ -27,6 +27,8 @@ pub mod EndedTables
 pub mod OneStepCalls
 pub mod Enter
 pub mod Acknowledged
+pub mod BegunBefore
+pub mod UpdateAnswers
 pub mod Active
 pub mod Beginnings
 pub mod BeginRows
