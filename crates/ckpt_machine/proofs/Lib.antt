@@ -27,6 +27,7 @@ pub mod EndedTables
 pub mod OneStepCalls
 pub mod Enter
 pub mod Acknowledged
+pub mod AcknowledgedExamples
 pub mod BegunBefore
 pub mod UpdateAnswers
 pub mod Active
