@@ -60,6 +60,7 @@ use Rattle.ckpt_machine.proofs.Owning.{same_call-true, owner_update}
 use Rattle.ckpt_machine.proofs.References.{released-identity, released_all-identity}
 use Rattle.ckpt_machine.proofs.RefusedRuns.{owns_nothing}
 use Rattle.ckpt_machine.proofs.BegunBefore.{all_began}
+use Rattle.ckpt_machine.proofs.BegunOnce.{begins_once}
 use Rattle.ckpt_machine.proofs.UpdateAnswers.{begin_not_done, IsDoneCommit, done_by_commit}
 use Rattle.ckpt_machine.proofs.ReplicaSteps.{put_actor-here}
 use Rattle.ckpt_machine.proofs.Runs.{last_from-append, run_before, run_front, IsRunFrom-back}
@@ -549,6 +550,7 @@ acknowledged_stay log run front more back l call is acks =
       asks = first.asks;
       ckpt = first.ckpt;
       begun = first.begun;
+      once = λ other k begun. begins_once front before call first.op other (Some first.ckpt) k first.begun begun;
       named = first.named;
       on_every = subst (λ (m : Machine). IsOnEvery m first.ckpt call (update_of first.op)) (sym (last_from-append _ front (l ∷ more))) all.every;
     }

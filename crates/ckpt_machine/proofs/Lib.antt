@@ -29,6 +29,7 @@ pub mod Enter
 pub mod Acknowledged
 pub mod AcknowledgedExamples
 pub mod BegunBefore
+pub mod BegunOnce
 pub mod UpdateAnswers
 pub mod Active
 pub mod Beginnings
