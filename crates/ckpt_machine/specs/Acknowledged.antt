@@ -67,7 +67,7 @@ pub record IsAcknowledged (log : List Label) (l : Label) (call : CallId) (m : Ma
   pub asks : IsUpdateWord (word_of_op op)
   pub ckpt : ℕ
   pub begun : HasBegun log call op (Some ckpt)
-  -- and no other beginning of it is in the log
+  -- with no other operation, and on no other checkpoint
   pub once : (other : Op) (k : Option ℕ) → HasBegun log call other k → (other ≡ op) × (k ≡ Some ckpt)
   pub named : ckpt_named l ≡ Some ckpt
   pub on_every : IsOnEvery m ckpt call (update_of op)
