@@ -8,6 +8,8 @@ use Rattle.ckpt_types.specs.declared.answers.Outcome.{Outcome}
 use Rattle.ckpt_types.specs.declared.answers.Outcome.TheVariants.{Done}
 use Rattle.ckpt_types.specs.declared.attributes.CreationAttributes.{CreationAttributes}
 use Rattle.ckpt_types.specs.declared.identities.CallId.{CallId}
+use Rattle.ckpt_types.specs.declared.operation.Op.{Op}
+use Rattle.ckpt_types.specs.declared.update.Update.{Update}
 use Rattle.ckpt_types.specs.Reads.{NextGiven}
 use Rattle.section_iter.specs.KeptIds.{KeptIds}
 use Rattle.client_handles.specs.declared.handle_view.HandleView.{HandleView}
@@ -21,6 +23,7 @@ use Rattle.run_labels.specs.declared.details.Details.{Details}
 use Rattle.run_labels.specs.declared.labels.Label.{Label}
 use Rattle.run_labels.specs.declared.labels.Label.TheVariants as labels
 use Rattle.run_labels.specs.declared.words.OpWord.{OpWord}
+use Rattle.run_labels.specs.OpWord.{word_of_op}
 use Rattle.cluster_record.specs.declared.entries.Entry.{Entry}
 use Rattle.cluster_record.specs.Calls.{client_of, number_of}
 use Rattle.cluster_record.specs.DueOpen.{OpenState, making_ckpt, open_event}
@@ -29,7 +32,7 @@ use Rattle.cluster_record.specs.LookUps.{at_ckpt}
 use Rattle.cluster_record.specs.Places.{change_key, put2}
 use Rattle.cluster_record.specs.RecordState.{RecordState, entry_of, identity_of, complete_of, stays, swept, moved, created_as, new_entry, referred, made_with, released, released_all, unnamed, retaining, is_call_of, departed, undone, has_references}
 use Rattle.cluster_record.proofs.IdentityLaws.{KeepsIdentity, IdentitiesRise-change_key, IdentitiesRise-filter, IdentitiesRise-map, IdentitiesRise-push}
-use Rattle.ckpt_machine.specs.Acknowledged.{Acknowledges, IsOnEvery}
+use Rattle.ckpt_machine.specs.Acknowledged.{IsUpdateWord, Acknowledges, ckpt_named, HasBegun, IsUpdateBy, HasUpdate, IsOnEvery}
 use Rattle.ckpt_machine.specs.AllOrNone.{OneUpdate, IsOfOne}
 use Rattle.ckpt_machine.specs.Beginning.{opened_place, started_place, iteration_place, closed_place, ended_place}
 use Rattle.ckpt_machine.specs.Complete.{with_replica, replicas_from, complete_replicas}
@@ -40,8 +43,8 @@ use Rattle.ckpt_machine.specs.Guards.{OnEach, OnReplica, IsOwnMaking, CommitOk, 
 use Rattle.ckpt_machine.specs.Invariant.{Invariant}
 use Rattle.ckpt_machine.specs.Laws.{AcknowledgedStays}
 use Rattle.ckpt_machine.specs.Machine.{Machine, Applied, Effect, ReplicaState, Staged, CallState}
-use Rattle.ckpt_machine.specs.Owned.{OwnsNothing, HasEffect, IsEffectOf}
-use Rattle.ckpt_machine.specs.Runs.{last_from, last, IsRunFrom}
+use Rattle.ckpt_machine.specs.Owned.{OwnsNothing}
+use Rattle.ckpt_machine.specs.Runs.{last_from, last, IsRunFrom, IsRun}
 use Rattle.ckpt_machine.specs.Serving.{update_of, update_answer}
 use Rattle.ckpt_machine.specs.Shape.{IsCompleteOn}
 use Rattle.ckpt_machine.specs.Steps.{IsDue, driver_of, with_record, with_opened, with_handle_at, with_iteration, with_next, with_ended, without_handle, change_replica, with_committed, committed_slot, with_slot, effect_of, begun_call, changed, event_done, on_ok, on_look, without_making, at_some, new_handle, handle_in, replica_under, opened_state, stepped, step_of, staged_moment, after}
@@ -49,37 +52,47 @@ use Rattle.ckpt_machine.proofs.AllOrNone.{all_or_none}
 use Rattle.ckpt_machine.proofs.Entries.{ComesOf-filter, ComesOf-change_key, ComesOf-map, ComesOf-then}
 use Rattle.ckpt_machine.proofs.EntryLists.{find_key-key, find_key-change_key, entry_of-given}
 use Rattle.ckpt_machine.proofs.Facts.{facts}
-use Rattle.ckpt_machine.proofs.Follows.{IsBare, effect_more}
-use Rattle.ckpt_machine.proofs.Histories.{HasHistory, of_update-is, making_incomplete, keeps_history, run_history}
+use Rattle.ckpt_machine.proofs.Follows.{IsBare}
+use Rattle.ckpt_machine.proofs.Histories.{HasHistory, of_update-is, slot_owned, making_incomplete, keeps_history, run_history}
 use Rattle.ckpt_machine.proofs.Lawful.{lawful}
 use Rattle.ckpt_machine.proofs.OptionLemmas.{IsSomeAnd-at, IsSomeAnd-from}
-use Rattle.ckpt_machine.proofs.Owning.{same_call-true}
+use Rattle.ckpt_machine.proofs.Owning.{same_call-true, owner_update}
 use Rattle.ckpt_machine.proofs.References.{released-identity, released_all-identity}
 use Rattle.ckpt_machine.proofs.RefusedRuns.{owns_nothing}
+use Rattle.ckpt_machine.proofs.BegunBefore.{all_began}
+use Rattle.ckpt_machine.proofs.BegunOnce.{begins_once}
+use Rattle.ckpt_machine.proofs.UpdateAnswers.{begin_not_done, IsDoneCommit, done_by_commit}
 use Rattle.ckpt_machine.proofs.ReplicaSteps.{put_actor-here}
 use Rattle.ckpt_machine.proofs.Runs.{last_from-append, run_before, run_front, IsRunFrom-back}
 
 -- ---- effects
 
 -- one effect more takes none away
-has_more : (d : CallId) (xs ys : List Effect) → HasEffect d xs → HasEffect d (xs ++ ys)
-has_more d [] ys has = absurd has
-has_more d (x ∷ xs) ys (inl is) = inl is
-has_more d (x ∷ xs) ys (inr has) = inr (has_more d xs ys has)
+has_more : (d : CallId) (u : Update) (xs ys : List Effect) → HasUpdate d u xs → HasUpdate d u (xs ++ ys)
+has_more d u [] ys has = absurd has
+has_more d u (x ∷ xs) ys (inl is) = inl is
+has_more d u (x ∷ xs) ys (inr has) = inr (has_more d u xs ys has)
 
 -- the new one is there
-has_new : (d : CallId) (xs : List Effect) (new : Effect) → IsEffectOf d new → HasEffect d (xs ++ new ∷ [])
-has_new d [] new is = inl is
-has_new d (x ∷ xs) new is = inr (has_new d xs new is)
+has_new : (d : CallId) (u : Update) (xs : List Effect) (new : Effect) → IsUpdateBy d u new → HasUpdate d u (xs ++ new ∷ [])
+has_new d u [] new is = inl is
+has_new d u (x ∷ xs) new is = inr (has_new d u xs new is)
+
+-- one effect more is the new one, or was there
+has_before : (d : CallId) (u : Update) (xs : List Effect) (new : Effect) → HasUpdate d u (xs ++ new ∷ []) → HasUpdate d u xs ⊎ IsUpdateBy d u new
+has_before d u [] new (inl is) = inr is
+has_before d u [] new (inr none) = absurd none
+has_before d u (x ∷ xs) new (inl is) = inl (inl is)
+has_before d u (x ∷ xs) new (inr more) = elim (has_before d u xs new more) [ inl was ↦ inl (inr was) | inr is ↦ inr is ]
 
 -- a commit takes none away
-committed_has : (o : Option Entry) (x : ReplicaState) (d : CallId) → HasEffect d x.effects → HasEffect d (with_committed o x).effects
-committed_has None x d has = has
-committed_has (Some e) x d has = by_slot x.slot
+committed_has : (o : Option Entry) (x : ReplicaState) (d : CallId) (u : Update) → HasUpdate d u x.effects → HasUpdate d u (with_committed o x).effects
+committed_has None x d u has = has
+committed_has (Some e) x d u has = by_slot x.slot
   where
-    by_slot : (o : Option Staged) → HasEffect d (committed_slot e.attributes x o).effects
+    by_slot : (o : Option Staged) → HasUpdate d u (committed_slot e.attributes x o).effects
     by_slot None = has
-    by_slot (Some slot) = has_more d x.effects (effect_of slot ∷ []) has
+    by_slot (Some slot) = has_more d u x.effects (effect_of slot ∷ []) has
 
 -- ---- a checkpoint that is made
 
@@ -217,22 +230,22 @@ module _ (k : ℕ) (R : RecordState) (given : k ≤ R.last_identity) (rises : Id
 -- ---- the update stays
 
 -- the checkpoint was given and is made, if it is there, and each of its replicas has the update
-record StaysIn (k : ℕ) (call : CallId) (R : RecordState) (replicas : ℕ → ℕ → Option ReplicaState) : Type 0 where
+record StaysIn (k : ℕ) (call : CallId) (update : Update) (R : RecordState) (replicas : ℕ → ℕ → Option ReplicaState) : Type 0 where
   given : k ≤ R.last_identity
   made : (e : Entry) → entry_of k R.entries ≡ Some e → e.making ≡ None
-  every : (r : ℕ) (x : ReplicaState) → replicas k r ≡ Some x → HasEffect call x.effects
+  every : (r : ℕ) (x : ReplicaState) → replicas k r ≡ Some x → HasUpdate call update x.effects
 
-abbrev Stays : ℕ → CallId → Machine → Type 0
-Stays k call m = StaysIn k call m.cluster m.replicas
+abbrev Stays : ℕ → CallId → Update → Machine → Type 0
+Stays k call update m = StaysIn k call update m.cluster m.replicas
 
-module _ (k : ℕ) (call : CallId) (m : Machine) (stay : Stays k call m) where
+module _ (k : ℕ) (call : CallId) (update : Update) (m : Machine) (stay : Stays k call update m) where
   -- of a node that was complete the replica is as it was
   kept : (b : Bool) (new : ReplicaState) (old : Option ReplicaState) (y : ReplicaState) → cond b None (cond b (Some new) old) ≡ Some y → old ≡ Some y
   kept true new old y is = absurd (cc is)
   kept false new old y is = is
 
   -- a step of the record
-  record_stays : (R : RecordState) → MadeOn k m.cluster R → Stays k call (with_record m R)
+  record_stays : (R : RecordState) → MadeOn k m.cluster R → Stays k call update (with_record m R)
   record_stays R on = record {
     given = (let a = on.last in let b = stay.given in omega (arith, a, b));
     made = λ f found. (let (e, was, keeps) = on.made f found in (keeps (stay.made e was)).0);
@@ -247,68 +260,68 @@ module _ (k : ℕ) (call : CallId) (m : Machine) (stay : Stays k call m) where
           kept (slice_index f.complete r == 0) (opened_state f) (m.replicas k r) y (subst (λ (nodes : List ℕ). cond (slice_index f.complete r == 0) None (cond (slice_index nodes r == 0) (Some (opened_state f)) (m.replicas k r)) ≡ Some y) same is)
 
   -- one replica changed, whose effects stay
-  replica_stays : (j q : ℕ) (o : Option ReplicaState) → m.replicas j q ≡ o → (change : ReplicaState → ReplicaState) → ((x : ReplicaState) → HasEffect call x.effects → HasEffect call (change x).effects) → Stays k call (change_replica m j q o change)
+  replica_stays : (j q : ℕ) (o : Option ReplicaState) → m.replicas j q ≡ o → (change : ReplicaState → ReplicaState) → ((x : ReplicaState) → HasUpdate call update x.effects → HasUpdate call update (change x).effects) → Stays k call update (change_replica m j q o change)
   replica_stays j q None there change more = stay
   replica_stays j q (Some x) there change more = record { given = stay.given; made = stay.made; every = every }
     where
-      every : (r : ℕ) (y : ReplicaState) → put2 m.replicas j q (Some (change x)) k r ≡ Some y → HasEffect call y.effects
-      every r y is = elim ((k == j) && (r == q)) as (λ b. ((k == j) && (r == q)) ≡ b → cond b (Some (change x)) (m.replicas k r) ≡ Some y → HasEffect call y.effects) [
+      every : (r : ℕ) (y : ReplicaState) → put2 m.replicas j q (Some (change x)) k r ≡ Some y → HasUpdate call update y.effects
+      every r y is = elim ((k == j) && (r == q)) as (λ b. ((k == j) && (r == q)) ≡ b → cond b (Some (change x)) (m.replicas k r) ≡ Some y → HasUpdate call update y.effects) [
         | true ↦ λ at here.
             let (ckpt, node) = and_parts (k == j) (r == q) at in
             let was : m.replicas k q ≡ Some x = subst (λ i. m.replicas i q ≡ Some x) (sym (eqb-true k j ckpt)) there in
-            subst (λ (z : ReplicaState). HasEffect call z.effects) (same_Some (change x) y here) (more x (stay.every q x was))
+            subst (λ (z : ReplicaState). HasUpdate call update z.effects) (same_Some (change x) y here) (more x (stay.every q x was))
         | false ↦ λ at other. stay.every r y other
       ] refl is
 
   module _ (rises : IdentitiesRise m.cluster.entries) (up_to : AllUpTo m.cluster.last_identity m.cluster.entries) (s : CallState) (own : OwnsMaking m.cluster s.call (making_in (driver_of s))) where
-    event_stays : (step : RecordStep) → Stays k call (event_done m s step)
+    event_stays : (step : RecordStep) → Stays k call update (event_done m s step)
     event_stays step = record_stays (event_after s.call (driver_of s) step m.cluster) (MadeOn-swept k m.cluster (event_change s.call (driver_of s) step m.cluster) (change_on k m.cluster stay.given rises up_to s.call (driver_of s) own step))
 
-    undone_stays : (j : Option ℕ) → Stays k call (without_making m j)
+    undone_stays : (j : Option ℕ) → Stays k call update (without_making m j)
     undone_stays None = stay
     undone_stays (Some j) = record_stays (swept (undone j m.cluster)) (MadeOn-swept k m.cluster (undone j m.cluster) (filter_on k m.cluster stay.given rises up_to (λ e. not (e.identity == j))))
 
     -- what is done on OK alone, and at a checkpoint and a node that are named
-    ok_stays : (reply : StepReply) (n : Machine) → Stays k call n → Stays k call (on_ok reply m n)
+    ok_stays : (reply : StepReply) (n : Machine) → Stays k call update n → Stays k call update (on_ok reply m n)
     ok_stays words.Ok n then = then
     ok_stays reply n then = stay
 
-    look_stays : (reply : StepReply) (done refused : Machine) → Stays k call done → Stays k call refused → Stays k call (on_look reply m done refused)
+    look_stays : (reply : StepReply) (done refused : Machine) → Stays k call update done → Stays k call update refused → Stays k call update (on_look reply m done refused)
     look_stays words.Done done refused after_done after_refused = after_done
     look_stays words.Refused done refused after_done after_refused = after_refused
     look_stays reply done refused after_done after_refused = stay
 
-    both_stay : (j q : Option ℕ) (change : ℕ → ℕ → Machine) → ((j q : ℕ) → Stays k call (change j q)) → Stays k call (at_some j m (λ j. at_some q m (change j)))
+    both_stay : (j q : Option ℕ) (change : ℕ → ℕ → Machine) → ((j q : ℕ) → Stays k call update (change j q)) → Stays k call update (at_some j m (λ j. at_some q m (change j)))
     both_stay None q change each = stay
     both_stay (Some j) None change each = stay
     both_stay (Some j) (Some q) change each = each j q
 
     -- a client's tables
-    handle_stays : (n : Machine) (c : ℕ) (h : HandleView) (place : Option ℕ) → Stays k call n → Stays k call (with_handle_at n c h place)
+    handle_stays : (n : Machine) (c : ℕ) (h : HandleView) (place : Option ℕ) → Stays k call update n → Stays k call update (with_handle_at n c h place)
     handle_stays n c h None then = then
     handle_stays n c h (Some place) then = then
 
-    opened_stays : (n : Machine) (j : Option ℕ) → Stays k call n → Stays k call (with_opened s j n)
+    opened_stays : (n : Machine) (j : Option ℕ) → Stays k call update n → Stays k call update (with_opened s j n)
     opened_stays n None then = then
     opened_stays n (Some j) then = handle_stays n (client_of s.call) (new_handle n.cluster (n.last_handles (client_of s.call)) s.op j) (opened_place s.op) then
 
-    closed_stays : (n : Machine) (c : ℕ) (h : Option HandleView) → Stays k call n → Stays k call (without_handle n c h)
+    closed_stays : (n : Machine) (c : ℕ) (h : Option HandleView) → Stays k call update n → Stays k call update (without_handle n c h)
     closed_stays n c None then = then
     closed_stays n c (Some h) then = then
 
-    started_stays : (c : ℕ) (h : Option HandleView) (place : Option ℕ) (ids : KeptIds) → Stays k call (with_iteration m c h place ids)
+    started_stays : (c : ℕ) (h : Option HandleView) (place : Option ℕ) (ids : KeptIds) → Stays k call update (with_iteration m c h place ids)
     started_stays c (Some h) (Some place) ids = stay
     started_stays c (Some h) None ids = stay
     started_stays c None place ids = stay
 
-    next_stays : (c : ℕ) (place : Option ℕ) (ids : Option KeptIds) (next : Option NextGiven) → Stays k call (with_next m c place ids next)
+    next_stays : (c : ℕ) (place : Option ℕ) (ids : Option KeptIds) (next : Option NextGiven) → Stays k call update (with_next m c place ids next)
     next_stays c (Some place) (Some ids) (Some next) = stay
     next_stays c (Some place) (Some ids) None = stay
     next_stays c (Some place) None next = stay
     next_stays c None ids next = stay
 
     -- any step
-    changed_stays : (verb : Verb) (j q : Option ℕ) (reply : StepReply) → Stays k call (changed m s verb j q reply)
+    changed_stays : (verb : Verb) (j q : Option ℕ) (reply : StepReply) → Stays k call update (changed m s verb j q reply)
     changed_stays verbs.Enter j q reply = ok_stays reply _ (event_stays events.Enter)
     changed_stays verbs.Open j q reply = ok_stays reply _ (opened_stays _ j (event_stays events.Open))
     changed_stays verbs.Create j q reply = ok_stays reply _ (event_stays events.Create)
@@ -316,7 +329,7 @@ module _ (k : ℕ) (call : CallId) (m : Machine) (stay : Stays k call m) where
     changed_stays verbs.Finish j q reply = ok_stays reply _ (opened_stays _ j (event_stays events.Finish))
     changed_stays verbs.Undo j q reply = ok_stays reply _ (event_stays events.Undo)
     changed_stays verbs.Stage j q reply = ok_stays reply _ (both_stay j q _ (λ j q. replica_stays j q (m.replicas j q) refl (with_slot s.call (update_of s.op) (staged_moment m j)) (λ x has. has)))
-    changed_stays verbs.Commit j q reply = ok_stays reply _ (both_stay j q _ (λ j q. replica_stays j q (m.replicas j q) refl (with_committed (entry_of j m.cluster.entries)) (λ x has. committed_has (entry_of j m.cluster.entries) x call has)))
+    changed_stays verbs.Commit j q reply = ok_stays reply _ (both_stay j q _ (λ j q. replica_stays j q (m.replicas j q) refl (with_committed (entry_of j m.cluster.entries)) (λ x has. committed_has (entry_of j m.cluster.entries) x call update has)))
     changed_stays verbs.Iter j q reply = ok_stays reply _ (both_stay j q _ (λ j q. started_stays (client_of s.call) _ (started_place s.op) _))
     changed_stays verbs.Next j q reply = ok_stays reply _ (both_stay j q _ (λ j q. next_stays (client_of s.call) (iteration_place s.op) _ _))
     changed_stays verbs.Leave j q reply = ok_stays reply _ (event_stays events.Leave)
@@ -326,7 +339,7 @@ module _ (k : ℕ) (call : CallId) (m : Machine) (stay : Stays k call m) where
     changed_stays verbs.Look j q reply = look_stays reply _ _ (closed_stays m (client_of s.call) (handle_in m (client_of s.call) (closed_place s.op)) stay) (undone_stays (making_in (driver_of s)))
     changed_stays verb j q reply = stay
 
-  ended_stays : (n : Machine) (c : ℕ) (place : Option ℕ) → Stays k call n → Stays k call (with_ended c place n)
+  ended_stays : (n : Machine) (c : ℕ) (place : Option ℕ) → Stays k call update n → Stays k call update (with_ended c place n)
   ended_stays n c None then = then
   ended_stays n c (Some place) then = then
 
@@ -349,12 +362,12 @@ module _ (k : ℕ) (call : CallId) (m : Machine) (stay : Stays k call m) where
       by_driver (drivers.Retain j duration) is = tt
 
   -- any label that is due
-  after_stays : Invariant m → (l : Label) → IsDue m l → Stays k call (after m l)
+  after_stays : Invariant m → (l : Label) → IsDue m l → Stays k call update (after m l)
   after_stays inv (labels.Began d op end) is = ended_stays (begun_call m d op end) (number_of d.actor) (ended_place end op) (record { given = stay.given; made = stay.made; every = stay.every })
   after_stays inv (labels.Stepped d op verb j q reply end details) is =
       let held : m.in_hand is.state.call.actor ≡ Some is.state = ap (λ (c : CallId). m.in_hand c.actor) is.call_is ∙ is.in_hand in
       let then = changed_stays inv.holds.rises inv.holds.up_to is.state (owns inv is.state held) verb j q reply in
-      subst (λ o. Stays k call (step_of m o verb j q reply end)) (sym is.in_hand) (record { given = then.given; made = then.made; every = then.every })
+      subst (λ o. Stays k call update (step_of m o verb j q reply end)) (sym is.in_hand) (record { given = then.given; made = then.made; every = then.every })
   after_stays inv (labels.Word who line said) is = stay
   after_stays inv (labels.Nodes n) is = record { given = stay.given; made = stay.made; every = stay.every }
   after_stays inv (labels.Moved t) is = record_stays (moved t m.cluster) (record { last = omega arith; rises = IdentitiesRise-filter (stays t) m.cluster.entries inv.holds.rises; made = ComesOf-filter StaysMade StaysMade-same (stays t) m.cluster.entries inv.holds.rises k })
@@ -362,9 +375,9 @@ module _ (k : ℕ) (call : CallId) (m : Machine) (stay : Stays k call m) where
   after_stays inv l is = absurd is
 
 -- and at every time from then on
-stays_from : (k : ℕ) (call : CallId) (m : Machine) (log : List Label) → Invariant m → IsRunFrom m log → Stays k call m → Stays k call (last_from m log)
-stays_from k call m [] inv run stay = stay
-stays_from k call m (l ∷ log) inv run stay = stays_from k call (after m l) log (lawful m l inv run.1).1 run.2 (after_stays k call m stay inv l run.1)
+stays_from : (k : ℕ) (call : CallId) (update : Update) (m : Machine) (log : List Label) → Invariant m → IsRunFrom m log → Stays k call update m → Stays k call update (last_from m log)
+stays_from k call update m [] inv run stay = stay
+stays_from k call update m (l ∷ log) inv run stay = stays_from k call update (after m l) log (lawful m l inv run.1).1 run.2 (after_stays k call update m stay inv l run.1)
 
 -- ---- the label that answers OK
 
@@ -386,28 +399,28 @@ module _ (P : ReplicaState → Type 0) where
   each_at f n (c ∷ cs) each (suc d) y some at = each_at f (n + 1) cs (rest_of n (replicas_from f (n + 1) cs) (c == 0) (f n) each) d y some (ap f (let there : n + 1 + d ≡ n + suc d = omega arith in there) ∙ at)
 
 -- where one replica has the update and nothing staged, and the call owns nothing, all have it
-module _ (m : Machine) (inv : Invariant m) (bare : IsBare m) (k r : ℕ) (call : CallId) (e : Entry) (found : entry_of k m.cluster.entries ≡ Some e) (made : e.making ≡ None) (x : ReplicaState) (there : m.replicas k r ≡ Some x) (free : x.slot ≡ None) (has : HasEffect call x.effects) (owns : OwnsNothing m call) where
+module _ (m : Machine) (inv : Invariant m) (bare : IsBare m) (k r : ℕ) (call : CallId) (update : Update) (e : Entry) (found : entry_of k m.cluster.entries ≡ Some e) (made : e.making ≡ None) (x : ReplicaState) (there : m.replicas k r ≡ Some x) (free : x.slot ≡ None) (has : HasUpdate call update x.effects) (owns : OwnsNothing m call) where
   on_each : (P : ReplicaState → Type 0) → OnEach P (complete_replicas m k) → (q : ℕ) (y : ReplicaState) → m.replicas k q ≡ Some y → P y
   on_each P each q y at =
       let (f, is, complete) = IsSomeAnd-at (entry_of k m.cluster.entries) (λ e. IsCompleteOn e q) (bare.complete k q y at) in
       each_at P (m.replicas k) 0 f.complete (subst (λ o. OnEach P (replicas_from (m.replicas k) 0 (complete_of o))) is each) q y complete (ap (m.replicas k) (let same : 0 + q ≡ q = omega arith in same) ∙ at)
 
-  of_one : (one : OneUpdate) (done : Bool) → IsOfOne one done x None → (q : ℕ) (y : ReplicaState) → m.replicas k q ≡ Some y → (o : Option Staged) → y.slot ≡ o → IsOfOne one done y o → HasEffect call y.effects
-  of_one one true first q y at None none second = subst (HasEffect call) (first.1 ∙ sym second.1) has
-  of_one one false first q y at None none second = subst (HasEffect call) (first.1 ∙ sym second.1) has
-  of_one one false first q y at (Some slot) staged second = subst (HasEffect call) (first.1 ∙ sym second.4) has
+  of_one : (one : OneUpdate) (done : Bool) → IsOfOne one done x None → (q : ℕ) (y : ReplicaState) → m.replicas k q ≡ Some y → (o : Option Staged) → y.slot ≡ o → IsOfOne one done y o → HasUpdate call update y.effects
+  of_one one true first q y at None none second = subst (HasUpdate call update) (first.1 ∙ sym second.1) has
+  of_one one false first q y at None none second = subst (HasUpdate call update) (first.1 ∙ sym second.1) has
+  of_one one false first q y at (Some slot) staged second = subst (HasUpdate call update) (first.1 ∙ sym second.4) has
   of_one one true first q y at (Some slot) staged second =
-      elim (effect_more call one.effects (Applied one.origin one.update one.moment) (subst (HasEffect call) first.1 has)) [
-        | inl was ↦ subst (HasEffect call) (sym second.4) was
-        | inr new ↦ absurd ((owns.slots k q y slot at staged).1 (second.0 ∙ new))
+      elim (has_before call update one.effects (Applied one.origin one.update one.moment) (subst (HasUpdate call update) first.1 has)) [
+        | inl was ↦ subst (HasUpdate call update) (sym second.4) was
+        | inr new ↦ absurd ((owns.slots k q y slot at staged).1 (second.0 ∙ new.0))
       ]
 
-  on_every : IsOnEvery m k call
+  on_every : IsOnEvery m k call update
   on_every q y at = elim (all_or_none m inv k e found made) [
     | inl equal ↦
         let first = on_each (λ z. (z.slot ≡ None) × (z.sections ≡ equal.sections) × (z.effects ≡ equal.effects)) equal.each r x there in
         let second = on_each (λ z. (z.slot ≡ None) × (z.sections ≡ equal.sections) × (z.effects ≡ equal.effects)) equal.each q y at in
-        subst (HasEffect call) (first.2 ∙ sym second.2) has
+        subst (HasUpdate call update) (first.2 ∙ sym second.2) has
     | inr of ↦
         let first = subst (IsOfOne of.one of.done x) free (on_each (λ z. IsOfOne of.one of.done z z.slot) of.each r x there) in
         of_one of.one of.done first q y at y.slot refl (on_each (λ z. IsOfOne of.one of.done z z.slot) of.each q y at)
@@ -423,9 +436,11 @@ committed_free : (a : CreationAttributes) (x : ReplicaState) (o : Option Staged)
 committed_free a x None slot is = absurd (cc is)
 committed_free a x (Some other) slot is = refl
 
-committed_new : (a : CreationAttributes) (x : ReplicaState) (o : Option Staged) (slot : Staged) (d : CallId) → o ≡ Some slot → slot.origin ≡ d → HasEffect d (committed_slot a x o).effects
-committed_new a x None slot d is origin = absurd (cc is)
-committed_new a x (Some other) slot d is origin = has_new d x.effects (effect_of other) (ap (λ (z : Staged). z.origin) (same_Some other slot is) ∙ origin)
+committed_new : (a : CreationAttributes) (x : ReplicaState) (o : Option Staged) (slot : Staged) (d : CallId) (u : Update) → o ≡ Some slot → slot.origin ≡ d → slot.update ≡ u → HasUpdate d u (committed_slot a x o).effects
+committed_new a x None slot d u is origin update = absurd (cc is)
+committed_new a x (Some other) slot d u is origin update =
+    let same = same_Some other slot is in
+    has_new d u x.effects (effect_of other) (ap (λ (z : Staged). z.origin) same ∙ origin, ap (λ (z : Staged). z.update) same ∙ update)
 
 put2-here : (f : ℕ → ℕ → Option ReplicaState) (k r : ℕ) (x : Option ReplicaState) → put2 f k r x k r ≡ x
 put2-here f k r x = ap (λ b. cond (b && (r == r)) x (f k r)) (eq-eqb k k refl) ∙ ap (λ b. cond b x (f k r)) (eq-eqb r r refl)
@@ -446,9 +461,18 @@ module _ (m : Machine) (inv : Invariant m) (history : HasHistory m) (d : CallId)
   abbrev label : Label
   label = labels.Stepped d op verbs.Commit (Some j) (Some r) words.Ok (Some (Done answer)) details
 
-  committed_stays : Allowed m label → IsDue m label → Stays j d (after m label)
+  -- what is staged by a call in hand is its own update
+  own_update : (s : CallState) → m.in_hand s.call.actor ≡ Some s → (x : ReplicaState) (slot : Staged) → m.replicas j r ≡ Some x → x.slot ≡ Some slot → slot.owner ≡ s.call → slot.update ≡ update_of s.op
+  own_update s held x slot there staged owner =
+      let (by, origin, update) = slot_owned m inv.shapes inv.holds history.bare j r x slot there staged in
+      let state : by.state ≡ s = same_Some by.state s (sym by.in_hand ∙ ap (λ (c : CallId). m.in_hand c.actor) owner ∙ held) in
+      update ∙ owner_update m j (inv.shapes j) slot.owner by ∙ ap (λ (z : CallState). update_of z.op) state
+
+  committed_stays : (allowed : Allowed m label) → IsDue m label → Stays j d (update_of allowed.state.op) (after m label)
   committed_stays allowed due =
       let s = allowed.state in
+      let u = update_of s.op in
+      let held : m.in_hand s.call.actor ≡ Some s = ap (λ (c : CallId). m.in_hand c.actor) allowed.call_is ∙ allowed.in_hand in
       let row : OnReplica m j r (λ e x. CommitOk m s.call (update_of s.op) j r (Some (Done answer)) details x) = of_update-is s.op _ allowed.row in
       let (e, found, on) = IsSomeAnd-at (entry_of j m.cluster.entries) (λ e. IsSomeAnd (m.replicas j r) (λ x. CommitOk m s.call (update_of s.op) j r (Some (Done answer)) details x)) row in
       let (x, there, ok) = IsSomeAnd-at (m.replicas j r) (λ x. CommitOk m s.call (update_of s.op) j r (Some (Done answer)) details x) on in
@@ -463,27 +487,70 @@ module _ (m : Machine) (inv : Invariant m) (history : HasHistory m) (d : CallId)
       let none : n.in_hand s.call.actor ≡ None = put_actor-here m.in_hand s.call.actor None in
       let owns = owns_nothing n inv_n bare_n s.call none in
       let free : y.slot ≡ None = ap (λ (z : ReplicaState). z.slot) y_is ∙ committed_free e.attributes x x.slot ok.slot ok.staged in
-      let has : HasEffect s.call y.effects = subst (λ (z : ReplicaState). HasEffect s.call z.effects) (sym y_is) (committed_new e.attributes x x.slot ok.slot s.call ok.staged origin) in
+      let has : HasUpdate s.call u y.effects = subst (λ (z : ReplicaState). HasUpdate s.call u z.effects) (sym y_is) (committed_new e.attributes x x.slot ok.slot s.call u ok.staged origin (own_update s held x ok.slot there ok.staged ok.owner)) in
       let made = is_made m inv history.bare j r e x found there in
-      subst (λ c. Stays j c (after m label)) allowed.call_is (subst (Stays j s.call) (sym is) (record {
+      subst (λ c. Stays j c u (after m label)) allowed.call_is (subst (Stays j s.call u) (sym is) (record {
         given = entry_of-given m.cluster.last_identity j m.cluster.entries e inv.holds.up_to found;
         made = λ f at. subst (λ (z : Entry). z.making ≡ None) (same_Some e f (sym found ∙ at)) made;
-        every = on_every n inv_n bare_n j r s.call e found made y (put2-here m.replicas j r (Some y)) free has owns;
+        every = on_every n inv_n bare_n j r s.call u e found made y (put2-here m.replicas j r (Some y)) free has owns;
       }))
 
-acknowledged : (m : Machine) (l : Label) → Invariant m → HasHistory m → Allowed m l → IsDue m l → (call : CallId) (k : ℕ) → Acknowledges l call k → Stays k call (after m l)
-acknowledged m (labels.Stepped d op verbs.Commit (Some j) (Some r) words.Ok (Some (Done answer)) details) inv history allowed due call k acks =
-    let stay = committed_stays m inv history d op j r answer details allowed due in
-    subst (λ c. Stays k c (after m (labels.Stepped d op verbs.Commit (Some j) (Some r) words.Ok (Some (Done answer)) details))) acks.0
-    (subst (λ i. Stays i d (after m (labels.Stepped d op verbs.Commit (Some j) (Some r) words.Ok (Some (Done answer)) details))) acks.1 stay)
-acknowledged m l inv history allowed due call k acks = absurd acks
+-- ---- any label that answers OK
+
+-- the call began with an update, of the checkpoint that the label names, and the update stays from the label on
+record IsTaken (log : List Label) (l : Label) (call : CallId) : Type 0 where
+  op : Op
+  asks : IsUpdateWord (word_of_op op)
+  ckpt : ℕ
+  begun : HasBegun log call op (Some ckpt)
+  named : ckpt_named l ≡ Some ckpt
+  stay : Stays ckpt call (update_of op) (after (last log) l)
+
+module _ (log : List Label) (run : IsRun log) (inv : Invariant (last log)) (history : HasHistory (last log)) where
+  -- by the commit that ends it
+  taken : (d : CallId) (word : OpWord) (j r : ℕ) (answer : Answer) (details : Details) → Allowed (last log) (label (last log) inv history d word j r answer details) → IsDue (last log) (label (last log) inv history d word j r answer details)
+      → IsUpdateWord word → IsTaken log (label (last log) inv history d word j r answer details) d
+  taken d word j r answer details allowed due asks =
+      let s = allowed.state in
+      let held : (last log).in_hand s.call.actor ≡ Some s = ap (λ (c : CallId). (last log).in_hand c.actor) allowed.call_is ∙ allowed.in_hand in
+      record {
+        op = s.op;
+        asks = subst IsUpdateWord (sym allowed.word) asks;
+        ckpt = j;
+        begun = subst (λ c. HasBegun log c s.op (Some j)) allowed.call_is (subst (HasBegun log s.call s.op) (sym allowed.own) (all_began log run s held));
+        named = refl;
+        stay = committed_stays (last log) inv history d word j r answer details allowed due;
+      }
+
+  -- and by no other label
+  answered : (d : CallId) (word : OpWord) (verb : Verb) (k r : Option ℕ) (reply : StepReply) (answer : Answer) (details : Details) → Allowed (last log) (labels.Stepped d word verb k r reply (Some (Done answer)) details) → IsDue (last log) (labels.Stepped d word verb k r reply (Some (Done answer)) details)
+      → IsUpdateWord word → IsDoneCommit verb k r reply → IsTaken log (labels.Stepped d word verb k r reply (Some (Done answer)) details) d
+  answered d word verbs.Commit (Some j) (Some r) words.Ok answer details allowed due asks is = taken d word j r answer details allowed due asks
+  answered d word verb k r reply answer details allowed due asks is = absurd is
+
+  acknowledged : (l : Label) → Allowed (last log) l → IsDue (last log) l → (call : CallId) → Acknowledges l call → IsTaken log l call
+  acknowledged (labels.Began d op (Some (Done answer))) allowed due call acks = absurd (begin_not_done _ _ op answer acks.1 allowed.row)
+  acknowledged (labels.Stepped d word verb k r reply (Some (Done answer)) details) allowed due call acks =
+      let s = allowed.state in
+      let held : (last log).in_hand s.call.actor ≡ Some s = ap (λ (c : CallId). (last log).in_hand c.actor) allowed.call_is ∙ allowed.in_hand in
+      let commit = done_by_commit (last log) s (subst IsUpdateWord (sym allowed.word) acks.1) answer inv held verb k r reply details allowed.row in
+      subst (IsTaken log (labels.Stepped d word verb k r reply (Some (Done answer)) details)) acks.0 (answered d word verb k r reply answer details allowed due acks.1 commit)
+  acknowledged l allowed due call acks = absurd acks
 
 -- THE LAW: what was answered OK stays
 pub acknowledged_stay : AcknowledgedStays
-acknowledged_stay log run front more back l call k is acks =
+acknowledged_stay log run front more back l call is acks =
     let (before, allowed, due) = run_before _ front l (run_front log (front ++ l ∷ []) (more ++ back) (is ∙ sym (append_assoc front (l ∷ []) (more ++ back))) run) in
     let (inv, history) = run_history front before in
-    let stay = acknowledged (last front) l inv history allowed due call k acks in
+    let first = acknowledged front before inv history l allowed due call acks in
     let then = IsRunFrom-back _ front (l ∷ more) (run_front log (front ++ l ∷ more) back (is ∙ sym (append_assoc front (l ∷ more) back)) run) in
-    let all = stays_from k call (after (last front) l) more (lawful (last front) l inv due).1 then.2 stay in
-    subst (λ (m : Machine). IsOnEvery m k call) (sym (last_from-append _ front (l ∷ more))) all.every
+    let all = stays_from first.ckpt call (update_of first.op) (after (last front) l) more (lawful (last front) l inv due).1 then.2 first.stay in
+    record {
+      op = first.op;
+      asks = first.asks;
+      ckpt = first.ckpt;
+      begun = first.begun;
+      once = λ other k begun. begins_once front before call first.op other (Some first.ckpt) k first.begun begun;
+      named = first.named;
+      on_every = subst (λ (m : Machine). IsOnEvery m first.ckpt call (update_of first.op)) (sym (last_from-append _ front (l ∷ more))) all.every;
+    }

@@ -69,21 +69,21 @@ history_empty = record {
 
 module _ (m : Machine) (shapes : ℕ → Shape) (inv : InvariantIn shapes m) (bare : IsBare m) where
   -- what is staged is of a call in hand, an update of this checkpoint, that owns it
-  pub slot_owned : (k r : ℕ) (x : ReplicaState) (slot : Staged) → m.replicas k r ≡ Some x → x.slot ≡ Some slot → IsOwner m k (shapes k) slot.owner × (slot.origin ≡ slot.owner)
+  pub slot_owned : (k r : ℕ) (x : ReplicaState) (slot : Staged) → m.replicas k r ≡ Some x → x.slot ≡ Some slot → IsOwner m k (shapes k) slot.owner × (slot.origin ≡ slot.owner) × (slot.update ≡ (shapes k).update)
   slot_owned k r x slot at staged =
       let (e, found, there) = IsSomeAnd-at (entry_of k m.cluster.entries) (λ e. IsCompleteOn e r) (bare.complete k r x at) in
       by_maker e there e.making (inv.entries k e found)
     where
-      by_owner : (o : Option CallId) → (shapes k).owners r ≡ o → slot_by (shapes k) o ≡ Some slot → ((d : CallId) → (shapes k).owners r ≡ Some d → IsOwner m k (shapes k) d) → IsOwner m k (shapes k) slot.owner × (slot.origin ≡ slot.owner)
+      by_owner : (o : Option CallId) → (shapes k).owners r ≡ o → slot_by (shapes k) o ≡ Some slot → ((d : CallId) → (shapes k).owners r ≡ Some d → IsOwner m k (shapes k) d) → IsOwner m k (shapes k) slot.owner × (slot.origin ≡ slot.owner) × (slot.update ≡ (shapes k).update)
       by_owner None is none owned = absurd (cc none)
       by_owner (Some d) is some owned =
           let own = owned d is in
           let same = same_Some (record { owner = d; origin = (shapes k).origin; update = (shapes k).update; moment = (shapes k).moment }) slot some in
           let owner : d ≡ slot.owner = ap (λ (z : Staged). z.owner) same in
           let origin : (shapes k).origin ≡ slot.origin = ap (λ (z : Staged). z.origin) same in
-          (subst (IsOwner m k (shapes k)) owner own, sym origin ∙ owner_origin m k (shapes k) d own ∙ owner)
+          (subst (IsOwner m k (shapes k)) owner own, sym origin ∙ owner_origin m k (shapes k) d own ∙ owner, ap (λ (z : Staged). z.update) (sym same))
 
-      by_maker : (e : Entry) → IsCompleteOn e r → (maker : Option CallId) → IsGoodIn m k (shapes k) e maker → IsOwner m k (shapes k) slot.owner × (slot.origin ≡ slot.owner)
+      by_maker : (e : Entry) → IsCompleteOn e r → (maker : Option CallId) → IsGoodIn m k (shapes k) e maker → IsOwner m k (shapes k) slot.owner × (slot.origin ≡ slot.owner) × (slot.update ≡ (shapes k).update)
       by_maker e there (Some call) good =
           let none : (slice_index e.complete r == 0) ≡ true = ap (λ nodes. slice_index nodes r == 0) good.0.complete ∙ ap (λ n. n == 0) (slice_index-replicate 8 r) in
           absurd (let w : true ≡ false = sym none ∙ there in cc w)
@@ -178,13 +178,13 @@ module _ (m : Machine) (inv : Invariant m) (history : HasHistory m) (s : CallSta
           let (y, is, ok) = IsSomeAnd-at (m.replicas k r) (λ x. CommitOk m s.call (update_of s.op) k r t.end details x) here in
           let same : y ≡ x = same_Some y x (sym is ∙ at) in
           let slots : ok.slot ≡ slot = same_Some ok.slot slot (sym ok.staged ∙ ap (λ (z : ReplicaState). z.slot) same ∙ staged) in
-          let (by, origin) = slot_owned m inv.shapes inv.holds history.bare k r x slot at staged in
+          let (by, origin, update) = slot_owned m inv.shapes inv.holds history.bare k r x slot at staged in
           let owner : slot.owner ≡ s.call = ap (λ (z : Staged). z.owner) (sym slots) ∙ ok.owner in
           let own : IsOwner m k (inv.shapes k) s.call = subst (IsOwner m k (inv.shapes k)) owner by in
           let state : own.state ≡ s = same_Some own.state s (sym own.in_hand ∙ held) in
           record { own = origin ∙ owner; verb = verb; reply = reply; update = own.driver; driver_is = ap driver_of (sym state) ∙ own.driver_is; ckpt = own.ckpt }
 
-  follows : Follows m IsOwnCommit n
+  pub follows : Follows m IsOwnCommit n
   follows = changed_follows m history.bare IsOwnCommit s t.verb t.ckpt t.node t.reply (news t.verb t.ckpt t.node t.reply refl refl row)
     where
       news : (verb : Verb) (k r : Option ℕ) (reply : StepReply) → t.verb ≡ verb → t.reply ≡ reply → Row m s verb (record t { verb = verb; ckpt = k; node = r; reply = reply }) → StepNeeds m history.bare IsOwnCommit verb k r reply
@@ -240,7 +240,7 @@ module _ (m : Machine) (inv : Invariant m) (history : HasHistory m) (s : CallSta
 
 -- ---- any label
 
-abbrev first_state : Machine → CallId → Op → CallState
+abbrev pub first_state : Machine → CallId → Op → CallState
 first_state m call op = record { call = call; op = op; kept = kept_at_beginning m.cluster (number_of call.actor) (asked_handle m call.actor op); steps = []; snapshot = None }
 
 begun_history : (m : Machine) → HasHistory m → (call : CallId) (op : Op) (end : Option Outcome) → call.number ≡ m.next call.actor → HasHistory (begun m call op end)

@@ -27,6 +27,10 @@ pub mod EndedTables
 pub mod OneStepCalls
 pub mod Enter
 pub mod Acknowledged
+pub mod AcknowledgedExamples
+pub mod BegunBefore
+pub mod BegunOnce
+pub mod UpdateAnswers
 pub mod Active
 pub mod Beginnings
 pub mod BeginRows

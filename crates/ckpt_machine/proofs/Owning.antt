@@ -14,6 +14,7 @@ use Rattle.cluster_record.specs.RecordState.{entry_of, is_live}
 use Rattle.cluster_record.specs.StepDone.{has}
 use Rattle.ckpt_machine.specs.Drivers as drivers
 use Rattle.ckpt_machine.specs.Machine.{Machine, ReplicaState, CallState}
+use Rattle.ckpt_machine.specs.Serving.{update_of}
 use Rattle.ckpt_machine.specs.Steps.{driver_of, seen, seen_at, seen_by}
 use Rattle.ckpt_machine.specs.Guards.{OnReplica}
 use Rattle.ckpt_machine.specs.Shape.{Shape, IsCompleteOn, IsShaped, is_owner, IsOwner, IsSpread, PhaseFits}
@@ -54,6 +55,14 @@ owner_origin m k sh call own = by_phase own.driver.phase own.phase ∙ own.call_
     by_phase : (ph : UpdatePhase) → PhaseFits sh own.state own.driver ph → sh.origin ≡ own.state.call
     by_phase Staging fits = fits.origin
     by_phase Committing fits = fits.origin
+
+-- what is staged is the update of an owner
+pub owner_update : (m : Machine) (k : ℕ) (sh : Shape) (call : CallId) (own : IsOwner m k sh call) → sh.update ≡ update_of own.state.op
+owner_update m k sh call own = by_phase own.driver.phase own.phase
+  where
+    by_phase : (ph : UpdatePhase) → PhaseFits sh own.state own.driver ph → sh.update ≡ update_of own.state.op
+    by_phase Staging fits = fits.update
+    by_phase Committing fits = fits.update
 
 -- where the slots are of one call, an owner is that call
 pub owner_alone : (m : Machine) (k : ℕ) (sh : Shape) (s : CallState) → sh.origin ≡ s.call → (d : CallId) → IsOwner m k sh d → d ≡ s.call

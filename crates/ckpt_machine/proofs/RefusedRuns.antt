@@ -52,7 +52,7 @@ module _ (m : Machine) (inv : Invariant m) (bare : IsBare m) (call : CallId) (no
   pub owns_nothing : OwnsNothing m call
   owns_nothing = record {
     slots = λ k r x slot there staged.
-        let (own, origin) = slot_owned m inv.shapes inv.holds bare k r x slot there staged in
+        let (own, origin, update) = slot_owned m inv.shapes inv.holds bare k r x slot there staged in
         (λ is. not_in_hand slot.owner own.state own.in_hand is, λ is. not_in_hand slot.owner own.state own.in_hand (sym origin ∙ is));
     marks = λ k r x marks there marked is. let w : None ≡ Some marks = sym (bare.unmarked k r x there) ∙ marked in cc w;
     makes = no_maker;

@@ -1,24 +1,77 @@
 -- An update that was answered OK, and where it is from then on.
-use Rattle.std.specs.Prelude.{◌≡◌, ℕ, List, ◌∷◌, ◌++◌, Some}
+use Rattle.std.specs.Prelude.{◌≡◌, ◌⊎◌, ℕ, List, [], ◌∷◌, ◌++◌, Option, Some, None}
 use Rattle.ckpt_types.specs.declared.answers.Outcome.TheVariants.{Done}
 use Rattle.ckpt_types.specs.declared.identities.CallId.{CallId}
-use Rattle.node_msgs.specs.declared.steps.StepReply.TheVariants as words
-use Rattle.node_msgs.specs.declared.steps.Verb.TheVariants as verbs
+use Rattle.ckpt_types.specs.declared.operation.Op.{Op}
+use Rattle.ckpt_types.specs.declared.update.Update.{Update}
 use Rattle.run_labels.specs.declared.labels.Label.{Label}
 use Rattle.run_labels.specs.declared.labels.Label.TheVariants as labels
-use Rattle.ckpt_machine.specs.Machine.{Machine, ReplicaState}
-use Rattle.ckpt_machine.specs.Owned.{HasEffect}
+use Rattle.run_labels.specs.declared.words.OpWord.{OpWord}
+use Rattle.run_labels.specs.declared.words.OpWord.TheVariants as opwords
+use Rattle.run_labels.specs.OpWord.{word_of_op}
+use Rattle.ckpt_machine.specs.Machine.{Machine, Effect, Applied, ReplicaState}
 use Rattle.ckpt_machine.specs.Runs.{last}
+use Rattle.ckpt_machine.specs.Serving.{update_of}
+use Rattle.ckpt_machine.specs.Steps.{ckpt_of_handle, asked_handle}
 
--- the label answers a call OK that has updated this checkpoint
-abbrev pub Acknowledges : Label → CallId → ℕ → Type 0
-Acknowledges (labels.Stepped call op verbs.Commit (Some k) (Some r) words.Ok (Some (Done answer)) details) d j = (call ≡ d) × (k ≡ j)
-Acknowledges label d j = ⊥
+-- ---- the answer, as a user sees it
 
--- each complete replica of the checkpoint has the update of the call
-abbrev pub IsOnEvery : Machine → ℕ → CallId → Type 0
-IsOnEvery m k call = (r : ℕ) (x : ReplicaState) → m.replicas k r ≡ Some x → HasEffect call x.effects
+-- the word asks for an update
+abbrev pub IsUpdateWord : OpWord → Type 0
+IsUpdateWord opwords.Create = Unit {0}
+IsUpdateWord opwords.Delete = Unit {0}
+IsUpdateWord opwords.Expire = Unit {0}
+IsUpdateWord opwords.Write = Unit {0}
+IsUpdateWord opwords.Over = Unit {0}
+IsUpdateWord word = ⊥
 
--- WHAT WAS ANSWERED OK STAYS: after the label that answers it, and at every time from then on, each complete replica of its checkpoint has the update
+-- the label answers OK to this call, which asks for an update by its word: at its beginning, or by a step, whichever that is
+abbrev pub Acknowledges : Label → CallId → Type 0
+Acknowledges (labels.Began call op (Some (Done answer))) d = (call ≡ d) × IsUpdateWord (word_of_op op)
+Acknowledges (labels.Stepped call word verb k r reply (Some (Done answer)) details) d = (call ≡ d) × IsUpdateWord word
+Acknowledges label d = ⊥
+
+-- the checkpoint that the label of a step names
+abbrev pub ckpt_named : Label → Option ℕ
+ckpt_named (labels.Stepped call word verb k r reply end details) = k
+ckpt_named label = None
+
+-- ---- what the call asks for
+
+-- the call began in the log and went on: with this operation, on the checkpoint of the handle for which its place stood then
+pub record HasBegun (log : List Label) (call : CallId) (op : Op) (ckpt : Option ℕ) : Type 0 where
+  pub before : List Label
+  pub behind : List Label
+  pub log_is : log ≡ before ++ labels.Began call op None ∷ behind
+  pub ckpt_is : ckpt ≡ ckpt_of_handle (asked_handle (last before) call.actor op)
+
+-- ---- what became of it
+
+-- the effect is this very update, by this call
+abbrev pub IsUpdateBy : CallId → Update → Effect → Type 0
+IsUpdateBy call update (Applied origin applied moment) = (origin ≡ call) × (applied ≡ update)
+IsUpdateBy call update effect = ⊥
+
+-- one of the effects is
+abbrev pub HasUpdate : CallId → Update → List Effect → Type 0
+HasUpdate call update [] = ⊥
+HasUpdate call update (x ∷ xs) = IsUpdateBy call update x ⊎ HasUpdate call update xs
+
+-- each complete replica of the checkpoint has the update by the call
+abbrev pub IsOnEvery : Machine → ℕ → CallId → Update → Type 0
+IsOnEvery m k call update = (r : ℕ) (x : ReplicaState) → m.replicas k r ≡ Some x → HasUpdate call update x.effects
+
+-- the call began in the log with an update, of the checkpoint that the label behind the log names, and each complete replica of that checkpoint has this update
+pub record IsAcknowledged (log : List Label) (l : Label) (call : CallId) (m : Machine) : Type 0 where
+  pub op : Op
+  pub asks : IsUpdateWord (word_of_op op)
+  pub ckpt : ℕ
+  pub begun : HasBegun log call op (Some ckpt)
+  -- with no other operation, and on no other checkpoint
+  pub once : (other : Op) (k : Option ℕ) → HasBegun log call other k → (other ≡ op) × (k ≡ Some ckpt)
+  pub named : ckpt_named l ≡ Some ckpt
+  pub on_every : IsOnEvery m ckpt call (update_of op)
+
+-- WHAT WAS ANSWERED OK STAYS: after any label that answers OK to a call that asks for an update, and at every time from then on, each complete replica of its checkpoint has the update
 abbrev pub AcknowledgedStay : List Label → Type 0
-AcknowledgedStay log = (front more back : List Label) (l : Label) (call : CallId) (k : ℕ) → log ≡ front ++ l ∷ (more ++ back) → Acknowledges l call k → IsOnEvery (last (front ++ l ∷ more)) k call
+AcknowledgedStay log = (front more back : List Label) (l : Label) (call : CallId) → log ≡ front ++ l ∷ (more ++ back) → Acknowledges l call → IsAcknowledged front l call (last (front ++ l ∷ more))

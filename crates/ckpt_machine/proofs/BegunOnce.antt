@@ -1,0 +1,123 @@
+-- A call begins once in a run: the number that it takes is not given again.
+use Rattle.std.proofs.Common.{◌≡◌, ◌⊎◌, ℕ, ◌+◌, ◌<◌, ◌≤◌, inl, inr, List, [], ◌∷◌, ◌++◌, Option, Some, None, Bool, true, false, cond, refl, sym, ap, subst, ◌∙◌, append_assoc, arith}
+use Rattle.std.proofs.lemmas.Option.{same_Some}
+use Rattle.ckpt_types.specs.declared.answers.Outcome.{Outcome}
+use Rattle.ckpt_types.specs.declared.identities.ActorName.{ActorName}
+use Rattle.ckpt_types.specs.declared.identities.CallId.{CallId}
+use Rattle.ckpt_types.specs.declared.operation.Op.{Op}
+use Rattle.run_labels.specs.declared.labels.Label.{Label}
+use Rattle.run_labels.specs.declared.labels.Label.TheVariants as labels
+use Rattle.cluster_record.specs.Calls.{number_of, same_actor, put_actor}
+use Rattle.ckpt_machine.specs.Acknowledged.{HasBegun}
+use Rattle.ckpt_machine.specs.Beginning.{ended_place}
+use Rattle.ckpt_machine.specs.Guards.{Allowed, Row}
+use Rattle.ckpt_machine.specs.Invariant.{Invariant}
+use Rattle.ckpt_machine.specs.Machine.{Machine}
+use Rattle.ckpt_machine.specs.Runs.{last_from, last, IsRunFrom, IsRun}
+use Rattle.ckpt_machine.specs.Steps.{IsDue, ckpt_of_handle, asked_handle, with_ended, begun_call, step_of, after}
+use Rattle.ckpt_machine.proofs.Actors.{same_actor-true}
+use Rattle.ckpt_machine.proofs.Histories.{HasHistory, follows, keeps_history, run_history}
+use Rattle.ckpt_machine.proofs.Lawful.{lawful}
+use Rattle.ckpt_machine.proofs.ReplicaSteps.{put_actor-here}
+use Rattle.ckpt_machine.proofs.Runs.{last_from-append, run_before, run_front, IsRunFrom-back}
+
+-- ---- the number of an actor's next call
+
+ended_next : (m : Machine) (c : ℕ) (place : Option ℕ) (a : ActorName) → (with_ended c place m).next a ≡ m.next a
+ended_next m c None a = refl
+ended_next m c (Some place) a = refl
+
+-- where it counts up it grows
+counted_up : (m : Machine) (b a : ActorName) → m.next a ≤ put_actor m.next b (m.next b + 1) a
+counted_up m b a = by_test (same_actor a b) refl
+  where
+    by_test : (t : Bool) → same_actor a b ≡ t → m.next a ≤ cond t (m.next b + 1) (m.next a)
+    by_test false other = omega arith
+    by_test true same = let it : m.next a ≡ m.next b = ap m.next (same_actor-true a b same) in omega (arith, it)
+
+-- no label lets it fall
+next_after : (m : Machine) (l : Label) → Invariant m → HasHistory m → Allowed m l → IsDue m l → (a : ActorName) → m.next a ≤ (after m l).next a
+next_after m (labels.Began call op end) inv history allowed due a =
+    let up : m.next a ≤ put_actor m.next call.actor (m.next call.actor + 1) a = counted_up m call.actor a in
+    subst (λ (n : ℕ). m.next a ≤ n) (sym (ended_next (begun_call m call op end) (number_of call.actor) (ended_place end op) a)) up
+next_after m (labels.Stepped call op verb k r reply end details) inv history allowed due a =
+    let s = due.state in
+    let held : m.in_hand s.call.actor ≡ Some s = ap (λ (c : CallId). m.in_hand c.actor) due.call_is ∙ due.in_hand in
+    let same : allowed.state ≡ s = same_Some allowed.state s (sym allowed.in_hand ∙ due.in_hand) in
+    let then = follows m inv history s held (record { verb = verb; ckpt = k; node = r; reply = reply; end = end; details = details }) (subst (λ z. Row m z verb _) same allowed.row) in
+    let it : (after m (labels.Stepped call op verb k r reply end details)).next a ≡ m.next a = ap (λ o. (step_of m o verb k r reply end).next a) due.in_hand ∙ then.next a in
+    omega (arith, it)
+next_after m (labels.Word who word said) inv history allowed due a = omega arith
+next_after m (labels.Nodes n) inv history allowed due a = omega arith
+next_after m (labels.Moved t) inv history allowed due a = omega arith
+next_after m (labels.Shown k replicas) inv history allowed due a = omega arith
+next_after m l inv history allowed due a = absurd due
+
+next_from : (m : Machine) (log : List Label) → Invariant m → HasHistory m → IsRunFrom m log → (a : ActorName) → m.next a ≤ (last_from m log).next a
+next_from m [] inv history run a = omega arith
+next_from m (l ∷ log) inv history run a =
+    let first : m.next a ≤ (after m l).next a = next_after m l inv history run.0 run.1 a in
+    let rest : (after m l).next a ≤ (last_from (after m l) log).next a = next_from (after m l) log (lawful m l inv run.1).1 (keeps_history m l inv history run.0 run.1) run.2 a in
+    omega (arith, first, rest)
+
+-- ---- a call that has begun
+
+module _ (log before behind : List Label) (call : CallId) (op : Op) (end : Option Outcome) (is : log ≡ before ++ labels.Began call op end ∷ behind) (run : IsRun log) where
+  abbrev l : Label
+  l = labels.Began call op end
+
+  until : IsRun before × Allowed (last before) l × IsDue (last before) l
+  until = run_before _ before l (run_front log (before ++ l ∷ []) behind (is ∙ sym (append_assoc before (l ∷ []) behind)) run)
+
+  -- it took the number that was next
+  took : call.number ≡ (last before).next call.actor
+  took = until.2.number
+
+  -- and the next one is above it from then on
+  passed : call.number < (last log).next call.actor
+  passed =
+      let (inv, history) = run_history before until.0 in
+      let rest = IsRunFrom-back _ before (l ∷ behind) (subst IsRun is run) in
+      let first : (after (last before) l).next call.actor ≡ (last before).next call.actor + 1 = ended_next (begun_call (last before) call op end) (number_of call.actor) (ended_place end op) call.actor ∙ put_actor-here (last before).next call.actor ((last before).next call.actor + 1) in
+      let then : (after (last before) l).next call.actor ≤ (last_from (after (last before) l) behind).next call.actor =
+      next_from (after (last before) l) behind (lawful (last before) l inv until.2).1 (keeps_history (last before) l inv history until.1 until.2) rest.2 call.actor in
+      let same : (last log).next call.actor ≡ (last_from (after (last before) l) behind).next call.actor = ap (λ (xs : List Label). (last xs).next call.actor) is ∙ ap (λ (m : Machine). m.next call.actor) (last_from-append _ before (l ∷ behind)) in
+      let took_it = took in
+      omega (arith, took_it, first, then, same)
+
+-- ---- where two labels stand in a log
+
+abbrev Stand : List Label → List Label → Label → Label → Type 0
+Stand xs ys x y = ((xs ≡ ys) × (x ≡ y)) ⊎ (((cs : List Label) × (ys ≡ xs ++ x ∷ cs)) ⊎ ((cs : List Label) × (xs ≡ ys ++ y ∷ cs)))
+
+-- they are one, or one stands in front of the other
+stand : (xs ys : List Label) (x y : Label) (us vs : List Label) → xs ++ x ∷ us ≡ ys ++ y ∷ vs → Stand xs ys x y
+stand [] [] x y us vs is = inl (refl, (let head : x ≡ y = cc is in head))
+stand [] (z ∷ ys) x y us vs is = inr (inl (ys, ap (λ (w : Label). w ∷ ys) (let head : z ≡ x = cc is in head)))
+stand (z ∷ xs) [] x y us vs is = inr (inr (xs, ap (λ (w : Label). w ∷ xs) (let head : z ≡ y = cc is in head)))
+stand (z ∷ xs) (w ∷ ys) x y us vs is =
+    let head : z ≡ w = cc is in
+    let tail : xs ++ x ∷ us ≡ ys ++ y ∷ vs = cc is in
+    elim (stand xs ys x y us vs tail) [
+      | inl same ↦ inl ((λ i. head i ∷ same.0 i), same.1)
+      | inr (inl later) ↦ inr (inl (later.0, (λ i. sym head i ∷ later.1 i)))
+      | inr (inr sooner) ↦ inr (inr (sooner.0, (λ i. head i ∷ sooner.1 i)))
+    ]
+
+-- so a call begins once, with one operation and on one checkpoint
+pub begins_once : (log : List Label) → IsRun log → (call : CallId) (op other : Op) (k j : Option ℕ) → HasBegun log call op k → HasBegun log call other j → (other ≡ op) × (j ≡ k)
+begins_once log run call op other k j one two = elim (stand one.before two.before (labels.Began call op None) (labels.Began call other None) one.behind two.behind (sym one.log_is ∙ two.log_is)) [
+  | inl same ↦ (
+      let ops : other ≡ op = (let both = same.1 in cc both) in
+      (ops, two.ckpt_is ∙ ap (λ (xs : List Label). ckpt_of_handle (asked_handle (last xs) call.actor other)) (sym same.0) ∙ ap (λ (o : Op). ckpt_of_handle (asked_handle (last one.before) call.actor o)) ops ∙ sym one.ckpt_is))
+  | inr (inl later) ↦ (
+      let run_two = (until log two.before two.behind call other None two.log_is run).0 in
+      let above : call.number < (last two.before).next call.actor = passed two.before one.before later.0 call op None later.1 run_two in
+      let taken : call.number ≡ (last two.before).next call.actor = took log two.before two.behind call other None two.log_is run in
+      absurd (omega (arith, above, taken)))
+  | inr (inr sooner) ↦ (
+      let run_one = (until log one.before one.behind call op None one.log_is run).0 in
+      let above : call.number < (last one.before).next call.actor = passed one.before two.before sooner.0 call other None sooner.1 run_one in
+      let taken : call.number ≡ (last one.before).next call.actor = took log one.before one.behind call op None one.log_is run in
+      absurd (omega (arith, above, taken)))
+]
