@@ -1,5 +1,5 @@
 use crate::attributes::SharedAttributes;
-use crate::bytes::{Bytes, SharedName};
+use crate::bytes::SharedName;
 use crate::calls::{CallbackSet, Version};
 use crate::identities::{Moment, NodeId};
 use crate::update::{SharedReads, SharedUpdate};
@@ -19,7 +19,7 @@ pub enum Op {
     /// CheckpointClose, of the handle at a place.
     Close(u8),
     /// CheckpointUnlink, of a name.
-    Unlink(Bytes),
+    Unlink(SharedName),
     /// RetentionDurationSet: the handle's place, and the duration.
     Retain(u8, Moment),
     /// ActiveReplicaSet.
