@@ -1,9 +1,12 @@
 //! The operations: what each call line of a script asks for.
+ghost use Rattle.std.specs.Prelude.{◌≡◌, IfOk};
+
 use crate::attributes::SharedAttributes;
-use crate::bytes::{Bytes, SharedName};
+use crate::bytes::SharedName;
 use crate::calls::{CallbackSet, Version};
 use crate::identities::{Moment, NodeId};
 use crate::update::{SharedReads, SharedUpdate};
+use std::alloc::AllocError;
 
 /// A call as a script's line asks for it, without its client: a variant for each call line, its words in
 /// their order. Places of handles and of iterations are from 0 to 99.
@@ -20,7 +23,7 @@ pub enum Op {
     /// CheckpointClose, of the handle at a place.
     Close(u8),
     /// CheckpointUnlink, of a name.
-    Unlink(Bytes),
+    Unlink(SharedName),
     /// RetentionDurationSet: the handle's place, and the duration.
     Retain(u8, Moment),
     /// ActiveReplicaSet.
@@ -53,4 +56,18 @@ pub enum Op {
     Dispatch(u32),
     /// A node's copying of what it lacks.
     Copy,
+}
+
+impl Op {
+    /// The same operation, which shares what this one has. It is put in line, and tells the most used first.
+    #[inline(always)]
+    pub fn share(&self) -> Result<Op, AllocError>
+        ensures { IfOk result (λ op. op ≡ self.now) }
+    {
+        match self {
+            Op::Write(place, update) => Ok(Op::Write(*place, update.share()?)),
+            Op::Read(place, elements) => Ok(Op::Read(*place, elements.share()?)),
+            _ => self.clone(),
+        }
+    }
 }

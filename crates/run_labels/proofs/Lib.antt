@@ -1,2 +1,3 @@
 mod Decimals
+mod Encoded
 pub mod EachText

@@ -1,6 +1,11 @@
-//! Numbers in decimal digits, where there is room for them.
-ghost use Rattle.std.specs.Prelude.{◌≡◌, ◌<◌, ◌≤◌, ◌+◌, ◌*◌, ◌%◌, [], ◌∷◌, ◌++◌, decimal, length, take, slice_index, vec_len, vec_capacity};
+//! Numbers in decimal digits, where there is room for them; and bytes in hexadecimal digits.
+ghost use Rattle.std.specs.Prelude.{◌≡◌, ◌<◌, ◌≤◌, ◌+◌, ◌*◌, ◌/◌, ◌%◌, [], ◌∷◌, ◌++◌, OnOk, decimal, length, slice_index, vec_len, vec_capacity};
 ghost use Rattle.hex.specs.Hex.{encode_lower, lower_digits};
+
+use std::alloc::AllocError;
+
+/// So many bytes are encoded at once.
+const BLOCK: usize = 16;
 
 /// Adds a number below 10,000, where there is room for four digits.
 #[inline(always)]
@@ -76,35 +81,68 @@ fn push_last(out: &mut Vec<u8>, number: u64)
     out.push_reserved(b'0' + (number % 10) as u8);
 }
 
-/// Puts the digits of the bytes behind the front.
-pub(crate) fn encode_behind(all: &mut [u8], front: usize, bytes: &[u8])
-    requires { length all.old ≡ front + 2 * length bytes.now }
-    ensures { all.new ≡ take front all.old ++ encode_lower bytes.now }
+/// Adds two digits for each byte, block by block.
+#[inline(always)]
+pub(crate) fn append_digits(out: &mut Vec<u8>, bytes: &[u8]) -> Result<(), AllocError>
+    ensures { OnOk result (out.new.items ≡ out.old.items ++ encode_lower bytes.now) }
 {
-    encode_into(&mut all[front..], bytes);
+    let mut rest = bytes;
+    while BLOCK <= rest.len() {
+        let (block, behind) = rest.split_at(BLOCK);
+        append_block(out, block)?;
+        rest = behind;
+    }
+    append_few(out, rest)
+}
+
+/// Adds the digits of a block.
+#[inline(always)]
+fn append_block(out: &mut Vec<u8>, block: &[u8]) -> Result<(), AllocError>
+    requires { length block.now ≡ 16 }
+    ensures { OnOk result (out.new.items ≡ out.old.items ++ encode_lower block.now) }
+{
+    let mut digits = [0; 2 * BLOCK];
+    encode_into(&mut digits, block);
+    out.extend_from_slice(&digits)
+}
+
+/// Adds the digits of fewer bytes than a block has.
+#[inline(always)]
+fn append_few(out: &mut Vec<u8>, bytes: &[u8]) -> Result<(), AllocError>
+    requires { length bytes.now < 16 }
+    ensures { OnOk result (out.new.items ≡ out.old.items ++ encode_lower bytes.now) }
+{
+    if bytes.is_empty() {
+        return Ok(());
+    }
+    let mut room = [0; 2 * BLOCK];
+    let digits = &mut room[..2 * bytes.len()];
+    encode_into(digits, bytes);
+    out.extend_from_slice(digits)
 }
 
 /// Puts two digits for each byte. They are worked out and not looked up, so that many are done at once.
+#[inline(always)]
 fn encode_into(digits: &mut [u8], bytes: &[u8])
     requires { length digits.old ≡ 2 * length bytes.now }
     ensures { digits.new ≡ encode_lower bytes.now }
 {
     for i in 0..bytes.len() {
-        let byte = bytes[i];
-        digits[2 * i] = digit_of(byte / 16);
-        digits[2 * i + 1] = digit_of(byte % 16);
+        let (high, low) = digits_of(bytes[i]);
+        digits[2 * i] = high;
+        digits[2 * i + 1] = low;
     }
 }
 
-/// The hexadecimal digit of a number.
+/// The two hexadecimal digits of a byte. Each is worked out in its half of one number, in which `a` stands 39 places behind
+/// where the digit after `9` would.
 #[inline(always)]
-fn digit_of(value: u8) -> u8
-    requires { value < 16 }
-    ensures { result ≡ slice_index lower_digits value }
+fn digits_of(byte: u8) -> (u8, u8)
+    ensures high { result.0 ≡ slice_index lower_digits (byte / 16) }
+    ensures low { result.1 ≡ slice_index lower_digits (byte % 16) }
 {
-    if value < 10 {
-        b'0' + value
-    } else {
-        b'a' - 10 + value
-    }
+    let values = u16::from(byte / 16) + 0x100 * u16::from(byte % 16);
+    let letters = ((values + 0x0606) / 16) & 0x0101;
+    let digits = values + 0x3030 + 39 * letters;
+    ((digits % 0x100) as u8, (digits / 0x100) as u8)
 }

@@ -2,7 +2,7 @@
 ghost use Rattle.std.specs.Prelude.{◌≡◌, ◌<◌, ◌++◌, OnOk, codes, decimal};
 ghost use Rattle.run_labels.specs.Texts.{node_text, ckpt_text, actor_text, call_text, who_text, time_text, bytes_text, state_text};
 
-use crate::digits::{encode_behind, push_thousands};
+use crate::digits::{append_digits, push_thousands};
 use ckpt_types::{ActorName, CallId, CkptId, Moment, NEVER, NodeId, SectionState, Who};
 use itoa::Buffer;
 use std::alloc::AllocError;
@@ -81,8 +81,8 @@ pub(crate) fn append_spaced_time(out: &mut Vec<u8>, time: Moment) -> Result<(), 
 pub(crate) fn append_spaced_bytes(out: &mut Vec<u8>, bytes: &[u8]) -> Result<(), AllocError>
     ensures { OnOk result (out.new.items ≡ out.old.items ++ (codes " " ++ bytes_text bytes.now)) }
 {
-    append_text(out, " ")?;
-    append_bytes(out, bytes)
+    append_text(out, " x")?;
+    append_digits(out, bytes)
 }
 
 /// Adds a space, and whether a section has what was written.
@@ -161,14 +161,5 @@ pub(crate) fn append_bytes(out: &mut Vec<u8>, bytes: &[u8]) -> Result<(), AllocE
     ensures { OnOk result (out.new.items ≡ out.old.items ++ bytes_text bytes.now) }
 {
     append_text(out, "x")?;
-    let front = out.len();
-    let Some(digits) = bytes.len().checked_mul(2) else {
-        return Err(AllocError);
-    };
-    let Some(len) = front.checked_add(digits) else {
-        return Err(AllocError);
-    };
-    out.resize(len, 0)?;
-    encode_behind(out.as_mut_slice(), front, bytes);
-    Ok(())
+    append_digits(out, bytes)
 }

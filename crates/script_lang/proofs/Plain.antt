@@ -9,6 +9,7 @@ use Rattle.script_words.specs.declared.reason.Reason.TheVariants as reasons
 use Rattle.script_words.specs.Reasons.{or_reason}
 use Rattle.script_words.specs.Words.{read, a_client, a_place, an_id, some_bytes, number, numeral, lettered, is_graphic, bytes_of, id_of, starts_well}
 use Rattle.script_words.proofs.Numbers.{digit_alone}
+use Rattle.ckpt_types.specs.declared.identities.ActorName.{ActorName}
 use Rattle.ckpt_types.specs.declared.operation.Op.TheVariants as ops
 use Rattle.ckpt_types.specs.declared.update.Update.TheVariants as updates
 use Rattle.script_lang.specs.declared.forms.LineWord.{LineWord}
@@ -18,7 +19,7 @@ use Rattle.script_lang.specs.declared.lines.Line.TheVariants as lines
 use Rattle.script_lang.specs.declared.quick.Front.{Front}
 use Rattle.script_lang.specs.declared.quick.Quick.{Quick}
 use Rattle.script_lang.specs.declared.quick.Quick.TheVariants as quicks
-use Rattle.script_lang.specs.Table.{any_number, said_by, groups, word_of, word_of_first, is_later}
+use Rattle.script_lang.specs.Table.{any_number, said_by, groups, word_of, word_of_first, is_later, may_begin, begun}
 use Rattle.ckpt_types.specs.declared.update.ReadElement.{ReadElement}
 use Rattle.ckpt_types.specs.declared.update.Update.{Update}
 use Rattle.ckpt_types.specs.Limits.{script_reads_max}
@@ -179,16 +180,22 @@ pub line_behind : (k : LineWord) (first : List ℕ) (ws : List (List ℕ)) (x : 
 unfolding line_of
 line_behind k first ws x other named built some none said = rw (other, named, built, some, none, said) refl
 
+-- the same behind `begin`
+pub line_begun : (k : LineWord) (first : List ℕ) (ws : List (List ℕ)) (x : Line) → word_of first ≡ Some k → is_later k ≡ false → may_begin k ≡ true → is_empty first ≡ false
+    → list_any is_empty ws ≡ false → said_by k ws ≡ Ok x → line_of (codes "begin" ∷ first ∷ ws) ≡ Ok (begun x)
+unfolding line_of
+line_begun k first ws x named built may some none said = rw (named, built, may, some, none, said) refl
+
 pub begins_write : (text rest : List ℕ) (quick : Quick) → text ≡ codes "write" ++ 32 ∷ rest → SaysBehind word.Write rest quick → SaysLine text quick
 unfolding word_of word_of_first
-begins_write text rest (quicks.Write c p u) is h = (rw is (line_behind word.Write (codes "write") (words_of rest) _ refl refl refl refl h.0.0 h.0.1), tt)
-begins_write text rest (quicks.Read c p e asked) is h = (rw is (line_behind word.Write (codes "write") (words_of rest) _ refl refl refl refl h.0.0 h.0.1), h.1)
+begins_write text rest (quicks.Write c p u) is h = (rw is (line_behind word.Write (codes "write") (words_of rest) _ refl refl refl refl h.0.0 h.0.1, line_begun word.Write (codes "write") (words_of rest) _ refl refl refl refl h.0.0 h.0.1), tt)
+begins_write text rest (quicks.Read c p e asked) is h = (rw is (line_behind word.Write (codes "write") (words_of rest) _ refl refl refl refl h.0.0 h.0.1, line_begun word.Write (codes "write") (words_of rest) _ refl refl refl refl h.0.0 h.0.1), h.1)
 begins_write text rest quicks.Other is h = (tt, tt)
 
 pub begins_read : (text rest : List ℕ) (quick : Quick) → text ≡ codes "read" ++ 32 ∷ rest → SaysBehind word.Read rest quick → SaysLine text quick
 unfolding word_of word_of_first
-begins_read text rest (quicks.Write c p u) is h = (rw is (line_behind word.Read (codes "read") (words_of rest) _ refl refl refl refl h.0.0 h.0.1), tt)
-begins_read text rest (quicks.Read c p e asked) is h = (rw is (line_behind word.Read (codes "read") (words_of rest) _ refl refl refl refl h.0.0 h.0.1), h.1)
+begins_read text rest (quicks.Write c p u) is h = (rw is (line_behind word.Read (codes "read") (words_of rest) _ refl refl refl refl h.0.0 h.0.1, line_begun word.Read (codes "read") (words_of rest) _ refl refl refl refl h.0.0 h.0.1), tt)
+begins_read text rest (quicks.Read c p e asked) is h = (rw is (line_behind word.Read (codes "read") (words_of rest) _ refl refl refl refl h.0.0 h.0.1, line_begun word.Read (codes "read") (words_of rest) _ refl refl refl refl h.0.0 h.0.1), h.1)
 begins_read text rest quicks.Other is h = (tt, tt)
 
 -- THE MARKS BEHIND SUCH LINES
@@ -204,9 +211,24 @@ write_asks c p u m some none le =
     let front : 0 + m.asked ≡ m.asked = omega arith in
     (rw (some, none, room) refl, rw (some, none, same, front) refl)
 
+pub begun_write_asks : (a : ActorName) (p : ℕ) (u : Update) → OnlyAsks (lines.Begin a (ops.Write p u)) 0
+unfolding fault_after order_fault limit_fault marks_after
+begun_write_asks a p u m some none le =
+    let room : nat_lt script_reads_max (m.asked + 0) ≡ false = no_more (m.asked + 0) script_reads_max le in
+    let same : m.asked + 0 ≡ m.asked = omega arith in
+    let front : 0 + m.asked ≡ m.asked = omega arith in
+    (rw (some, none, room) refl, rw (some, none, same, front) refl)
+
 pub read_asks : (c p asked : ℕ) (es : List ReadElement) → sum_by (λ e. e.len) es ≡ asked → OnlyAsks (lines.Call c (ops.Read p es)) asked
 unfolding fault_after order_fault limit_fault marks_after
 read_asks c p asked es is m some none le =
+    let room : nat_lt script_reads_max (m.asked + asked) ≡ false = no_more (m.asked + asked) script_reads_max le in
+    let same : asked + m.asked ≡ m.asked + asked = omega arith in
+    (rw (is, some, none, room) refl, rw (is, some, none, same) refl)
+
+pub begun_read_asks : (a : ActorName) (p asked : ℕ) (es : List ReadElement) → sum_by (λ e. e.len) es ≡ asked → OnlyAsks (lines.Begin a (ops.Read p es)) asked
+unfolding fault_after order_fault limit_fault marks_after
+begun_read_asks a p asked es is m some none le =
     let room : nat_lt script_reads_max (m.asked + asked) ≡ false = no_more (m.asked + asked) script_reads_max le in
     let same : asked + m.asked ≡ m.asked + asked = omega arith in
     (rw (is, some, none, room) refl, rw (is, some, none, same) refl)

@@ -1,5 +1,5 @@
 -- A line that is read at once, word by word from the left.
-use Rattle.std.specs.Prelude.{◌≡◌, ℕ, false, List, Option, Some, None, IfSome, Ok, ◌∷◌, ◌+◌, ◌≤◌, sum_by, ⊤}
+use Rattle.std.specs.Prelude.{◌≡◌, ℕ, false, List, Option, Some, None, IfSome, Ok, ◌∷◌, ◌+◌, ◌≤◌, sum_by, ⊤, codes}
 use Rattle.std.specs.List.{list_any}
 use Rattle.ckpt_types.specs.declared.operation.Op.TheVariants as ops
 use Rattle.ckpt_types.specs.Limits.{script_reads_max}
@@ -10,7 +10,7 @@ use Rattle.script_lang.specs.declared.lines.Line.TheVariants as lines
 use Rattle.script_lang.specs.declared.quick.Front.{Front}
 use Rattle.script_lang.specs.declared.quick.Quick.{Quick}
 use Rattle.script_lang.specs.declared.quick.Quick.TheVariants as quicks
-use Rattle.script_lang.specs.Table.{said_by, any_number}
+use Rattle.script_lang.specs.Table.{said_by, any_number, begun}
 use Rattle.script_lang.specs.Grammar.{is_empty, words_of, line_of, fault_after, marks_after}
 use Rattle.script_lang.specs.declared.marks.Marks.{Marks}
 
@@ -46,9 +46,9 @@ AsksAll quicks.Other = ⊤
 abbrev pub SaysBehind : LineWord → List ℕ → Quick → Type 0
 SaysBehind k text quick = IfSome (line_in_quick quick) (λ x. (list_any is_empty (words_of text) ≡ false) × (said_by k (words_of text) ≡ Ok x)) × AsksAll quick
 
--- the text says it
+-- the text says it, and behind `begin` that it is begun
 abbrev pub SaysLine : List ℕ → Quick → Type 0
-SaysLine text quick = IfSome (line_in_quick quick) (λ x. line_of (words_of text) ≡ Ok x) × AsksAll quick
+SaysLine text quick = IfSome (line_in_quick quick) (λ x. (line_of (words_of text) ≡ Ok x) × (line_of (codes "begin" ∷ words_of text) ≡ Ok (begun x))) × AsksAll quick
 
 -- outside of a block the line leaves no mark but the bytes that it asks for, where they may be asked for
 abbrev pub OnlyAsks : Line → ℕ → Type 0

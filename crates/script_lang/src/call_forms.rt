@@ -67,7 +67,7 @@ pub fn unlink_line(alloc: Global, words: &[&[u8]]) -> Result<Line, LineError>
         return Err(LineError::Fault(Reason::Count));
     };
     let client = script_words::client(client)?;
-    let name = script_words::bytes(alloc, name)?;
+    let name = shared_name(alloc, name)?;
     Ok(Line::Call(client, Op::Unlink(name)))
 }
 

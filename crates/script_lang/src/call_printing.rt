@@ -49,7 +49,7 @@ pub fn write_call(alloc: Global, out: &mut Vec<u8>, client: u8, op: &Op) -> Resu
             *attributes.value(),
         ),
         Op::Close(place) => close_call(out, client, *place),
-        Op::Unlink(name) => unlink_call(alloc, out, client, name),
+        Op::Unlink(name) => unlink_call(alloc, out, client, name.value()),
         Op::Retain(place, duration) => retain_call(out, client, *place, *duration),
         Op::Active(place) => active_call(out, client, *place),
         Op::Status(place) => status_call(out, client, *place),

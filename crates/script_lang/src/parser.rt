@@ -12,9 +12,9 @@ ghost use Rattle.script_lang.specs.Plain.{OnlyAsks};
 use crate::faults::{ParseError, ScriptFault};
 use crate::lines::{Line, Script};
 use crate::marks::{Marks, is_race, next_marks};
-use crate::quick::{Quick, quick_line};
+use crate::quick::{Quick, behind_begin, quick_line};
 use crate::reading::{first_line, read_line, says_nothing};
-use ckpt_types::{Op, SCRIPT_BYTES_MAX, SCRIPT_LINES_MAX, SCRIPT_READS_MAX, Vector};
+use ckpt_types::{ActorName, Op, SCRIPT_BYTES_MAX, SCRIPT_LINES_MAX, SCRIPT_READS_MAX, Vector};
 use script_words::{LineError, Reason};
 use std::alloc::{AllocError, Global};
 use std::marker::Model;
@@ -126,6 +126,29 @@ impl Reader {
             }
             Quick::Read(client, place, elements, len) => {
                 self.add_access(Line::Call(client, Op::Read(place, elements)), len)
+            }
+            Quick::Other => self.take_other(alloc, text),
+        }
+    }
+
+    // One more line that says something, where it is not read at once. It is, where it is so behind `begin`.
+    #[inline(never)]
+    fn take_other(&mut self, alloc: Global, text: &[u8]) -> Result<(), ParseError>
+        requires { self.old.number < script_lines_max }
+        ensures ok { OnOk result (after_reading self.old (some_line (line_of (words_of text.now))) ≡ Ok self.new) }
+        ensures err { IfErr result (λ e. Misses e (after_reading self.old (some_line (line_of (words_of text.now))))) }
+    {
+        let Some(rest) = behind_begin(text) else {
+            return self.take_any(alloc, text);
+        };
+        match quick_line(alloc, rest)? {
+            Quick::Write(client, place, update) => {
+                let op = Op::Write(place, update);
+                self.add_access(Line::Begin(ActorName::Client(client), op), 0)
+            }
+            Quick::Read(client, place, elements, len) => {
+                let op = Op::Read(place, elements);
+                self.add_access(Line::Begin(ActorName::Client(client), op), len)
             }
             Quick::Other => self.take_any(alloc, text),
         }

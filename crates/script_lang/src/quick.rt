@@ -49,6 +49,17 @@ pub fn quick_line(alloc: Global, text: &[u8]) -> Result<Quick, AllocError>
     Ok(Quick::Other)
 }
 
+/// What lies behind `begin` and a space, where they stand in front.
+#[inline(always)]
+pub fn behind_begin(text: &[u8]) -> Option<&[u8]>
+    ensures { IfSome result (λ rest. text.now ≡ codes "begin" ++ 32 ∷ rest.now) }
+{
+    match text {
+        [b'b', b'e', b'g', b'i', b'n', b' ', rest @ ..] => Some(rest),
+        _ => None,
+    }
+}
+
 // What lies behind `write` and a space, where they stand in front.
 #[inline(always)]
 fn behind_write(text: &[u8]) -> Option<&[u8]>

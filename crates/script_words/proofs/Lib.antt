@@ -1,3 +1,4 @@
+mod Ends
 pub mod Fits
 pub mod Numbers
 mod Pairs

@@ -19,6 +19,9 @@ const CKPT_NUMBERS: u64 = 10_000;
 // So many digits say a number below 2^64, whatever they are.
 const ALWAYS_FIT: usize = 19;
 
+// So many bytes are tested by a few instructions.
+const BLOCK: usize = 16;
+
 /// A client, `c` and its number.
 #[inline(always)]
 #[tactic(auto, unfolding(crate::specs::Words::read))]
@@ -153,8 +156,22 @@ fn may_be_quoted(text: &[u8]) -> bool
     !text.is_empty() && all_graphic(text)
 }
 
-// Goes on behind a byte that fails, so that many bytes are tested at once.
+// Up to two blocks are tested as the first and the last, which may lie over one another.
 fn all_graphic(text: &[u8]) -> bool
+    ensures { result ≡ list_all is_graphic text.now }
+{
+    if BLOCK <= text.len() && text.len() <= 2 * BLOCK {
+        let (front, _) = text.split_at(BLOCK);
+        let (_, back) = text.split_at(text.len() - BLOCK);
+        each_graphic(front) & each_graphic(back)
+    } else {
+        each_graphic(text)
+    }
+}
+
+// Goes on behind a byte that fails, so that many bytes are tested at once.
+#[inline(always)]
+fn each_graphic(text: &[u8]) -> bool
     ensures { result ≡ list_all is_graphic text.now }
 {
     let mut graphic = true;

@@ -58,7 +58,7 @@ fn change(
             Ok(())
         }
         DriverKind::Unlink(name) => {
-            let Ok(()) = cluster.unlink(name) else {
+            let Ok(()) = cluster.unlink(name.value()) else {
                 unreachable!()
             };
             Ok(())

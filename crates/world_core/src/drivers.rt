@@ -26,7 +26,7 @@ use crate::open_call::{OpenCall, SharedAsk};
 use crate::tables::Tables;
 use crate::update_call::UpdateCall;
 use ckpt_types::{
-    AisError, Answer, Bytes, CLIENTS_MAX, CallId, Cause, CkptId, NodeId, Op, Outcome,
+    AisError, Answer, CLIENTS_MAX, CallId, Cause, CkptId, NodeId, Op, Outcome, SharedName,
 };
 use client_handles::HandleView;
 use cluster_record::{ActiveKind, OpenAnswer, Record, number_of};
@@ -67,7 +67,7 @@ pub enum DriverKind {
     /// A handle of the checkpoint is closed.
     Close(CkptId),
     /// The checkpoint of the name loses it.
-    Unlink(Bytes),
+    Unlink(SharedName),
     /// The retention of the checkpoint becomes this duration.
     Retain(CkptId, i64),
 }
@@ -79,7 +79,8 @@ impl Driver {
         Driver { kind }
     }
 
-    /// The driver of a call that begins now, on this handle if it names one that is there. An open copies its name.
+    /// The driver of a call that begins now, on this handle if it names one that is there. The two share the
+    /// operation's name, if it has one.
     pub fn start(
         call: CallId,
         op: &Op,
@@ -116,7 +117,7 @@ impl Driver {
             Op::Next(_) => Ok(active_start(call, ActiveKind::Next, ckpt_of_handle(handle))),
             Op::Close(_) => Ok(close_start(ckpt_of_handle(handle))),
             Op::Retain(_, duration) => Ok(retain_start(*duration, ckpt_of_handle(handle))),
-            Op::Unlink(name) => Ok(Driver::by(DriverKind::Unlink(name.clone()?))),
+            Op::Unlink(name) => Ok(Driver::by(DriverKind::Unlink(name.share()?))),
             Op::Finalize => Ok(Driver::by(DriverKind::Leave)),
             _ => Ok(Driver::by(DriverKind::Enter(0))),
         }
@@ -153,7 +154,7 @@ impl Driver {
             DriverKind::Active(active) => active.next(cluster, tables.has_iteration_room(c)),
             DriverKind::Leave => Next::Event(RecordStep::Leave),
             DriverKind::Close(ckpt) => close_next(cluster, *ckpt),
-            DriverKind::Unlink(name) => unlink_next(cluster, name),
+            DriverKind::Unlink(name) => unlink_next(cluster, name.value()),
             DriverKind::Retain(ckpt, _) => retain_next(cluster, *ckpt),
         }
     }
@@ -311,7 +312,7 @@ pub fn event_ckpt(cluster: &Record, driver: &Driver, step: &RecordStep) -> Optio
         (DriverKind::Open(_), RecordStep::Create) => Some(cluster.last_identity() + 1),
         (DriverKind::Open(open_call), RecordStep::Open) => cluster.find(open_call.name()),
         (DriverKind::Open(open_call), RecordStep::Finish | RecordStep::Undo) => open_call.making(),
-        (DriverKind::Unlink(name), RecordStep::Unlink) => cluster.find(name),
+        (DriverKind::Unlink(name), RecordStep::Unlink) => cluster.find(name.value()),
         (DriverKind::Close(ckpt), RecordStep::Close) => Some(*ckpt),
         (DriverKind::Retain(ckpt, _), RecordStep::Retain) => Some(*ckpt),
         _ => None,

@@ -7,7 +7,7 @@ pub loop-i-preserved : goal.loop-i-preserved
 loop-i-preserved c =
     let before = c.loop-i.invariant in
     record {
-      done = encode_step lower_digits c.args.bytes.now c.loop-i.digits c.loop-i.i _ _ c.loop-i-test.true (omega (arith, before.places, c.loop-i-test.true)) c.digit_of.ensures c.digit_of-in-loop-i.ensures before.done;
+      done = encode_step lower_digits c.args.bytes.now c.loop-i.digits c.loop-i.i _ _ c.loop-i-test.true (omega (arith, before.places, c.loop-i-test.true)) c.digits_of-high.ensures.high c.digits_of-high.ensures.low before.done;
       places = simp length-set before.places;
     }
 
