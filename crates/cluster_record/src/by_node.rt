@@ -6,6 +6,7 @@ ghost use Rattle.cluster_record.specs.StepDone.{lacks, has, first_lacking, last_
 use ckpt_types::{NODES_MAX, NodeId};
 
 /// The lowest of these nodes that the call lacks: with an incarnation that it does not have there.
+#[inline(always)]
 pub fn first_lacking(nodes: &[u32; NODES_MAX], own: &[u32; NODES_MAX]) -> Option<NodeId>
     ensures value { result ≡ first_lacking 0 nodes.now own.now }
     ensures within { IfSome result (λ r. r < nodes_max) }
