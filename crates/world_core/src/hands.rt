@@ -108,6 +108,25 @@ impl InHand {
         self.driver.take(&self.op, cluster, r, request, reply)
     }
 
+    #[inline(always)]
+    fn staged(&mut self, cluster: &Record, ckpt: CkptId, r: NodeId)
+        requires update { IsUpdate self.old.driver }
+        requires node { r < nodes_max }
+        ensures { self.new ≡ hand_taken (done_of cluster.now verbs.Stage (Some ckpt) (Some r) words.Ok) self.old }
+    {
+        self.driver.staged(cluster, ckpt, r);
+    }
+
+    #[inline(always)]
+    fn committed(&mut self, cluster: &Record, ckpt: CkptId, r: NodeId) -> bool
+        requires update { IsUpdate self.old.driver }
+        requires node { r < nodes_max }
+        ensures new { self.new ≡ hand_taken (done_of cluster.now verbs.Commit (Some ckpt) (Some r) words.Ok) self.old }
+        ensures end { ended_unless result ≡ hand_end (done_of cluster.now verbs.Commit (Some ckpt) (Some r) words.Ok) (replies.Done answers.Nothing) self.new }
+    {
+        self.driver.committed(cluster, ckpt, r)
+    }
+
     fn told(
         &mut self,
         cluster: &Record,
@@ -341,7 +360,7 @@ fn settle_staged(slot: &mut Option<InHand>, cluster: &Record, ckpt: CkptId, r: N
     ensures { (h : InHand) → slot.old ≡ Some h → slot.new ≡ Some (hand_taken (done_of cluster.now verbs.Stage (Some ckpt) (Some r) words.Ok) h) }
 {
     let Some(hand) = slot else { unreachable!() };
-    hand.driver.staged(cluster, ckpt, r);
+    hand.staged(cluster, ckpt, r);
 }
 
 #[inline(always)]
@@ -377,11 +396,11 @@ fn settle_committed(
     ensures end { (h : InHand) → slot.old ≡ Some h → ended_unless result ≡ hand_end (done_of cluster.now verbs.Commit (Some ckpt) (Some r) words.Ok) (replies.Done answers.Nothing) (hand_taken (done_of cluster.now verbs.Commit (Some ckpt) (Some r) words.Ok) h) }
 {
     let Some(hand) = slot else { unreachable!() };
-    let goes_on = hand.driver.committed(cluster, ckpt, r);
-    if !goes_on {
-        *slot = None;
+    if hand.committed(cluster, ckpt, r) {
+        return true;
     }
-    goes_on
+    *slot = None;
+    false
 }
 
 fn told_at(

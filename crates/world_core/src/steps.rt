@@ -11,7 +11,7 @@ ghost use Rattle.node_msgs.specs.Requests.{ckpt_of};
 ghost use Rattle.node_msgs.specs.Steps.{verb_of, word_of};
 ghost use Rattle.cluster_record.specs.Calls.{left};
 ghost use Rattle.world_core.specs.HandSteps.{end_by, hand_taken, served_done};
-ghost use Rattle.world_core.specs.UpdateSteps.{IsOfUpdate};
+ghost use Rattle.world_core.specs.UpdateSteps.{IsOfUpdate, IsUpdate};
 ghost use Rattle.node_msgs.specs.declared.requests.Request.TheVariants as requests;
 ghost use Rattle.run_labels.specs.declared.labels.Label.TheVariants as labels;
 ghost use Rattle.run_labels.specs.declared.words.Said.TheVariants.{Idle};
@@ -115,6 +115,7 @@ impl World {
         log: &mut RunLog,
     ) -> Result<(), AllocError>
         requires next { IsNext self.old c next }
+        requires update { (h : InHand) → hand_at self.old.hands c ≡ Some h → IsUpdate h.driver }
         requires is { IsOfUpdate next }
         requires client { c < client_numbers }
         requires shown { IsShown self.old }
@@ -151,6 +152,7 @@ impl World {
         log: &mut RunLog,
     ) -> Result<(), AllocError>
         requires next { IsNext self.old c (nexts.Serve r (requests.Stage asked ckpt moment)) }
+        requires update { (h : InHand) → hand_at self.old.hands c ≡ Some h → IsUpdate h.driver }
         requires client { c < client_numbers }
         requires shown { IsShown self.old }
         requires roomy { HasNumbersLeft self.old }
@@ -165,17 +167,17 @@ impl World {
         let op = hand.word();
         let update = share_update(alloc, &hand.op)?;
         let reply = self.nodes.stage(r, asked, ckpt, update, moment);
-        if let Reply::Done(_) = reply {
-            self.hands.staged(c, &self.cluster, ckpt, r);
-            log.push(goes_on(call, op, Verb::Stage, ckpt, r));
-        } else {
+        let Reply::Done(_) = reply else {
             let request = Request::Stage(asked, ckpt, moment);
             self.refused_step(c, r, call, op, &request, &reply, log);
-        }
+            return Ok(());
+        };
+        self.hands.staged(c, &self.cluster, ckpt, r);
+        log.push(goes_on(call, op, Verb::Stage, ckpt, r));
         Ok(())
     }
 
-    // A node has refused to stage the update of the call, which ends unless the owner of the slot there is gone.
+    // A node has refused what an update asked of it, which ends by that unless the owner of the slot there is gone.
     #[inline(never)]
     fn refused_step(
         &mut self,
@@ -218,6 +220,7 @@ impl World {
         log: &mut RunLog,
     ) -> Result<(), AllocError>
         requires next { IsNext self.old c (nexts.Serve r (requests.Commit asked ckpt)) }
+        requires update { (h : InHand) → hand_at self.old.hands c ≡ Some h → IsUpdate h.driver }
         requires client { c < client_numbers }
         requires shown { IsShown self.old }
         requires roomy { HasNumbersLeft self.old }
@@ -235,7 +238,9 @@ impl World {
         let op = hand.word();
         let reply = self.nodes.commit(r, asked, ckpt);
         let Reply::Done(_) = reply else {
-            unreachable!()
+            let request = Request::Commit(asked, ckpt);
+            self.refused_step(c, r, call, op, &request, &reply, log);
+            return Ok(());
         };
         if self.hands.committed(c, &self.cluster, ckpt, r) {
             log.push(goes_on(call, op, Verb::Commit, ckpt, r));

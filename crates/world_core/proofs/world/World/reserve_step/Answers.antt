@@ -1,3 +1,5 @@
+use Rattle.std.proofs.Common.{sym, subst}
+use Rattle.world_core.specs.Happenings.{IsStep}
 use Rattle.world_core.proofs.Stepping.{reserve_asks, reserve_is}
 use Rattle.world_core.proofs.world.World.reserve_step.Goals as goal
 
@@ -21,6 +23,6 @@ returns-clause-ok c =
     record {
       label = _;
       labels = c.push.ensures.labels;
-      is = reserve_is c.args.self.now c.args.c c.args.r c.args.ckpt c.requires.next c.reserve-reply.new.self c.reserve-reply.result hand c.take-end.new.self c.word-op.result c.word.result c.take-end.result
-          c.reserve-reply.ensures.there c.reserve-reply.ensures.reserved held (c.take-end.ensures.end hand held) (c.take-end.ensures.new hand held) c.word-op.ensures c.word.ensures;
+      is = subst (IsStep c.args.c _ _) (sym c.served.ensures) (reserve_is c.args.self.now c.args.c c.args.r c.args.ckpt c.requires.next c.reserve-reply.new.self c.reserve-reply.result hand c.take-end.new.self c.word-op.result c.word.result c.take-end.result
+          c.reserve-reply.ensures.there c.reserve-reply.ensures.reserved held (c.take-end.ensures.end hand held) (c.take-end.ensures.new hand held) c.word-op.ensures c.word.ensures);
     }

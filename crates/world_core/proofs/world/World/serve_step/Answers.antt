@@ -1,7 +1,8 @@
-use Rattle.std.proofs.Common.{refl, ap, ◌∙◌}
+use Rattle.std.proofs.Common.{refl, sym, ap, subst, ◌∙◌}
 use Rattle.node_msgs.specs.Requests.{ckpt_of}
 use Rattle.ckpt_machine.specs.Serving.{record_seen}
 use Rattle.ckpt_machine.specs.Steps.{ended_details}
+use Rattle.world_core.specs.Happenings.{IsStep}
 use Rattle.world_core.proofs.Stepping.{node_there, node_ready, serve_is}
 use Rattle.world_core.proofs.world.World.serve_step.Goals as goal
 
@@ -26,6 +27,6 @@ returns-clause-ok c =
     record {
       label = _;
       labels = c.push.ensures.labels;
-      is = serve_is w c.args.c c.args.r c.args.request.now hand held c.requires.next (record { reserves_none = c.requires.reserves_none; starts_none = c.requires.starts_none; goes_on_with_none = c.requires.goes_on_with_none }) (record_seen w.cluster (ckpt_of c.args.request.now)) c.serve-reply.new.self c.take-end.new.self c.word-op.result c.verb.result c.ckpt.result c.word.result c.serve-reply.result c.take-end.result c.told_details-details.result
-          refl c.serve-reply.ensures.reply (c.told_details-details.ensures ∙ ap (ended_details c.take-end.result) c.serve-reply.ensures.details) c.serve-reply.ensures.new (c.take-end.ensures.end hand held) (c.take-end.ensures.new hand held) c.word-op.ensures c.verb.ensures c.ckpt.ensures c.word.ensures;
+      is = subst (IsStep c.args.c _ _) (sym c.served.ensures) (serve_is w c.args.c c.args.r c.args.request.now hand held c.requires.next (record { reserves_none = c.requires.reserves_none; starts_none = c.requires.starts_none; goes_on_with_none = c.requires.goes_on_with_none }) (record_seen w.cluster (ckpt_of c.args.request.now)) c.serve-reply.new.self c.take-end.new.self c.word-op.result c.verb.result c.ckpt.result c.word.result c.serve-reply.result c.take-end.result c.told_details-details.result
+          refl c.serve-reply.ensures.reply (c.told_details-details.ensures ∙ ap (ended_details c.take-end.result) c.serve-reply.ensures.details) c.serve-reply.ensures.new (c.take-end.ensures.end hand held) (c.take-end.ensures.new hand held) c.word-op.ensures c.verb.ensures c.ckpt.ensures c.word.ensures);
     }

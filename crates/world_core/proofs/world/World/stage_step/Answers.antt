@@ -1,0 +1,51 @@
+use Rattle.std.proofs.Common.{◌≡◌, w64, to_z, of_z, ap, ◌∙◌}
+use Rattle.std.proofs.lemmas.Int.{to_z-of_z}
+use Rattle.ckpt_machine.specs.Serving.{replica_in}
+use Rattle.world_core.specs.UpdateSteps.{stage_reply_at, staged_at}
+use Rattle.world_core.proofs.Updating.{stage_plain, stage_is, stage_refused}
+use Rattle.world_core.proofs.Stepping.{node_there, some_held}
+use Rattle.world_core.proofs.world.World.stage_step.Goals as goal
+
+pub stage-reply-requires : goal.stage-reply-requires
+stage-reply-requires c = node_there c.args.self.now c.args.c c.args.r _ c.in-Some.hand.now c.in-Some.ensures c.requires.next (stage_plain c.args.asked c.args.ckpt c.args.moment) c.requires.shown
+
+pub staged-requires-clause-node : goal.staged-requires-clause-node
+staged-requires-clause-node c = node_there c.args.self.now c.args.c c.args.r _ c.in-Some.hand.now c.in-Some.ensures c.requires.next (stage_plain c.args.asked c.args.ckpt c.args.moment) c.requires.shown
+
+pub refused_step-requires : goal.refused_step-requires
+refused_step-requires c = record {
+  held = some_held _ c.in-Some.hand.now c.in-Some.ensures;
+  node = node_there c.args.self.now c.args.c c.args.r _ c.in-Some.hand.now c.in-Some.ensures c.requires.next (stage_plain c.args.asked c.args.ckpt c.args.moment) c.requires.shown;
+  spare = c.requires.spare;
+}
+
+pub returns-in_default-reply : goal.returns-in_default-reply
+returns-in_default-reply c =
+    let w = c.args.self.now in
+    let hand = c.in-Some.hand.now in
+    let held = c.in-Some.ensures in
+    let moment : to_z w64 (of_z w64 c.args.moment) ≡ c.args.moment = to_z-of_z w64 c.args.moment (record { sfits = c.ranges.moment.sfits }) in
+    let nodes = c.stage-reply.ensures.new ∙ ap (λ t. staged_at w.nodes c.args.r c.args.ckpt (record { owner = c.args.asked; update = c.in_ok-update.update; moment = t })) moment in
+    let reply = c.stage-reply.ensures.reply ∙ ap (λ t. stage_reply_at c.in_ok-update.update t (replica_in w.nodes c.args.ckpt c.args.r)) moment in
+    record {
+      ok = record {
+        label = _;
+        labels = c.refused_step.ensures.label hand held;
+        is = stage_refused w c.args.c c.args.r c.args.asked c.args.ckpt c.args.moment hand held c.requires.next c.in_ok-update.update c.in_ok-update.ensures c.stage-reply.new.self nodes c.word-op.result c.word-op.ensures c.stage-reply.result _ reply (c.refused_step.ensures.world hand held);
+      };
+      err = tt;
+    }
+
+pub returns-clause-ok : goal.returns-clause-ok
+returns-clause-ok c =
+    let w = c.args.self.now in
+    let hand = c.in-Some.hand.now in
+    let held = c.in-Some.ensures in
+    let moment : to_z w64 (of_z w64 c.args.moment) ≡ c.args.moment = to_z-of_z w64 c.args.moment (record { sfits = c.ranges.moment.sfits }) in
+    let nodes = c.stage-reply.ensures.new ∙ ap (λ t. staged_at w.nodes c.args.r c.args.ckpt (record { owner = c.args.asked; update = c.in_ok-update.update; moment = t })) moment in
+    let reply = c.stage-reply.ensures.reply ∙ ap (λ t. stage_reply_at c.in_ok-update.update t (replica_in w.nodes c.args.ckpt c.args.r)) moment in
+    record {
+      label = _;
+      labels = c.push.ensures.labels;
+      is = stage_is w c.args.c c.args.r c.args.asked c.args.ckpt c.args.moment hand held c.requires.next c.in_ok-update.update c.in_ok-update.ensures c.stage-reply.new.self nodes c.word-op.result c.word-op.ensures c.stage-reply.result c.in-Done.field-0 c.staged.new.self _ (c.requires.update hand held) c.in-Done.is reply (c.staged.ensures hand held) c.goes_on.ensures;
+    }
