@@ -5,6 +5,7 @@ ghost use Rattle.node_msgs.specs.Requests.{ckpt_of};
 ghost use Rattle.node_msgs.specs.Steps.{verb_of, word_of, event_verb};
 ghost use Rattle.ckpt_machine.specs.Driving.{driver_next, driver_taken, driver_end, driver_start, on_kept, update_start, active_start, done_end, event_ckpt, event_node, event_end, event_refusal, making_in, opened_end, refusal_in, takes_memory, refused_cause};
 ghost use Rattle.cluster_record.specs.StepDone.{done_of, names_live};
+ghost use Rattle.cluster_record.specs.DueUpdate.{update_taken};
 ghost use Rattle.cluster_record.specs.DueOpen.{making_ckpt};
 ghost use Rattle.cluster_record.specs.Calls.{client_of};
 ghost use Rattle.cluster_record.specs.LookUps.{node_of_client};
@@ -17,7 +18,7 @@ ghost use Rattle.node_msgs.specs.declared.steps.Verb.TheVariants as verbs;
 ghost use Rattle.ckpt_types.specs.declared.answers.Answer.TheVariants as answers;
 ghost use Rattle.world_core.specs.UpdateSteps.{IsUpdate, end_of_refused, ended_unless};
 ghost use Rattle.world_core.specs.Happenings.{rooms_of};
-ghost use Rattle.ckpt_machine.specs.Drivers.{Close, Retain};
+ghost use Rattle.ckpt_machine.specs.Drivers.{Close, Retain, Update};
 
 use crate::active_call::ActiveCall;
 use crate::beginning::{choice_of, ckpt_of_handle};
@@ -172,12 +173,13 @@ impl Driver {
         ensures new { self.new ≡ driver_taken (done_of cluster.now (verb_of request.now) (Some (ckpt_of request.now)) (Some r) (word_of reply.now)) self.old }
         ensures end { result ≡ driver_end op.now (done_of cluster.now (verb_of request.now) (Some (ckpt_of request.now)) (Some r) (word_of reply.now)) reply.now self.new }
     {
-        match (&mut self.kind, reply) {
-            (DriverKind::Update(update), Reply::Done(answer)) => {
-                update.take(cluster, r, request, *answer)
-            }
-            (DriverKind::Active(_), Reply::Done(answer)) => Some(Outcome::Done(*answer)),
-            (DriverKind::Open(open_call), _) => {
+        match &mut self.kind {
+            DriverKind::Update(update) => take_update(update, op, cluster, r, request, reply),
+            DriverKind::Active(_) => match reply {
+                Reply::Done(answer) => Some(Outcome::Done(*answer)),
+                _ => end_of_refused(op, cluster, reply),
+            },
+            DriverKind::Open(open_call) => {
                 open_call.take(cluster, r, request, reply.word());
                 end_of_refused(op, cluster, reply)
             }
@@ -226,6 +228,30 @@ impl Driver {
         if let DriverKind::Open(open_call) = &mut self.kind {
             open_call.told(cluster, step, ckpt, node, word);
         }
+    }
+}
+
+// An update takes a node's answer. What its operation ends with, if it ends.
+fn take_update(
+    update: &mut UpdateCall,
+    op: &Op,
+    cluster: &Record,
+    r: NodeId,
+    request: &Request,
+    reply: &Reply,
+) -> Option<Outcome>
+    requires { r < nodes_max }
+    ensures new { update.new ≡ update_taken (done_of cluster.now (verb_of request.now) (Some (ckpt_of request.now)) (Some r) (word_of reply.now)) update.old }
+    ensures end { result ≡ driver_end op.now (done_of cluster.now (verb_of request.now) (Some (ckpt_of request.now)) (Some r) (word_of reply.now)) reply.now (Update update.new) }
+{
+    match reply {
+        Reply::Done(answer) => update.take(cluster, r, request, *answer),
+        // Its word is that of a reply that was done, and nothing comes of it.
+        Reply::Claimed(_) => {
+            update.take(cluster, r, request, Answer::Nothing);
+            None
+        }
+        _ => end_of_refused(op, cluster, reply),
     }
 }
 

@@ -16,8 +16,8 @@ ghost use Rattle.ckpt_machine.specs.Steps.{ended_details};
 
 use crate::replica::Replica;
 use ckpt_types::{
-    Answer, Apart, CallId, CheckpointDescriptor, Choice, CkptId, CreationAttributes, Moment, NODES_MAX,
-    NodeId, Op, Outcome, Pieces, ReadBuf, SectionDescriptor, SharedReads, SharedUpdate,
+    Answer, Apart, CallId, CheckpointDescriptor, Choice, CkptId, CreationAttributes, Moment,
+    NODES_MAX, NodeId, Op, Outcome, Pieces, ReadBuf, SectionDescriptor, SharedReads, SharedUpdate,
 };
 use cluster_record::Record;
 use node_msgs::{Reply, Request};

@@ -1,11 +1,12 @@
 //! The driver of an update on all replicas.
-ghost use Rattle.std.specs.Prelude.{◌≡◌, ◌<◌, Some, is_some};
+ghost use Rattle.std.specs.Prelude.{◌≡◌, ◌<◌, Some, is_some, slice_set, slice_index};
 ghost use Rattle.ckpt_types.specs.Limits.{nodes_max};
 ghost use Rattle.node_msgs.specs.declared.steps.StepReply.TheVariants as words;
 ghost use Rattle.node_msgs.specs.declared.steps.Verb.TheVariants as verbs;
 ghost use Rattle.node_msgs.specs.Requests.{ckpt_of};
 ghost use Rattle.node_msgs.specs.Steps.{verb_of};
-ghost use Rattle.cluster_record.specs.DueUpdate.{update_begun, commit_at, stage_at, update_next, update_taken, done_end_by};
+ghost use Rattle.cluster_record.specs.DueUpdate.{update_begun, commit_at, stage_at, update_next, update_taken, done_end_by, kept_moment};
+ghost use Rattle.cluster_record.specs.declared.calls.UpdatePhase.TheVariants.{Staging};
 ghost use Rattle.cluster_record.specs.RecordState.{entry_of, complete_of};
 ghost use Rattle.cluster_record.specs.StepDone.{done_of, first_lacking, last_having};
 ghost use Rattle.world_core.specs.UpdateSteps.{IsOfUpdate};
@@ -112,9 +113,11 @@ impl UpdateCall {
         }
     }
 
+    // It owns its slot at the node, with the incarnation of the node among these. All its slots are of one moment.
     #[inline(always)]
     fn staged_at(&mut self, now: Moment, complete: &[u32; NODES_MAX], r: NodeId)
         requires { r < nodes_max }
+        ensures { self.new ≡ record self.old { owned = slice_set self.old.owned r (slice_index complete.now r); moment = kept_moment (last_having 0 complete.now self.old.owned) now self.old.moment; phase = Staging } }
     {
         if !has_any(complete, &self.owned, self.top) {
             self.moment = now;
