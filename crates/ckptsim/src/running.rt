@@ -17,6 +17,7 @@ use run_labels::RunLog;
 use script_lang::{ParseError, Reason, ScriptFault, parse};
 use session_run::session;
 use std::alloc::Global;
+use std::mem;
 use std::string::String;
 use std::sync::Wait;
 use std::thread::Threads;
@@ -164,6 +165,8 @@ pub fn ckpt_run<R: Threads + Wait + Sync, S: Source, K: Sink, G: Gate>(
     if session(rt, alloc, &script, gate, log, world).is_err() {
         return Status::NoMemory;
     }
+    // The program ends soon, and gives all lines back at once.
+    mem::forget(script);
     match write_lines(alloc, sink, log.as_slice(), wants_steps(words)) {
         Ok(()) => Status::Ran,
         Err(Trouble::Failed) => Status::WriteFault,

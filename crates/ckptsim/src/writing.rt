@@ -28,6 +28,7 @@ fn write_all<K: Sink>(sink: &mut K, bytes: &[u8]) -> Result<(), Failed>
 }
 
 /// Writes the lines of the labels, with their steps or without them, some thousand bytes at a time.
+#[inline(never)]
 pub fn write_lines<K: Sink>(
     alloc: Global,
     sink: &mut K,

@@ -6,10 +6,9 @@ ghost use Rattle.run_labels.specs.Outcomes.{end_text};
 ghost use Rattle.run_labels.specs.Steps.{where_asked, begin_line, step_line, moment_line};
 ghost use Rattle.run_labels.specs.Lines.{line_of};
 
-use crate::details::Details;
 use crate::events::{append_fail, append_join, append_pull, append_put, append_word};
 use crate::labels::Label;
-use crate::outcomes::{append_end, append_stepped_end};
+use crate::outcomes::{append_begun_end, append_stepped_end};
 use crate::shows::append_shown;
 use crate::steps::{append_begin, append_moment, append_step};
 use crate::words::OpWord;
@@ -70,7 +69,7 @@ fn append_began(
 {
     let word = OpWord::of(op);
     append_asked_begin(out, call, word, steps)?;
-    append_end(out, call, word, end, &Details::Nothing)
+    append_begun_end(out, call, word, end)
 }
 
 /// The line of a call that begins, where steps are asked for.

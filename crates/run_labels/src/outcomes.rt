@@ -1,6 +1,7 @@
 //! The result line of a call that has ended.
 ghost use Rattle.std.specs.Prelude.{◌≡◌, ◌+◌, ◌≤◌, ◌++◌, OnOk, Some, codes, decimal, vec_len, vec_capacity};
 ghost use Rattle.std.specs.List.{flat_map};
+ghost use Rattle.run_labels.specs.declared.details.Details.TheVariants as beside;
 ghost use Rattle.run_labels.specs.OpWord.{op_text};
 ghost use Rattle.run_labels.specs.Texts.{time_text};
 ghost use Rattle.run_labels.specs.Outcomes.{version_text, cause_text, told_version, piece_text, facts_text, section_text, attributes_text, status_text, details_text, answer_text, answered_text, head_text, done_line, refusal_line, result_line, end_text, stepped_end_text, is_async};
@@ -46,7 +47,7 @@ fn is_async(op: OpWord) -> bool
 
 /// The result line, where the call has ended.
 #[inline(always)]
-pub(crate) fn append_end(
+fn append_end(
     out: &mut Vec<u8>,
     call: &CallId,
     op: OpWord,
@@ -61,8 +62,37 @@ pub(crate) fn append_end(
     }
 }
 
-/// The result line of a call that ended.
+/// The result line of a call that ended when it began, where it did.
+#[inline(always)]
+pub(crate) fn append_begun_end(
+    out: &mut Vec<u8>,
+    call: &CallId,
+    op: OpWord,
+    end: &Option<Outcome>,
+) -> Result<(), AllocError>
+    ensures { OnOk result (out.new.items ≡ out.old.items ++ end_text call.now op end.now beside.Nothing) }
+{
+    match end {
+        None => Ok(()),
+        Some(outcome) => append_begun_result(out, call, op, outcome),
+    }
+}
+
+/// Few calls end when they begin, so this stands apart.
 #[inline(never)]
+fn append_begun_result(
+    out: &mut Vec<u8>,
+    call: &CallId,
+    op: OpWord,
+    outcome: &Outcome,
+) -> Result<(), AllocError>
+    ensures { OnOk result (out.new.items ≡ out.old.items ++ result_line call.now op outcome.now beside.Nothing) }
+{
+    append_result(out, call, op, outcome, &Details::Nothing)
+}
+
+/// The result line of a call that ended.
+#[inline(always)]
 fn append_result(
     out: &mut Vec<u8>,
     call: &CallId,
@@ -108,7 +138,7 @@ fn append_done(
         }
         _ => {
             push_word(out, op);
-            push_answered(out, answer, details)
+            append_answered(out, answer, details)
         }
     }
 }
@@ -139,6 +169,7 @@ fn push_answered(out: &mut Vec<u8>, answer: &Answer, details: &Details) -> Resul
 }
 
 /// The result line of a call that was refused.
+#[inline(never)]
 fn append_refusal(
     out: &mut Vec<u8>,
     call: &CallId,

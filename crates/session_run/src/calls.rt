@@ -67,6 +67,9 @@ pub(crate) fn begin_of(
     begin(alloc, client, op, log, world)
 }
 
+// A call begins, of an operation that shares what the line has. The most used are told apart, so that each is known where
+// its event is made.
+#[inline(always)]
 fn begin(
     alloc: Global,
     client: u8,
@@ -82,7 +85,46 @@ fn begin(
     ensures happens { OnOk result (Happens (happenings.Begin (Client client) op.now) world.old world.new log.old.labels log.new.labels) }
     ensures err { OnErr result (log.new.labels ≡ log.old.labels) }
 {
-    let event = Event::Begin(ActorName::Client(client), op.clone()?);
+    match op {
+        Op::Write(place, update) => {
+            begin_with(
+                alloc,
+                client,
+                Op::Write(*place, update.share()?),
+                log,
+                world,
+            )
+        }
+        Op::Read(place, elements) => {
+            begin_with(
+                alloc,
+                client,
+                Op::Read(*place, elements.share()?),
+                log,
+                world,
+            )
+        }
+        _ => begin_with(alloc, client, op.share()?, log, world),
+    }
+}
+
+#[inline(always)]
+fn begin_with(
+    alloc: Global,
+    client: u8,
+    op: Op,
+    log: &mut RunLog,
+    world: &mut World,
+) -> Result<(), AllocError>
+    requires run { IsRunTo world.old log.old.labels }
+    requires client { client < client_numbers }
+    requires built { IsBuilt op }
+    requires room { length log.old.labels < 2 ^ 32 - 2 }
+    ensures run { IsRunTo world.new log.new.labels }
+    ensures happens { OnOk result (Happens (happenings.Begin (Client client) op) world.old world.new log.old.labels log.new.labels) }
+    ensures err { OnErr result (log.new.labels ≡ log.old.labels) }
+{
+    let event = Event::Begin(ActorName::Client(client), op);
     world.event(alloc, event, log)
 }
 
@@ -173,6 +215,7 @@ fn steps(
 }
 
 // The steps of the client's call in hand, to its end.
+#[inline(always)]
 fn finish(alloc: Global, client: u8, log: &mut RunLog, world: &mut World) -> Result<(), AllocError>
     requires run { IsRunTo world.old log.old.labels }
     requires client { client < client_numbers }
@@ -190,6 +233,7 @@ fn finish(alloc: Global, client: u8, log: &mut RunLog, world: &mut World) -> Res
 }
 
 // The next step of the client's call in hand.
+#[inline(always)]
 fn step(alloc: Global, client: u8, log: &mut RunLog, world: &mut World) -> Result<(), AllocError>
     requires run { IsRunTo world.old log.old.labels }
     requires client { client < client_numbers }
