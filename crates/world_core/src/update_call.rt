@@ -148,6 +148,7 @@ impl UpdateCall {
     }
 
     /// It takes what a node has answered to a request, and how that ends it.
+    #[inline(always)]
     pub fn take(
         &mut self,
         cluster: &Record,
