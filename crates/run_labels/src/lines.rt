@@ -1,5 +1,5 @@
 //! The lines that one label prints.
-ghost use Rattle.std.specs.Prelude.{◌≡◌, ◌++◌, IfOk, OnOk};
+ghost use Rattle.std.specs.Prelude.{◌≡◌, [], ◌++◌, true, false, IfOk, OnOk};
 ghost use Rattle.run_labels.specs.declared.details.Details.TheVariants.{Nothing};
 ghost use Rattle.run_labels.specs.OpWord.{word_of_op};
 ghost use Rattle.run_labels.specs.Outcomes.{end_text};
@@ -28,6 +28,29 @@ pub fn render_line(alloc: Global, label: &Label, steps: bool) -> Result<Bytes, A
 /// Adds what a label prints behind what the buffer has. After an error, which is want of memory, the
 /// buffer may have a part of it.
 pub fn append_line(out: &mut Vec<u8>, label: &Label, steps: bool) -> Result<(), AllocError>
+    ensures { OnOk result (out.new.items ≡ out.old.items ++ line_of steps label.now) }
+{
+    // Most labels of an update on several nodes, so they are passed over before all else.
+    if !steps && goes_on(label) {
+        return Ok(());
+    }
+    append_told(out, label, steps)
+}
+
+/// Whether a label is a step by which its call goes on. Without the lines of steps it prints nothing.
+#[inline(always)]
+fn goes_on(label: &Label) -> bool
+    ensures { result ≡ true → line_of false label.now ≡ [] }
+{
+    match label {
+        Label::Stepped { end, .. } => end.is_none(),
+        _ => false,
+    }
+}
+
+/// What a label prints that may print something.
+#[inline(always)]
+fn append_told(out: &mut Vec<u8>, label: &Label, steps: bool) -> Result<(), AllocError>
     ensures { OnOk result (out.new.items ≡ out.old.items ++ line_of steps label.now) }
 {
     match label {

@@ -89,8 +89,16 @@ fn compare_equal_keys(id: &[u8], other: &[u8]) -> Ordering
     if id.len() <= KEY_BYTES && other.len() <= KEY_BYTES {
         id.len().cmp(&other.len())
     } else {
-        id.cmp(other)
+        compare_bytes(id, other)
     }
+}
+
+/// How two identifiers compare, byte by byte. It stands apart from the loop of a look-up, which seldom comes here.
+#[inline(never)]
+fn compare_bytes(id: &[u8], other: &[u8]) -> Ordering
+    ensures { result ≡ id_cmp id.now other.now }
+{
+    id.cmp(other)
 }
 
 /// The first bytes as a number, the highest first, with zeros behind fewer.
