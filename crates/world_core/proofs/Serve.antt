@@ -31,11 +31,11 @@ use Rattle.node_msgs.specs.Requests.{ckpt_of}
 use Rattle.world_core.specs.Holding.{replicas_on, IsReservation, IsHeld, HoldsOnlyWhatStands}
 use Rattle.ckpt_machine.specs.Serving.{record_seen, replica_key, replica_in, reply_at, details_at, replica_after, served, IsReadyFor, IsReadyAt}
 use Rattle.node_msgs.specs.Steps.{verb_of, word_of}
-use Rattle.cluster_record.specs.StepDone.{StepDone, done_of}
+use Rattle.cluster_record.specs.StepDone.{StepDone}
 use Rattle.ckpt_machine.specs.Driving.{driver_next, driver_taken, driver_end}
 use Rattle.ckpt_machine.specs.Machine.{Machine, Effect, ReplicaState, CallState}
 use Rattle.ckpt_machine.specs.Steps.{ended_details, details_due, IsDue, IsDone, MayAnswer, after, changed, stepped, step_of, seen_at, staged_moment}
-use Rattle.world_core.specs.HandSteps.{hand_taken}
+use Rattle.world_core.specs.HandSteps.{hand_taken, served_done}
 use Rattle.world_core.specs.Happenings.{rooms_in}
 use Rattle.ckpt_machine.specs.Facts.{Facts, IsServable, HasNoSlot}
 use Rattle.world_core.specs.Shows.{Does, IsShown, HasNumbersLeft, Fits, History, machine_of, shown_replica, shown_slot, complete_replica, hand_at}
@@ -97,7 +97,7 @@ module _ (R : RecordState) (nodes : List (List Replica)) (r : ℕ) (request : Re
       served_once
 
 abbrev pub served_step : World → Request → ℕ → Reply → StepDone
-served_step w request r reply = done_of w.cluster (verb_of request) (Some (ckpt_of request)) (Some r) (word_of reply)
+served_step w request r reply = served_done w.cluster request r reply
 
 abbrev reply_in : World → ℕ → Request → InHand → Reply
 reply_in w r request hand = reply_at request hand.op (record_seen w.cluster (ckpt_of request)) (replica_in w.nodes (ckpt_of request) r)

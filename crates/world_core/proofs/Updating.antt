@@ -1,7 +1,6 @@
 -- The steps of an update, as the code takes them: a stage, a commit, and a refusal of either.
-use Rattle.std.proofs.Common.{◌≡◌, ℕ, ◌<◌, ℤ, Bool, true, false, List, refl, sym, ap, subst, ◌∙◌}
+use Rattle.std.proofs.Common.{◌≡◌, ℕ, ℤ, Bool, false, List, refl, sym, ap, subst, ◌∙◌}
 use Rattle.std.specs.Prelude.{Option, Some, None, slice_set}
-use Rattle.std.proofs.lemmas.Option.{same_Some}
 use Rattle.ckpt_types.specs.declared.answers.Answer.{Answer}
 use Rattle.ckpt_types.specs.declared.answers.Answer.TheVariants as answers
 use Rattle.ckpt_types.specs.declared.answers.Outcome.{Outcome}
@@ -13,11 +12,9 @@ use Rattle.ckpt_types.specs.Sections.{Section}
 use Rattle.node_msgs.specs.declared.next.Next.TheVariants.{Serve}
 use Rattle.node_msgs.specs.declared.replies.Reply.{Reply}
 use Rattle.node_msgs.specs.declared.replies.Reply.TheVariants as replies
-use Rattle.node_msgs.specs.declared.requests.Request.{Request}
 use Rattle.node_msgs.specs.declared.requests.Request.TheVariants as requests
 use Rattle.node_msgs.specs.declared.steps.StepReply.TheVariants as words
 use Rattle.node_msgs.specs.declared.steps.Verb.TheVariants as verbs
-use Rattle.run_labels.specs.declared.details.Details.{Details}
 use Rattle.run_labels.specs.declared.details.Details.TheVariants as beside
 use Rattle.run_labels.specs.declared.labels.Label.{Label}
 use Rattle.run_labels.specs.declared.labels.Label.TheVariants.{Stepped}
@@ -31,7 +28,7 @@ use Rattle.ckpt_machine.specs.Drivers.{Driver}
 use Rattle.ckpt_machine.specs.Drivers as drivers
 use Rattle.ckpt_machine.specs.Driving.{driver_taken, done_end}
 use Rattle.ckpt_machine.specs.Replicas.{RecordSeen, Replica, Slot}
-use Rattle.ckpt_machine.specs.Serving.{record_seen, replica_in, reply_at, details_at, served, update_of, update_answer, told_id, slot_id}
+use Rattle.ckpt_machine.specs.Serving.{record_seen, replica_in, reply_at, details_at, served, update_of, update_answer, slot_id}
 use Rattle.ckpt_machine.specs.Steps.{ended_details}
 use Rattle.world_core.specs.declared.hands.InHand.{InHand}
 use Rattle.world_core.specs.declared.world.World.{World}
@@ -123,7 +120,7 @@ module _ (w : World) (c r : ℕ) (call : CallId) (k : ℕ) (t : ℤ) (hand : InH
   stage_is reply a hands label update_driver done is hands_is label_is =
       subst (IsStep c w (record w { nodes = nodes; hands = hands })) (sym label_is)
       (serve_is w c r (requests.Stage call k t) hand held next (stage_plain call k t) (record_seen w.cluster k) nodes hands word verbs.Stage k words.Ok (replies.Done a) None beside.Nothing
-          refl (sym done ∙ answer_is reply is) (stage_details None call k t hand.op (record_seen w.cluster k) (replica_in w.nodes k r)) served_is (stage_goes_on w.cluster (Some k) (Some r) a hand.driver update_driver) hands_is word_is refl refl refl)
+      refl (sym done ∙ answer_is reply is) (stage_details None call k t hand.op (record_seen w.cluster k) (replica_in w.nodes k r)) served_is (stage_goes_on w.cluster (Some k) (Some r) a hand.driver update_driver) hands_is word_is refl refl refl)
 
   -- the node has refused it
   pub stage_refused : (reply : Reply) (new : World) → reply ≡ stage_reply_at update t (replica_in w.nodes k r) →
@@ -134,7 +131,7 @@ module _ (w : World) (c r : ℕ) (call : CallId) (k : ℕ) (t : ℤ) (hand : InH
       let end = end_by d reply hand in
       subst (λ (new : World). IsStep c w new (Stepped hand.call word verbs.Stage (Some k) (Some r) (word_of reply) end beside.Nothing)) (sym new_is)
       (serve_is w c r (requests.Stage call k t) hand held next (stage_plain call k t) (record_seen w.cluster k) nodes (slice_set w.hands c (left end (hand_taken d hand))) word verbs.Stage k (word_of reply) reply end beside.Nothing
-          refl (answer_is reply is) (stage_details end call k t hand.op (record_seen w.cluster k) (replica_in w.nodes k r)) served_is refl refl word_is refl refl refl)
+      refl (answer_is reply is) (stage_details end call k t hand.op (record_seen w.cluster k) (replica_in w.nodes k r)) served_is refl refl word_is refl refl refl)
 
 module _ (w : World) (c r : ℕ) (call : CallId) (k : ℕ) (hand : InHand) (held : hand_at w.hands c ≡ Some hand) (next : IsNext w c (Serve r (requests.Commit call k))) (plain : is_creation (update_of hand.op) ≡ false) (nodes : List (List Replica)) (nodes_is : nodes ≡ committed_at w.nodes r k) (word : OpWord) (word_is : word ≡ word_of_op hand.op) where
   -- the node has committed it; the call goes on while it has a slot
@@ -147,7 +144,7 @@ module _ (w : World) (c r : ℕ) (call : CallId) (k : ℕ) (hand : InHand) (held
       let answered : replies.Done answers.Nothing ≡ reply = sym (done ∙ ap replies.Done nothing) in
       subst (IsStep c w (record w { nodes = nodes; hands = hands })) (sym label_is)
       (serve_is w c r (requests.Commit call k) hand held next (commit_plain call k) (record_seen w.cluster k) nodes hands word verbs.Commit k words.Ok (replies.Done answers.Nothing) (ended_unless goes_on) beside.Nothing
-          refl (answered ∙ (is ∙ commit_answer call k hand.op (record_seen w.cluster k) (replica_in w.nodes k r) plain)) (commit_details (ended_unless goes_on) call k hand.op (record_seen w.cluster k) (replica_in w.nodes k r) plain) nodes_is end_is hands_is word_is refl refl refl)
+      refl (answered ∙ (is ∙ commit_answer call k hand.op (record_seen w.cluster k) (replica_in w.nodes k r) plain)) (commit_details (ended_unless goes_on) call k hand.op (record_seen w.cluster k) (replica_in w.nodes k r) plain) nodes_is end_is hands_is word_is refl refl refl)
 
   -- the node has no replica of it
   pub commit_refused : (reply : Reply) (new : World) → reply ≡ commit_reply_at (replica_in w.nodes k r) →
@@ -158,4 +155,4 @@ module _ (w : World) (c r : ℕ) (call : CallId) (k : ℕ) (hand : InHand) (held
       let end = end_by d reply hand in
       subst (λ (new : World). IsStep c w new (Stepped hand.call word verbs.Commit (Some k) (Some r) (word_of reply) end beside.Nothing)) (sym new_is)
       (serve_is w c r (requests.Commit call k) hand held next (commit_plain call k) (record_seen w.cluster k) nodes (slice_set w.hands c (left end (hand_taken d hand))) word verbs.Commit k (word_of reply) reply end beside.Nothing
-          refl (is ∙ commit_answer call k hand.op (record_seen w.cluster k) (replica_in w.nodes k r) plain) (commit_details end call k hand.op (record_seen w.cluster k) (replica_in w.nodes k r) plain) nodes_is refl refl word_is refl refl refl)
+      refl (is ∙ commit_answer call k hand.op (record_seen w.cluster k) (replica_in w.nodes k r) plain) (commit_details end call k hand.op (record_seen w.cluster k) (replica_in w.nodes k r) plain) nodes_is refl refl word_is refl refl refl)

@@ -1,5 +1,5 @@
 -- The steps of an update, one by one.
-use Rattle.std.specs.Prelude.{◌≡◌, ℕ, List, Option, Some, None, Bool, true, false, if◌then◌else◌, ℤ, slice_get, slice_set}
+use Rattle.std.specs.Prelude.{ℕ, List, Option, Some, None, Bool, true, false, if◌then◌else◌, ℤ, slice_get, slice_set}
 use Rattle.ckpt_types.specs.declared.ais_error.AisError.TheVariants.{NotExist, TryAgain}
 use Rattle.ckpt_types.specs.declared.answers.Answer.TheVariants as answers
 use Rattle.ckpt_types.specs.declared.answers.Cause.TheVariants.{Plain, Holder}
@@ -19,7 +19,7 @@ use Rattle.ckpt_machine.specs.Drivers.{Driver}
 use Rattle.ckpt_machine.specs.Drivers as drivers
 use Rattle.ckpt_machine.specs.Driving.{refused_cause}
 use Rattle.ckpt_machine.specs.Replicas.{Replica, Slot}
-use Rattle.ckpt_machine.specs.Serving.{replica_key, replica_in, stage_reply, stage_slot, committed}
+use Rattle.ckpt_machine.specs.Serving.{replica_key, stage_reply, stage_slot, committed}
 
 -- ---- what drives it
 

@@ -383,12 +383,7 @@ fn committed_at(
 }
 
 #[inline(always)]
-fn settle_committed(
-    slot: &mut Option<InHand>,
-    cluster: &Record,
-    ckpt: CkptId,
-    r: NodeId,
-) -> bool
+fn settle_committed(slot: &mut Option<InHand>, cluster: &Record, ckpt: CkptId, r: NodeId) -> bool
     requires held { slot.old ≢ None }
     requires update { (h : InHand) → slot.old ≡ Some h → IsUpdate h.driver }
     requires node { r < nodes_max }
