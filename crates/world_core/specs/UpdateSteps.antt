@@ -9,11 +9,8 @@ use Rattle.ckpt_types.specs.declared.operation.Op.{Op}
 use Rattle.ckpt_types.specs.declared.update.Update.{Update}
 use Rattle.ckpt_types.specs.declared.update.Update.TheVariants as updates
 use Rattle.ckpt_types.specs.Updates.{outcome}
-use Rattle.node_msgs.specs.declared.next.Next.{Next}
-use Rattle.node_msgs.specs.declared.next.Next.TheVariants as nexts
 use Rattle.node_msgs.specs.declared.replies.Reply.{Reply}
 use Rattle.node_msgs.specs.declared.replies.Reply.TheVariants as replies
-use Rattle.node_msgs.specs.declared.requests.Request.TheVariants as requests
 use Rattle.cluster_record.specs.Places.{change_key, list_or}
 use Rattle.ckpt_machine.specs.Drivers.{Driver}
 use Rattle.ckpt_machine.specs.Drivers as drivers
@@ -23,16 +20,10 @@ use Rattle.ckpt_machine.specs.Serving.{replica_key, stage_reply, stage_slot, com
 
 -- ---- what drives it
 
+-- the driver is that of an update
 abbrev pub IsUpdate : Driver → Type 0
 IsUpdate (drivers.Update u) = Unit {0}
 IsUpdate driver = ⊥
-
--- an update stages, commits, or is ended by the record alone
-abbrev pub IsOfUpdate : Next → Type 0
-IsOfUpdate (nexts.Serve r (requests.Stage call k t)) = Unit {0}
-IsOfUpdate (nexts.Serve r (requests.Commit call k)) = Unit {0}
-IsOfUpdate (nexts.End end) = Unit {0}
-IsOfUpdate next = ⊥
 
 -- an update that has no slot left is done
 abbrev pub ended_unless : Bool → Option Outcome
@@ -53,6 +44,7 @@ is_creation update = false
 
 -- ---- what a node makes of it
 
+-- what a node answers that is asked to stage
 abbrev pub stage_reply_at : Update → ℤ → Option Replica → Reply
 stage_reply_at update t None = replies.NoReplica
 stage_reply_at update t (Some x) = stage_reply (outcome x.attributes update t x.sections) x.slot
@@ -65,6 +57,7 @@ staged_on new x = record x { slot = stage_slot (outcome x.attributes new.update 
 abbrev pub staged_at : List (List Replica) → ℕ → ℕ → Slot → List (List Replica)
 staged_at nodes r k new = slice_set nodes r (change_key replica_key k (staged_on new) (list_or (slice_get nodes r)))
 
+-- what a node answers that is asked to commit
 abbrev pub commit_reply_at : Option Replica → Reply
 commit_reply_at None = replies.NoReplica
 commit_reply_at (Some x) = replies.Done answers.Nothing

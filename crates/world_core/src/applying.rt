@@ -6,9 +6,9 @@ ghost use Rattle.ckpt_machine.specs.Driving.{event_change, event_after, takes_me
 ghost use Rattle.ckpt_machine.specs.Drivers.{Open};
 
 use crate::drivers::{Driver, DriverKind};
-use crate::open_call::{OpenCall, SharedAsk};
 use ckpt_types::CallId;
 use cluster_record::{OpenAnswer, Record, number_of};
+use drive_open::{OpenCall, SharedAsk};
 use node_msgs::RecordStep;
 use std::alloc::AllocError;
 

@@ -20,17 +20,17 @@ ghost use Rattle.world_core.specs.UpdateSteps.{IsUpdate, end_of_refused, ended_u
 ghost use Rattle.world_core.specs.Happenings.{rooms_of};
 ghost use Rattle.ckpt_machine.specs.Drivers.{Close, Retain, Update};
 
-use crate::active_call::ActiveCall;
 use crate::beginning::{choice_of, ckpt_of_handle};
 use crate::one_step::{close_next, retain_next, unlink_next};
-use crate::open_call::{OpenCall, SharedAsk};
 use crate::tables::Tables;
-use crate::update_call::UpdateCall;
 use ckpt_types::{
     AisError, Answer, CLIENTS_MAX, CallId, Cause, CkptId, NodeId, Op, Outcome, SharedName,
 };
 use client_handles::HandleView;
 use cluster_record::{ActiveKind, OpenAnswer, Record, number_of};
+use drive_active::ActiveCall;
+use drive_open::{OpenCall, SharedAsk};
+use drive_update::UpdateCall;
 use node_msgs::{Next, RecordStep, Reply, Request, StepReply};
 use std::alloc::AllocError;
 use std::marker::Model;

@@ -1,7 +1,6 @@
 //! The cluster: its record, the nodes, the clients' tables and the calls in hand, one event at a time.
 #![tactic(auto)]
 
-mod active_call;
 mod applying;
 mod beginning;
 mod begins;
@@ -13,12 +12,10 @@ mod messages;
 mod moments;
 mod nodes;
 mod one_step;
-mod open_call;
 mod replica;
 mod showing;
 mod steps;
 mod tables;
-mod update_call;
 mod world;
 
 pub use world::{Event, World};

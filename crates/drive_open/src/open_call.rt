@@ -36,7 +36,7 @@ impl Model for SharedAsk {
 
     ghost Value = { OpenAsk };
 
-    ghost use Rattle.world_core.specs.CallStates.{ask_of};
+    ghost use Rattle.drive_open.specs.OpenStates.{ask_of};
 
     ghost view = { ask_of };
 }
@@ -85,7 +85,7 @@ impl Model for OpenCall {
 
     ghost Value = { OpenState };
 
-    ghost use Rattle.world_core.specs.CallStates.{open_state};
+    ghost use Rattle.drive_open.specs.OpenStates.{open_state};
 
     ghost view = { open_state };
 }

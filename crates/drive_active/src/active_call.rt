@@ -20,7 +20,7 @@ impl Model for ActiveCall {
 
     ghost Value = { ActiveState };
 
-    ghost use Rattle.world_core.specs.CallStates.{active_state};
+    ghost use Rattle.drive_active.specs.ActiveStates.{active_state};
 
     ghost view = { active_state };
 }

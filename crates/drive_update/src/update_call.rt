@@ -9,7 +9,7 @@ ghost use Rattle.cluster_record.specs.DueUpdate.{update_begun, commit_at, stage_
 ghost use Rattle.cluster_record.specs.declared.calls.UpdatePhase.TheVariants.{Staging};
 ghost use Rattle.cluster_record.specs.RecordState.{entry_of, complete_of};
 ghost use Rattle.cluster_record.specs.StepDone.{done_of, first_lacking, last_having};
-ghost use Rattle.world_core.specs.UpdateSteps.{IsOfUpdate};
+ghost use Rattle.drive_update.specs.UpdateStates.{IsOfUpdate};
 
 use ckpt_types::{AisError, Answer, CallId, Cause, CkptId, Moment, NODES_MAX, NodeId, Outcome};
 use cluster_record::{Record, UpdatePhase, first_lacking, has_any, last_having};
@@ -35,7 +35,7 @@ impl Model for UpdateCall {
 
     ghost Value = { UpdateState };
 
-    ghost use Rattle.world_core.specs.CallStates.{update_state, HasNoneAboveTop};
+    ghost use Rattle.drive_update.specs.UpdateStates.{update_state, HasNoneAboveTop};
 
     ghost view = { update_state };
 

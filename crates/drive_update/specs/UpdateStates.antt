@@ -1,0 +1,25 @@
+-- What the driver of an update keeps, as its fields have it, and what it may ask.
+use Rattle.std.specs.Prelude.{◌<◌}
+use Rattle.ckpt_types.specs.Limits.{nodes_max}
+use Rattle.node_msgs.specs.declared.next.Next.{Next}
+use Rattle.node_msgs.specs.declared.next.Next.TheVariants as nexts
+use Rattle.node_msgs.specs.declared.requests.Request.TheVariants as requests
+use Rattle.cluster_record.specs.DueUpdate.{UpdateState}
+use Rattle.cluster_record.specs.StepDone.{HasNoneAbove}
+use Rattle.drive_update.specs.declared.update_call.UpdateCall.TheInside as updating
+
+-- an update as contracts see it; the highest node is no part of it
+abbrev pub update_state : updating.Inside → UpdateState
+update_state u = record { call = u.call; ckpt = u.ckpt; owned = u.owned; moment = u.moment; phase = u.phase }
+
+-- the call owns nothing above the node that it keeps as the highest
+pub record HasNoneAboveTop (u : updating.Inside) : Type 0 where
+  pub top : u.top < nodes_max
+  pub none : HasNoneAbove u.top u.owned
+
+-- an update stages, commits, or is ended by the record alone
+abbrev pub IsOfUpdate : Next → Type 0
+IsOfUpdate (nexts.Serve r (requests.Stage call k t)) = Unit {0}
+IsOfUpdate (nexts.Serve r (requests.Commit call k)) = Unit {0}
+IsOfUpdate (nexts.End end) = Unit {0}
+IsOfUpdate next = ⊥
