@@ -36,4 +36,4 @@ pub mod Taken
 pub mod TakenRoom
 pub mod Told
 pub mod Words
-mod Updating
+mod Staging

@@ -8,14 +8,14 @@ ghost use Rattle.world_core.specs.Happenings.{Adds, IsNext, IsStep};
 
 use crate::beginning::{handle_place, iteration_place, started_place};
 use crate::hands::InHand;
+use crate::messages::{done, served};
 use crate::nodes::told_section;
 use crate::world::World;
 use ckpt_types::{
-    Answer, Apart, CallId, Choice, CkptId, NodeId, Outcome, SectionDescriptor, SectionId,
-    SectionState,
+    Apart, CallId, Choice, CkptId, NodeId, SectionDescriptor, SectionId, SectionState,
 };
-use node_msgs::{Request, StepReply, Verb};
-use run_labels::{Details, Label, OpWord, RunLog};
+use node_msgs::{Request, Verb};
+use run_labels::{OpWord, RunLog};
 use std::alloc::{AllocError, Global};
 
 impl World {
@@ -61,16 +61,7 @@ impl World {
         let now = self.cluster.now();
         self.nodes.start(r, ckpt, &mut iteration, choice, now);
         self.tables.start(c, place, handle.handle, iteration);
-        log.push(Label::Stepped {
-            call,
-            op: word,
-            verb: Verb::Iter,
-            ckpt: Some(ckpt),
-            node: Some(r),
-            reply: StepReply::Ok,
-            end: Some(Outcome::Done(Answer::Nothing)),
-            details: Details::Nothing,
-        });
+        log.push(done(call, word, Verb::Iter, ckpt, r));
     }
 
     /// The call of a client goes on with an iteration. Want of memory for what its label tells of a section
@@ -107,16 +98,7 @@ impl World {
             .go_on(c, place, &self.nodes, r, ckpt, now, &mut section);
         let end = self.hands.take(c, &self.cluster, r, &request, &reply);
         let details = told_section(&end, &reply, section);
-        log.push(Label::Stepped {
-            call,
-            op,
-            verb: Verb::Next,
-            ckpt: Some(ckpt),
-            node: Some(r),
-            reply: reply.word(),
-            end,
-            details,
-        });
+        log.push(served(call, op, Verb::Next, ckpt, r, reply.word(), end, details));
         Ok(())
     }
 }

@@ -16,6 +16,7 @@ mod replica;
 mod showing;
 mod steps;
 mod tables;
+mod updating;
 mod world;
 
 pub use world::{Event, World};

@@ -1,9 +1,15 @@
-//! How a look is told.
-ghost use Rattle.std.specs.Prelude.{◌≡◌};
+//! How the steps of calls are told.
+ghost use Rattle.std.specs.Prelude.{◌≡◌, Some, None};
+ghost use Rattle.ckpt_types.specs.declared.answers.Answer.TheVariants as answers;
+ghost use Rattle.ckpt_types.specs.declared.answers.Outcome.TheVariants.{Done};
+ghost use Rattle.node_msgs.specs.declared.steps.StepReply.TheVariants as words;
+ghost use Rattle.run_labels.specs.declared.details.Details.TheVariants as beside;
+ghost use Rattle.run_labels.specs.declared.labels.Label.TheVariants as labels;
 ghost use Rattle.ckpt_machine.specs.Steps.{look_word};
 
-use ckpt_types::Outcome;
-use node_msgs::StepReply;
+use ckpt_types::{Answer, CallId, CkptId, NodeId, Outcome};
+use node_msgs::{StepReply, Verb};
+use run_labels::{Details, Label, OpWord};
 
 /// How a label tells an end that the record alone decides.
 pub fn look_word(end: &Outcome) -> StepReply
@@ -13,4 +19,64 @@ pub fn look_word(end: &Outcome) -> StepReply
         Outcome::Done(_) => StepReply::Done,
         _ => StepReply::Refused,
     }
+}
+
+/// What a node has answered to a request of a call.
+#[inline(always)]
+pub fn served(
+    call: CallId,
+    op: OpWord,
+    verb: Verb,
+    ckpt: CkptId,
+    r: NodeId,
+    reply: StepReply,
+    end: Option<Outcome>,
+    details: Details,
+) -> Label
+    ensures { result ≡ labels.Stepped call op verb (Some ckpt) (Some r) reply end details }
+{
+    Label::Stepped {
+        call,
+        op,
+        verb,
+        ckpt: Some(ckpt),
+        node: Some(r),
+        reply,
+        end,
+        details,
+    }
+}
+
+/// A node has done what a call asked, and the call goes on.
+#[inline(always)]
+pub fn goes_on(call: CallId, op: OpWord, verb: Verb, ckpt: CkptId, r: NodeId) -> Label
+    ensures { result ≡ labels.Stepped call op verb (Some ckpt) (Some r) words.Ok None beside.Nothing }
+{
+    served(
+        call,
+        op,
+        verb,
+        ckpt,
+        r,
+        StepReply::Ok,
+        None,
+        Details::Nothing,
+    )
+}
+
+/// A node has done what a call asked, and the call ends with OK, with nothing told beside it.
+#[inline(always)]
+pub fn done(call: CallId, op: OpWord, verb: Verb, ckpt: CkptId, r: NodeId) -> Label
+    ensures { result ≡ labels.Stepped call op verb (Some ckpt) (Some r) words.Ok (Some (Done answers.Nothing)) beside.Nothing }
+{
+    served(
+        call,
+        op,
+        verb,
+        ckpt,
+        r,
+        StepReply::Ok,
+        Some(Outcome::Done(Answer::Nothing)),
+        Details::Nothing,
+    )
 }

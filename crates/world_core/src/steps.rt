@@ -1,18 +1,10 @@
 //! The event by which a call takes its next step.
-ghost use Rattle.std.specs.Prelude.{◌≡◌, ◌≢◌, ◌⊎◌, ℕ, ℤ, [], ◌∷◌, ◌++◌, ◌<◌, ◌≤◌, Some, None, true, IfSome, IsSomeAnd, OnOk, OnErr, length, slice_get, slice_set};
+ghost use Rattle.std.specs.Prelude.{◌≡◌, ◌≢◌, ◌⊎◌, ℕ, ℤ, ◌<◌, ◌≤◌, Some, None, true, IfSome, IsSomeAnd, OnOk, OnErr, length, slice_get};
 ghost use Rattle.ckpt_types.specs.declared.identities.ActorName.TheVariants.{Client};
 ghost use Rattle.ckpt_types.specs.declared.identities.Who.TheVariants as whos;
 ghost use Rattle.node_msgs.specs.declared.next.Next.TheVariants as nexts;
 ghost use Rattle.node_msgs.specs.declared.next.RecordStep.TheVariants as events;
 ghost use Rattle.node_msgs.specs.declared.requests.Request.{Request};
-ghost use Rattle.node_msgs.specs.declared.steps.StepReply.TheVariants as words;
-ghost use Rattle.run_labels.specs.declared.details.Details.TheVariants as beside;
-ghost use Rattle.node_msgs.specs.Requests.{ckpt_of};
-ghost use Rattle.node_msgs.specs.Steps.{verb_of, word_of};
-ghost use Rattle.cluster_record.specs.Calls.{left};
-ghost use Rattle.world_core.specs.HandSteps.{end_by, hand_taken, served_done};
-ghost use Rattle.drive_update.specs.UpdateStates.{IsOfUpdate};
-ghost use Rattle.world_core.specs.UpdateSteps.{IsUpdate};
 ghost use Rattle.node_msgs.specs.declared.requests.Request.TheVariants as requests;
 ghost use Rattle.run_labels.specs.declared.labels.Label.TheVariants as labels;
 ghost use Rattle.run_labels.specs.declared.words.Said.TheVariants.{Idle};
@@ -36,15 +28,14 @@ ghost use Rattle.ckpt_types.specs.Limits.{client_numbers, nodes_max, places_max}
 use crate::applying::apply;
 use crate::beginning::{closed_place, opened_for, opened_place};
 use crate::drivers::{DriverKind, event_ckpt, event_end, event_node, event_refusal};
-use crate::hands::{creates, share_update};
-use crate::messages::look_word;
+use crate::messages::{look_word, served};
 use crate::nodes::{Lent, told_details};
 use crate::tables::Tables;
 use crate::world::World;
-use ckpt_types::{ActorName, Answer, CallId, CkptId, Moment, NodeId, Op, Outcome, Who};
+use ckpt_types::{ActorName, Answer, CkptId, NodeId, Op, Outcome, Who};
 use cluster_record::Record;
 use node_msgs::{Next, RecordStep, Reply, Request, StepReply, Verb};
-use run_labels::{Details, Label, LineWord, OpWord, RunLog, Said};
+use run_labels::{Details, Label, LineWord, RunLog, Said};
 use std::alloc::{AllocError, Global};
 
 impl World {
@@ -106,160 +97,6 @@ impl World {
         log.push(idle_label(who, finish));
     }
 
-    // An update stages at a node or commits there, or the record alone decides how it ends.
-    #[inline(always)]
-    fn update_step(
-        &mut self,
-        alloc: Global,
-        c: u8,
-        next: Next,
-        log: &mut RunLog,
-    ) -> Result<(), AllocError>
-        requires next { IsNext self.old c next }
-        requires update { (h : InHand) → hand_at self.old.hands c ≡ Some h → IsUpdate h.driver }
-        requires is { IsOfUpdate next }
-        requires client { c < client_numbers }
-        requires shown { IsShown self.old }
-        requires roomy { HasNumbersLeft self.old }
-        requires spare { 1 ≤ log.old.spare }
-        ensures ok { OnOk result (Adds log.old log.new (IsStep c self.old self.new)) }
-        ensures err { OnErr result ((self.new ≡ self.old) × (log.new.labels ≡ log.old.labels)) }
-    {
-        match next {
-            Next::Serve(r, Request::Stage(call, ckpt, moment)) => {
-                self.stage_step(alloc, c, r, call, ckpt, moment, log)
-            }
-            Next::Serve(r, Request::Commit(call, ckpt)) => {
-                self.commit_step(alloc, c, r, call, ckpt, log)
-            }
-            Next::End(end) => {
-                self.look_step(c, end, log);
-                Ok(())
-            }
-            _ => unreachable!(),
-        }
-    }
-
-    // A node stages the update of the call.
-    #[inline(always)]
-    fn stage_step(
-        &mut self,
-        alloc: Global,
-        c: u8,
-        r: NodeId,
-        asked: CallId,
-        ckpt: CkptId,
-        moment: Moment,
-        log: &mut RunLog,
-    ) -> Result<(), AllocError>
-        requires next { IsNext self.old c (nexts.Serve r (requests.Stage asked ckpt moment)) }
-        requires update { (h : InHand) → hand_at self.old.hands c ≡ Some h → IsUpdate h.driver }
-        requires client { c < client_numbers }
-        requires shown { IsShown self.old }
-        requires roomy { HasNumbersLeft self.old }
-        requires spare { 1 ≤ log.old.spare }
-        ensures ok { OnOk result (Adds log.old log.new (IsStep c self.old self.new)) }
-        ensures err { OnErr result ((self.new ≡ self.old) × (log.new.labels ≡ log.old.labels)) }
-    {
-        let Some(hand) = self.hands.find(c) else {
-            unreachable!()
-        };
-        let call = hand.call;
-        let op = hand.word();
-        let update = share_update(alloc, &hand.op)?;
-        let reply = self.nodes.stage(r, asked, ckpt, update, moment);
-        let Reply::Done(_) = reply else {
-            let request = Request::Stage(asked, ckpt, moment);
-            self.refused_step(c, r, call, op, &request, &reply, log);
-            return Ok(());
-        };
-        self.hands.staged(c, &self.cluster, ckpt, r);
-        log.push(goes_on(call, op, Verb::Stage, ckpt, r));
-        Ok(())
-    }
-
-    // A node has refused what an update asked of it, which ends by that unless the owner of the slot there is gone.
-    #[inline(never)]
-    fn refused_step(
-        &mut self,
-        c: u8,
-        r: NodeId,
-        call: CallId,
-        op: OpWord,
-        request: &Request,
-        reply: &Reply,
-        log: &mut RunLog,
-    )
-        requires held { hand_at self.old.hands c ≢ None }
-        requires node { r < nodes_max }
-        requires spare { 1 ≤ log.old.spare }
-        ensures world { (h : InHand) → hand_at self.old.hands c ≡ Some h → self.new ≡ record self.old { hands = slice_set self.old.hands c (left (end_by (served_done self.old.cluster request.now r reply.now) reply.now h) (hand_taken (served_done self.old.cluster request.now r reply.now) h)) } }
-        ensures label { (h : InHand) → hand_at self.old.hands c ≡ Some h → log.new.labels ≡ log.old.labels ++ labels.Stepped call op (verb_of request.now) (Some (ckpt_of request.now)) (Some r) (word_of reply.now) (end_by (served_done self.old.cluster request.now r reply.now) reply.now h) beside.Nothing ∷ [] }
-    {
-        let end = self.hands.take(c, &self.cluster, r, request, reply);
-        log.push(served(
-            call,
-            op,
-            request.verb(),
-            request.ckpt(),
-            r,
-            reply.word(),
-            end,
-            Details::Nothing,
-        ));
-    }
-
-    // A node commits what the call has staged there. A creation tells the identifier of its section.
-    #[inline(always)]
-    fn commit_step(
-        &mut self,
-        alloc: Global,
-        c: u8,
-        r: NodeId,
-        asked: CallId,
-        ckpt: CkptId,
-        log: &mut RunLog,
-    ) -> Result<(), AllocError>
-        requires next { IsNext self.old c (nexts.Serve r (requests.Commit asked ckpt)) }
-        requires update { (h : InHand) → hand_at self.old.hands c ≡ Some h → IsUpdate h.driver }
-        requires client { c < client_numbers }
-        requires shown { IsShown self.old }
-        requires roomy { HasNumbersLeft self.old }
-        requires spare { 1 ≤ log.old.spare }
-        ensures ok { OnOk result (Adds log.old log.new (IsStep c self.old self.new)) }
-        ensures err { OnErr result ((self.new ≡ self.old) × (log.new.labels ≡ log.old.labels)) }
-    {
-        let Some(hand) = self.hands.find(c) else {
-            unreachable!()
-        };
-        if creates(&hand.op) {
-            return self.serve_step(alloc, c, r, &Request::Commit(asked, ckpt), log);
-        }
-        let call = hand.call;
-        let op = hand.word();
-        let reply = self.nodes.commit(r, asked, ckpt);
-        let Reply::Done(_) = reply else {
-            let request = Request::Commit(asked, ckpt);
-            self.refused_step(c, r, call, op, &request, &reply, log);
-            return Ok(());
-        };
-        if self.hands.committed(c, &self.cluster, ckpt, r) {
-            log.push(goes_on(call, op, Verb::Commit, ckpt, r));
-        } else {
-            log.push(served(
-                call,
-                op,
-                Verb::Commit,
-                ckpt,
-                r,
-                StepReply::Ok,
-                Some(Outcome::Done(Answer::Nothing)),
-                Details::Nothing,
-            ));
-        }
-        Ok(())
-    }
-
     // A node reserves the storage of a replica; where its memory is refused, the call goes on to undo.
     fn reserve_step(
         &mut self,
@@ -297,9 +134,9 @@ impl World {
         Ok(())
     }
 
-    // A node answers a request of the call.
+    /// A node answers a request of the call.
     #[inline(never)]
-    fn serve_step(
+    pub(crate) fn serve_step(
         &mut self,
         alloc: Global,
         c: u8,
@@ -471,8 +308,8 @@ impl World {
         });
     }
 
-    // The record alone decides how the call ends; what it is making is undone.
-    fn look_step(&mut self, c: u8, end: Outcome, log: &mut RunLog)
+    /// The record alone decides how the call ends; what it is making is undone.
+    pub(crate) fn look_step(&mut self, c: u8, end: Outcome, log: &mut RunLog)
         requires next { IsNext self.old c (nexts.End end) }
         requires client { c < client_numbers }
         requires shown { IsShown self.old }
@@ -530,49 +367,6 @@ impl World {
             Err(AllocError) => Reply::NoMemory,
         }
     }
-}
-
-// What a node has answered to a request of a call.
-#[inline(always)]
-fn served(
-    call: CallId,
-    op: OpWord,
-    verb: Verb,
-    ckpt: CkptId,
-    r: NodeId,
-    reply: StepReply,
-    end: Option<Outcome>,
-    details: Details,
-) -> Label
-    ensures { result ≡ labels.Stepped call op verb (Some ckpt) (Some r) reply end details }
-{
-    Label::Stepped {
-        call,
-        op,
-        verb,
-        ckpt: Some(ckpt),
-        node: Some(r),
-        reply,
-        end,
-        details,
-    }
-}
-
-// A node has done what a call asked, and the call goes on.
-#[inline(always)]
-fn goes_on(call: CallId, op: OpWord, verb: Verb, ckpt: CkptId, r: NodeId) -> Label
-    ensures { result ≡ labels.Stepped call op verb (Some ckpt) (Some r) words.Ok None beside.Nothing }
-{
-    served(
-        call,
-        op,
-        verb,
-        ckpt,
-        r,
-        StepReply::Ok,
-        None,
-        Details::Nothing,
-    )
 }
 
 fn idle_label(who: Who, finish: bool) -> Label

@@ -5,7 +5,7 @@ use Rattle.node_msgs.specs.declared.steps.Verb.TheVariants as verbs
 use Rattle.run_labels.specs.declared.details.Details.TheVariants as beside
 use Rattle.run_labels.specs.declared.labels.Label.TheVariants.{Stepped}
 use Rattle.world_core.specs.UpdateSteps.{ended_unless}
-use Rattle.world_core.proofs.Updating.{commit_plain, commit_is, commit_refused}
+use Rattle.world_core.proofs.Staging.{commit_plain, commit_is, commit_refused}
 use Rattle.world_core.proofs.Stepping.{node_there, node_ready, some_held}
 use Rattle.world_core.proofs.world.World.commit_step.Goals as goal
 
@@ -60,5 +60,5 @@ returns-else-committed-clause-ok c =
       label = _;
       labels = c.push-else-committed.ensures.labels;
       is = commit_is w c.args.c c.args.r c.args.asked c.args.ckpt hand held c.requires.next (sym c.creates.ensures ∙ c.if-creates.false) c.commit-reply.new.self c.commit-reply.ensures.new c.word-op.result c.word-op.ensures c.commit-reply.result c.in-Done.field-0 c.committed.result c.committed.new.self _ c.in-Done.is c.commit-reply.ensures.reply
-          (c.committed.ensures.end hand held) (c.committed.ensures.new hand held) (c.served.ensures ∙ ap (λ (b : Bool). Stepped hand.call c.word-op.result verbs.Commit (Some c.args.ckpt) (Some c.args.r) words.Ok (ended_unless b) beside.Nothing) (sym c.if-committed.false));
+          (c.committed.ensures.end hand held) (c.committed.ensures.new hand held) (c.done.ensures ∙ ap (λ (b : Bool). Stepped hand.call c.word-op.result verbs.Commit (Some c.args.ckpt) (Some c.args.r) words.Ok (ended_unless b) beside.Nothing) (sym c.if-committed.false));
     }

@@ -4,6 +4,7 @@ use Rattle.std.proofs.lemmas.Int.{to_z-of_z}
 use Rattle.std.proofs.lemmas.Option.{same_Some}
 use Rattle.client_handles.specs.declared.handle_view.HandleView.{HandleView}
 use Rattle.ckpt_machine.specs.Serving.{chosen_at, replica_in}
+use Rattle.world_core.specs.Happenings.{IsStep}
 use Rattle.world_core.specs.Shows.{handle_in_place}
 use Rattle.world_core.specs.TableState.{with_started_iteration}
 use Rattle.world_core.proofs.IterationSteps.{started, started_node, started_room, handle_there, handle_opened, start_is}
@@ -48,8 +49,8 @@ returns c =
     record {
       label = _;
       labels = c.push.ensures.labels;
-      is = start_is c.args.self.now c.args.c c.args.r c.args.asked c.args.ckpt c.args.choice c.in-Some.hand (sym c.in-Some.ensures.hand) c.requires.next c.requires.shown
+      is = subst (IsStep c.args.c _ _) (sym c.done.ensures) (start_is c.args.self.now c.args.c c.args.r c.args.asked c.args.ckpt c.args.choice c.in-Some.hand (sym c.in-Some.ensures.hand) c.requires.next c.requires.shown
           c.in-Some-started_place.place c.in-Some-handle_place.over c.in-Some-handle.handle c.in-Some-iteration.iteration now (chosen_at c.args.choice now (replica_in c.args.self.now.nodes c.args.ckpt c.args.r)) c.start-2.new.self c.remove.new.self c.of-word.result
           (sym c.in-Some-started_place.is ∙ c.started_place.ensures) (sym c.in-Some-handle_place.is ∙ c.handle_place.ensures) c.in-Some-iteration.is now_is refl (sym c.in-Some-handle.is ∙ c.handle.ensures)
-          (subst (λ it. IsSomeAnd (slice_get c.args.self.now.tables c.args.c) (λ t. c.start-2.new.self ≡ slice_set c.args.self.now.tables c.args.c (with_started_iteration c.in-Some-started_place.place c.in-Some-handle.handle.handle it t))) c.start.ensures c.start-2.ensures) c.remove.ensures.new c.of-word.ensures;
+          (subst (λ it. IsSomeAnd (slice_get c.args.self.now.tables c.args.c) (λ t. c.start-2.new.self ≡ slice_set c.args.self.now.tables c.args.c (with_started_iteration c.in-Some-started_place.place c.in-Some-handle.handle.handle it t))) c.start.ensures c.start-2.ensures) c.remove.ensures.new c.of-word.ensures);
     }

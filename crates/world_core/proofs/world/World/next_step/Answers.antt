@@ -3,6 +3,7 @@ use Rattle.std.specs.Prelude.{IsSome, IsSomeAnd, slice_get}
 use Rattle.std.proofs.lemmas.Int.{to_z-of_z}
 use Rattle.std.proofs.lemmas.Option.{same_Some}
 use Rattle.client_handles.specs.ClientState.{iteration_at}
+use Rattle.world_core.specs.Happenings.{IsStep}
 use Rattle.world_core.proofs.IterationSteps.{going, going_node, iteration_there, next_is}
 use Rattle.world_core.proofs.world.World.next_step.Goals as goal
 
@@ -40,7 +41,7 @@ returns-clause-ok c =
     record {
       label = _;
       labels = c.push.ensures.labels;
-      is = next_is c.args.self.now c.args.c c.args.r c.args.asked c.args.ckpt hand held c.requires.next c.requires.shown
+      is = subst (IsStep c.args.c _ _) (sym c.served.ensures) (next_is c.args.self.now c.args.c c.args.r c.args.asked c.args.ckpt hand held c.requires.next c.requires.shown
           c.in-Some-iteration_place.place now c.go_on-reply.new.self c.take-end.new.self c.word-op.result c.word.result c.go_on-reply.result c.take-end.result _ c.told_section-details.result
-          (sym c.in-Some-iteration_place.is ∙ c.iteration_place.ensures) now_is c.go_on-reply.ensures.reply c.go_on-reply.ensures.details c.go_on-reply.ensures.new (c.take-end.ensures.end hand held) (c.take-end.ensures.new hand held) c.word-op.ensures c.word.ensures c.told_section-details.ensures;
+          (sym c.in-Some-iteration_place.is ∙ c.iteration_place.ensures) now_is c.go_on-reply.ensures.reply c.go_on-reply.ensures.details c.go_on-reply.ensures.new (c.take-end.ensures.end hand held) (c.take-end.ensures.new hand held) c.word-op.ensures c.word.ensures c.told_section-details.ensures);
     }

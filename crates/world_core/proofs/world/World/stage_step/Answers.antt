@@ -2,7 +2,7 @@ use Rattle.std.proofs.Common.{◌≡◌, w64, to_z, of_z, ap, ◌∙◌}
 use Rattle.std.proofs.lemmas.Int.{to_z-of_z}
 use Rattle.ckpt_machine.specs.Serving.{replica_in}
 use Rattle.world_core.specs.UpdateSteps.{stage_reply_at, staged_at}
-use Rattle.world_core.proofs.Updating.{stage_plain, stage_is, stage_refused}
+use Rattle.world_core.proofs.Staging.{stage_plain, stage_is, stage_refused}
 use Rattle.world_core.proofs.Stepping.{node_there, some_held}
 use Rattle.world_core.proofs.world.World.stage_step.Goals as goal
 
