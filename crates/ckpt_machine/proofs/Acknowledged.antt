@@ -10,11 +10,6 @@ use Rattle.ckpt_types.specs.declared.attributes.CreationAttributes.{CreationAttr
 use Rattle.ckpt_types.specs.declared.identities.CallId.{CallId}
 use Rattle.ckpt_types.specs.declared.operation.Op.{Op}
 use Rattle.ckpt_types.specs.declared.update.Update.{Update}
-use Rattle.ckpt_types.specs.Reads.{NextGiven}
-use Rattle.section_iter.specs.KeptIds.{KeptIds}
-use Rattle.client_handles.specs.declared.handle_view.HandleView.{HandleView}
-use Rattle.node_msgs.specs.declared.next.RecordStep.{RecordStep}
-use Rattle.node_msgs.specs.declared.next.RecordStep.TheVariants as events
 use Rattle.node_msgs.specs.declared.steps.Verb.{Verb}
 use Rattle.node_msgs.specs.declared.steps.Verb.TheVariants as verbs
 use Rattle.node_msgs.specs.declared.steps.StepReply.{StepReply}
@@ -22,41 +17,40 @@ use Rattle.node_msgs.specs.declared.steps.StepReply.TheVariants as words
 use Rattle.run_labels.specs.declared.details.Details.{Details}
 use Rattle.run_labels.specs.declared.labels.Label.{Label}
 use Rattle.run_labels.specs.declared.labels.Label.TheVariants as labels
-use Rattle.run_labels.specs.declared.words.OpWord.{OpWord}
-use Rattle.run_labels.specs.OpWord.{word_of_op}
+use Rattle.ckpt_types.specs.declared.words.OpWord.{OpWord}
+use Rattle.ckpt_types.specs.OpWord.{word_of_op}
 use Rattle.cluster_record.specs.declared.entries.Entry.{Entry}
-use Rattle.cluster_record.specs.Calls.{client_of, number_of}
-use Rattle.cluster_record.specs.DueOpen.{OpenState, making_ckpt, open_event}
+use Rattle.cluster_record.specs.Calls.{client_of}
+use Rattle.cluster_record.specs.Makings.{making_of}
 use Rattle.cluster_record.specs.Identities.{IdentitiesRise, AllUpTo}
-use Rattle.cluster_record.specs.LookUps.{at_ckpt}
 use Rattle.cluster_record.specs.Places.{change_key, put2}
-use Rattle.cluster_record.specs.RecordState.{RecordState, entry_of, identity_of, complete_of, stays, swept, moved, created_as, new_entry, referred, made_with, released, released_all, unnamed, retaining, is_call_of, departed, undone, has_references}
+use Rattle.cluster_record.specs.RecordState.{RecordState, entry_of, identity_of, complete_of, stays, swept, moved, entered, created_as, new_entry, finished, opened, closed, unlinked, referred, made_with, unreferred, released_all, unnamed, retaining, is_call_of, departed, undone, has_references}
 use Rattle.cluster_record.proofs.IdentityLaws.{KeepsIdentity, IdentitiesRise-change_key, IdentitiesRise-filter, IdentitiesRise-map, IdentitiesRise-push}
 use Rattle.ckpt_machine.specs.Acknowledged.{IsUpdateWord, Acknowledges, ckpt_named, HasBegun, IsUpdateBy, HasUpdate, IsOnEvery}
 use Rattle.ckpt_machine.specs.AllOrNone.{OneUpdate, IsOfOne}
-use Rattle.ckpt_machine.specs.Beginning.{opened_place, started_place, iteration_place, closed_place, ended_place}
+use Rattle.ckpt_types.specs.Asks.{Ask, asked, update_of}
+use Rattle.ckpt_types.specs.Asks as asks
 use Rattle.ckpt_machine.specs.Complete.{with_replica, replicas_from, complete_replicas}
-use Rattle.ckpt_machine.specs.Drivers.{Driver}
-use Rattle.ckpt_machine.specs.Drivers as drivers
-use Rattle.ckpt_machine.specs.Driving.{making_in, event_ckpt, event_change, event_after}
-use Rattle.ckpt_machine.specs.Guards.{OnEach, OnReplica, IsOwnMaking, CommitOk, Allowed, ends_update}
+use Rattle.ckpt_machine.specs.Guards.{OnEach, OnReplica, CommitOk, Row, Allowed, ends_update}
 use Rattle.ckpt_machine.specs.Invariant.{Invariant}
 use Rattle.ckpt_machine.specs.Laws.{AcknowledgedStays}
 use Rattle.ckpt_machine.specs.Machine.{Machine, Applied, Effect, ReplicaState, Staged, CallState}
 use Rattle.ckpt_machine.specs.Owned.{OwnsNothing}
 use Rattle.ckpt_machine.specs.Runs.{last_from, last, IsRunFrom, IsRun}
-use Rattle.ckpt_machine.specs.Serving.{update_of, update_answer}
+use Rattle.ckpt_machine.specs.Serving.{update_answer}
 use Rattle.ckpt_machine.specs.Shape.{IsCompleteOn}
-use Rattle.ckpt_machine.specs.Steps.{IsDue, driver_of, with_record, with_opened, with_handle_at, with_iteration, with_next, with_ended, without_handle, change_replica, with_committed, committed_slot, with_slot, effect_of, begun_call, changed, event_done, on_ok, on_look, without_making, at_some, new_handle, handle_in, replica_under, opened_state, stepped, step_of, staged_moment, after}
+use Rattle.ckpt_machine.specs.Steps.{IsDue, with_record, record_step, created_for, retained_for, change_replica, with_committed, committed_slot, with_slot, effect_of, changed, on_ok, on_look, without_making, at_some, replica_under, opened_state, stepped, step_of, staged_moment, after}
+use Rattle.ckpt_machine.proofs.OwnMaking.{making_there}
 use Rattle.ckpt_machine.proofs.AllOrNone.{all_or_none}
 use Rattle.ckpt_machine.proofs.Entries.{ComesOf-filter, ComesOf-change_key, ComesOf-map, ComesOf-then}
 use Rattle.ckpt_machine.proofs.EntryLists.{find_key-key, find_key-change_key, entry_of-given}
-use Rattle.ckpt_machine.proofs.Facts.{facts}
 use Rattle.ckpt_machine.proofs.Follows.{IsBare}
-use Rattle.ckpt_machine.proofs.Histories.{HasHistory, of_update-is, slot_owned, making_incomplete, keeps_history, run_history}
+use Rattle.ckpt_machine.proofs.Histories.{HasHistory, slot_owned, maker_incomplete, keeps_history, run_history}
 use Rattle.ckpt_machine.proofs.Lawful.{lawful}
-use Rattle.ckpt_machine.proofs.OptionLemmas.{IsSomeAnd-at, IsSomeAnd-from}
-use Rattle.ckpt_machine.proofs.Owning.{same_call-true, owner_update}
+use Rattle.ckpt_machine.proofs.OptionLemmas.{IsSomeAnd-at}
+use Rattle.ckpt_machine.proofs.OwnMaking.{making_there}
+use Rattle.ckpt_machine.proofs.Actors.{same_call-true}
+use Rattle.ckpt_machine.proofs.Owning.{owner_update}
 use Rattle.ckpt_machine.proofs.References.{released-identity, released_all-identity}
 use Rattle.ckpt_machine.proofs.RefusedRuns.{owns_nothing}
 use Rattle.ckpt_machine.proofs.BegunBefore.{all_began}
@@ -115,7 +109,7 @@ left_made e t references true left made = (made, refl)
 left_made e t references false true made = (made, refl)
 left_made e t references false false made = (made, refl)
 
-released_made : (c : ℕ) (t : ℤ) (e : Entry) → StaysMade e (released c t e)
+released_made : (c : ℕ) (t : ℤ) (e : Entry) → StaysMade e (unreferred c t e)
 released_made c t e = left_made e t (slice_set e.references c (slice_index e.references c - 1)) (slice_index e.references c == 0) (has_references (record e { references = slice_set e.references c (slice_index e.references c - 1) }))
 
 released_all_made : (c : ℕ) (t : ℤ) (e : Entry) → StaysMade e (released_all c t e)
@@ -136,11 +130,6 @@ MadeOn-swept k R S on = record {
       let (e, was, keeps) = on.made g between in
       (e, was, subst (StaysMade e) same keeps);
 }
-
--- what a call is making is its own
-abbrev OwnsMaking : RecordState → CallId → Option ℕ → Type 0
-OwnsMaking R call None = Unit {0}
-OwnsMaking R call (Some j) = IsSomeAnd (entry_of j R.entries) (λ e. e.making ≡ Some call)
 
 module _ (k : ℕ) (R : RecordState) (given : k ≤ R.last_identity) (rises : IdentitiesRise R.entries) (up_to : AllUpTo R.last_identity R.entries) where
   same_on : MadeOn k R R
@@ -202,32 +191,26 @@ module _ (k : ℕ) (R : RecordState) (given : k ≤ R.last_identity) (rises : Id
         ] refl (sym (find_key-change_key identity_of j k (made_with R.up c) (λ e. refl) R.entries x there) ∙ found);
   }
 
-  at_ckpt_on : (j : Option ℕ) (change : ℕ → RecordState) → ((j : ℕ) → MadeOn k R (change j)) → MadeOn k R (at_ckpt j R change)
-  at_ckpt_on None change on = same_on
-  at_ckpt_on (Some j) change on = on j
+  -- by what is asked for
+  created_for_on : (call : CallId) (ask : Ask) → MadeOn k R (created_for call ask R)
+  created_for_on call (asks.Open place name flags timeout a) = created_on call name a
+  created_for_on call ask = same_on
 
-  at_making_on : (call : CallId) (c : ℕ) (j : Option ℕ) → OwnsMaking R call j → MadeOn k R (at_ckpt j R (λ j. record R { entries = change_key identity_of j (made_with R.up c) R.entries }))
-  at_making_on call c None own = same_on
-  at_making_on call c (Some j) own = finished_on call j c own
-
-  open_on : (call : CallId) (o : OpenState) → OwnsMaking R call (making_ckpt o.making) → (step : RecordStep) → MadeOn k R (open_event call o (event_ckpt R (drivers.Open o) step) step R)
-  open_on call o own events.Create = created_on call o.ask.name o.ask.attrs
-  open_on call o own events.Open = at_ckpt_on _ _ (λ j. changed_on j (referred o.ask.client) (λ e. refl) (λ e made. (made, refl)))
-  open_on call o own events.Finish = at_making_on call o.ask.client (making_ckpt o.making) own
-  open_on call o own events.Undo = at_ckpt_on _ _ (λ j. filter_on (λ e. not (e.identity == j)))
-  open_on call o own step = same_on
-
-  change_on : (call : CallId) (d : Driver) → OwnsMaking R call (making_in d) → (step : RecordStep) → MadeOn k R (event_change call d step R)
-  change_on call (drivers.Enter r) own step = record { last = omega arith; rises = rises; made = same_on.made }
-  change_on call (drivers.Open o) own step = open_on call o own step
-  change_on call (drivers.Update u) own step = same_on
-  change_on call (drivers.Active a) own step = same_on
-  change_on call drivers.Leave own step = departed_on (client_of call)
-  change_on call (drivers.Close j) own step = changed_on j (released (client_of call) R.moment) (released-identity (client_of call) R.moment) (released_made (client_of call) R.moment)
-  change_on call (drivers.Unlink name) own step = at_ckpt_on _ _ (λ j. changed_on j unnamed (λ e. refl) (λ e made. (made, refl)))
-  change_on call (drivers.Retain j duration) own step = changed_on j (retaining duration) (λ e. refl) (λ e made. (made, refl))
+  retained_for_on : (ask : Ask) (j : ℕ) → MadeOn k R (retained_for ask j R)
+  retained_for_on (asks.Retain place duration) j = changed_on j (retaining duration) (λ e. refl) (λ e made. (made, refl))
+  retained_for_on ask j = same_on
 
 -- ---- the update stays
+
+-- what a step needs of its row: what it finishes was in the making by its call
+abbrev StepNeeds : RecordState → CallId → Verb → Option ℕ → StepReply → Type 0
+StepNeeds R call verbs.Finish (Some j) words.Ok = IsSomeAnd (entry_of j R.entries) (λ e. e.making ≡ Some call)
+StepNeeds R call verb j reply = Unit {0}
+
+row_needs : (m : Machine) → Invariant m → (s : CallState) (verb : Verb) (j q : Option ℕ) (reply : StepReply) (end : Option Outcome) (details : Details) → Row m s verb (record { verb = verb; ckpt = j; node = q; reply = reply; end = end; details = details }) → StepNeeds m.cluster s.call verb j reply
+row_needs m inv s verbs.Finish (Some j) None words.Ok end details row = making_there m.cluster inv.holds.rises s.call j row.0.3.0
+row_needs m inv s verbs.Finish (Some j) (Some q) words.Ok end details row = absurd row.0
+row_needs m inv s verb j q reply end details row = tt
 
 -- the checkpoint was given and is made, if it is there, and each of its replicas has the update
 record StaysIn (k : ℕ) (call : CallId) (update : Update) (R : RecordState) (replicas : ℕ → ℕ → Option ReplicaState) : Type 0 where
@@ -273,13 +256,16 @@ module _ (k : ℕ) (call : CallId) (update : Update) (m : Machine) (stay : Stays
         | false ↦ λ at other. stay.every r y other
       ] refl is
 
-  module _ (rises : IdentitiesRise m.cluster.entries) (up_to : AllUpTo m.cluster.last_identity m.cluster.entries) (s : CallState) (own : OwnsMaking m.cluster s.call (making_in (driver_of s))) where
-    event_stays : (step : RecordStep) → Stays k call update (event_done m s step)
-    event_stays step = record_stays (event_after s.call (driver_of s) step m.cluster) (MadeOn-swept k m.cluster (event_change s.call (driver_of s) step m.cluster) (change_on k m.cluster stay.given rises up_to s.call (driver_of s) own step))
+  module _ (rises : IdentitiesRise m.cluster.entries) (up_to : AllUpTo m.cluster.last_identity m.cluster.entries) where
+    step_stays : (step : RecordState → RecordState) → MadeOn k m.cluster (step m.cluster) → Stays k call update (record_step step m)
+    step_stays step on = record_stays (swept (step m.cluster)) (MadeOn-swept k m.cluster (step m.cluster) on)
 
-    undone_stays : (j : Option ℕ) → Stays k call update (without_making m j)
-    undone_stays None = stay
-    undone_stays (Some j) = record_stays (swept (undone j m.cluster)) (MadeOn-swept k m.cluster (undone j m.cluster) (filter_on k m.cluster stay.given rises up_to (λ e. not (e.identity == j))))
+    undone_stays : (j : ℕ) → Stays k call update (record_step (undone j) m)
+    undone_stays j = step_stays (undone j) (filter_on k m.cluster stay.given rises up_to (λ e. not (e.identity == j)))
+
+    making_stays : (j : Option ℕ) → Stays k call update (without_making j m)
+    making_stays None = stay
+    making_stays (Some j) = undone_stays j
 
     -- what is done on OK alone, and at a checkpoint and a node that are named
     ok_stays : (reply : StepReply) (n : Machine) → Stays k call update n → Stays k call update (on_ok reply m n)
@@ -291,93 +277,55 @@ module _ (k : ℕ) (call : CallId) (update : Update) (m : Machine) (stay : Stays
     look_stays words.Refused done refused after_done after_refused = after_refused
     look_stays reply done refused after_done after_refused = stay
 
+    one_stays : (j : Option ℕ) (change : ℕ → Machine) → ((j : ℕ) → Stays k call update (change j)) → Stays k call update (at_some j m change)
+    one_stays None change each = stay
+    one_stays (Some j) change each = each j
+
     both_stay : (j q : Option ℕ) (change : ℕ → ℕ → Machine) → ((j q : ℕ) → Stays k call update (change j q)) → Stays k call update (at_some j m (λ j. at_some q m (change j)))
-    both_stay None q change each = stay
-    both_stay (Some j) None change each = stay
-    both_stay (Some j) (Some q) change each = each j q
+    both_stay j q change each = one_stays j _ (λ j. one_stays q (change j) (each j))
 
-    -- a client's tables
-    handle_stays : (n : Machine) (c : ℕ) (h : HandleView) (place : Option ℕ) → Stays k call update n → Stays k call update (with_handle_at n c h place)
-    handle_stays n c h None then = then
-    handle_stays n c h (Some place) then = then
-
-    opened_stays : (n : Machine) (j : Option ℕ) → Stays k call update n → Stays k call update (with_opened s j n)
-    opened_stays n None then = then
-    opened_stays n (Some j) then = handle_stays n (client_of s.call) (new_handle n.cluster (n.last_handles (client_of s.call)) s.op j) (opened_place s.op) then
-
-    closed_stays : (n : Machine) (c : ℕ) (h : Option HandleView) → Stays k call update n → Stays k call update (without_handle n c h)
-    closed_stays n c None then = then
-    closed_stays n c (Some h) then = then
-
-    started_stays : (c : ℕ) (h : Option HandleView) (place : Option ℕ) (ids : KeptIds) → Stays k call update (with_iteration m c h place ids)
-    started_stays c (Some h) (Some place) ids = stay
-    started_stays c (Some h) None ids = stay
-    started_stays c None place ids = stay
-
-    next_stays : (c : ℕ) (place : Option ℕ) (ids : Option KeptIds) (next : Option NextGiven) → Stays k call update (with_next m c place ids next)
-    next_stays c (Some place) (Some ids) (Some next) = stay
-    next_stays c (Some place) (Some ids) None = stay
-    next_stays c (Some place) None next = stay
-    next_stays c None ids next = stay
+    finished_stays : (s : CallState) (j q : Option ℕ) (reply : StepReply) → StepNeeds m.cluster s.call verbs.Finish j reply → Stays k call update (changed m s verbs.Finish j q reply)
+    finished_stays s (Some j) q words.Ok by = step_stays (finished j (client_of s.call)) (finished_on k m.cluster stay.given rises up_to s.call j (client_of s.call) by)
+    finished_stays s None q words.Ok by = stay
+    finished_stays s j q reply by = stay
 
     -- any step
-    changed_stays : (verb : Verb) (j q : Option ℕ) (reply : StepReply) → Stays k call update (changed m s verb j q reply)
-    changed_stays verbs.Enter j q reply = ok_stays reply _ (event_stays events.Enter)
-    changed_stays verbs.Open j q reply = ok_stays reply _ (opened_stays _ j (event_stays events.Open))
-    changed_stays verbs.Create j q reply = ok_stays reply _ (event_stays events.Create)
-    changed_stays verbs.Reserve j q reply = ok_stays reply _ (both_stay j q _ (λ j q. record { given = stay.given; made = stay.made; every = stay.every }))
-    changed_stays verbs.Finish j q reply = ok_stays reply _ (opened_stays _ j (event_stays events.Finish))
-    changed_stays verbs.Undo j q reply = ok_stays reply _ (event_stays events.Undo)
-    changed_stays verbs.Stage j q reply = ok_stays reply _ (both_stay j q _ (λ j q. replica_stays j q (m.replicas j q) refl (with_slot s.call (update_of s.op) (staged_moment m j)) (λ x has. has)))
-    changed_stays verbs.Commit j q reply = ok_stays reply _ (both_stay j q _ (λ j q. replica_stays j q (m.replicas j q) refl (with_committed (entry_of j m.cluster.entries)) (λ x has. committed_has (entry_of j m.cluster.entries) x call update has)))
-    changed_stays verbs.Iter j q reply = ok_stays reply _ (both_stay j q _ (λ j q. started_stays (client_of s.call) _ (started_place s.op) _))
-    changed_stays verbs.Next j q reply = ok_stays reply _ (both_stay j q _ (λ j q. next_stays (client_of s.call) (iteration_place s.op) _ _))
-    changed_stays verbs.Leave j q reply = ok_stays reply _ (event_stays events.Leave)
-    changed_stays verbs.Close j q reply = ok_stays reply _ (closed_stays _ (client_of s.call) _ (event_stays events.Close))
-    changed_stays verbs.Unlink j q reply = ok_stays reply _ (event_stays events.Unlink)
-    changed_stays verbs.Retain j q reply = ok_stays reply _ (event_stays events.Retain)
-    changed_stays verbs.Look j q reply = look_stays reply _ _ (closed_stays m (client_of s.call) (handle_in m (client_of s.call) (closed_place s.op)) stay) (undone_stays (making_in (driver_of s)))
-    changed_stays verb j q reply = stay
+    changed_stays : (s : CallState) (verb : Verb) (j q : Option ℕ) (reply : StepReply) → StepNeeds m.cluster s.call verb j reply → Stays k call update (changed m s verb j q reply)
+    changed_stays s verbs.Enter j q reply needs = ok_stays reply _ (one_stays q _ (λ q. step_stays (entered (client_of s.call) q s.call.number) (record { last = omega arith; rises = rises; made = (same_on k m.cluster stay.given rises up_to).made })))
+    changed_stays s verbs.Open j q reply needs = ok_stays reply _ (one_stays j _ (λ j. step_stays (opened j (client_of s.call)) (changed_on k m.cluster stay.given rises up_to j (referred (client_of s.call)) (λ e. refl) (λ e made. (made, refl)))))
+    changed_stays s verbs.Create j q reply needs = ok_stays reply _ (step_stays (created_for s.call (asked s.op)) (created_for_on k m.cluster stay.given rises up_to s.call (asked s.op)))
+    changed_stays s verbs.Reserve j q reply needs = ok_stays reply _ (both_stay j q _ (λ j q. record { given = stay.given; made = stay.made; every = stay.every }))
+    changed_stays s verbs.Finish j q reply needs = finished_stays s j q reply needs
+    changed_stays s verbs.Undo j q reply needs = ok_stays reply _ (one_stays j _ undone_stays)
+    changed_stays s verbs.Stage j q reply needs = ok_stays reply _ (both_stay j q _ (λ j q. replica_stays j q (m.replicas j q) refl (with_slot s.call (update_of s.op) (staged_moment m j)) (λ x has. has)))
+    changed_stays s verbs.Commit j q reply needs = ok_stays reply _ (both_stay j q _ (λ j q. replica_stays j q (m.replicas j q) refl (with_committed (entry_of j m.cluster.entries)) (λ x has. committed_has (entry_of j m.cluster.entries) x call update has)))
+    changed_stays s verbs.Iter j q reply needs = ok_stays reply _ (both_stay j q _ (λ j q. stay))
+    changed_stays s verbs.Next j q reply needs = ok_stays reply _ (both_stay j q _ (λ j q. stay))
+    changed_stays s verbs.Leave j q reply needs = ok_stays reply _ (step_stays (departed (client_of s.call)) (departed_on k m.cluster stay.given rises up_to (client_of s.call)))
+    changed_stays s verbs.Close j q reply needs = ok_stays reply _ (one_stays j _ (λ j. step_stays (closed j (client_of s.call))
+        (changed_on k m.cluster stay.given rises up_to j (unreferred (client_of s.call) m.cluster.moment) (released-identity (client_of s.call) m.cluster.moment) (released_made (client_of s.call) m.cluster.moment))))
+    changed_stays s verbs.Unlink j q reply needs = ok_stays reply _ (one_stays j _ (λ j. step_stays (unlinked j) (changed_on k m.cluster stay.given rises up_to j unnamed (λ e. refl) (λ e made. (made, refl)))))
+    changed_stays s verbs.Retain j q reply needs = ok_stays reply _ (one_stays j _ (λ j. step_stays (retained_for (asked s.op) j) (retained_for_on k m.cluster stay.given rises up_to (asked s.op) j)))
+    changed_stays s verbs.Look j q reply needs = look_stays reply _ _ stay (making_stays (making_of s.call m.cluster))
+    changed_stays s verb j q reply needs = stay
 
-  ended_stays : (n : Machine) (c : ℕ) (place : Option ℕ) → Stays k call update n → Stays k call update (with_ended c place n)
-  ended_stays n c None then = then
-  ended_stays n c (Some place) then = then
-
-  -- what a call in hand is making is its own
-  owns : Invariant m → (s : CallState) → m.in_hand s.call.actor ≡ Some s → OwnsMaking m.cluster s.call (making_in (driver_of s))
-  owns inv s held = by_driver (driver_of s) refl
-    where
-      own_of : (j : Option ℕ) → IsOwnMaking m s.call j → OwnsMaking m.cluster s.call j
-      own_of None own = tt
-      own_of (Some j) own = own
-
-      by_driver : (d : Driver) → driver_of s ≡ d → OwnsMaking m.cluster s.call (making_in d)
-      by_driver (drivers.Open o) is = own_of (making_ckpt o.making) ((facts m inv).opens s.call.actor s o held is).3
-      by_driver (drivers.Enter r) is = tt
-      by_driver (drivers.Update u) is = tt
-      by_driver (drivers.Active a) is = tt
-      by_driver drivers.Leave is = tt
-      by_driver (drivers.Close j) is = tt
-      by_driver (drivers.Unlink name) is = tt
-      by_driver (drivers.Retain j duration) is = tt
-
-  -- any label that is due
-  after_stays : Invariant m → (l : Label) → IsDue m l → Stays k call update (after m l)
-  after_stays inv (labels.Began d op end) is = ended_stays (begun_call m d op end) (number_of d.actor) (ended_place end op) (record { given = stay.given; made = stay.made; every = stay.every })
-  after_stays inv (labels.Stepped d op verb j q reply end details) is =
-      let held : m.in_hand is.state.call.actor ≡ Some is.state = ap (λ (c : CallId). m.in_hand c.actor) is.call_is ∙ is.in_hand in
-      let then = changed_stays inv.holds.rises inv.holds.up_to is.state (owns inv is.state held) verb j q reply in
-      subst (λ o. Stays k call update (step_of m o verb j q reply end)) (sym is.in_hand) (record { given = then.given; made = then.made; every = then.every })
-  after_stays inv (labels.Word who line said) is = stay
-  after_stays inv (labels.Nodes n) is = record { given = stay.given; made = stay.made; every = stay.every }
-  after_stays inv (labels.Moved t) is = record_stays (moved t m.cluster) (record { last = omega arith; rises = IdentitiesRise-filter (stays t) m.cluster.entries inv.holds.rises; made = ComesOf-filter StaysMade StaysMade-same (stays t) m.cluster.entries inv.holds.rises k })
-  after_stays inv (labels.Shown j replicas) is = stay
-  after_stays inv l is = absurd is
+  -- any label that is allowed
+  after_stays : Invariant m → (l : Label) → Allowed m l → Stays k call update (after m l)
+  after_stays inv (labels.Began d op end) allowed = record { given = stay.given; made = stay.made; every = stay.every }
+  after_stays inv (labels.Stepped d op verb j q reply end details) allowed =
+      let s = allowed.state in
+      let then = changed_stays inv.holds.rises inv.holds.up_to s verb j q reply (row_needs m inv s verb j q reply end details allowed.row) in
+      subst (λ o. Stays k call update (step_of m o verb j q reply end)) (sym allowed.in_hand) (record { given = then.given; made = then.made; every = then.every })
+  after_stays inv (labels.Word who line said) allowed = stay
+  after_stays inv (labels.Nodes n) allowed = record { given = stay.given; made = stay.made; every = stay.every }
+  after_stays inv (labels.Moved t) allowed = record_stays (moved t m.cluster) (record { last = omega arith; rises = IdentitiesRise-filter (stays t) m.cluster.entries inv.holds.rises; made = ComesOf-filter StaysMade StaysMade-same (stays t) m.cluster.entries inv.holds.rises k })
+  after_stays inv (labels.Shown j replicas) allowed = stay
+  after_stays inv l allowed = absurd allowed
 
 -- and at every time from then on
 stays_from : (k : ℕ) (call : CallId) (update : Update) (m : Machine) (log : List Label) → Invariant m → IsRunFrom m log → Stays k call update m → Stays k call update (last_from m log)
 stays_from k call update m [] inv run stay = stay
-stays_from k call update m (l ∷ log) inv run stay = stays_from k call update (after m l) log (lawful m l inv run.1).1 run.2 (after_stays k call update m stay inv l run.1)
+stays_from k call update m (l ∷ log) inv run stay = stays_from k call update (after m l) log (lawful m l inv run.1).1 run.2 (after_stays k call update m stay inv l run.0)
 
 -- ---- the label that answers OK
 
@@ -453,9 +401,8 @@ is_made m inv bare k r e x found there = by_making e.making refl
     by_making None is = is
     by_making (Some c) is =
         let (f, at, complete) = IsSomeAnd-at (entry_of k m.cluster.entries) (λ e. IsCompleteOn e r) (bare.complete k r x there) in
-        let (g, here, incomplete) = IsSomeAnd-at (entry_of k m.cluster.entries) (λ e. (slice_index e.complete r == 0) ≡ true) (making_incomplete m inv c k r (IsSomeAnd-from (entry_of k m.cluster.entries) (λ e. e.making ≡ Some c) e found is)) in
-        let same : g ≡ f = same_Some g f (sym here ∙ at) in
-        absurd (let w : true ≡ false = sym incomplete ∙ ap (λ (z : Entry). slice_index z.complete r == 0) same ∙ complete in cc w)
+        let same : e ≡ f = same_Some e f (sym found ∙ at) in
+        absurd (let w : true ≡ false = sym (maker_incomplete m inv c k r e found is) ∙ ap (λ (z : Entry). slice_index z.complete r == 0) same ∙ complete in cc w)
 
 module _ (m : Machine) (inv : Invariant m) (history : HasHistory m) (d : CallId) (op : OpWord) (j r : ℕ) (answer : Answer) (details : Details) where
   abbrev label : Label
@@ -472,16 +419,17 @@ module _ (m : Machine) (inv : Invariant m) (history : HasHistory m) (d : CallId)
   committed_stays allowed due =
       let s = allowed.state in
       let u = update_of s.op in
+      let w = allowed.row.1 in
       let held : m.in_hand s.call.actor ≡ Some s = ap (λ (c : CallId). m.in_hand c.actor) allowed.call_is ∙ allowed.in_hand in
-      let row : OnReplica m j r (λ e x. CommitOk m s.call (update_of s.op) j r (Some (Done answer)) details x) = of_update-is s.op _ allowed.row in
-      let (e, found, on) = IsSomeAnd-at (entry_of j m.cluster.entries) (λ e. IsSomeAnd (m.replicas j r) (λ x. CommitOk m s.call (update_of s.op) j r (Some (Done answer)) details x)) row in
-      let (x, there, ok) = IsSomeAnd-at (m.replicas j r) (λ x. CommitOk m s.call (update_of s.op) j r (Some (Done answer)) details x) on in
-      let ends : ends_update s.call r ok.slot (complete_replicas m j) ≡ true = ends_if (ends_update s.call r ok.slot (complete_replicas m j)) (Done answer) (Done (update_answer (update_of s.op))) ok.answer in
+      let row : OnReplica m j r (λ e x. CommitOk m s.call w j r (Some (Done answer)) details x) = allowed.row.3 in
+      let (e, found, on) = IsSomeAnd-at (entry_of j m.cluster.entries) (λ e. IsSomeAnd (m.replicas j r) (λ x. CommitOk m s.call w j r (Some (Done answer)) details x)) row in
+      let (x, there, ok) = IsSomeAnd-at (m.replicas j r) (λ x. CommitOk m s.call w j r (Some (Done answer)) details x) on in
+      let ends : ends_update s.call r ok.slot (complete_replicas m j) ≡ true = ends_if (ends_update s.call r ok.slot (complete_replicas m j)) (Done answer) (Done (update_answer w)) ok.answer in
       let origin : ok.slot.origin ≡ s.call = same_call-true ok.slot.origin s.call ((and_parts _ _ ends).0) in
       let y = with_committed (entry_of j m.cluster.entries) x in
       let y_is : y ≡ committed_slot e.attributes x x.slot = ap (λ o. with_committed o x) found in
-      let n = stepped (record m { replicas = put2 m.replicas j r (Some y) }) s verbs.Commit (Some j) (Some r) words.Ok (Some (Done answer)) in
-      let is : after m label ≡ n = ap (λ o. step_of m o verbs.Commit (Some j) (Some r) words.Ok (Some (Done answer))) allowed.in_hand ∙ ap (λ o. stepped (change_replica m j r o (with_committed (entry_of j m.cluster.entries))) s verbs.Commit (Some j) (Some r) words.Ok (Some (Done answer))) there in
+      let n = stepped (record m { replicas = put2 m.replicas j r (Some y) }) s (Some (Done answer)) in
+      let is : after m label ≡ n = ap (λ o. step_of m o verbs.Commit (Some j) (Some r) words.Ok (Some (Done answer))) allowed.in_hand ∙ ap (λ o. stepped (change_replica m j r o (with_committed (entry_of j m.cluster.entries))) s (Some (Done answer))) there in
       let inv_n : Invariant n = subst Invariant is (lawful m label inv due).1 in
       let bare_n : IsBare n = subst IsBare is (keeps_history m label inv history allowed due).bare in
       let none : n.in_hand s.call.actor ≡ None = put_actor-here m.in_hand s.call.actor None in
@@ -533,7 +481,7 @@ module _ (log : List Label) (run : IsRun log) (inv : Invariant (last log)) (hist
   acknowledged (labels.Stepped d word verb k r reply (Some (Done answer)) details) allowed due call acks =
       let s = allowed.state in
       let held : (last log).in_hand s.call.actor ≡ Some s = ap (λ (c : CallId). (last log).in_hand c.actor) allowed.call_is ∙ allowed.in_hand in
-      let commit = done_by_commit (last log) s (subst IsUpdateWord (sym allowed.word) acks.1) answer inv held verb k r reply details allowed.row in
+      let commit = done_by_commit (last log) s (subst IsUpdateWord (sym allowed.word) acks.1) answer verb k r reply details allowed.row in
       subst (IsTaken log (labels.Stepped d word verb k r reply (Some (Done answer)) details)) acks.0 (answered d word verb k r reply answer details allowed due acks.1 commit)
   acknowledged l allowed due call acks = absurd acks
 

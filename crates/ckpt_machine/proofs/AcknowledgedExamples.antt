@@ -17,8 +17,8 @@ use Rattle.node_msgs.specs.declared.steps.Verb.TheVariants as verbs
 use Rattle.run_labels.specs.declared.details.Details.TheVariants as beside
 use Rattle.run_labels.specs.declared.labels.Label.{Label}
 use Rattle.run_labels.specs.declared.labels.Label.TheVariants as labels
-use Rattle.run_labels.specs.declared.words.OpWord.{OpWord}
-use Rattle.run_labels.specs.declared.words.OpWord.TheVariants as opwords
+use Rattle.ckpt_types.specs.declared.words.OpWord.{OpWord}
+use Rattle.ckpt_types.specs.declared.words.OpWord.TheVariants as opwords
 use Rattle.ckpt_machine.specs.Acknowledged.{Acknowledges, HasBegun, HasUpdate}
 use Rattle.ckpt_machine.specs.Machine.{Effect, Applied, ReplicaState}
 use Rattle.ckpt_machine.specs.Runs.{last}
@@ -26,11 +26,11 @@ use Rattle.ckpt_machine.specs.Runs.{last}
 -- ---- the words of the examples
 
 -- the calls of c0
-abbrev call : ℕ → CallId
-call n = record { actor = Client 0; number = n }
+abbrev call_numbered : ℕ → CallId
+call_numbered n = record { actor = Client 0; number = n }
 
-abbrev done : Option Outcome
-done = Some (Done answers.Nothing)
+abbrev answered_ok : Option Outcome
+answered_ok = Some (Done answers.Nothing)
 
 -- a checkpoint with one section of 8 bytes, and a write of it
 abbrev one_section : CreationAttributes
@@ -39,34 +39,34 @@ one_section = record { creation_flags = wr_all_replicas; checkpoint_size = 8; re
 abbrev abc : Update
 abc = updates.Write (record { id = []; offset = 0; bytes = codes "abc" } ∷ [])
 
-abbrev writes : Op
-writes = ops.Write 0 abc
+abbrev a_write : Op
+a_write = ops.Write 0 abc
 
--- a step of a call on a checkpoint and a node, by which it goes on
-abbrev step : ℕ → OpWord → Verb → Option ℕ → Option ℕ → Label
-step n word verb k r = labels.Stepped (call n) word verb k r words.Ok None beside.Nothing
+-- a write_step of a call_numbered on a checkpoint and a node, by which it goes on
+abbrev write_step : ℕ → OpWord → Verb → Option ℕ → Option ℕ → Label
+write_step n word verb k r = labels.Stepped (call_numbered n) word verb k r words.Ok None beside.Nothing
 
 -- the commit of a write that ends it
 abbrev last_commit : OpWord → Label
-last_commit word = labels.Stepped (call 3) word verbs.Commit (Some 1) (Some 0) words.Ok done beside.Nothing
+last_commit word = labels.Stepped (call_numbered 3) word verbs.Commit (Some 1) (Some 0) words.Ok answered_ok beside.Nothing
 
 -- ---- which labels answer an update OK
 
-pub a_commit_that_ends_a_write : Acknowledges (last_commit opwords.Write) (call 3)
+pub a_commit_that_ends_a_write : Acknowledges (last_commit opwords.Write) (call_numbered 3)
 a_commit_that_ends_a_write = (refl, tt)
 
 -- whether any allowed label is such a look or such a beginning, or not
-pub a_look_that_ends_a_write : Acknowledges (labels.Stepped (call 3) opwords.Write verbs.Look None None words.Done done beside.Nothing) (call 3)
+pub a_look_that_ends_a_write : Acknowledges (labels.Stepped (call_numbered 3) opwords.Write verbs.Look None None words.Done answered_ok beside.Nothing) (call_numbered 3)
 a_look_that_ends_a_write = (refl, tt)
 
-pub a_beginning_that_ends_a_write : Acknowledges (labels.Began (call 3) writes done) (call 3)
+pub a_beginning_that_ends_a_write : Acknowledges (labels.Began (call_numbered 3) a_write answered_ok) (call_numbered 3)
 a_beginning_that_ends_a_write = (refl, tt)
 
-pub no_step_by_which_it_goes_on : Acknowledges (step 3 opwords.Write verbs.Commit (Some 1) (Some 1)) (call 3) → ⊥
+pub no_step_by_which_it_goes_on : Acknowledges (write_step 3 opwords.Write verbs.Commit (Some 1) (Some 1)) (call_numbered 3) → ⊥
 no_step_by_which_it_goes_on acks = acks
 
-pub no_close : Acknowledges (last_commit opwords.Close) (call 3) → ⊥
-no_close acks = acks.1
+pub not_by_a_close : Acknowledges (last_commit opwords.Close) (call_numbered 3) → ⊥
+not_by_a_close acks = acks.1
 
 -- ---- a run to such a label
 
@@ -74,23 +74,23 @@ no_close acks = acks.1
 abbrev until_it_writes : List Label
 until_it_writes =
     labels.Nodes 2
-    ∷ labels.Began (call 1) (ops.Client 0 (record { release = release; major = major_max; minor = minor_answered }) (record { opens = false; syncs = false })) None
-    ∷ labels.Stepped (call 1) opwords.Client verbs.Enter None (Some 0) words.Ok (Some (Done answers.Version)) beside.Nothing
-    ∷ labels.Began (call 2) (ops.Open 0 (codes "ck") (checkpoint_write + checkpoint_create) end_of_time (Some one_section)) None
-    ∷ step 2 opwords.Open verbs.Create (Some 1) None
-    ∷ step 2 opwords.Open verbs.Reserve (Some 1) (Some 0)
-    ∷ step 2 opwords.Open verbs.Reserve (Some 1) (Some 1)
-    ∷ labels.Stepped (call 2) opwords.Open verbs.Finish (Some 1) None words.Ok (Some (Done (answers.Opened 1))) beside.Nothing
+    ∷ labels.Began (call_numbered 1) (ops.Client 0 (record { release = release; major = major_max; minor = minor_answered }) (record { opens = false; syncs = false })) None
+    ∷ labels.Stepped (call_numbered 1) opwords.Client verbs.Enter None (Some 0) words.Ok (Some (Done answers.Version)) beside.Nothing
+    ∷ labels.Began (call_numbered 2) (ops.Open 0 (codes "ck") (checkpoint_write + checkpoint_create) end_of_time (Some one_section)) None
+    ∷ write_step 2 opwords.Open verbs.Create (Some 1) None
+    ∷ write_step 2 opwords.Open verbs.Reserve (Some 1) (Some 0)
+    ∷ write_step 2 opwords.Open verbs.Reserve (Some 1) (Some 1)
+    ∷ labels.Stepped (call_numbered 2) opwords.Open verbs.Finish (Some 1) None words.Ok (Some (Done (answers.Opened 1))) beside.Nothing
     ∷ []
 
 -- the write is staged on n0 and on n1, and committed on n1
 abbrev until_one_has_it : List Label
 until_one_has_it =
     until_it_writes
-    ++ labels.Began (call 3) writes None
-    ∷ step 3 opwords.Write verbs.Stage (Some 1) (Some 0)
-    ∷ step 3 opwords.Write verbs.Stage (Some 1) (Some 1)
-    ∷ step 3 opwords.Write verbs.Commit (Some 1) (Some 1)
+    ++ labels.Began (call_numbered 3) a_write None
+    ∷ write_step 3 opwords.Write verbs.Stage (Some 1) (Some 0)
+    ∷ write_step 3 opwords.Write verbs.Stage (Some 1) (Some 1)
+    ∷ write_step 3 opwords.Write verbs.Commit (Some 1) (Some 1)
     ∷ []
 
 -- the effects on a node
@@ -101,26 +101,26 @@ effects_of (Some x) = Some x.effects
 abbrev effects_on : List Label → ℕ → Option (List Effect)
 effects_on log r = effects_of ((last log).replicas 1 r)
 
-pub n1_has_it_first : effects_on until_one_has_it 1 ≡ Some (Applied (call 3) abc (pos 0) ∷ [])
+pub n1_has_it_first : effects_on until_one_has_it 1 ≡ Some (Applied (call_numbered 3) abc (pos 0) ∷ [])
 n1_has_it_first = refl
 
 pub n0_has_it_staged : effects_on until_one_has_it 0 ≡ Some []
 n0_has_it_staged = refl
 
 -- it began there, on the checkpoint of the handle in place 0
-pub it_has_begun : HasBegun until_one_has_it (call 3) writes (Some 1)
+pub it_has_begun : HasBegun until_one_has_it (call_numbered 3) a_write (Some 1)
 it_has_begun = record { before = until_it_writes; behind = _; log_is = refl; ckpt_is = refl }
 
-pub then_n0_has_it : effects_on (until_one_has_it ++ last_commit opwords.Write ∷ []) 0 ≡ Some (Applied (call 3) abc (pos 0) ∷ [])
+pub then_n0_has_it : effects_on (until_one_has_it ++ last_commit opwords.Write ∷ []) 0 ≡ Some (Applied (call_numbered 3) abc (pos 0) ∷ [])
 then_n0_has_it = refl
 
-pub and_n1_has_it : effects_on (until_one_has_it ++ last_commit opwords.Write ∷ []) 1 ≡ Some (Applied (call 3) abc (pos 0) ∷ [])
+pub and_n1_has_it : effects_on (until_one_has_it ++ last_commit opwords.Write ∷ []) 1 ≡ Some (Applied (call_numbered 3) abc (pos 0) ∷ [])
 and_n1_has_it = refl
 
--- and that is the update of the call
-pub which_is_its_update : HasUpdate (call 3) abc (Applied (call 3) abc (pos 0) ∷ [])
+-- and that is the update of the call_numbered
+pub which_is_its_update : HasUpdate (call_numbered 3) abc (Applied (call_numbered 3) abc (pos 0) ∷ [])
 which_is_its_update = inl (refl, refl)
 
-pub and_of_no_other_call : HasUpdate (call 4) abc (Applied (call 3) abc (pos 0) ∷ []) → ⊥
+pub and_of_no_other_call : HasUpdate (call_numbered 4) abc (Applied (call_numbered 3) abc (pos 0) ∷ []) → ⊥
 and_of_no_other_call (inl is) = let w : 3 ≡ 4 = ap (λ (c : CallId). c.number) is.0 in omega (arith, w)
 and_of_no_other_call (inr none) = none

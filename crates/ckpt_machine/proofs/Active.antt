@@ -1,5 +1,5 @@
 -- A read, a status, and iterations, each answered by the active, with any calls of others in hand.
-use Rattle.std.proofs.Common.{◌≡◌, ℕ, suc, ◌+◌, ◌<◌, List, [], ◌∷◌, Option, Some, None, Result, Ok, Err, Bool, true, false, cond, not, ◌&&◌, ◌==◌, refl, sym, ap, subst, ◌∙◌, arith}
+use Rattle.std.proofs.Common.{◌≡◌, ℕ, suc, ◌+◌, ◌<◌, List, [], ◌∷◌, Option, Some, None, Result, Ok, Err, Bool, true, false, cond, not, ◌&&◌, ◌==◌, refl, sym, ap, subst, ◌∙◌, arith, ℤ}
 use Rattle.std.specs.Prelude.{is_some, IfSome, slice_index}
 use Rattle.std.proofs.lemmas.Option.{same_Some}
 use Rattle.ckpt_types.specs.declared.ais_error.AisError.TheVariants.{NoResources, NoSections, NotExist}
@@ -16,78 +16,81 @@ use Rattle.node_msgs.specs.declared.requests.Request.TheVariants as requests
 use Rattle.node_msgs.specs.declared.replies.Reply.TheVariants as replies
 use Rattle.node_msgs.specs.declared.next.Next.TheVariants.{Serve, End}
 use Rattle.node_msgs.specs.declared.steps.StepReply.TheVariants as words
-use Rattle.client_handles.specs.declared.handle_view.HandleView.{HandleView}
-use Rattle.section_iter.specs.KeptIds.{KeptIds}
+use Rattle.section_iter.specs.declared.room.Room.{Room}
+use Rattle.ckpt_types.specs.declared.update.ReadElement.{ReadElement}
 use Rattle.cluster_record.specs.declared.calls.ActiveKind.{ActiveKind}
 use Rattle.cluster_record.specs.declared.calls.ActiveKind.TheVariants as kinds
 use Rattle.cluster_record.specs.declared.entries.Entry.{Entry}
-use Rattle.cluster_record.specs.Calls.{client_of, put_actor}
+use Rattle.cluster_record.specs.Calls.{put_actor}
 use Rattle.cluster_record.specs.DueActive.{active_on, on_active, request_by, starts_iteration}
 use Rattle.cluster_record.specs.RecordState.{entry_of, attributes_now, first_complete}
 use Rattle.run_labels.specs.declared.details.Details.TheVariants as beside
-use Rattle.ckpt_machine.specs.Beginning.{IsIterOf, IsNextOf, started_place, iteration_place}
+use Rattle.ckpt_types.specs.Asks.{Ask, asked, elements_asked, elements_of}
+use Rattle.ckpt_types.specs.Asks as asks
+use Rattle.ckpt_machine.specs.Tables.{choice_of, started, gone_on}
 use Rattle.ckpt_machine.specs.Drivers.{Driver, Rooms}
 use Rattle.ckpt_machine.specs.Drivers as drivers
 use Rattle.ckpt_machine.specs.Driving.{driver_next, refused_cause}
 use Rattle.ckpt_machine.specs.Entries.{WasMade}
-use Rattle.ckpt_machine.specs.InHand.{IsKindOf, IsInPlace, IsActiveIn}
+use Rattle.ckpt_machine.specs.InHand.{active_kind, IsInPlace, IsActiveIn}
 use Rattle.ckpt_machine.specs.Invariant.{IsGoodIn, InvariantIn, Invariant}
 use Rattle.ckpt_machine.specs.Machine.{Machine, ReplicaState, CallState}
-use Rattle.ckpt_machine.specs.Serving.{retention_in, read_details, elements_of, reply_at, details_at, done_or_refused, next_reply, next_reply_at, next_details, given_at, record_seen}
-use Rattle.ckpt_machine.specs.Steps.{Told, IsDone, IsServed, driver_of, seen, seen_at, seen_by, rooms_of, ids_asked, details_due, asked_handle, kept_in, with_iteration, with_next}
-use Rattle.ckpt_machine.specs.Guards.{OnReplica, ReadRow, IterOk, IterLook, NextAnswer, LookRefused, OfStatus, OfIter, OfNext, HasNoActive, NoActiveLook}
+use Rattle.ckpt_machine.specs.Serving.{retention_in, read_details, reply_at, details_at, done_or_refused, next_reply, next_reply_at, next_details, given_at, chosen_at, record_seen}
+use Rattle.ckpt_machine.specs.Steps.{Told, IsDone, IsServed, driver_of, seen, seen_at, seen_by, rooms_of, ids_asked, details_due, with_tables}
+use Rattle.ckpt_machine.specs.Guards.{OnReplica, IterOk, NextAnswer, LookRefused, HasNoActive, NoActiveLook}
 use Rattle.ckpt_machine.specs.Shape.{Shape, IsCompleteOn, IsShaped, IsSpread}
-use Rattle.ckpt_machine.proofs.EndedTables.{others_idle, iterations_keep}
+use Rattle.ckpt_machine.proofs.EndedTables.{started_keeps, gone_on_keeps}
+use Rattle.ckpt_machine.proofs.ReplicaSteps.{put_actor-here}
 use Rattle.ckpt_machine.proofs.NodeLists.{index-within}
 use Rattle.ckpt_machine.proofs.PlainCalls.{is_plain, plain_ends, look_goes}
 use Rattle.ckpt_machine.proofs.DueStep.{Goes}
 use Rattle.ckpt_machine.proofs.OptionLemmas.{IsSomeAnd-at, IsSomeAnd-from}
-use Rattle.ckpt_machine.proofs.StepLabels.{served_told, IsServed-told}
-use Rattle.ckpt_machine.proofs.Operations.{OfRead-is}
+use Rattle.ckpt_machine.proofs.StepLabels.{IsServed-told}
+
+-- ---- what is asked for, by the kind of the call
+
+-- what a call of a kind asks for
+abbrev pub AsksOf : ActiveKind → Ask → Type 0
+AsksOf kinds.Read ask = (place : ℕ) × (elements : List ReadElement) × (ask ≡ asks.Read place elements)
+AsksOf kinds.Status ask = (place : ℕ) × (ask ≡ asks.Status place)
+AsksOf (kinds.Iterate choice) ask = (iteration place chosen : ℕ) × (time : ℤ) × (ask ≡ asks.Iterate iteration place chosen time) × (choice ≡ choice_of chosen time)
+AsksOf kinds.Next ask = (iteration : ℕ) × (ask ≡ asks.Next iteration)
+AsksOf kind ask = ⊥
+
+-- so it is of the kind that it has by what is asked for
+pub by_kind : (ask : Ask) (kind : ActiveKind) → active_kind ask ≡ Some kind → AsksOf kind ask
+by_kind (asks.Read place elements) kind is = subst (λ k. AsksOf k (asks.Read place elements)) (same_Some kinds.Read kind is) (place, elements, refl)
+by_kind (asks.Status place) kind is = subst (λ k. AsksOf k (asks.Status place)) (same_Some kinds.Status kind is) (place, refl)
+by_kind (asks.Iterate iteration place chosen time) kind is = subst (λ k. AsksOf k (asks.Iterate iteration place chosen time)) (same_Some (kinds.Iterate (choice_of chosen time)) kind is) (iteration, place, chosen, time, refl, refl)
+by_kind (asks.Next iteration) kind is = subst (λ k. AsksOf k (asks.Next iteration)) (same_Some kinds.Next kind is) (iteration, refl)
+by_kind ask kind is = absurd (cc is)
 
 -- the cause of a refused read is the index, and that of a refused `next` is none
-read_cause : (op : Op) (index : ℕ) → IsKindOf kinds.Read op → refused_cause op index ≡ Index index
+read_cause : (op : Op) (index : ℕ) → AsksOf kinds.Read (asked op) → refused_cause op index ≡ Index index
 read_cause (ops.Read place elements) index is = refl
-read_cause op index is = absurd is
+read_cause (ops.Write place update) index is = refl
+read_cause op index is = absurd (cc (is.2))
 
-next_cause : (op : Op) (index : ℕ) → IsNextOf op → refused_cause op index ≡ Plain
-next_cause (ops.Next iteration) index is = refl
-next_cause op index is = absurd is
+next_cause : (op : Op) (index : ℕ) → AsksOf kinds.Next (asked op) → refused_cause op index ≡ Plain
+next_cause (ops.Read place elements) index is = absurd (cc (is.1))
+next_cause (ops.Write place update) index is = absurd (cc (is.1))
+next_cause op index is = refl
 
--- ---- the operation is of its kind
-
-status_is : (op : Op) (P : Type 0) → IsKindOf kinds.Status op → P → OfStatus op P
-status_is (ops.Status place) P is p = p
-status_is op P is p = absurd is
-
-iter_is : (choice : Choice) (op : Op) (P : Type 0) → IsIterOf choice op → P → OfIter op P
-iter_is choice (ops.Iter iteration place chosen time) P is p = p
-iter_is choice op P is p = absurd is
-
-next_is : (op : Op) (P : Type 0) → IsNextOf op → P → OfNext op P
-next_is (ops.Next iteration) P is p = p
-next_is op P is p = absurd is
-
--- a client's start of an iteration is refused as an open is: by a look
-iter_look : (m : Machine) (s : CallState) (choice : Choice) (op : Op) → IsIterOf choice op → IterLook m s NoResources (Count 8) → LookRefused m s op NoResources (Count 8)
-iter_look m s choice (ops.Iter iteration place chosen time) is p = p
-iter_look m s choice op is p = absurd is
-
--- where its checkpoint is gone, the call is refused
-LookRefused-active : (m : Machine) (s : CallState) (kind : ActiveKind) (op : Op) → IsKindOf kind op → NoActiveLook m s.kept.ckpt NotExist Plain → LookRefused m s op NotExist Plain
-LookRefused-active m s kinds.Read (ops.Read place elements) is gone = gone
-LookRefused-active m s kinds.Status (ops.Status place) is gone = gone
-LookRefused-active m s (kinds.Iterate choice) (ops.Iter iteration place chosen time) is gone = gone
-LookRefused-active m s kinds.Next (ops.Next iteration) is gone = gone
-LookRefused-active m s kind op is gone = absurd is
+-- where its checkpoint is gone, or has no active, the call is refused
+LookRefused-active : (m : Machine) (s : CallState) (kind : ActiveKind) (ask : Ask) → active_kind ask ≡ Some kind → NoActiveLook m s.kept.ckpt NotExist Plain → LookRefused m s ask NotExist Plain
+LookRefused-active m s kind (asks.Read place elements) is gone = gone
+LookRefused-active m s kind (asks.Status place) is gone = gone
+LookRefused-active m s kind (asks.Iterate iteration place chosen time) is gone = gone
+LookRefused-active m s kind (asks.Next iteration) is gone = gone
+LookRefused-active m s kind ask is gone = absurd (cc is)
 
 -- ---- the active of a checkpoint that is made
 
 -- the lowest complete node is complete
-pub first_complete-there : (n : ℕ) (cs : List ℕ) (r : ℕ) → first_complete n cs ≡ Some r → (d : ℕ) × (r ≡ n + d) × ((slice_index cs d == 0) ≡ false)
-first_complete-there n [] r is = absurd (cc is)
-first_complete-there n (c ∷ cs) r is = elim (c == 0) as (λ b. (c == 0) ≡ b → cond b (first_complete (n + 1) cs) (Some n) ≡ Some r → (d : ℕ) × (r ≡ n + d) × ((slice_index (c ∷ cs) d == 0) ≡ false)) [
-  | true ↦ λ none later. (let (d, at, there) = first_complete-there (n + 1) cs r later in (suc d, omega (arith, at), there))
+pub first_complete-node : (n : ℕ) (cs : List ℕ) (r : ℕ) → first_complete n cs ≡ Some r → (d : ℕ) × (r ≡ n + d) × ((slice_index cs d == 0) ≡ false)
+first_complete-node n [] r is = absurd (cc is)
+first_complete-node n (c ∷ cs) r is = elim (c == 0) as (λ b. (c == 0) ≡ b → cond b (first_complete (n + 1) cs) (Some n) ≡ Some r → (d : ℕ) × (r ≡ n + d) × ((slice_index (c ∷ cs) d == 0) ≡ false)) [
+  | true ↦ λ none later. (let (d, at, there) = first_complete-node (n + 1) cs r later in (suc d, omega (arith, at), there))
   | false ↦ λ some here. (0, (let same : n ≡ r = same_Some n r here in omega (arith, same)), some)
 ] refl is
 
@@ -110,7 +113,7 @@ active_of m shapes k e inv made found = by_node (first_complete 0 e.complete) re
     by_node : (o : Option ℕ) → first_complete 0 e.complete ≡ o → is_some o ≡ true → ActiveOf m k
     by_node None none some = absurd (cc some)
     by_node (Some r) first some =
-        let at_r = first_complete-there 0 e.complete r first in
+        let at_r = first_complete-node 0 e.complete r first in
         let is : r ≡ 0 + at_r.0 = at_r.1 in
         let there : IsCompleteOn e r = subst (λ (q : ℕ). (slice_index e.complete q == 0) ≡ false) (omega (arith, is)) at_r.2 in
         let (x, here, shaped) = IsSomeAnd-at (m.replicas k r) (IsShaped (shapes k) ((shapes k).owners r)) (spread.replicas r there) in
@@ -146,23 +149,28 @@ module _ (m : Machine) (shapes : ℕ → Shape) (inv : InvariantIn shapes m) (s 
     ends : Invariant (record m { in_hand = put_actor m.in_hand s.call.actor None })
     ends = record { shapes = shapes; holds = plain_ends m shapes inv s held (ap is_plain is) }
 
-    -- an iteration is started
-    ends_started : (h : Option HandleView) (place : Option ℕ) (kept : KeptIds) → Invariant (record (with_iteration m (client_of s.call) h place kept) { in_hand = put_actor (with_iteration m (client_of s.call) h place kept).in_hand s.call.actor None })
-    ends_started (Some h) (Some place) kept = record { shapes = shapes; holds = iterations_keep (record m { in_hand = put_actor m.in_hand s.call.actor None }) shapes (plain_ends m shapes inv s held (ap is_plain is)) (client_of s.call) (others_idle m shapes s.call.actor inv (inv.hands s.call.actor s held).client) _ }
-    ends_started (Some h) None kept = ends
-    ends_started None place kept = ends
+    -- its call is in hand no more
+    gone : put_actor m.in_hand s.call.actor None s.call.actor ≡ None
+    gone = put_actor-here m.in_hand s.call.actor None
 
-    -- or goes on
-    ends_next : (place : Option ℕ) (kept : Option KeptIds) (next : Option NextGiven) → Invariant (record (with_next m (client_of s.call) place kept next) { in_hand = put_actor (with_next m (client_of s.call) place kept next).in_hand s.call.actor None })
-    ends_next (Some place) (Some kept) (Some next) = record { shapes = shapes; holds = iterations_keep (record m { in_hand = put_actor m.in_hand s.call.actor None }) shapes (plain_ends m shapes inv s held (ap is_plain is)) (client_of s.call) (others_idle m shapes s.call.actor inv (inv.hands s.call.actor s held).client) _ }
-    ends_next (Some place) (Some kept) None = ends
-    ends_next (Some place) None next = ends
-    ends_next None kept next = ends
+    -- an iteration is started, or goes on
+    ends_started : (room : Room) (chosen_by : Choice → List (List ℕ)) → Invariant (record (with_tables s.call.actor (started (asked s.op) room chosen_by) m) { in_hand = put_actor m.in_hand s.call.actor None })
+    ends_started room chosen_by = record { shapes = shapes; holds = started_keeps (record m { in_hand = put_actor m.in_hand s.call.actor None }) shapes (plain_ends m shapes inv s held (ap is_plain is)) s.call.actor gone (asked s.op) room chosen_by }
+
+    ends_next : (next : Option NextGiven) → Invariant (record (with_tables s.call.actor (gone_on (asked s.op) next) m) { in_hand = put_actor m.in_hand s.call.actor None })
+    ends_next next = record { shapes = shapes; holds = gone_on_keeps (record m { in_hand = put_actor m.in_hand s.call.actor None }) shapes (plain_ends m shapes inv s held (ap is_plain is)) s.call.actor gone (asked s.op) next }
+
+    -- what it asks for
+    pub asks_of : AsksOf kind (asked s.op)
+    asks_of = by_kind (asked s.op) kind at_active.kind
 
   module _ (at : ActiveOf m k) where
     -- ---- a read
 
     module _ (is : driver_of s ≡ drivers.Active (record { call = call; ckpt = k; kind = kinds.Read })) where
+      asks_elements : asked s.op ≡ asks.Read (asks_of kinds.Read is).0 (elements_of s.op)
+      asks_elements = let its = asks_of kinds.Read is in its.2 ∙ ap (asks.Read its.0) (sym (ap elements_asked its.2))
+
       -- the read gave this
       abbrev Gives : Result (List (List ℕ)) Refusal → Type 0
       Gives r = read (elements_of s.op) m.cluster.moment at.replica.sections ≡ r
@@ -178,14 +186,12 @@ module _ (m : Machine) (shapes : ℕ → Shape) (inv : InvariantIn shapes m) (s 
       -- the read, by what it gave
       read_by : (t : Told) → IsServed m s at.node (requests.Read k) t → (r : Result (List (List ℕ)) Refusal) → Gives r → Goes m s (driver_of s) t
       read_by t served (Ok bytes) gives = subst (Goes m s (driver_of s)) (sym (IsServed-told m s at.node (requests.Read k) t (driver kinds.Read) (replies.Done answers.Pieces) served is (answered t served (Ok bytes) gives))) (record {
-        row = OfRead-is s.op (λ elements. ReadRow m elements k at.node (served_told m s at.node (requests.Read k) (driver kinds.Read) (replies.Done answers.Pieces))) (at_active kinds.Read is).kind
-            (on_its_replica m k at _ (at.active, (bytes, gives, details (Ok bytes) gives, refl)));
+        row = ((asks_of kinds.Read is).0, elements_of s.op, asks_elements, on_its_replica m k at _ (at.active, (bytes, gives, details (Ok bytes) gives, refl)));
         holds = ends kinds.Read is;
         nearer = λ none. absurd (cc none);
       })
       read_by t served (Err why) gives = subst (Goes m s (driver_of s)) (sym (IsServed-told m s at.node (requests.Read k) t (driver kinds.Read) (replies.Refused why.error why.index) served is (answered t served (Err why) gives))) (record {
-        row = OfRead-is s.op (λ elements. ReadRow m elements k at.node (served_told m s at.node (requests.Read k) (driver kinds.Read) (replies.Refused why.error why.index))) (at_active kinds.Read is).kind
-            (on_its_replica m k at _ (at.active, (why, gives, details (Err why) gives, ap (λ cause. Some (Refused why.error cause)) (read_cause s.op why.index (at_active kinds.Read is).kind))));
+        row = ((asks_of kinds.Read is).0, elements_of s.op, asks_elements, on_its_replica m k at _ (at.active, (why, gives, details (Err why) gives, ap (λ cause. Some (Refused why.error cause)) (read_cause s.op why.index (asks_of kinds.Read is)))));
         holds = ends kinds.Read is;
         nearer = λ none. absurd (cc none);
       })
@@ -202,7 +208,7 @@ module _ (m : Machine) (shapes : ℕ → Shape) (inv : InvariantIn shapes m) (s 
     status_goes is t served =
         subst (Goes m s (driver_of s)) (sym (IsServed-told m s at.node (requests.Status k) t (driver kinds.Status) (replies.Done answers.Status) served is
         (served.may ∙ ap (reply_at (requests.Status k) s.op (record_seen m.cluster k)) (active_seen m k at)))) (record {
-          row = status_is s.op _ (at_active kinds.Status is).kind (on_its_replica m k at _ (record { active = at.active; answer = refl; told = status_told }));
+          row = ((asks_of kinds.Status is).0, (asks_of kinds.Status is).1, on_its_replica m k at _ (record { active = at.active; answer = refl; told = status_told }));
           holds = ends kinds.Status is;
           nearer = λ none. absurd (cc none);
         })
@@ -210,28 +216,28 @@ module _ (m : Machine) (shapes : ℕ → Shape) (inv : InvariantIn shapes m) (s 
     -- ---- an iteration is started
 
     module _ (choice : Choice) (is : driver_of s ≡ drivers.Active (record { call = call; ckpt = k; kind = kinds.Iterate choice })) where
-      iterate_goes : (t : Told) → (rooms_of m (client_of s.call)).iterations ≡ true → IsServed m s at.node (requests.Iterate call k choice) t → Goes m s (driver_of s) t
+      iterate_goes : (t : Told) → (rooms_of m s).iterations ≡ true → IsServed m s at.node (requests.Iterate call k choice) t → Goes m s (driver_of s) t
       iterate_goes t has served =
           subst (Goes m s (driver_of s)) (sym (IsServed-told m s at.node (requests.Iterate call k choice) t (driver (kinds.Iterate choice)) (replies.Done answers.Nothing) served is
           (served.may ∙ ap (reply_at (requests.Iterate call k choice) s.op (record_seen m.cluster k)) (active_seen m k at)))) (record {
             row = (
-              iter_is choice s.op _ (at_active (kinds.Iterate choice) is).kind (on_its_replica m k at (IterOk m s at.node _) (record { active = at.active; room = has; answer = refl })),
+              (let its = asks_of (kinds.Iterate choice) is in (its.0, its.1, its.2, its.3, its.4, on_its_replica m k at (IterOk m s at.node _) (record { active = at.active; room = has; answer = refl }))),
               ap (details_at (requests.Iterate call k choice) s.op (record_seen m.cluster k)) (active_seen m k at),
             );
-            holds = ends_started (kinds.Iterate choice) is (asked_handle m s.call.actor s.op) (started_place s.op) _;
+            holds = ends_started (kinds.Iterate choice) is s.kept.room (λ choice. chosen_at choice m.cluster.moment (seen_at m k at.node));
             nearer = λ none. absurd (cc none);
           })
 
       -- or its client has as many as it may have
-      iterate_full : (t : Told) → (rooms_of m (client_of s.call)).iterations ≡ false → IsDone m s (End (Refused NoResources (Count 8))) t → Goes m s (driver_of s) t
+      iterate_full : (t : Told) → (rooms_of m s).iterations ≡ false → IsDone m s (End (Refused NoResources (Count 8))) t → Goes m s (driver_of s) t
       iterate_full t full done = look_goes m shapes inv s held (ap is_plain is) NoResources (Count 8) t
-          (iter_look m s choice s.op (at_active (kinds.Iterate choice) is).kind (
+          (subst (λ (a : Ask). LookRefused m s a NoResources (Count 8)) (sym (asks_of (kinds.Iterate choice) is).4) (
             IsSomeAnd-from s.kept.ckpt _ k (at_active (kinds.Iterate choice) is).kept (IsSomeAnd-from (entry_of k m.cluster.entries) _ at.entry at.found (ap is_some at.active)),
             full,
             refl,
           )) done
 
-      iterate_by : (room : Bool) (t : Told) → (rooms_of m (client_of s.call)).iterations ≡ room → IsDone m s (cond (not room) (End (Refused NoResources (Count 8))) (Serve at.node (requests.Iterate call k choice))) t → Goes m s (driver_of s) t
+      iterate_by : (room : Bool) (t : Told) → (rooms_of m s).iterations ≡ room → IsDone m s (cond (not room) (End (Refused NoResources (Count 8))) (Serve at.node (requests.Iterate call k choice))) t → Goes m s (driver_of s) t
       iterate_by true t has done = iterate_goes t has done
       iterate_by false t full done = iterate_full t full done
 
@@ -252,44 +258,52 @@ module _ (m : Machine) (shapes : ℕ → Shape) (inv : InvariantIn shapes m) (s 
 
       next_by : (t : Told) → IsServed m s at.node (requests.Next call k) t → (next : Option NextGiven) → GivesNext next → Goes m s (driver_of s) t
       next_by t served (Some next) gives = subst (Goes m s (driver_of s)) (sym (IsServed-told m s at.node (requests.Next call k) t (driver kinds.Next) (next_reply (Some next)) served is (next_answered t served (Some next) gives))) (record {
-        row = next_is s.op _ (at_active kinds.Next is).kind (on_its_replica m k at _ (record {
-          active = at.active;
-          answer = subst (λ (g : Option NextGiven). NextAnswer g words.Ok (Some (Done answers.Section)) (details_due m s (requests.Next call k) at.node)) (sym gives) (refl, next_told (Some next) gives);
-        }));
-        holds = ends_next kinds.Next is (iteration_place s.op) (kept_in (m.iterations (client_of s.call)) (iteration_place s.op)) (given_at (ids_asked m s) m.cluster.moment (seen_at m k at.node));
+        row = (
+          (asks_of kinds.Next is).0,
+          (asks_of kinds.Next is).1,
+          on_its_replica m k at _ (record {
+            active = at.active;
+            answer = subst (λ (g : Option NextGiven). NextAnswer g words.Ok (Some (Done answers.Section)) (details_due m s (requests.Next call k) at.node)) (sym gives) (refl, next_told (Some next) gives);
+          }),
+        );
+        holds = ends_next kinds.Next is (given_at (ids_asked m s) m.cluster.moment (seen_at m k at.node));
         nearer = λ none. absurd (cc none);
       })
       next_by t served None gives = subst (Goes m s (driver_of s)) (sym (IsServed-told m s at.node (requests.Next call k) t (driver kinds.Next) (next_reply None) served is (next_answered t served None gives))) (record {
-        row = next_is s.op _ (at_active kinds.Next is).kind (on_its_replica m k at _ (record {
-          active = at.active;
-          answer = subst (λ (g : Option NextGiven). NextAnswer g words.Refused (Some (Refused NoSections (refused_cause s.op 0))) (details_due m s (requests.Next call k) at.node)) (sym gives) (ap (λ cause. Some (Refused NoSections cause)) (next_cause s.op 0 (at_active kinds.Next is).kind), next_told None gives);
-        }));
+        row = (
+          (asks_of kinds.Next is).0,
+          (asks_of kinds.Next is).1,
+          on_its_replica m k at _ (record {
+            active = at.active;
+            answer = subst (λ (g : Option NextGiven). NextAnswer g words.Refused (Some (Refused NoSections (refused_cause s.op 0))) (details_due m s (requests.Next call k) at.node)) (sym gives) (ap (λ cause. Some (Refused NoSections cause)) (next_cause s.op 0 (asks_of kinds.Next is)), next_told None gives);
+          }),
+        );
         holds = ends kinds.Next is;
         nearer = λ none. absurd (cc none);
       })
 
     -- ---- any kind, where its checkpoint is
 
-    there_goes : (kind : ActiveKind) → driver_of s ≡ drivers.Active (record { call = call; ckpt = k; kind = kind }) → (rooms : Rooms) (t : Told) → rooms_of m (client_of s.call) ≡ rooms
+    there_goes : (kind : ActiveKind) → driver_of s ≡ drivers.Active (record { call = call; ckpt = k; kind = kind }) → (rooms : Rooms) (t : Told) → rooms_of m s ≡ rooms
         → IsDone m s (cond (starts_iteration kind && not rooms.iterations) (End (Refused NoResources (Count 8))) (Serve at.node (request_by call k kind))) t → Goes m s (driver_of s) t
     there_goes kinds.Read is rooms t has done = read_by is t done (read (elements_of s.op) m.cluster.moment at.replica.sections) refl
     there_goes kinds.Status is rooms t has done = status_goes is t done
     there_goes (kinds.Iterate choice) is rooms t has done = iterate_by choice is rooms.iterations t (ap (λ (r : Rooms). r.iterations) has) done
     there_goes kinds.Next is rooms t has done = next_by is t done (given (ids_asked m s) m.cluster.moment at.replica.sections) refl
-    there_goes kinds.Apply is rooms t has done = absurd (at_active kinds.Apply is).kind
-    there_goes (kinds.Weak n) is rooms t has done = absurd (at_active (kinds.Weak n) is).kind
+    there_goes kinds.Apply is rooms t has done = absurd (asks_of kinds.Apply is)
+    there_goes (kinds.Weak n) is rooms t has done = absurd (asks_of (kinds.Weak n) is)
 
   no_active : (ckpt : Option ℕ) → ckpt ≡ Some k → entry_of k m.cluster.entries ≡ None → NoActiveLook m ckpt NotExist Plain
   no_active ckpt kept gone = subst (λ o. NoActiveLook m o NotExist Plain) (sym kept) (subst (λ o. HasNoActive o) (sym gone) tt)
 
   -- the next step of a call to the active
-  pub active_goes : (kind : ActiveKind) → driver_of s ≡ drivers.Active (record { call = call; ckpt = k; kind = kind }) → (rooms : Rooms) (t : Told) → rooms_of m (client_of s.call) ≡ rooms
+  pub active_goes : (kind : ActiveKind) → driver_of s ≡ drivers.Active (record { call = call; ckpt = k; kind = kind }) → (rooms : Rooms) (t : Told) → rooms_of m s ≡ rooms
       → IsDone m s (driver_next m.cluster rooms (drivers.Active (record { call = call; ckpt = k; kind = kind }))) t → Goes m s (driver_of s) t
   active_goes kind is rooms t has done = by_entry (entry_of k m.cluster.entries) refl
     where
       by_entry : (o : Option Entry) → entry_of k m.cluster.entries ≡ o → Goes m s (driver_of s) t
       by_entry None gone = look_goes m shapes inv s held (ap is_plain is) NotExist Plain t
-          (LookRefused-active m s kind s.op (at_active kind is).kind (no_active s.kept.ckpt (at_active kind is).kept gone))
+          (LookRefused-active m s kind (asked s.op) (at_active kind is).kind (no_active s.kept.ckpt (at_active kind is).kept gone))
           (subst (λ next. IsDone m s next t) (ap (active_on rooms.iterations (record { call = call; ckpt = k; kind = kind })) gone) done)
       by_entry (Some e) found =
           let at = active_of m shapes k e inv (at_active kind is).made found in

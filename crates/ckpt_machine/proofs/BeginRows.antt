@@ -13,16 +13,17 @@ use Rattle.ckpt_types.specs.declared.identities.Who.TheVariants.{Actor}
 use Rattle.ckpt_types.specs.declared.identities.Who.TheVariants as whos
 use Rattle.ckpt_types.specs.declared.open_flags.OpenFlags.{OpenFlags}
 use Rattle.ckpt_types.specs.declared.operation.Op.{Op}
-use Rattle.ckpt_types.specs.declared.operation.Op.TheVariants as ops
 use Rattle.run_labels.specs.declared.words.LineWord.{LineWord}
 use Rattle.run_labels.specs.declared.words.LineWord.TheVariants as linewords
-use Rattle.run_labels.specs.declared.words.OpWord.TheVariants as opwords
+use Rattle.ckpt_types.specs.declared.words.OpWord.TheVariants as opwords
 use Rattle.run_labels.specs.declared.words.Said.{Said}
 use Rattle.run_labels.specs.declared.words.Said.TheVariants.{Busy, Idle, Live, Down}
 use Rattle.client_handles.specs.declared.handle_view.HandleView.{HandleView}
 use Rattle.cluster_record.specs.Calls.{number_of}
 use Rattle.cluster_record.specs.RecordState.{is_live_client}
-use Rattle.ckpt_machine.specs.Beginning.{refused, begin_end, if_live, on_handle, update_is_bad, vector_is_bad, choice_is_bad, may_write, may_read, may_always, takes_room, IsBuilt}
+use Rattle.ckpt_machine.specs.Beginning.{refused, begin_end, if_live, on_handle, update_is_bad, vector_is_bad, choice_is_bad, may_write, may_read, may_always}
+use Rattle.ckpt_types.specs.Asks.{Ask, asked, takes_room, IsBuiltAsk}
+use Rattle.ckpt_types.specs.Asks as asks
 use Rattle.ckpt_machine.specs.BeginRows.{has_bad_version, has_bad_handle, has_bad_flags, has_bad_arguments, was_not_opened_for, lacks_access, ends_at_once, MeetsNoRefusal, BeginRow, IsAllowedBegin, IsAllowedWord}
 use Rattle.ckpt_machine.specs.Machine.{Machine, CallState}
 use Rattle.ckpt_machine.specs.Steps.{IsBegun, IsBeginEnd, IsWord, asked_handle}
@@ -41,79 +42,75 @@ by_handle true None bad may = refl
 by_handle true (Some h) bad may = refl
 
 -- of any call that is built
-first_is : (live : Bool) (h : Option HandleView) (op : Op) → IsBuilt op → begin_end live h op ≡ first_of (has_bad_version op) (has_bad_handle live h op) (has_bad_flags op) (has_bad_arguments op) (lacks_access h op) (ends_at_once op)
-first_is live None (ops.Client r version callbacks) built = refl
-first_is live (Some h) (ops.Client r version callbacks) built = refl
-first_is false h (ops.Open place name flags timeout a) built = refl
-first_is true None (ops.Open place name flags timeout a) built = refl
-first_is true (Some h) (ops.Open place name flags timeout a) built = refl
-first_is live h (ops.Create place update) built = by_handle live h (update_is_bad update) may_write
-first_is live h (ops.Delete place update) built = by_handle live h (update_is_bad update) may_write
-first_is live h (ops.Expire place update) built = by_handle live h (update_is_bad update) may_write
-first_is live h (ops.Write place update) built = by_handle live h (update_is_bad update) may_write
-first_is live h (ops.Over place update) built = by_handle live h (update_is_bad update) may_write
-first_is live h (ops.Read place elements) built = by_handle live h (vector_is_bad (length elements)) may_read
-first_is live h (ops.Status place) built = by_handle live h false may_always
-first_is live h (ops.Iter iteration place chosen time) built = by_handle live h (choice_is_bad chosen) may_read
-first_is live h (ops.Next iteration) built = by_handle live h false may_always
-first_is false h (ops.EndIter iteration) built = refl
-first_is true None (ops.EndIter iteration) built = refl
-first_is true (Some h) (ops.EndIter iteration) built = refl
-first_is live h (ops.Close place) built = by_handle live h false may_always
-first_is live h (ops.Retain place duration) built = by_handle live h (int_lt duration (pos 0)) may_always
-first_is false h (ops.Unlink name) built = refl
-first_is true None (ops.Unlink name) built = refl
-first_is true (Some h) (ops.Unlink name) built = refl
-first_is false h ops.Finalize built = refl
-first_is true None ops.Finalize built = refl
-first_is true (Some h) ops.Finalize built = refl
-first_is live h op built = absurd built
+first_refusal_is : (live : Bool) (h : Option HandleView) (ask : Ask) → IsBuiltAsk ask → begin_end live h ask ≡ first_of (has_bad_version ask) (has_bad_handle live h ask) (has_bad_flags ask) (has_bad_arguments ask) (lacks_access h ask) (ends_at_once ask)
+first_refusal_is live None (asks.Enter r version callbacks) built = refl
+first_refusal_is live (Some h) (asks.Enter r version callbacks) built = refl
+first_refusal_is false h (asks.Open place name flags timeout a) built = refl
+first_refusal_is true None (asks.Open place name flags timeout a) built = refl
+first_refusal_is true (Some h) (asks.Open place name flags timeout a) built = refl
+first_refusal_is live h (asks.Change place update) built = by_handle live h (update_is_bad update) may_write
+first_refusal_is live h (asks.Read place elements) built = by_handle live h (vector_is_bad (length elements)) may_read
+first_refusal_is live h (asks.Status place) built = by_handle live h false may_always
+first_refusal_is live h (asks.Iterate iteration place chosen time) built = by_handle live h (choice_is_bad chosen) may_read
+first_refusal_is live h (asks.Next iteration) built = by_handle live h false may_always
+first_refusal_is false h (asks.EndIteration iteration) built = refl
+first_refusal_is true None (asks.EndIteration iteration) built = refl
+first_refusal_is true (Some h) (asks.EndIteration iteration) built = refl
+first_refusal_is live h (asks.Close place) built = by_handle live h false may_always
+first_refusal_is live h (asks.Retain place duration) built = by_handle live h (int_lt duration (pos 0)) may_always
+first_refusal_is false h (asks.Unlink name) built = refl
+first_refusal_is true None (asks.Unlink name) built = refl
+first_refusal_is true (Some h) (asks.Unlink name) built = refl
+first_refusal_is false h asks.Leave built = refl
+first_refusal_is true None asks.Leave built = refl
+first_refusal_is true (Some h) asks.Leave built = refl
+first_refusal_is live h asks.Unbuilt built = absurd built
 
 -- ---- a beginning
 
-module _ (live : Bool) (h : Option HandleView) (op : Op) where
+module _ (live : Bool) (h : Option HandleView) (ask : Ask) where
   -- the first cause gives the row
-  by_causes : (version handle flags arguments access once : Bool) → has_bad_version op ≡ version → has_bad_handle live h op ≡ handle → has_bad_flags op ≡ flags → has_bad_arguments op ≡ arguments → lacks_access h op ≡ access → ends_at_once op ≡ once
-      → (end : Option Outcome) → end ≡ first_of version handle flags arguments access once → BeginRow live h op end
-  by_causes true handle flags arguments access once v b f p x o end same = subst (BeginRow live h op) (sym same) v
-  by_causes false true flags arguments access once v b f p x o end same = subst (BeginRow live h op) (sym same) (v, b)
-  by_causes false false true arguments access once v b f p x o end same = subst (BeginRow live h op) (sym same) (v, b, f)
-  by_causes false false false true access once v b f p x o end same = subst (BeginRow live h op) (sym same) (v, b, f, p)
-  by_causes false false false false true once v b f p x o end same = subst (BeginRow live h op) (sym same) (v, b, f, p, x)
-  by_causes false false false false false true v b f p x o end same = subst (BeginRow live h op) (sym same) (record { version = v; handle = b; flags = f; arguments = p; access = x }, o)
-  by_causes false false false false false false v b f p x o end same = subst (BeginRow live h op) (sym same) (record { version = v; handle = b; flags = f; arguments = p; access = x }, o)
+  by_causes : (version handle flags arguments access once : Bool) → has_bad_version ask ≡ version → has_bad_handle live h ask ≡ handle → has_bad_flags ask ≡ flags → has_bad_arguments ask ≡ arguments → lacks_access h ask ≡ access → ends_at_once ask ≡ once
+      → (end : Option Outcome) → end ≡ first_of version handle flags arguments access once → BeginRow live h ask end
+  by_causes true handle flags arguments access once v b f p x o end same = subst (BeginRow live h ask) (sym same) v
+  by_causes false true flags arguments access once v b f p x o end same = subst (BeginRow live h ask) (sym same) (v, b)
+  by_causes false false true arguments access once v b f p x o end same = subst (BeginRow live h ask) (sym same) (v, b, f)
+  by_causes false false false true access once v b f p x o end same = subst (BeginRow live h ask) (sym same) (v, b, f, p)
+  by_causes false false false false true once v b f p x o end same = subst (BeginRow live h ask) (sym same) (v, b, f, p, x)
+  by_causes false false false false false true v b f p x o end same = subst (BeginRow live h ask) (sym same) (record { version = v; handle = b; flags = f; arguments = p; access = x }, o)
+  by_causes false false false false false false v b f p x o end same = subst (BeginRow live h ask) (sym same) (record { version = v; handle = b; flags = f; arguments = p; access = x }, o)
 
-  due_has_row : IsBuilt op → (end : Option Outcome) → end ≡ begin_end live h op → BeginRow live h op end
-  due_has_row built end same = by_causes (has_bad_version op) (has_bad_handle live h op) (has_bad_flags op) (has_bad_arguments op) (lacks_access h op) (ends_at_once op) refl refl refl refl refl refl end (same ∙ first_is live h op built)
+  due_has_row : IsBuiltAsk ask → (end : Option Outcome) → end ≡ begin_end live h ask → BeginRow live h ask end
+  due_has_row built end same = by_causes (has_bad_version ask) (has_bad_handle live h ask) (has_bad_flags ask) (has_bad_arguments ask) (lacks_access h ask) (ends_at_once ask) refl refl refl refl refl refl end (same ∙ first_refusal_is live h ask built)
 
   -- what is due has its row
-  pub row_of : IsBuilt op → (end : Option Outcome) → IsBeginEnd op (begin_end live h op) end → BeginRow live h op end
+  pub row_of : IsBuiltAsk ask → (end : Option Outcome) → IsBeginEnd ask (begin_end live h ask) end → BeginRow live h ask end
   row_of built end (inl same) = due_has_row built end same
-  row_of built end (inr memory) = subst (BeginRow live h op) (sym memory.2) ((due_has_row built None (sym memory.1)).0, memory.0)
+  row_of built end (inr memory) = subst (BeginRow live h ask) (sym memory.2) ((due_has_row built None (sym memory.1)).0, memory.0)
 
   -- and what has a row is due
-  no_cause : IsBuilt op → MeetsNoRefusal live h op → begin_end live h op ≡ cond (ends_at_once op) (Some (Done answers.Nothing)) None
-  no_cause built none = first_is live h op built ∙ (λ i. first_of (none.version i) (none.handle i) (none.flags i) (none.arguments i) (none.access i) (ends_at_once op))
+  no_cause : IsBuiltAsk ask → MeetsNoRefusal live h ask → begin_end live h ask ≡ cond (ends_at_once ask) (Some (Done answers.Nothing)) None
+  no_cause built none = first_refusal_is live h ask built ∙ (λ i. first_of (none.version i) (none.handle i) (none.flags i) (none.arguments i) (none.access i) (ends_at_once ask))
 
-  pub due_of : IsBuilt op → (end : Option Outcome) → BeginRow live h op end → IsBeginEnd op (begin_end live h op) end
-  due_of built (Some (Refused errors.Version Plain)) row = inl (sym (first_is live h op built ∙ (λ i. first_of (row i) (has_bad_handle live h op) (has_bad_flags op) (has_bad_arguments op) (lacks_access h op) (ends_at_once op))))
-  due_of built (Some (Refused errors.BadHandle Plain)) row = inl (sym (first_is live h op built ∙ (λ i. first_of (row.0 i) (row.1 i) (has_bad_flags op) (has_bad_arguments op) (lacks_access h op) (ends_at_once op))))
-  due_of built (Some (Refused errors.BadFlags Plain)) row = inl (sym (first_is live h op built ∙ (λ i. first_of (row.0 i) (row.1 i) (row.2 i) (has_bad_arguments op) (lacks_access h op) (ends_at_once op))))
-  due_of built (Some (Refused errors.InvalidParam Plain)) row = inl (sym (first_is live h op built ∙ (λ i. first_of (row.0 i) (row.1 i) (row.2 i) (row.3 i) (lacks_access h op) (ends_at_once op))))
-  due_of built (Some (Refused errors.Access Plain)) row = inl (sym (first_is live h op built ∙ (λ i. first_of (row.0 i) (row.1 i) (row.2 i) (row.3 i) (row.4 i) (ends_at_once op))))
+  pub due_of : IsBuiltAsk ask → (end : Option Outcome) → BeginRow live h ask end → IsBeginEnd ask (begin_end live h ask) end
+  due_of built (Some (Refused errors.Version Plain)) row = inl (sym (first_refusal_is live h ask built ∙ (λ i. first_of (row i) (has_bad_handle live h ask) (has_bad_flags ask) (has_bad_arguments ask) (lacks_access h ask) (ends_at_once ask))))
+  due_of built (Some (Refused errors.BadHandle Plain)) row = inl (sym (first_refusal_is live h ask built ∙ (λ i. first_of (row.0 i) (row.1 i) (has_bad_flags ask) (has_bad_arguments ask) (lacks_access h ask) (ends_at_once ask))))
+  due_of built (Some (Refused errors.BadFlags Plain)) row = inl (sym (first_refusal_is live h ask built ∙ (λ i. first_of (row.0 i) (row.1 i) (row.2 i) (has_bad_arguments ask) (lacks_access h ask) (ends_at_once ask))))
+  due_of built (Some (Refused errors.InvalidParam Plain)) row = inl (sym (first_refusal_is live h ask built ∙ (λ i. first_of (row.0 i) (row.1 i) (row.2 i) (row.3 i) (lacks_access h ask) (ends_at_once ask))))
+  due_of built (Some (Refused errors.Access Plain)) row = inl (sym (first_refusal_is live h ask built ∙ (λ i. first_of (row.0 i) (row.1 i) (row.2 i) (row.3 i) (row.4 i) (ends_at_once ask))))
   due_of built (Some (Refused error Plain)) row = absurd row
   due_of built (Some (Done answers.Nothing)) row = inl (sym (no_cause built row.0 ∙ ap (λ b. cond b (Some (Done answers.Nothing)) None) row.1))
-  due_of built (Some NoMemory) row = inr (row.1, no_cause built row.0 ∙ ap (λ b. cond b (Some (Done answers.Nothing)) None) (goes_on op row.1), refl) where
-    goes_on : (op : Op) → takes_room op ≡ true → ends_at_once op ≡ false
-    goes_on (ops.EndIter iteration) takes = absurd (cc takes)
-    goes_on op takes = refl
+  due_of built (Some NoMemory) row = inr (row.1, no_cause built row.0 ∙ ap (λ b. cond b (Some (Done answers.Nothing)) None) (goes_on ask row.1), refl) where
+    goes_on : (ask : Ask) → takes_room ask ≡ true → ends_at_once ask ≡ false
+    goes_on (asks.EndIteration iteration) takes = absurd (cc takes)
+    goes_on ask takes = refl
   due_of built None row = inl (sym (no_cause built row.0 ∙ ap (λ b. cond b (Some (Done answers.Nothing)) None) row.1))
   due_of built end row = absurd row
 
   -- so two answers that are allowed are one, but for a want of memory
-  pub one_answer : IsBuilt op → (one other : Option Outcome) → BeginRow live h op one → BeginRow live h op other → one ≢ Some NoMemory → other ≢ Some NoMemory → one ≡ other
+  pub one_answer : IsBuiltAsk ask → (one other : Option Outcome) → BeginRow live h ask one → BeginRow live h ask other → one ≢ Some NoMemory → other ≢ Some NoMemory → one ≡ other
   one_answer built one other row its_row not_one not_other = due_without one not_one (due_of built one row) ∙ sym (due_without other not_other (due_of built other its_row)) where
-    due_without : (end : Option Outcome) → end ≢ Some NoMemory → IsBeginEnd op (begin_end live h op) end → end ≡ begin_end live h op
+    due_without : (end : Option Outcome) → end ≢ Some NoMemory → IsBeginEnd ask (begin_end live h ask) end → end ≡ begin_end live h ask
     due_without end not_memory (inl same) = same
     due_without end not_memory (inr memory) = absurd (not_memory memory.2)
 
@@ -125,7 +122,7 @@ begin_row m call op end is = record {
   number = is.number;
   none_in_hand = is.none_in_hand;
   may = is.may;
-  row = row_of (is_live_client (number_of call.actor) m.cluster) (asked_handle m call.actor op) op is.built end is.answer;
+  row = row_of (is_live_client (number_of call.actor) m.cluster) (asked_handle m call.actor op) (asked op) is.built end is.answer;
 }
 
 -- and one that is allowed is due
@@ -136,7 +133,7 @@ begin_due m call op end is = record {
   number = is.number;
   none_in_hand = is.none_in_hand;
   may = is.may;
-  answer = due_of (is_live_client (number_of call.actor) m.cluster) (asked_handle m call.actor op) op is.built end is.row;
+  answer = due_of (is_live_client (number_of call.actor) m.cluster) (asked_handle m call.actor op) (asked op) is.built end is.row;
 }
 
 -- ---- a word

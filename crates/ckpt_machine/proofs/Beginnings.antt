@@ -1,6 +1,7 @@
 -- Where each operation begins, with any calls of others in hand.
-use Rattle.std.proofs.Common.{◌≡◌, ℕ, ◌<◌, inl, inr, List, [], ◌∷◌, Option, Some, None, is_some, Bool, true, false, cond, ◌==◌, ◌||◌, ℤ, refl, sym, subst, ◌∙◌, arith}
-use Rattle.std.specs.Prelude.{IsSome, IfSome, Contains, int_lt, pos, ◌≤ℤ◌}
+use Rattle.std.proofs.Common.{◌≡◌, ℕ, ◌<◌, inl, inr, List, [], ◌∷◌, Option, Some, None, is_some, Bool, true, false, cond, ◌==◌, ◌||◌, ℤ, refl, sym, ap, subst, ◌∙◌, arith}
+use Rattle.std.specs.Option.{option_and_then}
+use Rattle.std.specs.Prelude.{IsSome, IfSome, Contains, int_lt, pos, ◌≤ℤ◌, slice_index}
 use Rattle.std.proofs.lemmas.Bool.{or_parts}
 use Rattle.std.proofs.lemmas.Int.{ints}
 use Rattle.std.proofs.lemmas.List.Elements.{Contains-append_right}
@@ -13,13 +14,12 @@ use Rattle.ckpt_types.specs.declared.identities.ActorName.TheVariants.{Client, N
 use Rattle.ckpt_types.specs.declared.identities.CallId.{CallId}
 use Rattle.ckpt_types.specs.declared.open_flags.OpenFlags.{OpenFlags}
 use Rattle.ckpt_types.specs.declared.operation.Op.{Op}
-use Rattle.ckpt_types.specs.declared.operation.Op.TheVariants as ops
 use Rattle.ckpt_types.specs.Attributes.{has_bad_open_flags}
 use Rattle.ckpt_types.specs.Limits.{client_numbers}
 use Rattle.section_iter.specs.Room.{room_declared}
 use Rattle.client_handles.specs.declared.begun.BegunIteration.{BegunIteration}
 use Rattle.client_handles.specs.declared.handle_view.HandleView.{HandleView}
-use Rattle.client_handles.specs.ClientState.{handle_numbered}
+use Rattle.client_handles.specs.ClientState.{ClientState, handle_numbered, goes_over, handle_at, iteration_at, iterated_at}
 use Rattle.cluster_record.specs.declared.calls.ActiveKind.{ActiveKind}
 use Rattle.cluster_record.specs.declared.calls.ActiveKind.TheVariants as kinds
 use Rattle.cluster_record.specs.declared.clients.LiveClient.{LiveClient}
@@ -28,17 +28,22 @@ use Rattle.cluster_record.specs.Calls.{number_of, IsClient}
 use Rattle.cluster_record.specs.LookUps.{node_of_client, declared_in}
 use Rattle.cluster_record.specs.Places.{find_key}
 use Rattle.cluster_record.specs.RecordState.{entry_of, client_key, is_live, is_live_client, is_up}
-use Rattle.ckpt_machine.specs.Beginning.{begin_end, if_live, on_handle, open_begin, may_always, attributes_are_bad, name_is_bad, IsBuilt, handle_place, iteration_place, ended_place, choice_of, end_iteration}
+use Rattle.ckpt_types.specs.Asks.{Ask, asked, IsBuiltAsk, IsBuilt}
+use Rattle.ckpt_types.specs.Asks as asks
+use Rattle.ckpt_machine.specs.Beginning.{begin_end, if_live, on_handle, open_begin, may_always, may_write, update_is_bad, attributes_are_bad, name_is_bad, end_iteration}
 use Rattle.ckpt_machine.specs.Drivers.{Driver}
-use Rattle.ckpt_machine.specs.Driving.{update_start, driver_start, active_start}
+use Rattle.ckpt_machine.specs.Driving.{driver_start, active_start, deadline_from}
 use Rattle.ckpt_machine.specs.Entries.{WasMade}
-use Rattle.ckpt_machine.specs.InHand.{IsUpdateOf, AreGoodAttributes, IsKindOf, is_enter, IsInPlace}
+use Rattle.ckpt_machine.specs.InHand.{AreGoodAttributes, active_kind, is_enter, IsInPlace}
 use Rattle.ckpt_machine.specs.Invariant.{IsGoodClient, InvariantIn, Invariant}
 use Rattle.ckpt_machine.specs.Machine.{Machine, CallState}
-use Rattle.ckpt_machine.specs.Steps.{IsBegun, MayBegin, ckpt_of_handle, handle_of_number, asked_handle, kept_at_beginning, room_in, begun, handle_by, handle_over, iteration_in, with_ended, begun_call, IsBeginEnd, driver_of}
+use Rattle.ckpt_machine.specs.Steps.{IsBegun, MayBegin, asked_handle, kept_at_beginning, room_in, begun, begun_call, IsBeginEnd, driver_of}
+use Rattle.ckpt_machine.specs.Tables.{handle_asked, ckpt_of_handle, choice_of, ended_at_once}
 use Rattle.ckpt_machine.specs.Shape.{Shape}
 use Rattle.ckpt_machine.proofs.Begun.{begun_live, begun_keeps, update_begins}
-use Rattle.ckpt_machine.proofs.EndedTables.{client_is, others_idle, iterations_keep}
+use Rattle.ckpt_machine.proofs.ClientTables.{same_tables}
+use Rattle.ckpt_machine.proofs.EndedTables.{client_by_number, ended_at_once_keeps}
+use Rattle.ckpt_machine.proofs.ReplicaSteps.{put_actor-here}
 
 -- ---- what a beginning that goes on has passed
 
@@ -87,9 +92,9 @@ open_begin-named name flags timeout a e =
     (or_parts (name_is_bad name) _ (or_parts (name_is_bad name || int_lt timeout (pos 0)) _ good).0).0
 
 -- what ends an iteration goes on with nothing
-ends_at_once : (h : Option HandleView) → end_iteration h ≡ None → ⊥
-ends_at_once None e = cc e
-ends_at_once (Some h) e = cc e
+iteration_answers : (h : Option HandleView) → end_iteration h ≡ None → ⊥
+iteration_answers None e = cc e
+iteration_answers (Some h) e = cc e
 
 -- ---- the handle of a place
 
@@ -102,10 +107,27 @@ handle_numbered-Contains n (x ∷ xs) h e =
       | false ↦ λ there. Contains-append_right (x ∷ []) xs h (handle_numbered-Contains n xs h there)
     ] e
 
--- and under a number that may be none
-handle_of_number-Contains : (handles : List HandleView) (n : Option ℕ) (h : HandleView) → handle_of_number handles n ≡ Some h → Contains handles h
-handle_of_number-Contains handles None h e = absurd (cc e)
-handle_of_number-Contains handles (Some n) h e = handle_numbered-Contains n handles h e
+-- so is the one of a place, and the one over which an iteration goes
+handle_at-Contains : (place : ℕ) (t : ClientState) (h : HandleView) → handle_at place t ≡ Some h → Contains t.handles h
+handle_at-Contains place t h e = handle_numbered-Contains (slice_index t.places place) t.handles h e
+
+iterated_at-Contains : (iteration : ℕ) (t : ClientState) (h : HandleView) → iterated_at iteration t ≡ Some h → Contains t.handles h
+iterated_at-Contains iteration t h e = by_iteration (iteration_at iteration t) e where
+  by_iteration : (o : Option BegunIteration) → option_and_then (λ (it : BegunIteration). handle_numbered (goes_over it) t.handles) o ≡ Some h → Contains t.handles h
+  by_iteration None e = absurd (cc e)
+  by_iteration (Some it) e = handle_numbered-Contains (goes_over it) t.handles h e
+
+-- so is the one that is asked for
+handle_asked-Contains : (ask : Ask) (t : ClientState) (h : HandleView) → handle_asked ask t ≡ Some h → Contains t.handles h
+handle_asked-Contains (asks.Change place update) t h e = handle_at-Contains place t h e
+handle_asked-Contains (asks.Read place elements) t h e = handle_at-Contains place t h e
+handle_asked-Contains (asks.Status place) t h e = handle_at-Contains place t h e
+handle_asked-Contains (asks.Iterate iteration place chosen time) t h e = handle_at-Contains place t h e
+handle_asked-Contains (asks.Next iteration) t h e = iterated_at-Contains iteration t h e
+handle_asked-Contains (asks.EndIteration iteration) t h e = iterated_at-Contains iteration t h e
+handle_asked-Contains (asks.Close place) t h e = handle_at-Contains place t h e
+handle_asked-Contains (asks.Retain place duration) t h e = handle_at-Contains place t h e
+handle_asked-Contains ask t h e = absurd (cc e)
 
 -- the room that a call keeps is what its checkpoint declares, where it is there
 kept_room : (o : Option Entry) → IfSome o (λ e. room_in (declared_in o) ≡ room_declared e.attributes)
@@ -113,14 +135,14 @@ kept_room None = tt
 kept_room (Some e) = refl
 
 -- a client's number is below 100
-IsClient-number : (a : ActorName) → IsClient a → number_of a < client_numbers
-IsClient-number (Client c) is = is
-IsClient-number (Node r) is = absurd is
+client_within : (a : ActorName) → IsClient a → number_of a < client_numbers
+client_within (Client c) is = is
+client_within (Node r) is = absurd is
 
 -- a call that goes on answers nothing at once
-goes_on_begun : (op : Op) (due end : Option Outcome) → IsBeginEnd op due end → end ≡ None → due ≡ None
-goes_on_begun op due end (inl same) none = sym same ∙ none
-goes_on_begun op due end (inr refused) none = absurd (let e : None ≡ Some NoMemory = sym none ∙ refused.2 in cc)
+goes_on_begun : (ask : Ask) (due end : Option Outcome) → IsBeginEnd ask due end → end ≡ None → due ≡ None
+goes_on_begun ask due end (inl same) none = sym same ∙ none
+goes_on_begun ask due end (inr refused) none = absurd (let e : None ≡ Some NoMemory = sym none ∙ refused.2 in cc)
 
 -- ---- where a call begins
 
@@ -129,23 +151,18 @@ module _ (m : Machine) (shapes : ℕ → Shape) (inv : InvariantIn shapes m) (ca
   c = number_of call.actor
 
   abbrev state_with : Op → Option HandleView → CallState
-  state_with op h = record { call = call; op = op; kept = kept_at_beginning m.cluster (number_of call.actor) h; steps = []; snapshot = None }
+  state_with op h = record { call = call; op = op; kept = kept_at_beginning m.cluster (number_of call.actor) h; steps = []; created = None; snapshot = None }
 
-  abbrev start_with : Op → Option HandleView → Driver
-  start_with op h = driver_start call op (kept_at_beginning m.cluster (number_of call.actor) h)
+  abbrev start_with : Ask → Option HandleView → Driver
+  start_with ask h = driver_start call ask (kept_at_beginning m.cluster (number_of call.actor) h)
 
   -- the checkpoint of the handle that an operation is about was made
-  over_made : (it : Option BegunIteration) (h : HandleView) → handle_over (m.handles c) it ≡ Some h → WasMade m.cluster h.id
-  over_made None h e = absurd (cc e)
-  over_made (Some it) h e = (inv.handles c h (handle_numbered-Contains it.handle (m.handles c) h e)).1
-
-  named_made : (place iteration : Option ℕ) (h : HandleView) → handle_by m c place iteration ≡ Some h → WasMade m.cluster h.id
-  named_made None iteration h e = over_made (iteration_in (m.iterations c) iteration) h e
-  named_made (Some place) iteration h e = (inv.handles c h (handle_of_number-Contains (m.handles c) (m.places c place) h e)).1
+  asked_made : (op : Op) (h : HandleView) → asked_handle m call.actor op ≡ Some h → WasMade m.cluster h.id
+  asked_made op h e = inv.handles call.actor h (handle_asked-Contains (asked op) (m.tables call.actor) h e)
 
   -- where the client is live, its call is, and its node is up
   live_then : is_live_client c m.cluster ≡ true → is_live m.cluster call ≡ true
-  live_then live = begun_live m shapes inv call idle c (client_is call.actor client) number live
+  live_then live = begun_live m shapes inv call idle c (client_by_number call.actor client) number live
 
   node_up : is_live_client c m.cluster ≡ true → is_up (node_of_client (find_key client_key c m.cluster.clients)) m.cluster ≡ true
   node_up live = by_client (find_key client_key c m.cluster.clients) live (inv.clients c)
@@ -155,83 +172,96 @@ module _ (m : Machine) (shapes : ℕ → Shape) (inv : InvariantIn shapes m) (ca
       by_client (Some x) live good = good.1
 
   -- a call that begins is where its operation begins, and live, unless it is an Initialize
-  record Starts (op : Op) (h : Option HandleView) : Type 0 where
-    at : IsInPlace m shapes (state_with op h) (start_with op h)
-    live : is_enter (start_with op h) ≡ false → is_live m.cluster call ≡ true
+  record Starts (op : Op) (ask : Ask) (h : Option HandleView) : Type 0 where
+    at : IsInPlace m shapes (state_with op h) (start_with ask h)
+    live : is_enter (start_with ask h) ≡ false → is_live m.cluster call ≡ true
 
-  -- an update on a handle
-  starts_update : (op : Op) (h : Option HandleView) → is_live_client c m.cluster ≡ true → ((o : Option HandleView) → start_with op o ≡ update_start call (ckpt_of_handle o)) → IsUpdateOf op → ((x : HandleView) → h ≡ Some x → WasMade m.cluster x.id) → (x : HandleView) × (h ≡ Some x) → Starts op h
-  starts_update op h live begins is made (x, there) = subst (Starts op) (sym there) (record {
-    at = subst (IsInPlace m shapes (state_with op (Some x))) (sym (begins (Some x))) (update_begins m shapes inv call idle c op x is (made x there));
-    live = λ others. live_then live;
-  })
+  -- one that goes on, on a handle where it needs one
+  record GoesOn (op : Op) (ask : Ask) (h : Option HandleView) : Type 0 where
+    is : asked op ≡ ask
+    may : MayBegin m.cluster c ask
+    goes : begin_end (is_live_client c m.cluster) h ask ≡ None
+    named : asked_handle m call.actor op ≡ h
+
+  -- its client is live, and nothing else refuses it
+  if_goes : (o : Option Outcome) → if_live (is_live_client c m.cluster) o ≡ None → (is_live m.cluster call ≡ true) × (o ≡ None)
+  if_goes o goes = let (live, rest) = if_live-None (is_live_client c m.cluster) o goes in (live_then live, rest)
 
   -- a call to the active on a handle
-  starts_active : (op : Op) (kind : ActiveKind) (h : Option HandleView) → is_live_client c m.cluster ≡ true → ((o : Option HandleView) → start_with op o ≡ active_start call kind (ckpt_of_handle o)) → IsKindOf kind op → asked_handle m call.actor op ≡ h → ((x : HandleView) → h ≡ Some x → WasMade m.cluster x.id) → (x : HandleView) × (h ≡ Some x) → Starts op h
-  starts_active op kind h live begins is named made (x, there) = subst (Starts op) (sym there) (record {
-    at = subst (IsInPlace m shapes (state_with op (Some x))) (sym (begins (Some x))) (record { call = refl; kind = is; made = made x there; kept = refl; room = kept_room (entry_of x.id m.cluster.entries); handle = subst (λ (o : Option HandleView). IsSome o) (sym (named ∙ there)) refl });
-    live = λ others. live_then live;
-  })
+  starts_active : (op : Op) (ask : Ask) (kind : ActiveKind) (h : Option HandleView) (bad : Bool) (may : OpenFlags → Bool) → GoesOn op ask h → ((o : Option HandleView) → start_with ask o ≡ active_start call kind (ckpt_of_handle o)) → active_kind ask ≡ Some kind → if_live (is_live_client c m.cluster) (on_handle h bad may) ≡ None → Starts op ask h
+  starts_active op ask kind h bad may on begins is goes =
+      let (live, rest) = if_goes (on_handle h bad may) goes in
+      let (x, there) = on_handle-None h bad may rest in
+      let named : asked_handle m call.actor op ≡ Some x = on.named ∙ there in
+      subst (Starts op ask) (sym there) (record {
+        at = subst (IsInPlace m shapes (state_with op (Some x))) (sym (begins (Some x))) (record {
+          call = refl;
+          kind = ap active_kind on.is ∙ is;
+          made = asked_made op x named;
+          kept = refl;
+          room = kept_room (entry_of x.id m.cluster.entries);
+          handle = subst (λ (o : Option HandleView). IsSome o) (sym named) refl;
+        });
+        live = λ others. live;
+      })
 
   -- each operation that goes on
-  starts : (op : Op) (h : Option HandleView) → IsBuilt op → MayBegin m.cluster c op → begin_end (is_live_client c m.cluster) h op ≡ None → ((x : HandleView) → h ≡ Some x → WasMade m.cluster x.id) → asked_handle m call.actor op ≡ h → Starts op h
-  starts (ops.Client r version callbacks) h built may goes made named = record { at = record { op = refl; client = client; up = may.1; not_live = may.0 }; live = λ others. absurd (cc others) }
-  starts (ops.Open place name flags timeout a) h built may goes made named =
-      let (live, rest) = if_live-None (is_live_client c m.cluster) _ goes in
+  starts : (op : Op) (ask : Ask) (h : Option HandleView) → GoesOn op ask h → IsBuiltAsk ask → Starts op ask h
+  starts op (asks.Enter r version callbacks) h on built = record { at = record { version = version; callbacks = callbacks; asks = on.is; client = client; up = on.may.1; not_live = on.may.0 }; live = λ others. absurd (cc others) }
+  starts op (asks.Open place name flags timeout a) h on built =
+      let (live, rest) = if_live-None (is_live_client c m.cluster) _ on.goes in
       record {
         at = record {
           caller = client;
           client = refl;
-          within = IsClient-number call.actor client;
+          within = client_within call.actor client;
           node = node_up live;
-          built = built;
-          asks = (refl, refl);
+          asks = record { place = place; flags = flags; timeout = timeout; asks = on.is };
           named = open_begin-named name flags timeout a rest;
-          asked = open_begin-None name flags timeout a rest;
-          deadline = refl;
+          declared = open_begin-None name flags timeout a rest;
+          deadline = sym (ap (deadline_from m.cluster.moment) on.is);
           making = tt;
           given = λ some. absurd (cc some);
           room = λ some. absurd (cc some);
         };
         live = λ others. live_then live;
       }
-  starts (ops.Create place update) h built may goes made named = let (live, rest) = if_live-None (is_live_client c m.cluster) _ goes in starts_update (ops.Create place update) h live (λ o. refl) tt made (on_handle-None h _ _ rest)
-  starts (ops.Delete place update) h built may goes made named = let (live, rest) = if_live-None (is_live_client c m.cluster) _ goes in starts_update (ops.Delete place update) h live (λ o. refl) tt made (on_handle-None h _ _ rest)
-  starts (ops.Expire place update) h built may goes made named = let (live, rest) = if_live-None (is_live_client c m.cluster) _ goes in starts_update (ops.Expire place update) h live (λ o. refl) tt made (on_handle-None h _ _ rest)
-  starts (ops.Write place update) h built may goes made named = let (live, rest) = if_live-None (is_live_client c m.cluster) _ goes in starts_update (ops.Write place update) h live (λ o. refl) tt made (on_handle-None h _ _ rest)
-  starts (ops.Over place update) h built may goes made named = let (live, rest) = if_live-None (is_live_client c m.cluster) _ goes in starts_update (ops.Over place update) h live (λ o. refl) tt made (on_handle-None h _ _ rest)
-  starts (ops.Read place elements) h built may goes made named = let (live, rest) = if_live-None (is_live_client c m.cluster) _ goes in starts_active (ops.Read place elements) kinds.Read h live (λ o. refl) tt named made (on_handle-None h _ _ rest)
-  starts (ops.Status place) h built may goes made named = let (live, rest) = if_live-None (is_live_client c m.cluster) _ goes in starts_active (ops.Status place) kinds.Status h live (λ o. refl) tt named made (on_handle-None h _ _ rest)
-  starts (ops.Iter iteration place chosen time) h built may goes made named =
-      let (live, rest) = if_live-None (is_live_client c m.cluster) _ goes in
-      starts_active (ops.Iter iteration place chosen time) (kinds.Iterate (choice_of chosen time)) h live (λ o. refl) (refl, built.0) named made (on_handle-None h _ _ rest)
-  starts (ops.Next iteration) h built may goes made named = let (live, rest) = if_live-None (is_live_client c m.cluster) _ goes in starts_active (ops.Next iteration) kinds.Next h live (λ o. refl) built named made (on_handle-None h _ _ rest)
-  starts (ops.Close place) h built may goes made named =
-      let (live, rest) = if_live-None (is_live_client c m.cluster) _ goes in
+  starts op (asks.Change place update) h on built =
+      let (live, rest) = if_goes (on_handle h (update_is_bad update) may_write) on.goes in
       let (x, there) = on_handle-None h _ _ rest in
-      subst (Starts (ops.Close place)) (sym there) (record { at = record { op = tt; kept = refl; handle = subst (λ (o : Option HandleView). IsSome o) (sym (named ∙ there)) refl }; live = λ others. live_then live })
-  starts (ops.Retain place duration) h built may goes made named =
-      let (live, rest) = if_live-None (is_live_client c m.cluster) _ goes in
+      subst (Starts op (asks.Change place update)) (sym there) (record { at = update_begins m shapes inv call idle c op x place update on.is (asked_made op x (on.named ∙ there)); live = λ others. live })
+  starts op (asks.Read place elements) h on built = starts_active op (asks.Read place elements) kinds.Read h _ _ on (λ o. refl) refl on.goes
+  starts op (asks.Status place) h on built = starts_active op (asks.Status place) kinds.Status h _ _ on (λ o. refl) refl on.goes
+  starts op (asks.Iterate iteration place chosen time) h on built = starts_active op (asks.Iterate iteration place chosen time) (kinds.Iterate (choice_of chosen time)) h _ _ on (λ o. refl) refl on.goes
+  starts op (asks.Next iteration) h on built = starts_active op (asks.Next iteration) kinds.Next h _ _ on (λ o. refl) refl on.goes
+  starts op (asks.EndIteration iteration) h on built = absurd (iteration_answers h (if_live-None (is_live_client c m.cluster) _ on.goes).1)
+  starts op (asks.Close place) h on built =
+      let (live, rest) = if_goes (on_handle h false may_always) on.goes in
       let (x, there) = on_handle-None h _ _ rest in
-      subst (Starts (ops.Retain place duration)) (sym there) (record { at = record { op = refl; from_zero = not_below duration (on_handle-good h (int_lt duration (pos 0)) may_always rest); kept = refl; made = made x there }; live = λ others. live_then live })
-  starts (ops.Unlink name) h built may goes made named = let (live, rest) = if_live-None (is_live_client c m.cluster) _ goes in record { at = refl; live = λ others. live_then live }
-  starts ops.Finalize h built may goes made named = let (live, rest) = if_live-None (is_live_client c m.cluster) _ goes in record { at = record { op = tt; live = live }; live = λ others. live_then live }
-  starts (ops.EndIter iteration) h built may goes made named = absurd (ends_at_once h (if_live-None (is_live_client c m.cluster) _ goes).1)
-  starts op h built may goes made named = absurd built
+      subst (Starts op (asks.Close place)) (sym there) (record { at = record { place = place; asks = on.is; kept = refl }; live = λ others. live })
+  starts op (asks.Retain place duration) h on built =
+      let (live, rest) = if_goes (on_handle h (int_lt duration (pos 0)) may_always) on.goes in
+      let (x, there) = on_handle-None h _ _ rest in
+      subst (Starts op (asks.Retain place duration)) (sym there) (record {
+        at = record { place = place; asks = on.is; from_zero = not_below duration (on_handle-good h (int_lt duration (pos 0)) may_always rest); kept = refl; made = asked_made op x (on.named ∙ there) };
+        live = λ others. live;
+      })
+  starts op (asks.Unlink name) h on built = let (live, rest) = if_goes None on.goes in record { at = on.is; live = λ others. live }
+  starts op asks.Leave h on built = let (live, rest) = if_live-None (is_live_client c m.cluster) None on.goes in record { at = record { asks = on.is; live = live }; live = λ others. live_then live }
+  starts op asks.Unbuilt h on built = absurd built
 
   -- ---- the state after a beginning
 
-  -- an iteration that ends at once leaves the invariant
-  ended_keeps : (op : Op) (o : Outcome) (place : Option ℕ) → InvariantIn shapes (with_ended c place (begun_call m call op (Some o)))
-  ended_keeps op o None = begun_keeps m shapes inv call idle None client number (λ z some. absurd (cc some))
-  ended_keeps op o (Some place) = iterations_keep (begun_call m call op (Some o)) shapes (begun_keeps m shapes inv call idle None client number (λ z some. absurd (cc some))) c (others_idle m shapes call.actor inv client) _
+  -- a call that ends at once leaves the invariant
+  ended_keeps : (op : Op) (o : Outcome) → InvariantIn shapes (begun m call op (Some o))
+  ended_keeps op o = ended_at_once_keeps (begun_call m call op (Some o)) shapes (begun_keeps m shapes inv call idle None client number (λ z some. absurd (cc some))) call.actor (put_actor-here m.in_hand call.actor None) (Some o) (asked op)
 
   pub begin_keeps : (op : Op) (end : Option Outcome) → IsBegun m call op end → Invariant (begun m call op end)
-  begin_keeps op (Some o) is = record { shapes = shapes; holds = ended_keeps op o (ended_place (Some o) op) }
+  begin_keeps op (Some o) is = record { shapes = shapes; holds = ended_keeps op o }
   begin_keeps op None is =
-      let first = starts op (asked_handle m call.actor op) is.built is.may (goes_on_begun op _ None is.answer refl) (λ x found. named_made (handle_place op) (iteration_place op) x found) refl in
+      let first = starts op (asked op) (asked_handle m call.actor op) (record { is = refl; may = is.may; goes = goes_on_begun (asked op) _ None is.answer refl; named = refl }) is.built in
       record {
         shapes = shapes;
-        holds = begun_keeps m shapes inv call idle (Some (state_with op (asked_handle m call.actor op))) client number
-            (λ z same. subst (λ z. (z.call ≡ call) × (is_enter (driver_of z) ≡ false → is_live m.cluster z.call ≡ true) × IsInPlace m shapes z (driver_of z)) (same_Some (state_with op (asked_handle m call.actor op)) z same) (refl, first.live, first.at));
+        holds = subst (InvariantIn shapes) (sym (same_tables (begun_call m call op None) call.actor (ended_at_once None (asked op)) refl)) (begun_keeps m shapes inv call idle (Some (state_with op (asked_handle m call.actor op))) client number
+            (λ z same. subst (λ z. (z.call ≡ call) × IsBuilt z.op × (is_enter (driver_of z) ≡ false → is_live m.cluster z.call ≡ true) × IsInPlace m shapes z (driver_of z)) (same_Some (state_with op (asked_handle m call.actor op)) z same) (refl, is.built, first.live, first.at)));
       }

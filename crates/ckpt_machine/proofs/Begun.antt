@@ -6,6 +6,7 @@ use Rattle.ckpt_types.specs.declared.identities.ActorName.{ActorName}
 use Rattle.ckpt_types.specs.declared.identities.ActorName.TheVariants.{Client}
 use Rattle.ckpt_types.specs.declared.identities.CallId.{CallId}
 use Rattle.ckpt_types.specs.declared.operation.Op.{Op}
+use Rattle.ckpt_types.specs.declared.update.Update.{Update}
 use Rattle.client_handles.specs.declared.handle_view.HandleView.{HandleView}
 use Rattle.cluster_record.specs.declared.clients.LiveClient.{LiveClient}
 use Rattle.cluster_record.specs.declared.entries.Entry.{Entry}
@@ -14,14 +15,16 @@ use Rattle.cluster_record.specs.DueUpdate.{update_begun}
 use Rattle.cluster_record.specs.Places.{find_key}
 use Rattle.cluster_record.specs.RecordState.{RecordState, entry_of, client_key, is_live, is_live_client, is_live_from, is_up}
 use Rattle.cluster_record.specs.StepDone.{has}
+use Rattle.ckpt_types.specs.Asks.{asked, IsBuilt}
+use Rattle.ckpt_types.specs.Asks as asks
 use Rattle.ckpt_machine.specs.Entries.{WasMade}
-use Rattle.ckpt_machine.specs.InHand.{IsUpdateOf, is_enter, IsInPlace, IsUpdateIn}
+use Rattle.ckpt_machine.specs.InHand.{is_enter, IsInPlace, IsUpdateIn}
 use Rattle.ckpt_machine.specs.Invariant.{IsGoodClient, IsGoodIn, InvariantIn}
 use Rattle.ckpt_machine.specs.Machine.{Machine, CallState}
 use Rattle.ckpt_machine.specs.Steps.{driver_of, kept_at_beginning}
 use Rattle.ckpt_machine.specs.Shape.{Shape, is_owner, IsSpread}
 use Rattle.ckpt_machine.proofs.NodeLists.{has-none, slice_index-replicate}
-use Rattle.ckpt_machine.proofs.ReplicaSteps.{put_actor-cases, put_actor-other}
+use Rattle.ckpt_machine.proofs.ReplicaSteps.{put_actor-cases, put_actor-other, held_by_other}
 use Rattle.ckpt_machine.proofs.OtherCalls.{IsIn-apart, IsGoodIn-apart}
 use Rattle.ckpt_machine.proofs.Owning.{is_owner-true}
 use Rattle.ckpt_machine.proofs.Actors.{same_actor-true, same_actor-refl}
@@ -51,18 +54,14 @@ module _ (m : Machine) (shapes : ℕ → Shape) (inv : InvariantIn shapes m) (ca
 
   -- a call in hand is of another actor
   held_other : (a : ActorName) (z : CallState) → m.in_hand a ≡ Some z → same_actor a call.actor ≡ false
-  held_other a z held = by_test (same_actor a call.actor) refl
-    where
-      by_test : (b : Bool) → same_actor a call.actor ≡ b → same_actor a call.actor ≡ false
-      by_test false is_not = is_not
-      by_test true same = absurd (let w : None ≡ Some z = sym idle ∙ ap m.in_hand (sym (same_actor-true a call.actor same)) ∙ held in cc w)
+  held_other a z held = held_by_other m.in_hand call.actor idle a z held
 
   IfSome-rises : (c : ℕ) (o : Option LiveClient) → IfSome o (IsGoodClient m.next m.cluster c) → IfSome o (IsGoodClient (put_actor m.next call.actor (m.next call.actor + 1)) m.cluster c)
   IfSome-rises c None was = tt
   IfSome-rises c (Some live) was = (next_rises (Client c) live.initialize was.0, was.1)
 
   -- the invariant holds after it, where it holds of the call that begins
-  pub begun_keeps : (o : Option CallState) → IsClient call.actor → call.number ≡ m.next call.actor → ((z : CallState) → o ≡ Some z → (z.call ≡ call) × (is_enter (driver_of z) ≡ false → is_live m.cluster z.call ≡ true) × IsInPlace m shapes z (driver_of z)) → InvariantIn shapes (then_machine o)
+  pub begun_keeps : (o : Option CallState) → IsClient call.actor → call.number ≡ m.next call.actor → ((z : CallState) → o ≡ Some z → (z.call ≡ call) × IsBuilt z.op × (is_enter (driver_of z) ≡ false → is_live m.cluster z.call ≡ true) × IsInPlace m shapes z (driver_of z)) → InvariantIn shapes (then_machine o)
   begun_keeps o client number own = record {
     up = inv.up;
     none_live = inv.none_live;
@@ -79,10 +78,11 @@ module _ (m : Machine) (shapes : ℕ → Shape) (inv : InvariantIn shapes m) (ca
         client = subst IsClient (sym (ap (λ (c : CallId). c.actor) mine.0)) client;
         number = (let given : z.call.number ≡ m.next call.actor = ap (λ (c : CallId). c.number) mine.0 ∙ number in
             subst (λ b. z.call.number < put_actor m.next call.actor (m.next call.actor + 1) b) (sym here.0) (subst (λ (n : ℕ). z.call.number < n) (sym (ap (λ b. cond b (m.next call.actor + 1) (m.next call.actor)) (same_actor-refl call.actor))) (omega (arith, given))));
-        live = mine.1;
-        here = IsIn-apart m shapes (then_machine o).next (then_machine o).in_hand z (driver_of z) mine.2;
+        built = mine.1;
+        live = mine.2;
+        here = IsIn-apart m shapes (then_machine o).next (then_machine o).in_hand z (driver_of z) mine.3;
       })
-      | inr other ↦ (let was = inv.hands a z other.1 in record { actor = was.actor; client = was.client; number = next_rises a z.call.number was.number; live = was.live; here = IsIn-apart m shapes (then_machine o).next (then_machine o).in_hand z (driver_of z) was.here })
+      | inr other ↦ (let was = inv.hands a z other.1 in record { actor = was.actor; client = was.client; number = next_rises a z.call.number was.number; built = was.built; live = was.live; here = IsIn-apart m shapes (then_machine o).next (then_machine o).in_hand z (driver_of z) was.here })
     ];
   }
 
@@ -106,11 +106,13 @@ module _ (m : Machine) (shapes : ℕ → Shape) (inv : InvariantIn shapes m) (ca
           absurd (let w : None ≡ Some own.state = sym idle ∙ own.in_hand in cc w)
 
   -- it is where an update begins
-  pub update_begins : (c : ℕ) (op : Op) (h : HandleView) → IsUpdateOf op → WasMade m.cluster h.id
-      → IsUpdateIn m shapes (record { call = call; op = op; kept = kept_at_beginning m.cluster c (Some h); steps = []; snapshot = None }) (update_begun call h.id)
-  update_begins c op h is made = record {
+  pub update_begins : (c : ℕ) (op : Op) (h : HandleView) (place : ℕ) (update : Update) → asked op ≡ asks.Change place update → WasMade m.cluster h.id
+      → IsUpdateIn m shapes (record { call = call; op = op; kept = kept_at_beginning m.cluster c (Some h); steps = []; created = None; snapshot = None }) (update_begun call h.id)
+  update_begins c op h place update is made = record {
     call = refl;
-    update = is;
+    place = place;
+    update = update;
+    asks = is;
     kept = refl;
     made = made;
     nodes = refl;

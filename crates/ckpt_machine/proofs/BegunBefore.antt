@@ -3,20 +3,18 @@ use Rattle.std.proofs.Common.{◌≡◌, ℕ, inl, inr, List, [], ◌∷◌, ◌
 use Rattle.std.proofs.lemmas.List.{append-nil}
 use Rattle.std.proofs.lemmas.Option.{same_Some}
 use Rattle.ckpt_types.specs.declared.answers.Outcome.{Outcome}
-use Rattle.ckpt_types.specs.declared.identities.ActorName.{ActorName}
 use Rattle.ckpt_types.specs.declared.identities.CallId.{CallId}
 use Rattle.ckpt_types.specs.declared.operation.Op.{Op}
 use Rattle.run_labels.specs.declared.labels.Label.{Label}
 use Rattle.run_labels.specs.declared.labels.Label.TheVariants as labels
-use Rattle.cluster_record.specs.Calls.{number_of, left}
+use Rattle.cluster_record.specs.Calls.{left}
 use Rattle.ckpt_machine.specs.Acknowledged.{HasBegun}
-use Rattle.ckpt_machine.specs.Beginning.{ended_place}
 use Rattle.ckpt_machine.specs.Guards.{Allowed, Row}
 use Rattle.ckpt_machine.specs.Invariant.{Invariant}
 use Rattle.ckpt_machine.specs.Machine.{Machine, CallState}
 use Rattle.ckpt_machine.specs.Runs.{last, IsRunFrom, IsRun}
-use Rattle.cluster_record.specs.StepDone.{StepDone, done_of}
-use Rattle.ckpt_machine.specs.Steps.{IsDue, with_ended, begun_call, changed, step_of, after}
+use Rattle.cluster_record.specs.StepDone.{StepDone}
+use Rattle.ckpt_machine.specs.Steps.{IsDue, kept_behind, changed, step_of, after}
 use Rattle.ckpt_machine.proofs.Histories.{HasHistory, first_state, follows, keeps_history, history_empty}
 use Rattle.ckpt_machine.proofs.Lawful.{lawful}
 use Rattle.ckpt_machine.proofs.ReplicaSteps.{put_actor-cases}
@@ -41,14 +39,10 @@ left_begun : (log : List Label) (call : CallId) (op : Op) (end : Option Outcome)
 left_begun log call op None s is = subst (λ (z : CallState). HasBegun (log ++ labels.Began call op None ∷ []) z.call z.op z.kept.ckpt) (same_Some (first_state (last log) call op) s is) (record { before = log; behind = []; log_is = refl; ckpt_is = refl })
 left_begun log call op (Some e) s is = absurd (cc is)
 
-ended_hands : (m : Machine) (c : ℕ) (place : Option ℕ) (a : ActorName) → (with_ended c place m).in_hand a ≡ m.in_hand a
-ended_hands m c None a = refl
-ended_hands m c (Some place) a = refl
-
 -- a call that goes on after a step is the one that took it
-left_same : (log : List Label) (s : CallState) (steps : List StepDone) (end : Option Outcome) (z : CallState) → HasBegun log s.call s.op s.kept.ckpt → left end (record s { steps = steps }) ≡ Some z → HasBegun log z.call z.op z.kept.ckpt
-left_same log s steps None z begun is = subst (λ (z : CallState). HasBegun log z.call z.op z.kept.ckpt) (same_Some (record s { steps = steps }) z is) begun
-left_same log s steps (Some e) z begun is = absurd (cc is)
+left_same : (log : List Label) (s : CallState) (steps : List StepDone) (created : Option (List ℕ)) (end : Option Outcome) (z : CallState) → HasBegun log s.call s.op s.kept.ckpt → left end (record s { steps = steps; created = created }) ≡ Some z → HasBegun log z.call z.op z.kept.ckpt
+left_same log s steps created None z begun is = subst (λ (z : CallState). HasBegun log z.call z.op z.kept.ckpt) (same_Some (record s { steps = steps; created = created }) z is) begun
+left_same log s steps created (Some e) z begun is = absurd (cc is)
 
 module _ (log : List Label) (inv : Invariant (last log)) (history : HasHistory (last log)) (began : AllBegan log (last log)) where
   longer : (l : Label) → AllBegan (log ++ l ∷ []) (last log)
@@ -57,7 +51,7 @@ module _ (log : List Label) (inv : Invariant (last log)) (history : HasHistory (
   -- after any label that is allowed and due
   after_began : (l : Label) → Allowed (last log) l → IsDue (last log) l → AllBegan (log ++ l ∷ []) (after (last log) l)
   after_began (labels.Began call op end) allowed due s held =
-      elim (put_actor-cases (last log).in_hand call.actor (left end (first_state (last log) call op)) s.call.actor s (sym (ended_hands (begun_call (last log) call op end) (number_of call.actor) (ended_place end op) s.call.actor) ∙ held)) [
+      elim (put_actor-cases (last log).in_hand call.actor (left end (first_state (last log) call op)) s.call.actor s held) [
         | inl own ↦ left_begun log call op end s own.1
         | inr other ↦ longer (labels.Began call op end) s other.1
       ]
@@ -67,9 +61,9 @@ module _ (log : List Label) (inv : Invariant (last log)) (history : HasHistory (
       let same : allowed.state ≡ s = same_Some allowed.state s (sym allowed.in_hand ∙ due.in_hand) in
       let then = follows (last log) inv history s held (record { verb = verb; ckpt = k; node = r; reply = reply; end = end; details = details }) (subst (λ z. Row (last log) z verb _) same allowed.row) in
       let there = subst (λ o. (step_of (last log) o verb k r reply end).in_hand z.call.actor ≡ Some z) due.in_hand in_hand in
-      let steps = done_of (changed (last log) s verb k r reply).cluster verb k r reply ∷ s.steps in
-      elim (put_actor-cases (changed (last log) s verb k r reply).in_hand s.call.actor (left end (record s { steps = steps })) z.call.actor z there) [
-        | inl own ↦ left_same (log ++ labels.Stepped call op verb k r reply end details ∷ []) s steps end z (longer (labels.Stepped call op verb k r reply end details) s held) own.1
+      let behind : CallState = kept_behind (last log) s (changed (last log) s verb k r reply).cluster verb k r reply in
+      elim (put_actor-cases (changed (last log) s verb k r reply).in_hand s.call.actor (left end behind) z.call.actor z there) [
+        | inl own ↦ left_same (log ++ labels.Stepped call op verb k r reply end details ∷ []) s behind.steps behind.created end z (longer (labels.Stepped call op verb k r reply end details) s held) own.1
         | inr other ↦ longer (labels.Stepped call op verb k r reply end details) z (sym (then.in_hand z.call.actor) ∙ other.1)
       ]
   after_began (labels.Word who word said) allowed due s held = longer (labels.Word who word said) s held

@@ -7,14 +7,14 @@ use Rattle.ckpt_types.specs.declared.identities.CallId.{CallId}
 use Rattle.ckpt_types.specs.declared.operation.Op.{Op}
 use Rattle.run_labels.specs.declared.labels.Label.{Label}
 use Rattle.run_labels.specs.declared.labels.Label.TheVariants as labels
-use Rattle.cluster_record.specs.Calls.{number_of, same_actor, put_actor}
+use Rattle.cluster_record.specs.Calls.{same_actor, put_actor}
 use Rattle.ckpt_machine.specs.Acknowledged.{HasBegun}
-use Rattle.ckpt_machine.specs.Beginning.{ended_place}
 use Rattle.ckpt_machine.specs.Guards.{Allowed, Row}
 use Rattle.ckpt_machine.specs.Invariant.{Invariant}
 use Rattle.ckpt_machine.specs.Machine.{Machine}
 use Rattle.ckpt_machine.specs.Runs.{last_from, last, IsRunFrom, IsRun}
-use Rattle.ckpt_machine.specs.Steps.{IsDue, ckpt_of_handle, asked_handle, with_ended, begun_call, step_of, after}
+use Rattle.ckpt_machine.specs.Steps.{IsDue, asked_handle, step_of, after}
+use Rattle.ckpt_machine.specs.Tables.{ckpt_of_handle}
 use Rattle.ckpt_machine.proofs.Actors.{same_actor-true}
 use Rattle.ckpt_machine.proofs.Histories.{HasHistory, follows, keeps_history, run_history}
 use Rattle.ckpt_machine.proofs.Lawful.{lawful}
@@ -22,10 +22,6 @@ use Rattle.ckpt_machine.proofs.ReplicaSteps.{put_actor-here}
 use Rattle.ckpt_machine.proofs.Runs.{last_from-append, run_before, run_front, IsRunFrom-back}
 
 -- ---- the number of an actor's next call
-
-ended_next : (m : Machine) (c : ℕ) (place : Option ℕ) (a : ActorName) → (with_ended c place m).next a ≡ m.next a
-ended_next m c None a = refl
-ended_next m c (Some place) a = refl
 
 -- where it counts up it grows
 counted_up : (m : Machine) (b a : ActorName) → m.next a ≤ put_actor m.next b (m.next b + 1) a
@@ -37,9 +33,7 @@ counted_up m b a = by_test (same_actor a b) refl
 
 -- no label lets it fall
 next_after : (m : Machine) (l : Label) → Invariant m → HasHistory m → Allowed m l → IsDue m l → (a : ActorName) → m.next a ≤ (after m l).next a
-next_after m (labels.Began call op end) inv history allowed due a =
-    let up : m.next a ≤ put_actor m.next call.actor (m.next call.actor + 1) a = counted_up m call.actor a in
-    subst (λ (n : ℕ). m.next a ≤ n) (sym (ended_next (begun_call m call op end) (number_of call.actor) (ended_place end op) a)) up
+next_after m (labels.Began call op end) inv history allowed due a = counted_up m call.actor a
 next_after m (labels.Stepped call op verb k r reply end details) inv history allowed due a =
     let s = due.state in
     let held : m.in_hand s.call.actor ≡ Some s = ap (λ (c : CallId). m.in_hand c.actor) due.call_is ∙ due.in_hand in
@@ -78,7 +72,7 @@ module _ (log before behind : List Label) (call : CallId) (op : Op) (end : Optio
   passed =
       let (inv, history) = run_history before until.0 in
       let rest = IsRunFrom-back _ before (l ∷ behind) (subst IsRun is run) in
-      let first : (after (last before) l).next call.actor ≡ (last before).next call.actor + 1 = ended_next (begun_call (last before) call op end) (number_of call.actor) (ended_place end op) call.actor ∙ put_actor-here (last before).next call.actor ((last before).next call.actor + 1) in
+      let first : (after (last before) l).next call.actor ≡ (last before).next call.actor + 1 = put_actor-here (last before).next call.actor ((last before).next call.actor + 1) in
       let then : (after (last before) l).next call.actor ≤ (last_from (after (last before) l) behind).next call.actor =
       next_from (after (last before) l) behind (lawful (last before) l inv until.2).1 (keeps_history (last before) l inv history until.1 until.2) rest.2 call.actor in
       let same : (last log).next call.actor ≡ (last_from (after (last before) l) behind).next call.actor = ap (λ (xs : List Label). (last xs).next call.actor) is ∙ ap (λ (m : Machine). m.next call.actor) (last_from-append _ before (l ∷ behind)) in

@@ -6,7 +6,8 @@ use Rattle.std.proofs.Common.{◌≡◌, ℕ, List, [], ◌∷◌, refl, subst, 
 use Rattle.std.specs.Prelude.{Option, Some, None}
 use Rattle.ckpt_types.specs.declared.identities.CallId.{CallId}
 use Rattle.ckpt_types.specs.declared.operation.Op.{Op}
-use Rattle.ckpt_types.specs.declared.operation.Op.TheVariants as ops
+use Rattle.ckpt_types.specs.Asks.{Ask, asked}
+use Rattle.ckpt_types.specs.Asks as asks
 use Rattle.node_msgs.specs.declared.requests.Request.{Request}
 use Rattle.node_msgs.specs.declared.requests.Request.TheVariants.{Stage, Commit}
 use Rattle.node_msgs.specs.declared.next.Next.{Next}
@@ -55,26 +56,22 @@ of_kept : (c : CallId) (o : Option ℕ) (start : ℕ → Driver) → ((k : ℕ) 
 of_kept c None start h = tt
 of_kept c (Some k) start h = h k
 
-of_start : (call : CallId) (op : Op) (kept : Kept) → Of call (driver_start call op kept)
-of_start call (ops.Create place update) kept = of_kept call kept.ckpt _ (λ k. refl)
-of_start call (ops.Delete place update) kept = of_kept call kept.ckpt _ (λ k. refl)
-of_start call (ops.Expire place update) kept = of_kept call kept.ckpt _ (λ k. refl)
-of_start call (ops.Write place update) kept = of_kept call kept.ckpt _ (λ k. refl)
-of_start call (ops.Over place update) kept = of_kept call kept.ckpt _ (λ k. refl)
-of_start call (ops.Read place elements) kept = of_kept call kept.ckpt _ (λ k. tt)
-of_start call (ops.Status place) kept = of_kept call kept.ckpt _ (λ k. tt)
-of_start call (ops.Iter iteration place chosen time) kept = of_kept call kept.ckpt _ (λ k. tt)
-of_start call (ops.Next iteration) kept = of_kept call kept.ckpt _ (λ k. tt)
-of_start call (ops.Close place) kept = of_kept call kept.ckpt _ (λ k. tt)
-of_start call (ops.Retain place duration) kept = of_kept call kept.ckpt _ (λ k. tt)
-of_start call op kept = tt
+of_start : (call : CallId) (ask : Ask) (kept : Kept) → Of call (driver_start call ask kept)
+of_start call (asks.Change place update) kept = of_kept call kept.ckpt _ (λ k. refl)
+of_start call (asks.Read place elements) kept = of_kept call kept.ckpt _ (λ k. tt)
+of_start call (asks.Status place) kept = of_kept call kept.ckpt _ (λ k. tt)
+of_start call (asks.Iterate iteration place chosen time) kept = of_kept call kept.ckpt _ (λ k. tt)
+of_start call (asks.Next iteration) kept = of_kept call kept.ckpt _ (λ k. tt)
+of_start call (asks.Close place) kept = of_kept call kept.ckpt _ (λ k. tt)
+of_start call (asks.Retain place duration) kept = of_kept call kept.ckpt _ (λ k. tt)
+of_start call ask kept = tt
 
 of_taken : (call : CallId) (d : StepDone) (x : Driver) → Of call x → Of call (driver_taken d x)
 of_taken call d (drivers.Update u) h = taken_call d u d.verb d.reply ∙ h
 of_taken call d x h = tt
 
 of_steps : (call : CallId) (op : Op) (kept : Kept) (steps : List StepDone) → Of call (driver_state call op kept steps)
-of_steps call op kept [] = of_start call op kept
+of_steps call op kept [] = of_start call (asked op) kept
 of_steps call op kept (d ∷ steps) = of_taken call d (driver_state call op kept steps) (of_steps call op kept steps)
 
 own_kind : (c call : CallId) (k : ℕ) (kind : ActiveKind) → IsOwn c (request_by call k kind)

@@ -19,10 +19,11 @@ use Rattle.node_msgs.specs.declared.steps.StepReply.TheVariants as words
 use Rattle.run_labels.specs.declared.details.Details.{Details}
 use Rattle.run_labels.specs.declared.details.Details.TheVariants as beside
 use Rattle.ckpt_machine.specs.Drivers as drivers
-use Rattle.ckpt_machine.specs.Serving.{update_of, update_answer, told_id, or_same}
+use Rattle.ckpt_types.specs.Asks.{update_of}
+use Rattle.ckpt_machine.specs.Serving.{update_answer, told_id, or_same}
 use Rattle.ckpt_machine.specs.Driving.{driver_taken}
 use Rattle.ckpt_machine.specs.Machine.{Machine, Applied, Staged, ReplicaState, CallState}
-use Rattle.ckpt_machine.specs.Steps.{driver_of, stepped, ended_details, committed_slot, with_committed}
+use Rattle.ckpt_machine.specs.Steps.{driver_of, stepped, kept_behind, created_by, ended_details, committed_slot, with_committed}
 use Rattle.ckpt_machine.specs.Complete.{complete_replicas, replicas_from}
 use Rattle.ckpt_machine.specs.Guards.{HasSlotOrEffect, CommitOk, CommitRow, owns_slot, owned_elsewhere, ends_update}
 use Rattle.ckpt_machine.specs.Shape.{Shape, IsCompleteOn, IsShaped, is_owner, IsOwner, IsSpread, slot_by}
@@ -30,9 +31,9 @@ use Rattle.ckpt_machine.specs.InHand.{is_enter, IsInPlace, IsUpdateIn, IsInHand,
 use Rattle.ckpt_machine.specs.Invariant.{InvariantIn, Invariant}
 use Rattle.ckpt_machine.proofs.NodeLists.{elsewhere-is, last_having-None, index-set, index-other, length-slice_set, index-within, had-there, has-none}
 use Rattle.ckpt_machine.proofs.ReplicaSteps.{put_actor-here, one_changed, step_keeps}
-use Rattle.ckpt_machine.proofs.Owning.{is_owner-true, is_owner-here, owner_alone, at, made, on_replica, same_call-refl}
+use Rattle.ckpt_machine.proofs.Owning.{is_owner-true, is_owner-here, owner_alone, at, made, on_replica}
 use Rattle.ckpt_machine.proofs.Stage.{IfSome-more, on_complete}
-use Rattle.ckpt_machine.proofs.Actors.{same_actor-refl}
+use Rattle.ckpt_machine.proofs.Actors.{same_actor-refl, same_call-refl}
 
 -- the shape is of the call's own update; every replica without a slot has it, or each has a slot of the call
 pub record Commits (z : Shape) (s : CallState) (e : Entry) : Type 0 where
@@ -144,7 +145,7 @@ module _ (m : Machine) (shapes : ℕ → Shape) (inv : InvariantIn shapes m) (s 
     told = details-by A (told_id (update_of s.op) z.moment x.sections) left_then ∙ ap (λ b. cond b (told_id (update_of s.op) z.moment x.sections) beside.Nothing) (sym ends);
   }
 
-  pub commit_row : CommitRow m s u.ckpt r words.Ok (done_if_none A left_then) (ended_details (done_if_none A left_then) (told_id (update_of s.op) z.moment x.sections))
+  pub commit_row : CommitRow m s.call (update_of s.op) u.ckpt r words.Ok (done_if_none A left_then) (ended_details (done_if_none A left_then) (told_id (update_of s.op) z.moment x.sections))
   commit_row = on_replica m shapes inv s u held is e found r x (λ f y. CommitOk m s.call (update_of s.op) u.ckpt r (done_if_none A left_then) (ended_details (done_if_none A left_then) (told_id (update_of s.op) z.moment x.sections)) y) there commit_ok
 
   -- ---- the state after it
@@ -159,7 +160,7 @@ module _ (m : Machine) (shapes : ℕ → Shape) (inv : InvariantIn shapes m) (s 
   commit_done = done_of m.cluster verbs.Commit (Some u.ckpt) (Some r) words.Ok
 
   abbrev then_state : CallState
-  then_state = record s { steps = commit_done ∷ s.steps }
+  then_state = record s { steps = commit_done ∷ s.steps; created = created_by m s verbs.Commit (Some u.ckpt) (Some r) }
 
   abbrev then_driver : UpdateState
   then_driver = record { call = u.call; ckpt = u.ckpt; owned = owned_then; moment = u.moment; phase = Committing }
@@ -281,7 +282,9 @@ module _ (m : Machine) (shapes : ℕ → Shape) (inv : InvariantIn shapes m) (s 
   here_then : (p : ℕ) → left_then ≡ Some p → IsUpdateIn (then_machine (Some then_state)) (put shapes u.ckpt committed) then_state then_driver
   here_then p some = let was = at m shapes inv s u held is in record {
     call = was.call;
+    place = was.place;
     update = was.update;
+    asks = was.asks;
     kept = was.kept;
     made = was.made;
     nodes = length-slice_set u.owned r 0 ∙ was.nodes;
@@ -295,11 +298,12 @@ module _ (m : Machine) (shapes : ℕ → Shape) (inv : InvariantIn shapes m) (s 
         actor = refl;
         client = hand.client;
         number = hand.number;
+        built = hand.built;
         live = λ others. hand.live (ap is_enter is);
         here = subst (IsInPlace (then_machine (Some then_state)) (put shapes u.ckpt committed) then_state) (sym driver_then) (here_then p some);
       }))
 
-  pub commit_leads : Invariant (stepped (record m { replicas = put2 m.replicas u.ckpt r (Some with_commit) }) s verbs.Commit (Some u.ckpt) (Some r) words.Ok (done_if_none A left_then))
+  pub commit_leads : Invariant (stepped (record m { replicas = put2 m.replicas u.ckpt r (Some with_commit) }) (kept_behind m s m.cluster verbs.Commit (Some u.ckpt) (Some r) words.Ok) (done_if_none A left_then))
   unfolding commit_done
   commit_leads = by_left left_then refl
     where

@@ -8,32 +8,34 @@ use Rattle.ckpt_types.specs.declared.identities.ActorName.{ActorName}
 use Rattle.ckpt_types.specs.declared.identities.CallId.{CallId}
 use Rattle.ckpt_types.specs.declared.attributes.CreationAttributes.{CreationAttributes}
 use Rattle.ckpt_types.specs.declared.operation.Op.{Op}
+use Rattle.ckpt_types.specs.declared.answers.Outcome.TheVariants as outcomes
+use Rattle.ckpt_types.specs.declared.sections.Choice.{Choice}
 use Rattle.ckpt_types.specs.Reads.{NextGiven}
 use Rattle.section_iter.specs.KeptIds.{KeptIds}
+use Rattle.section_iter.specs.declared.room.Room.{Room}
+use Rattle.client_handles.specs.ClientState.{ClientState, emptied}
 use Rattle.client_handles.specs.declared.handle_view.HandleView.{HandleView}
-use Rattle.node_msgs.specs.declared.next.RecordStep.{RecordStep}
-use Rattle.node_msgs.specs.declared.next.RecordStep.TheVariants as events
 use Rattle.node_msgs.specs.declared.steps.Verb.{Verb}
 use Rattle.node_msgs.specs.declared.steps.Verb.TheVariants as verbs
 use Rattle.node_msgs.specs.declared.steps.StepReply.{StepReply}
 use Rattle.node_msgs.specs.declared.steps.StepReply.TheVariants as words
 use Rattle.run_labels.specs.declared.labels.Label.TheVariants as labels
 use Rattle.cluster_record.specs.declared.entries.Entry.{Entry}
-use Rattle.cluster_record.specs.Calls.{same_actor, number_of, client_of}
-use Rattle.cluster_record.specs.DueOpen.{OpenState, open_event}
+use Rattle.cluster_record.specs.Calls.{same_actor, client_of}
 use Rattle.cluster_record.specs.Identities.{IdentitiesRise, AllUpTo}
-use Rattle.cluster_record.specs.LookUps.{at_ckpt}
-use Rattle.cluster_record.specs.Places.{change_key, put, put2}
-use Rattle.cluster_record.specs.RecordState.{RecordState, entry_of, identity_of, has_references, stays, swept, created_as, new_entry, referred, made_with, released, released_all, unnamed, retaining, is_call_of, departed, moved, undone, complete_of}
+use Rattle.cluster_record.specs.LookUps.{creation_flags_of}
+use Rattle.cluster_record.specs.Makings.{making_of}
+use Rattle.cluster_record.specs.Places.{change_key, put2}
+use Rattle.cluster_record.specs.RecordState.{RecordState, entry_of, identity_of, has_references, stays, swept, entered, created_as, new_entry, referred, made_with, unreferred, released_all, unnamed, retaining, is_call_of, departed, moved, undone, complete_of}
 use Rattle.cluster_record.proofs.IdentityLaws.{KeepsIdentity, IdentitiesRise-change_key, IdentitiesRise-filter, IdentitiesRise-map, IdentitiesRise-push}
-use Rattle.ckpt_machine.specs.Beginning.{ended_place, opened_place, started_place, iteration_place, closed_place}
-use Rattle.ckpt_machine.specs.Drivers.{Driver}
-use Rattle.ckpt_machine.specs.Drivers as drivers
-use Rattle.ckpt_machine.specs.Driving.{making_in, event_ckpt, event_change, event_after}
-use Rattle.ckpt_machine.specs.Machine.{IterationTable, Machine, ReplicaState, Staged, CallState, empty_cluster}
+use Rattle.ckpt_types.specs.Asks.{Ask, asked}
+use Rattle.ckpt_types.specs.Asks as asks
+use Rattle.ckpt_machine.specs.Machine.{Machine, ReplicaState, Staged, CallState, empty_cluster}
 use Rattle.ckpt_machine.specs.Laws.{CountsUp}
 use Rattle.ckpt_machine.specs.Runs.{Counts}
-use Rattle.ckpt_machine.specs.Steps.{driver_of, with_record, with_opened, with_handle_at, with_iteration, with_next, with_ended, without_iteration, without_handle, without_handles, change_replica, with_committed, committed_slot, effect_of, begun, begun_call, changed, step_of, event_done, on_ok, on_look, without_making, at_some, new_handle, handle_in, replica_under, opened_state}
+use Rattle.ckpt_machine.specs.Serving.{given_at, chosen_at}
+use Rattle.ckpt_machine.specs.Steps.{with_record, record_step, with_tables, with_given, with_started, with_gone_on, ids_asked, seen_at, created_for, retained_for, change_replica, with_committed, committed_slot, effect_of, begun, begun_call, changed, step_of, on_ok, on_look, without_making, at_some, replica_under, opened_state}
+use Rattle.ckpt_machine.specs.Tables.{handle_given, with_iteration, started, with_next, gone_on, closing, ended_at_once}
 use Rattle.ckpt_machine.proofs.References.{released-identity, released_all-identity}
 use Rattle.ckpt_machine.proofs.Entries.{ComesOf, ComesOf-filter, ComesOf-change_key, ComesOf-map}
 use Rattle.ckpt_machine.proofs.NodeLists.{slice_index-replicate}
@@ -47,17 +49,6 @@ slice_index-one_more (x ∷ xs) zero zero n few = let h : x ≤ n = few 0 in ome
 slice_index-one_more (x ∷ xs) zero (suc d) n few = omega (arith, few (suc d))
 slice_index-one_more (x ∷ xs) (suc c) zero n few = let h : x ≤ n = few 0 in omega (arith, h)
 slice_index-one_more (x ∷ xs) (suc c) (suc d) n few = slice_index-one_more xs c d n (λ d. few (suc d))
-
--- what counts up counts no more where only the calls in hand changed
-pub Counts-hands : (m : Machine) (f : ActorName → Option CallState) (n : ℕ) → Counts m n → Counts (record m { in_hand = f }) (n + 1)
-Counts-hands m f n counts = record {
-  next = λ a. omega (arith, counts.next a);
-  last_handles = λ c. omega (arith, counts.last_handles c);
-  last_iterations = λ c. omega (arith, counts.last_iterations c);
-  effects = λ k r x is. omega (arith, counts.effects k r x is);
-  identity = omega arith;
-  references = λ k e c is. omega (arith, counts.references k e c is);
-}
 
 -- a replica after a step of the record was there, or has no effects
 pub replica_under-Some : (o : Option Entry) (before r : ℕ) (old : Option ReplicaState) (x : ReplicaState) → replica_under o before r old ≡ Some x → (old ≡ Some x) ⊎ (x.effects ≡ [])
@@ -85,10 +76,6 @@ Counts-record m R n counts identity references = record {
   references = references;
 }
 
--- the numbers of the handles last taken, after one more is
-pub last_handles-put : (m : Machine) (c n : ℕ) → Counts m n → (d : ℕ) → put m.last_handles c (m.last_handles c + 1) d ≤ n + 1
-last_handles-put m c n counts d = elim (d == c) as (λ b. cond b (m.last_handles c + 1) (m.last_handles d) ≤ n + 1) [ true ↦ omega (arith, counts.last_handles c) | false ↦ omega (arith, counts.last_handles d) ]
-
 -- one replica changed counts at most one effect more
 pub Counts-replica : (m : Machine) (k r : ℕ) (x : ReplicaState) (n : ℕ) → Counts m n → length x.effects ≤ n + 1 → Counts (record m { replicas = put2 m.replicas k r (Some x) }) (n + 1)
 Counts-replica m k r x n counts few = record {
@@ -102,24 +89,6 @@ Counts-replica m k r x n counts few = record {
   identity = omega arith;
   references = λ j e c is. omega (arith, counts.references j e c is);
 }
-
--- without a handle, or with none
-fewer_count : (m : Machine) (c : ℕ) (handles : List HandleView) (table : IterationTable) (n : ℕ) → table.last ≡ (m.iterations c).last → Counts m n → Counts (record m { handles = put m.handles c handles; iterations = put m.iterations c table }) n
-fewer_count m c handles table n same counts = record {
-  next = counts.next;
-  last_handles = counts.last_handles;
-  last_iterations = λ d. elim (d == c) as (λ b. (cond b table (m.iterations d)).last ≤ n) [ true ↦ subst (λ (i : ℕ). i ≤ n) (sym same) (counts.last_iterations c) | false ↦ counts.last_iterations d ];
-  effects = counts.effects;
-  identity = counts.identity;
-  references = counts.references;
-}
-
-Counts-without_handle : (m : Machine) (c : ℕ) (o : Option HandleView) (n : ℕ) → Counts m n → Counts (without_handle m c o) n
-Counts-without_handle m c None n counts = counts
-Counts-without_handle m c (Some h) n counts = fewer_count m c _ _ n refl counts
-
-Counts-with_none : (m : Machine) (c n : ℕ) → Counts m n → Counts (without_handles c m) n
-Counts-with_none m c n counts = fewer_count m c _ _ n refl counts
 
 -- nothing counts in the empty cluster
 pub counts_empty : Counts empty_cluster 0
@@ -174,7 +143,7 @@ left_fewer e t references fewer true left = OneMore-same e
 left_fewer e t references fewer false true = OneMore-fewer e (record e { references = references }) fewer
 left_fewer e t references fewer false false = OneMore-fewer e (record e { references = references; idle = t }) fewer
 
-OneMore-released : (c : ℕ) (t : ℤ) (e : Entry) → OneMore e (released c t e)
+OneMore-released : (c : ℕ) (t : ℤ) (e : Entry) → OneMore e (unreferred c t e)
 OneMore-released c t e = left_fewer e t (slice_set e.references c (slice_index e.references c - 1)) (λ d. slice_index-less e.references c d (slice_index e.references c - 1) (omega arith)) (slice_index e.references c == 0) (has_references (record e { references = slice_set e.references c (slice_index e.references c - 1) }))
 
 OneMore-released_all : (c : ℕ) (t : ℤ) (e : Entry) → OneMore e (released_all c t e)
@@ -244,26 +213,48 @@ module _ (R : RecordState) (rises : IdentitiesRise R.entries) (up_to : AllUpTo R
     ];
   }
 
-  at_ckpt_on : (k : Option ℕ) (change : ℕ → RecordState) → ((k : ℕ) → CountsOn R (change k)) → CountsOn R (at_ckpt k R change)
-  at_ckpt_on None change on = same_on
-  at_ckpt_on (Some k) change on = on k
+  created_for_on : (call : CallId) (ask : Ask) → CountsOn R (created_for call ask R)
+  created_for_on call (asks.Open place name flags timeout a) = created_on call name a
+  created_for_on call ask = same_on
 
-  open_on : (call : CallId) (o : OpenState) (k : Option ℕ) (step : RecordStep) → CountsOn R (open_event call o k step R)
-  open_on call o k events.Create = created_on call o.ask.name o.ask.attrs
-  open_on call o k events.Open = at_ckpt_on k _ (λ k. changed_on k (referred o.ask.client) (λ e. refl) (OneMore-referred o.ask.client))
-  open_on call o k events.Finish = at_ckpt_on k _ (λ k. changed_on k (made_with R.up o.ask.client) (λ e. refl) (OneMore-made R.up o.ask.client))
-  open_on call o k events.Undo = at_ckpt_on k _ (λ k. filter_on (λ e. not (e.identity == k)))
-  open_on call o k step = same_on
+  retained_for_on : (ask : Ask) (k : ℕ) → CountsOn R (retained_for ask k R)
+  retained_for_on (asks.Retain place duration) k = changed_on k (retaining duration) (λ e. refl) (λ e. OneMore-fewer e (retaining duration e) (λ c. omega arith))
+  retained_for_on ask k = same_on
 
-  change_on : (call : CallId) (d : Driver) (step : RecordStep) → CountsOn R (event_change call d step R)
-  change_on call (drivers.Enter r) step = record { rises = rises; last = omega arith; few = same_on.few }
-  change_on call (drivers.Open o) step = open_on call o (event_ckpt R (drivers.Open o) step) step
-  change_on call (drivers.Update u) step = same_on
-  change_on call (drivers.Active a) step = same_on
-  change_on call drivers.Leave step = departed_on (client_of call)
-  change_on call (drivers.Close k) step = changed_on k (released (client_of call) R.moment) (released-identity (client_of call) R.moment) (OneMore-released (client_of call) R.moment)
-  change_on call (drivers.Unlink name) step = at_ckpt_on _ _ (λ k. changed_on k unnamed (λ e. refl) (λ e. OneMore-fewer e (unnamed e) (λ c. omega arith)))
-  change_on call (drivers.Retain k duration) step = changed_on k (retaining duration) (λ e. refl) (λ e. OneMore-fewer e (retaining duration e) (λ c. omega arith))
+-- ---- a client's tables
+
+-- at most one handle more is numbered, and one iteration
+record CountsOne (t after_it : ClientState) : Type 0 where
+  handles : after_it.last_number ≤ t.last_number + 1
+  iterations : after_it.last_iteration ≤ t.last_iteration + 1
+
+CountsOne-given : (ask : Ask) (k creation_flags : ℕ) (t : ClientState) → CountsOne t (handle_given ask k creation_flags t)
+CountsOne-given (asks.Open place name flags timeout a) k creation_flags t = record { handles = omega arith; iterations = omega arith }
+CountsOne-given ask k creation_flags t = record { handles = omega arith; iterations = omega arith }
+
+CountsOne-with_iteration : (iteration : ℕ) (h : Option HandleView) (kept : KeptIds) (t : ClientState) → CountsOne t (with_iteration iteration h kept t)
+CountsOne-with_iteration iteration None kept t = record { handles = omega arith; iterations = omega arith }
+CountsOne-with_iteration iteration (Some h) kept t = record { handles = omega arith; iterations = omega arith }
+
+CountsOne-started : (ask : Ask) (room : Room) (chosen_by : Choice → List (List ℕ)) (t : ClientState) → CountsOne t (started ask room chosen_by t)
+CountsOne-started (asks.Iterate iteration place chosen time) room chosen_by t = CountsOne-with_iteration iteration _ _ t
+CountsOne-started ask room chosen_by t = record { handles = omega arith; iterations = omega arith }
+
+CountsOne-with_next : (iteration : ℕ) (kept : Option KeptIds) (next : Option NextGiven) (t : ClientState) → CountsOne t (with_next iteration kept next t)
+CountsOne-with_next iteration (Some kept) (Some next) t = record { handles = omega arith; iterations = omega arith }
+CountsOne-with_next iteration kept next t = record { handles = omega arith; iterations = omega arith }
+
+CountsOne-gone_on : (ask : Ask) (next : Option NextGiven) (t : ClientState) → CountsOne t (gone_on ask next t)
+CountsOne-gone_on (asks.Next iteration) next t = CountsOne-with_next iteration _ next t
+CountsOne-gone_on ask next t = record { handles = omega arith; iterations = omega arith }
+
+CountsOne-closing : (ask : Ask) (t : ClientState) → CountsOne t (closing ask t)
+CountsOne-closing (asks.Close place) t = record { handles = omega arith; iterations = omega arith }
+CountsOne-closing ask t = record { handles = omega arith; iterations = omega arith }
+
+CountsOne-ended_at_once : (end : Option Outcome) (ask : Ask) (t : ClientState) → CountsOne t (ended_at_once end ask t)
+CountsOne-ended_at_once (Some (outcomes.Done answer)) (asks.EndIteration iteration) t = record { handles = omega arith; iterations = omega arith }
+CountsOne-ended_at_once end ask t = record { handles = omega arith; iterations = omega arith }
 
 -- ---- the machine
 
@@ -285,51 +276,24 @@ module _ (m : Machine) (n : ℕ) (counts : Counts m n) where
   on_record : (R : RecordState) → CountsOn m.cluster R → Counts (with_record m R) (n + 1)
   on_record R on = Counts-record m R n counts (let a = on.last in let b = counts.identity in omega (arith, a, b)) (on.few n counts.references)
 
-  on_event : IdentitiesRise m.cluster.entries → AllUpTo m.cluster.last_identity m.cluster.entries → (s : CallState) (step : RecordStep) → Counts (event_done m s step) (n + 1)
-  on_event rises up_to s step = on_record (event_after s.call (driver_of s) step m.cluster) (CountsOn-swept m.cluster (event_change s.call (driver_of s) step m.cluster) (change_on m.cluster rises up_to s.call (driver_of s) step))
+  on_step : (step : RecordState → RecordState) → CountsOn m.cluster (step m.cluster) → Counts (record_step step m) (n + 1)
+  on_step step on = on_record (swept (step m.cluster)) (CountsOn-swept m.cluster (step m.cluster) on)
 
-  -- a handle more
-  opened_at : (R : RecordState) (c : ℕ) (h : HandleView) → h.handle ≡ m.last_handles c + 1 → (place : Option ℕ) → Counts (with_record m R) (n + 1) → Counts (with_handle_at (with_record m R) c h place) (n + 1)
-  opened_at R c h next None on = on
-  opened_at R c h next (Some place) on = record {
+  -- the tables of one actor, which are as they were before it
+  tables_on : (then_machine : Machine) → Counts then_machine (n + 1) → (a : ActorName) (change : ClientState → ClientState) → CountsOne (m.tables a) (change (then_machine.tables a)) → Counts (with_tables a change then_machine) (n + 1)
+  tables_on then_machine on a change one = record {
     next = on.next;
-    last_handles = subst (λ (x : ℕ). (d : ℕ) → put m.last_handles c x d ≤ n + 1) (sym next) (last_handles-put m c n counts);
-    last_iterations = on.last_iterations;
+    last_handles = λ b. elim (same_actor b a) as (λ t. (cond t (change (then_machine.tables a)) (then_machine.tables b)).last_number ≤ n + 1) [ true ↦ omega (arith, one.handles, counts.last_handles a) | false ↦ on.last_handles b ];
+    last_iterations = λ b. elim (same_actor b a) as (λ t. (cond t (change (then_machine.tables a)) (then_machine.tables b)).last_iteration ≤ n + 1) [ true ↦ omega (arith, one.iterations, counts.last_iterations a) | false ↦ on.last_iterations b ];
     effects = on.effects;
     identity = on.identity;
     references = on.references;
   }
 
-  opened_on : (s : CallState) (R : RecordState) (k : Option ℕ) → Counts (with_record m R) (n + 1) → Counts (with_opened s k (with_record m R)) (n + 1)
-  opened_on s R None on = on
-  opened_on s R (Some k) on = opened_at R (client_of s.call) (new_handle R (m.last_handles (client_of s.call)) s.op k) refl (opened_place s.op) on
-
   -- one replica changed
   replica_on : (k r : ℕ) (o : Option ReplicaState) → m.replicas k r ≡ o → (change : ReplicaState → ReplicaState) → ((x : ReplicaState) → length (change x).effects ≤ length x.effects + 1) → Counts (change_replica m k r o change) (n + 1)
   replica_on k r None there change few = more
   replica_on k r (Some x) there change few = Counts-replica m k r (change x) n counts (let a = few x in let b = counts.effects k r x there in omega (arith, a, b))
-
-  -- an iteration more
-  iterations_on : (c : ℕ) (table : IterationTable) → table.last ≤ n + 1 → Counts (record m { iterations = put m.iterations c table }) (n + 1)
-  iterations_on c table few = record {
-    next = more.next;
-    last_handles = more.last_handles;
-    last_iterations = λ d. elim (d == c) as (λ b. (cond b table (m.iterations d)).last ≤ n + 1) [ true ↦ few | false ↦ more.last_iterations d ];
-    effects = more.effects;
-    identity = more.identity;
-    references = more.references;
-  }
-
-  started_on : (c : ℕ) (h : Option HandleView) (place : Option ℕ) (kept : KeptIds) → Counts (with_iteration m c h place kept) (n + 1)
-  started_on c (Some h) (Some place) kept = iterations_on c _ (let a = counts.last_iterations c in omega (arith, a))
-  started_on c (Some h) None kept = more
-  started_on c None place kept = more
-
-  next_on : (c : ℕ) (place : Option ℕ) (kept : Option KeptIds) (next : Option NextGiven) → Counts (with_next m c place kept next) (n + 1)
-  next_on c (Some place) (Some kept) (Some next) = iterations_on c _ (let a = counts.last_iterations c in omega (arith, a))
-  next_on c (Some place) (Some kept) None = more
-  next_on c (Some place) None next = more
-  next_on c None kept next = more
 
   -- what is done on OK alone, and at a checkpoint and a node that are named
   ok_on : (reply : StepReply) (after_it : Machine) → Counts after_it (n + 1) → Counts (on_ok reply m after_it) (n + 1)
@@ -342,9 +306,12 @@ module _ (m : Machine) (n : ℕ) (counts : Counts m n) where
   looked_on words.Refused done refused on_done on_refused = on_refused
   looked_on reply done refused on_done on_refused = more
 
-  undone_on : IdentitiesRise m.cluster.entries → AllUpTo m.cluster.last_identity m.cluster.entries → (k : Option ℕ) → Counts (without_making m k) (n + 1)
-  undone_on rises up_to None = more
-  undone_on rises up_to (Some k) = on_record (swept (undone k m.cluster)) (CountsOn-swept m.cluster (undone k m.cluster) (filter_on m.cluster rises up_to (λ e. not (e.identity == k))))
+  undone_on : IdentitiesRise m.cluster.entries → AllUpTo m.cluster.last_identity m.cluster.entries → (k : ℕ) → Counts (record_step (undone k) m) (n + 1)
+  undone_on rises up_to k = on_step (undone k) (filter_on m.cluster rises up_to (λ e. not (e.identity == k)))
+
+  without_making_on : IdentitiesRise m.cluster.entries → AllUpTo m.cluster.last_identity m.cluster.entries → (k : Option ℕ) → Counts (without_making k m) (n + 1)
+  without_making_on rises up_to None = more
+  without_making_on rises up_to (Some k) = undone_on rises up_to k
 
   some_on : (k : Option ℕ) (change : ℕ → Machine) → ((k : ℕ) → Counts (change k) (n + 1)) → Counts (at_some k m change) (n + 1)
   some_on None change on = more
@@ -363,46 +330,60 @@ committed_few (Some e) x = by_slot x.slot
     by_slot (Some slot) = let a = length_push x.effects (effect_of slot) in omega (arith, a)
 
 -- a step counts up by at most one
-changed_counts : (m : Machine) (n : ℕ) → IdentitiesRise m.cluster.entries → AllUpTo m.cluster.last_identity m.cluster.entries → Counts m n → (s : CallState) (verb : Verb) (k r : Option ℕ) (reply : StepReply) → Counts (changed m s verb k r reply) (n + 1)
-changed_counts m n rises up_to counts s verbs.Enter k r reply = ok_on m n counts reply _ (on_event m n counts rises up_to s events.Enter)
-changed_counts m n rises up_to counts s verbs.Open k r reply = ok_on m n counts reply _ (opened_on m n counts s _ k (on_event m n counts rises up_to s events.Open))
-changed_counts m n rises up_to counts s verbs.Create k r reply = ok_on m n counts reply _ (on_event m n counts rises up_to s events.Create)
-changed_counts m n rises up_to counts s verbs.Reserve k r reply = ok_on m n counts reply _ (both_on m n counts k r _ (λ k r. let c = more m n counts in record { next = c.next; last_handles = c.last_handles; last_iterations = c.last_iterations; effects = c.effects; identity = c.identity; references = c.references }))
-changed_counts m n rises up_to counts s verbs.Finish k r reply = ok_on m n counts reply _ (opened_on m n counts s _ k (on_event m n counts rises up_to s events.Finish))
-changed_counts m n rises up_to counts s verbs.Undo k r reply = ok_on m n counts reply _ (on_event m n counts rises up_to s events.Undo)
-changed_counts m n rises up_to counts s verbs.Stage k r reply = ok_on m n counts reply _ (both_on m n counts k r _ (λ k r. replica_on m n counts k r (m.replicas k r) refl _ (λ x. omega arith)))
-changed_counts m n rises up_to counts s verbs.Commit k r reply = ok_on m n counts reply _ (both_on m n counts k r _ (λ k r. replica_on m n counts k r (m.replicas k r) refl _ (committed_few (entry_of k m.cluster.entries))))
-changed_counts m n rises up_to counts s verbs.Iter k r reply = ok_on m n counts reply _ (both_on m n counts k r _ (λ k r. started_on m n counts (client_of s.call) _ (started_place s.op) _))
-changed_counts m n rises up_to counts s verbs.Next k r reply = ok_on m n counts reply _ (both_on m n counts k r _ (λ k r. next_on m n counts (client_of s.call) (iteration_place s.op) _ _))
-changed_counts m n rises up_to counts s verbs.Leave k r reply = ok_on m n counts reply _ (Counts-with_none (event_done m s events.Leave) (client_of s.call) (n + 1) (on_event m n counts rises up_to s events.Leave))
-changed_counts m n rises up_to counts s verbs.Close k r reply = ok_on m n counts reply _ (Counts-without_handle (event_done m s events.Close) (client_of s.call) (handle_in m (client_of s.call) (closed_place s.op)) (n + 1) (on_event m n counts rises up_to s events.Close))
-changed_counts m n rises up_to counts s verbs.Unlink k r reply = ok_on m n counts reply _ (on_event m n counts rises up_to s events.Unlink)
-changed_counts m n rises up_to counts s verbs.Retain k r reply = ok_on m n counts reply _ (on_event m n counts rises up_to s events.Retain)
-changed_counts m n rises up_to counts s verbs.Look k r reply =
-    looked_on m n counts reply _ _ (Counts-without_handle m (client_of s.call) (handle_in m (client_of s.call) (closed_place s.op)) (n + 1) (more m n counts)) (undone_on m n counts rises up_to (making_in (driver_of s)))
-changed_counts m n rises up_to counts s verb k r reply = more m n counts
+module _ (m : Machine) (n : ℕ) (rises : IdentitiesRise m.cluster.entries) (up_to : AllUpTo m.cluster.last_identity m.cluster.entries) (counts : Counts m n) (s : CallState) where
+  -- one entry is changed
+  abbrev changing : ℕ → (Entry → Entry) → RecordState → RecordState
+  changing k f R = record R { entries = change_key identity_of k f R.entries }
+
+  entry_changed : (k : ℕ) (f : Entry → Entry) → KeepsIdentity f → ((e : Entry) → OneMore e (f e)) → Counts (record_step (changing k f) m) (n + 1)
+  entry_changed k f keeps more = on_step m n counts (changing k f) (changed_on m.cluster rises up_to k f keeps more)
+
+  -- and the opener has a handle of it
+  entry_given : (k : ℕ) (f : Entry → Entry) → KeepsIdentity f → ((e : Entry) → OneMore e (f e)) → Counts (with_given s k (record_step (changing k f) m)) (n + 1)
+  entry_given k f keeps more =
+      let then_machine = record_step (changing k f) m in
+      tables_on m n counts then_machine (entry_changed k f keeps more) s.call.actor (handle_given (asked s.op) k (creation_flags_of (entry_of k then_machine.cluster.entries))) (CountsOne-given (asked s.op) k (creation_flags_of (entry_of k then_machine.cluster.entries)) (m.tables s.call.actor))
+
+  -- an iteration is started, or goes on
+  started_counts : (k r : ℕ) → Counts (with_started s k r m) (n + 1)
+  started_counts k r =
+      let chosen_by : Choice → List (List ℕ) = λ choice. chosen_at choice m.cluster.moment (seen_at m k r) in
+      tables_on m n counts m (more m n counts) s.call.actor (started (asked s.op) s.kept.room chosen_by) (CountsOne-started (asked s.op) s.kept.room chosen_by (m.tables s.call.actor))
+
+  gone_on_counts : (k r : ℕ) → Counts (with_gone_on s k r m) (n + 1)
+  gone_on_counts k r =
+      let next = given_at (ids_asked m s) m.cluster.moment (seen_at m k r) in
+      tables_on m n counts m (more m n counts) s.call.actor (gone_on (asked s.op) next) (CountsOne-gone_on (asked s.op) next (m.tables s.call.actor))
+
+  changed_counts : (verb : Verb) (k r : Option ℕ) (reply : StepReply) → Counts (changed m s verb k r reply) (n + 1)
+  changed_counts verbs.Enter k r reply = ok_on m n counts reply _ (some_on m n counts r _ (λ r. on_step m n counts (entered (client_of s.call) r s.call.number) (record { rises = rises; last = omega arith; few = (same_on m.cluster rises up_to).few })))
+  changed_counts verbs.Leave k r reply = ok_on m n counts reply _ (tables_on m n counts _ (on_step m n counts (departed (client_of s.call)) (departed_on m.cluster rises up_to (client_of s.call))) s.call.actor emptied (record { handles = omega arith; iterations = omega arith }))
+  changed_counts verbs.Create k r reply = ok_on m n counts reply _ (on_step m n counts (created_for s.call (asked s.op)) (created_for_on m.cluster rises up_to s.call (asked s.op)))
+  changed_counts verbs.Reserve k r reply = ok_on m n counts reply _ (both_on m n counts k r _ (λ k r. let c = more m n counts in record { next = c.next; last_handles = c.last_handles; last_iterations = c.last_iterations; effects = c.effects; identity = c.identity; references = c.references }))
+  changed_counts verbs.Finish k r reply = ok_on m n counts reply _ (some_on m n counts k _ (λ k. entry_given k (made_with m.cluster.up (client_of s.call)) (λ e. refl) (OneMore-made m.cluster.up (client_of s.call))))
+  changed_counts verbs.Undo k r reply = ok_on m n counts reply _ (some_on m n counts k _ (undone_on m n counts rises up_to))
+  changed_counts verbs.Open k r reply = ok_on m n counts reply _ (some_on m n counts k _ (λ k. entry_given k (referred (client_of s.call)) (λ e. refl) (OneMore-referred (client_of s.call))))
+  changed_counts verbs.Close k r reply = ok_on m n counts reply _ (some_on m n counts k _ (λ k. tables_on m n counts _ (entry_changed k (unreferred (client_of s.call) m.cluster.moment) (released-identity (client_of s.call) m.cluster.moment) (OneMore-released (client_of s.call) m.cluster.moment)) s.call.actor (closing (asked s.op)) (CountsOne-closing (asked s.op) (m.tables s.call.actor))))
+  changed_counts verbs.Unlink k r reply = ok_on m n counts reply _ (some_on m n counts k _ (λ k. entry_changed k unnamed (λ e. refl) (λ e. OneMore-fewer e (unnamed e) (λ c. omega arith))))
+  changed_counts verbs.Retain k r reply = ok_on m n counts reply _ (some_on m n counts k _ (λ k. on_step m n counts (retained_for (asked s.op) k) (retained_for_on m.cluster rises up_to (asked s.op) k)))
+  changed_counts verbs.Stage k r reply = ok_on m n counts reply _ (both_on m n counts k r _ (λ k r. replica_on m n counts k r (m.replicas k r) refl _ (λ x. omega arith)))
+  changed_counts verbs.Commit k r reply = ok_on m n counts reply _ (both_on m n counts k r _ (λ k r. replica_on m n counts k r (m.replicas k r) refl _ (committed_few (entry_of k m.cluster.entries))))
+  changed_counts verbs.Iter k r reply = ok_on m n counts reply _ (both_on m n counts k r _ started_counts)
+  changed_counts verbs.Next k r reply = ok_on m n counts reply _ (both_on m n counts k r _ gone_on_counts)
+  changed_counts verbs.Look k r reply =
+      looked_on m n counts reply _ _ (tables_on m n counts m (more m n counts) s.call.actor (closing (asked s.op)) (CountsOne-closing (asked s.op) (m.tables s.call.actor))) (without_making_on m n counts rises up_to (making_of s.call m.cluster))
+  changed_counts verb k r reply = more m n counts
 
 -- a beginning counts one number on
-ended_counts : (m : Machine) (c n : ℕ) (place : Option ℕ) → Counts m n → Counts (with_ended c place m) n
-ended_counts m c n None counts = counts
-ended_counts m c n (Some place) counts = record {
-  next = counts.next;
-  last_handles = counts.last_handles;
-  last_iterations = λ d. elim (d == c) as (λ b. (cond b (without_iteration place (m.iterations c)) (m.iterations d)).last ≤ n) [ true ↦ counts.last_iterations c | false ↦ counts.last_iterations d ];
-  effects = counts.effects;
-  identity = counts.identity;
-  references = counts.references;
-}
-
 begun_counts : (m : Machine) (call : CallId) (op : Op) (end : Option Outcome) (n : ℕ) → Counts m n → Counts (begun m call op end) (n + 1)
-begun_counts m call op end n counts = ended_counts (begun_call m call op end) (number_of call.actor) (n + 1) (ended_place end op) (record {
+begun_counts m call op end n counts = tables_on m n counts (begun_call m call op end) (record {
   next = λ a. elim (same_actor a call.actor) as (λ b. cond b (m.next call.actor + 1) (m.next a) ≤ n + 1 + 1) [ true ↦ omega (arith, counts.next call.actor) | false ↦ omega (arith, counts.next a) ];
-  last_handles = λ c. omega (arith, counts.last_handles c);
-  last_iterations = λ c. omega (arith, counts.last_iterations c);
+  last_handles = λ a. omega (arith, counts.last_handles a);
+  last_iterations = λ a. omega (arith, counts.last_iterations a);
   effects = λ k r x is. omega (arith, counts.effects k r x is);
   identity = omega arith;
   references = λ k e c is. omega (arith, counts.references k e c is);
-})
+}) call.actor (ended_at_once end (asked op)) (CountsOne-ended_at_once end (asked op) (m.tables call.actor))
 
 -- ---- any label
 

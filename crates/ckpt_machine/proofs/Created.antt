@@ -1,7 +1,6 @@
 -- A checkpoint is created: one entry more, in the making by a call that made nothing before; what holds of every other call and of every other checkpoint stays.
 use Rattle.std.proofs.Common.{◌≡◌, ℕ, ◌+◌, ◌≤◌, inl, inr, List, Option, Some, None, Bool, true, false, cond, ◌==◌, refl, sym, ap, subst, ◌∙◌, arith}
-use Rattle.std.specs.Prelude.{IsSomeAnd, IfSome, slice_index}
-use Rattle.section_iter.specs.Room.{room_declared}
+use Rattle.std.specs.Prelude.{IfSome, slice_index}
 use Rattle.std.proofs.lemmas.Bool.{eqb-true, eq-eqb}
 use Rattle.std.proofs.lemmas.List.{length-replicate}
 use Rattle.std.proofs.lemmas.Option.{same_Some}
@@ -14,16 +13,16 @@ use Rattle.cluster_record.specs.DueOpen.{OpenState}
 use Rattle.cluster_record.specs.Calls.{put_actor}
 use Rattle.cluster_record.specs.RecordState.{RecordState, entry_of, identity_of, complete_of, new_entry, created_as}
 use Rattle.cluster_record.proofs.IdentityLaws.{entry_of-beyond, AllUpTo-push, IdentitiesRise-push}
-use Rattle.ckpt_machine.specs.Drivers.{Driver}
 use Rattle.ckpt_machine.specs.Drivers as drivers
 use Rattle.ckpt_machine.specs.Entries.{WasMade}
-use Rattle.ckpt_machine.specs.InHand.{IsMakingIn, IsInPlace, IsInHand}
+use Rattle.ckpt_machine.specs.InHand.{IsMakingIn, IsInHand}
 use Rattle.ckpt_machine.specs.Invariant.{IsMaker, IsGoodIn, InvariantIn}
 use Rattle.ckpt_machine.specs.Machine.{Machine, CallState}
 use Rattle.ckpt_machine.specs.Steps.{driver_of, with_record, replica_under, reservation_under, opened_state}
-use Rattle.ckpt_machine.specs.Shape.{Shape, IsCompleteOn, IsShaped, IsOwner}
+use Rattle.ckpt_machine.specs.Shape.{Shape, IsCompleteOn}
 use Rattle.ckpt_machine.proofs.NodeLists.{slice_index-replicate}
 use Rattle.ckpt_machine.proofs.EntryLists.{entry_of-given, find_key-push, AllStay-push}
+use Rattle.ckpt_machine.proofs.OtherCalls.{LooksAlike, making_still, IsInHand-alike, IsGoodIn-alike, IsLaterEntry-refl}
 use Rattle.ckpt_machine.proofs.OptionLemmas.{IsSomeAnd-at, IsSomeAnd-from}
 use Rattle.ckpt_machine.proofs.ReplicaSteps.{put_actor-cases, put_actor-here, put_actor-other}
 use Rattle.ckpt_machine.proofs.PlainCalls.{is_plain, owner_apart, maker_apart}
@@ -85,14 +84,6 @@ module _ (m : Machine) (shapes : ℕ → Shape) (inv : InvariantIn shapes m) (s 
 
   -- ---- checkpoints
 
-  -- a slot has its owner still
-  IsOwner-then : (j : ℕ) (sh : Shape) (d : CallId) → IsOwner m j sh d → IsOwner then_machine j sh d
-  IsOwner-then j sh d own = record { state = own.state; in_hand = put_actor-other m.in_hand s.call.actor (Some w) d.actor (owner_apart m shapes inv s held plain j sh d own) ∙ own.in_hand; call_is = own.call_is; driver = own.driver; driver_is = own.driver_is; ckpt = own.ckpt; phase = own.phase }
-
-  -- a checkpoint in the making has its maker still
-  IsMaker-then : (j : ℕ) (d : CallId) → IsMaker m j d → IsMaker then_machine j d
-  IsMaker-then j d own = record { state = own.state; in_hand = put_actor-other m.in_hand s.call.actor (Some w) d.actor (maker_apart m shapes inv s held plain j d own) ∙ own.in_hand; call_is = own.call_is; driver = own.driver; driver_is = own.driver_is; making = own.making; making_is = own.making_is; ckpt = own.ckpt }
-
   -- the call is the maker of the new one
   maker_new : IsMaker then_machine next s.call
   maker_new = record { state = w; in_hand = put_actor-here m.in_hand s.call.actor (Some w); call_is = call_is; driver = v; driver_is = driver_is; making = making; making_is = makes; ckpt = ckpt }
@@ -106,17 +97,8 @@ module _ (m : Machine) (shapes : ℕ → Shape) (inv : InvariantIn shapes m) (s 
 
   -- a checkpoint that was there is as it was
   IsGoodIn-then : (j : ℕ) (sh : Shape) (e : Entry) (maker : Option CallId) → entry_of j m.cluster.entries ≡ Some e → IsGoodIn m j sh e maker → IsGoodIn then_machine j sh e maker
-  IsGoodIn-then j sh e None found was = record {
-    nodes = was.nodes;
-    some = was.some;
-    active = was.active;
-    replicas = λ r there. subst (λ o. IsSomeAnd o (IsShaped sh (sh.owners r))) (sym (replica_other j r e found there)) (was.replicas r there);
-    fits = was.fits;
-    complete = was.complete;
-    lowest = was.lowest;
-    owned = λ r d owns. IsOwner-then j sh d (was.owned r d owns);
-  }
-  IsGoodIn-then j sh e (Some d) found was = (was.0, IsMaker-then j d was.1)
+  IsGoodIn-then j sh e maker found was = IsGoodIn-alike m then_machine j sh e e (IsLaterEntry-refl e) (λ r there. replica_other j r e found there)
+      (λ d own. put_actor-other m.in_hand s.call.actor (Some w) d.actor (owner_apart m shapes inv s held plain j sh d own)) (λ d own. put_actor-other m.in_hand s.call.actor (Some w) d.actor (maker_apart m shapes inv s held plain j d own)) maker was
 
   -- the new one is as it was created
   good_new : (sh : Shape) → IsGoodIn then_machine next sh new (Some s.call)
@@ -140,38 +122,17 @@ module _ (m : Machine) (shapes : ℕ → Shape) (inv : InvariantIn shapes m) (s 
               ∙ at.reserved r had;
         }
 
-    -- where it makes something
-    IfSome-making : (x : Option Making) → IfSome x (IsMakingIn m z) → IfSome x (IsMakingIn then_machine z)
-    IfSome-making None at = tt
-    IfSome-making (Some x) at = making_then x at
-
-    -- a call is where it was
-    IsIn-then : (d : Driver) → IsInPlace m shapes z d → IsInPlace then_machine shapes z d
-    IsIn-then (drivers.Enter r) at = record { op = at.op; client = at.client; up = at.up; not_live = at.not_live }
-    IsIn-then (drivers.Open x) at = record { caller = at.caller; client = at.client; within = at.within; node = at.node; built = at.built; asks = at.asks; named = at.named; asked = at.asked; deadline = at.deadline; making = IfSome-making x.making at.making; given = at.given; room = at.room }
-    IsIn-then (drivers.Update u) at =
-        let apart = given_apart u.ckpt at.made.given in
-        record {
-          call = at.call;
-          update = at.update;
-          kept = at.kept;
-          made = WasMade-then u.ckpt at.made;
-          nodes = at.nodes;
-          owns = λ e there. at.owns e (sym (entry_other u.ckpt apart) ∙ there);
-          some = λ e there. at.some e (sym (entry_other u.ckpt apart) ∙ there);
-        }
-    IsIn-then (drivers.Active x) at = record {
-      call = at.call;
-      kind = at.kind;
-      made = WasMade-then x.ckpt at.made;
-      kept = at.kept;
-      room = subst (λ o. IfSome o (λ (e : Entry). z.kept.room ≡ room_declared e.attributes)) (sym (entry_other x.ckpt (given_apart x.ckpt at.made.given))) at.room;
-      handle = at.handle;
+    -- all that it looks at is as it was
+    looks_then : LooksAlike m then_machine shapes shapes z
+    looks_then = record {
+      up = λ r up. up;
+      lives = refl;
+      tables = refl;
+      making = λ x at. making_still m then_machine z x making_then at;
+      made = WasMade-then;
+      later = λ j was e found. (e, sym (entry_other j (given_apart j was.given)) ∙ found, refl, refl);
+      owners = λ j was r. refl;
     }
-    IsIn-then drivers.Leave at = record { op = at.op; live = at.live }
-    IsIn-then (drivers.Close k) at = record { op = at.op; kept = at.kept; handle = at.handle }
-    IsIn-then (drivers.Unlink name) at = at
-    IsIn-then (drivers.Retain k duration) at = record { op = at.op; from_zero = at.from_zero; kept = at.kept; made = WasMade-then k at.made }
 
   -- ---- the whole
 
@@ -184,11 +145,11 @@ module _ (m : Machine) (shapes : ℕ → Shape) (inv : InvariantIn shapes m) (s 
     up_to = AllUpTo-push m.cluster.last_identity m.cluster.entries new inv.up_to refl;
     swept = AllStay-push m.cluster.moment m.cluster.entries new inv.swept refl;
     entries = λ j e found. by_test j e found (j == next) refl;
-    handles = λ d h among. let was = inv.handles d h among in (was.0, WasMade-then h.id was.1);
+    handles = λ b h among. WasMade-then h.id (inv.handles b h among);
     clients = inv.clients;
     hands = λ b z there. elim (put_actor-cases m.in_hand s.call.actor (Some w) b z there) [
       | inl here ↦ subst (λ c. IsInHand then_machine shapes c z) (sym here.0) (subst (IsInHand then_machine shapes s.call.actor) (same_Some w z here.1) own)
-      | inr other ↦ (let was = inv.hands b z other.1 in record { actor = was.actor; client = was.client; number = was.number; live = was.live; here = IsIn-then z (driver_of z) was.here })
+      | inr other ↦ (let was = inv.hands b z other.1 in IsInHand-alike m then_machine shapes shapes z (looks_then z) b (λ live. live) was.number was)
     ];
   }
     where

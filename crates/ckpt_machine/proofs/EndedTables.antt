@@ -1,23 +1,30 @@
--- A client whose call has ended: its tables change, and what holds of the calls of others stays.
-use Rattle.std.proofs.lemmas.List.Elements.{Contains-append_left, Contains-append_right, Contains-append_cases}
-use Rattle.std.proofs.Common.{filter, ◌∷◌, ◌≡◌, ℕ, ◌≤◌, inl, inr, List, [], Option, Some, None, true, false, cond, ◌==◌, refl, ap, subst, ◌∙◌, arith, Bool}
+-- What a call makes of its client's tables, once it has ended: no handle of a checkpoint that was not made comes to them.
+use Rattle.std.proofs.lemmas.List.Elements.{Contains-append_left, Contains-append_right, Contains-append_cases, Contains-push_cases}
+use Rattle.std.proofs.Common.{filter, ◌∷◌, ◌≡◌, ◌⊎◌, ℕ, inl, inr, List, [], Option, Some, None, true, false, cond, ◌==◌, refl, sym, ap, subst, ◌∙◌, arith, Bool}
 use Rattle.std.specs.Prelude.{Contains}
+use Rattle.ckpt_types.specs.declared.answers.Outcome.{Outcome}
+use Rattle.ckpt_types.specs.declared.answers.Outcome.TheVariants as outcomes
 use Rattle.ckpt_types.specs.declared.identities.ActorName.{ActorName}
 use Rattle.ckpt_types.specs.declared.identities.ActorName.TheVariants.{Client, Node}
-use Rattle.client_handles.specs.ClientState.{handle_number, goes_over}
-use Rattle.client_handles.specs.Numbered.{without}
-use Rattle.client_handles.specs.declared.handle_view.HandleView.{HandleView}
-use Rattle.cluster_record.specs.Calls.{IsClient, same_actor, number_of, client_of, put_actor}
-use Rattle.cluster_record.specs.Places.{put, find_key}
-use Rattle.cluster_record.specs.RecordState.{RecordState, client_key, is_live, is_live_from}
 use Rattle.ckpt_types.specs.declared.identities.CallId.{CallId}
+use Rattle.ckpt_types.specs.declared.sections.Choice.{Choice}
+use Rattle.ckpt_types.specs.Reads.{NextGiven}
+use Rattle.section_iter.specs.KeptIds.{KeptIds}
+use Rattle.section_iter.specs.declared.room.Room.{Room}
+use Rattle.client_handles.specs.ClientState.{ClientState, emptied}
+use Rattle.client_handles.specs.declared.handle_view.HandleView.{HandleView}
+use Rattle.cluster_record.specs.Calls.{IsClient, same_actor, number_of, client_of}
+use Rattle.cluster_record.specs.Places.{find_key}
+use Rattle.cluster_record.specs.RecordState.{RecordState, client_key, is_live, is_live_from}
+use Rattle.ckpt_types.specs.Asks.{Ask}
+use Rattle.ckpt_types.specs.Asks as asks
 use Rattle.ckpt_machine.specs.Entries.{WasMade}
 use Rattle.ckpt_machine.specs.Invariant.{InvariantIn}
-use Rattle.ckpt_machine.specs.Machine.{IterationTable, Machine, CallState}
-use Rattle.ckpt_machine.specs.Steps.{without_handle, without_handles}
+use Rattle.ckpt_machine.specs.Machine.{Machine, CallState}
+use Rattle.ckpt_machine.specs.Steps.{with_tables}
+use Rattle.ckpt_machine.specs.Tables.{handle_given, with_iteration, started, with_next, gone_on, closing, ended_at_once}
 use Rattle.ckpt_machine.specs.Shape.{Shape}
-use Rattle.ckpt_machine.proofs.ReplicaSteps.{put_actor-cases}
-use Rattle.ckpt_machine.proofs.ClientTables.{tables_keep}
+use Rattle.ckpt_machine.proofs.ClientTables.{tables_keep, fewer_keep}
 
 -- two clients have two numbers
 pub other_number : (a b : ActorName) → IsClient a → IsClient b → same_actor a b ≡ false → (number_of a == number_of b) ≡ false
@@ -26,9 +33,9 @@ other_number (Client a) (Node b) is also other = absurd also
 other_number (Node a) b is also other = absurd is
 
 -- a client is that of its number
-pub client_is : (a : ActorName) → IsClient a → a ≡ Client (number_of a)
-client_is (Client c) is = refl
-client_is (Node r) is = absurd is
+pub client_by_number : (a : ActorName) → IsClient a → a ≡ Client (number_of a)
+client_by_number (Client c) is = refl
+client_by_number (Node r) is = absurd is
 
 -- a call is live as its client is
 pub live_alike : (R S : RecordState) (call : CallId) → IsClient call.actor → find_key client_key (client_of call) S.clients ≡ find_key client_key (client_of call) R.clients → is_live S call ≡ is_live R call
@@ -43,17 +50,6 @@ other_client m shapes b inv client a z other at =
     let was = inv.hands a z at in
     (was.client, ap (λ (x : ActorName). number_of x == number_of b) was.actor ∙ other_number a b (subst IsClient was.actor was.client) client other)
 
--- no call of this client is in hand
-abbrev pub IsIdle : Machine → ℕ → Type 0
-IsIdle m c = (a : ActorName) (z : CallState) → m.in_hand a ≡ Some z → (number_of a == c) ≡ false
-
--- one whose call is taken out of its hand has none
-pub others_idle : (m : Machine) (shapes : ℕ → Shape) (a : ActorName) → InvariantIn shapes m → IsClient a → (b : ActorName) (z : CallState) → put_actor m.in_hand a None b ≡ Some z → (number_of b == number_of a) ≡ false
-others_idle m shapes a inv client b z left = elim (put_actor-cases m.in_hand a None b z left) [
-  | inl here ↦ absurd (let w : None ≡ Some z = here.1 in cc w)
-  | inr other ↦ (let was = inv.hands b z other.1 in other_number b a (subst IsClient was.actor was.client) client other.0)
-]
-
 -- what is in a list without some is in the list
 pub Contains-filter : {X : Type 0} (p : X → Bool) (xs : List X) (h : X) → Contains (filter p xs) h → Contains xs h
 Contains-filter p [] h among = among
@@ -62,28 +58,68 @@ Contains-filter p (x ∷ xs) h among = elim (p x) as (λ b. Contains (cond b (x 
   | false ↦ λ among. Contains-append_right (x ∷ []) xs h (Contains-filter p xs h among)
 ] among
 
--- ---- its tables
+-- ---- the handles after each change
 
-module _ (m : Machine) (shapes : ℕ → Shape) (inv : InvariantIn shapes m) (c : ℕ) (idle : IsIdle m c) where
-  put_other : {X : Type 0} (f : ℕ → X) (x : X) (d : ℕ) → (d == c) ≡ false → put f c x d ≡ f d
-  put_other f x d other = ap (λ b. cond b x (f d)) other
+-- those that a close leaves were there
+pub closing-handles : (ask : Ask) (t : ClientState) (h : HandleView) → Contains (closing ask t).handles h → Contains t.handles h
+closing-handles (asks.Close place) t h among = Contains-filter _ t.handles h among
+closing-handles ask t h among = among
 
-  -- it has fewer handles, and another table of iterations
-  fewer_keep : (fewer : List HandleView) (table : IterationTable) → ((h : HandleView) → Contains fewer h → Contains (m.handles c) h) → InvariantIn shapes (record m { handles = put m.handles c fewer; iterations = put m.iterations c table })
-  fewer_keep fewer table among_them = tables_keep m shapes inv c (put m.handles c fewer) m.places m.last_handles (put m.iterations c table)
-      (λ d other. put_other m.handles fewer d other) (λ d p other. refl) (λ d other. put_other m.iterations table d other) idle
-      (λ d h. elim (d == c) as (λ b. Contains (cond b fewer (m.handles d)) h → (1 ≤ h.handle) × WasMade m.cluster h.id) [ true ↦ λ among. inv.handles c h (among_them h among) | false ↦ λ among. inv.handles d h among ])
+-- a started iteration leaves them
+with_iteration-handles : (iteration : ℕ) (o : Option HandleView) (kept : KeptIds) (t : ClientState) → (with_iteration iteration o kept t).handles ≡ t.handles
+with_iteration-handles iteration None kept t = refl
+with_iteration-handles iteration (Some x) kept t = refl
 
-  -- without a handle
-  pub without_handle_keeps : (o : Option HandleView) → InvariantIn shapes (without_handle m c o)
-  without_handle_keeps None = inv
-  without_handle_keeps (Some h) = fewer_keep (without handle_number h.handle (m.handles c)) (record (m.iterations c) { begun = without goes_over h.handle (m.iterations c).begun }) (λ x. Contains-filter _ (m.handles c) x)
+pub started-handles : (ask : Ask) (room : Room) (chosen_by : Choice → List (List ℕ)) (t : ClientState) → (started ask room chosen_by t).handles ≡ t.handles
+started-handles (asks.Iterate iteration place chosen time) room chosen_by t = with_iteration-handles iteration _ _ t
+started-handles ask room chosen_by t = refl
+
+-- so does one that goes on
+with_next-handles : (iteration : ℕ) (kept : Option KeptIds) (next : Option NextGiven) (t : ClientState) → (with_next iteration kept next t).handles ≡ t.handles
+with_next-handles iteration (Some kept) (Some next) t = refl
+with_next-handles iteration kept next t = refl
+
+pub gone_on-handles : (ask : Ask) (next : Option NextGiven) (t : ClientState) → (gone_on ask next t).handles ≡ t.handles
+gone_on-handles (asks.Next iteration) next t = with_next-handles iteration _ next t
+gone_on-handles ask next t = refl
+
+-- and one that ends at once
+pub ended_at_once-handles : (end : Option Outcome) (ask : Ask) (t : ClientState) → (ended_at_once end ask t).handles ≡ t.handles
+ended_at_once-handles (Some (outcomes.Done answer)) (asks.EndIteration iteration) t = refl
+ended_at_once-handles end ask t = refl
+
+-- one that is given more is of this checkpoint
+pub given-handles : (ask : Ask) (k creation_flags : ℕ) (t : ClientState) (h : HandleView) → Contains (handle_given ask k creation_flags t).handles h → Contains t.handles h ⊎ (h.id ≡ k)
+given-handles (asks.Open place name flags timeout a) k creation_flags t h among = elim (Contains-push_cases t.handles _ h among) [ inl was ↦ inl was | inr new ↦ inr (ap (λ (x : HandleView). x.id) (sym new)) ]
+given-handles ask k creation_flags t h among = inl among
+
+-- ---- the invariant
+
+module _ (m : Machine) (shapes : ℕ → Shape) (inv : InvariantIn shapes m) (a : ActorName) (idle : m.in_hand a ≡ None) where
+  -- where the handles stay
+  pub same_handles_keep : (change : ClientState → ClientState) → (change (m.tables a)).handles ≡ (m.tables a).handles → InvariantIn shapes (with_tables a change m)
+  same_handles_keep change same = fewer_keep m shapes inv a idle change (λ h. subst (λ (hs : List HandleView). Contains hs h → Contains (m.tables a).handles h) (sym same) (λ among. among))
+
+  -- without a handle that was closed
+  pub closing_keeps : (ask : Ask) → InvariantIn shapes (with_tables a (closing ask) m)
+  closing_keeps ask = fewer_keep m shapes inv a idle (closing ask) (closing-handles ask (m.tables a))
 
   -- with none
-  pub with_none_keeps : InvariantIn shapes (without_handles c m)
-  with_none_keeps = fewer_keep [] (record (m.iterations c) { begun = [] }) (λ x among. let (i, below, is) = among in absurd (omega (arith, below)))
+  pub emptied_keeps : InvariantIn shapes (with_tables a emptied m)
+  emptied_keeps = fewer_keep m shapes inv a idle emptied (λ h among. let (i, below, is) = among in absurd (omega (arith, below)))
 
-  -- with another table of iterations
-  pub iterations_keep : (table : IterationTable) → InvariantIn shapes (record m { iterations = put m.iterations c table })
-  iterations_keep table = tables_keep m shapes inv c m.handles m.places m.last_handles (put m.iterations c table)
-      (λ d other. refl) (λ d p other. refl) (λ d other. put_other m.iterations table d other) idle inv.handles
+  -- with an iteration that has started
+  pub started_keeps : (ask : Ask) (room : Room) (chosen_by : Choice → List (List ℕ)) → InvariantIn shapes (with_tables a (started ask room chosen_by) m)
+  started_keeps ask room chosen_by = same_handles_keep (started ask room chosen_by) (started-handles ask room chosen_by (m.tables a))
+
+  -- with one that has gone on
+  pub gone_on_keeps : (ask : Ask) (next : Option NextGiven) → InvariantIn shapes (with_tables a (gone_on ask next) m)
+  gone_on_keeps ask next = same_handles_keep (gone_on ask next) (gone_on-handles ask next (m.tables a))
+
+  -- with one that has ended
+  pub ended_at_once_keeps : (end : Option Outcome) (ask : Ask) → InvariantIn shapes (with_tables a (ended_at_once end ask) m)
+  ended_at_once_keeps end ask = same_handles_keep (ended_at_once end ask) (ended_at_once-handles end ask (m.tables a))
+
+  -- with a handle of a checkpoint that was made
+  pub given_keeps : (ask : Ask) (k creation_flags : ℕ) → WasMade m.cluster k → InvariantIn shapes (with_tables a (handle_given ask k creation_flags) m)
+  given_keeps ask k creation_flags made = tables_keep m shapes inv a idle (handle_given ask k creation_flags) (λ h among. elim (given-handles ask k creation_flags (m.tables a) h among) [ inl was ↦ inv.handles a h was | inr same ↦ subst (WasMade m.cluster) (sym same) made ])

@@ -3,49 +3,37 @@ use Rattle.std.proofs.Common.{◌≡◌, ℕ, ◌<◌, ◌≤◌, inl, inr, leng
 use Rattle.std.specs.Prelude.{is_some, IfSome, slice_index}
 use Rattle.std.proofs.lemmas.Bool.{eqb-true, leb-true, leb-false}
 use Rattle.ckpt_types.specs.declared.ais_error.AisError.TheVariants.{NoResources}
-use Rattle.ckpt_types.specs.declared.answers.Answer.TheVariants as answers
 use Rattle.ckpt_types.specs.declared.answers.Cause.TheVariants.{Count}
-use Rattle.ckpt_types.specs.declared.answers.Outcome.TheVariants.{Done, Refused, NoMemory}
+use Rattle.ckpt_types.specs.declared.answers.Outcome.TheVariants.{Refused}
 use Rattle.ckpt_types.specs.declared.identities.ActorName.TheVariants.{Client}
-use Rattle.ckpt_types.specs.declared.operation.Op.{Op}
-use Rattle.ckpt_types.specs.declared.operation.Op.TheVariants as ops
 use Rattle.node_msgs.specs.declared.next.RecordStep.TheVariants as events
 use Rattle.node_msgs.specs.declared.next.Next.TheVariants.{Event, End}
-use Rattle.node_msgs.specs.declared.steps.Verb.TheVariants as verbs
-use Rattle.node_msgs.specs.declared.steps.StepReply.TheVariants as words
 use Rattle.cluster_record.specs.declared.clients.LiveClient.{LiveClient}
 use Rattle.cluster_record.specs.Calls.{client_of}
+use Rattle.cluster_record.specs.DueOnce.{Enter, enter_next}
 use Rattle.cluster_record.specs.Places.{find_key}
-use Rattle.cluster_record.specs.RecordState.{RecordState, client_key, entered, swept}
-use Rattle.ckpt_machine.specs.Drivers.{Rooms}
+use Rattle.cluster_record.specs.RecordState.{RecordState, client_key, entered}
 use Rattle.ckpt_machine.specs.Drivers as drivers
-use Rattle.ckpt_machine.specs.Driving.{driver_next, event_after}
-use Rattle.ckpt_machine.specs.InHand.{IsClientOf, IsEnterAt, IsInPlace}
+use Rattle.ckpt_machine.specs.InHand.{IsEnterAt, IsInPlace}
 use Rattle.ckpt_machine.specs.Invariant.{IsGoodClient, InvariantIn, Invariant}
 use Rattle.ckpt_machine.specs.Machine.{Machine, CallState}
-use Rattle.ckpt_machine.specs.Steps.{Told, IsDone, IsEvent, driver_of, with_record, stepped}
-use Rattle.ckpt_machine.specs.Guards.{LookRefused, MayEnter, EnterRow}
+use Rattle.ckpt_machine.specs.Steps.{Told, IsDone, IsEvent, driver_of, record_step}
+use Rattle.ckpt_machine.specs.Guards.{LookRefused, MayEnter}
 use Rattle.ckpt_machine.specs.Shape.{Shape}
-use Rattle.ckpt_machine.proofs.EndedTables.{live_alike, client_is, other_client}
+use Rattle.ckpt_machine.proofs.EndedTables.{live_alike, client_by_number, other_client}
 use Rattle.ckpt_machine.proofs.Moment.{IsLaterEntry-refl}
-use Rattle.ckpt_machine.proofs.PlainCalls.{is_plain, plain_ends, look_goes, swept_keeps}
+use Rattle.ckpt_machine.proofs.PlainCalls.{is_plain, ending, plain_ends, look_goes, swept_keeps}
 use Rattle.ckpt_machine.proofs.DueStep.{Goes}
 use Rattle.ckpt_machine.proofs.StepLabels.{IsEvent-told}
 use Rattle.ckpt_machine.proofs.EntryLists.{find_key-push}
 use Rattle.ckpt_machine.proofs.NodeLists.{is_up-none}
-use Rattle.ckpt_machine.proofs.Operations.{OfClient-is}
-
--- with no room for a client it is refused
-LookRefused-client : (m : Machine) (s : CallState) (op : Op) (r : ℕ) → IsClientOf op r → 64 ≤ length m.cluster.clients → LookRefused m s op NoResources (Count 64)
-LookRefused-client m s (ops.Client q version callbacks) r is full = (full, refl)
-LookRefused-client m s op r is full = absurd is
 
 -- what is not some is none
 none_of : {X : Type 0} (o : Option X) → is_some o ≡ false → o ≡ None
 none_of None is = refl
 none_of (Some x) is = absurd (cc is)
 
-module _ (m : Machine) (shapes : ℕ → Shape) (inv : InvariantIn shapes m) (s : CallState) (r : ℕ) (held : m.in_hand s.call.actor ≡ Some s) (is : driver_of s ≡ drivers.Enter r) where
+module _ (m : Machine) (shapes : ℕ → Shape) (inv : InvariantIn shapes m) (s : CallState) (r : ℕ) (held : m.in_hand s.call.actor ≡ Some s) (is : driver_of s ≡ drivers.Once (Enter r)) where
   abbrev c : ℕ
   c = client_of s.call
 
@@ -66,10 +54,10 @@ module _ (m : Machine) (shapes : ℕ → Shape) (inv : InvariantIn shapes m) (s 
 
   -- its number was given
   given : s.call.number < m.next (Client c)
-  given = subst (λ a. s.call.number < m.next a) (client_is s.call.actor at_enter.client) (inv.hands s.call.actor s held).number
+  given = subst (λ a. s.call.number < m.next a) (client_by_number s.call.actor at_enter.client) (inv.hands s.call.actor s held).number
 
   -- the client is live
-  enter_keeps : Invariant (stepped (with_record m (swept R)) s verbs.Enter None (Some r) words.Ok (Some (Done answers.Version)))
+  enter_keeps : Invariant (ending s (record_step (entered c r s.call.number) m))
   enter_keeps = record {
     shapes = shapes;
     holds = swept_keeps m shapes inv s held (ap is_plain is) R inv.rises inv.up_to refl refl (λ k f found. (f, found, IsLaterEntry-refl f))
@@ -88,23 +76,27 @@ module _ (m : Machine) (shapes : ℕ → Shape) (inv : InvariantIn shapes m) (s 
 
   -- it becomes live, or is refused memory
   event_goes : (t : Told) → length m.cluster.clients < 64 → IsEvent m s events.Enter t → Goes m s (driver_of s) t
-  event_goes t room event = elim (IsEvent-told m s events.Enter t (drivers.Enter r) event is refl) [
+  event_goes t room event = elim (IsEvent-told m s events.Enter t (drivers.Once (Enter r)) event is refl) [
     | inl ok ↦ subst (Goes m s (driver_of s)) (sym ok) (record {
-      row = (OfClient-is s.op r (EnterRow m c r words.Ok (Some (Done answers.Version))) at_enter.op (may_enter room, refl), refl);
-      holds = subst (λ R. Invariant (stepped (with_record m R) s verbs.Enter None (Some r) words.Ok (Some (Done answers.Version)))) (sym (ap (λ d. event_after s.call d events.Enter m.cluster) is)) enter_keeps;
+      row = ((at_enter.version, at_enter.callbacks, at_enter.asks, (may_enter room, refl)), refl);
+      holds = enter_keeps;
       nearer = λ none. absurd (cc none);
     })
     | inr memory ↦ subst (Goes m s (driver_of s)) (sym memory.1) (record {
-      row = (OfClient-is s.op r (EnterRow m c r words.Memory (Some NoMemory)) at_enter.op (may_enter room, refl), refl);
+      row = ((at_enter.version, at_enter.callbacks, at_enter.asks, (may_enter room, refl)), refl);
       holds = record { shapes = shapes; holds = plain_ends m shapes inv s held (ap is_plain is) };
       nearer = λ none. absurd (cc none);
     })
   ]
 
+  -- with no room for a client it is refused
+  full_goes : (t : Told) → 64 ≤ length m.cluster.clients → IsDone m s (End (Refused NoResources (Count 64))) t → Goes m s (driver_of s) t
+  full_goes t full done = look_goes m shapes inv s held (ap is_plain is) NoResources (Count 64) t (subst (λ ask. LookRefused m s ask NoResources (Count 64)) (sym at_enter.asks) (full, refl)) done
+
   -- the next step of an Initialize
-  pub enter_goes : (rooms : Rooms) (t : Told) → IsDone m s (driver_next m.cluster rooms (drivers.Enter r)) t → Goes m s (driver_of s) t
-  enter_goes rooms t done =
+  pub enter_goes : (t : Told) → IsDone m s (enter_next m.cluster) t → Goes m s (driver_of s) t
+  enter_goes t done =
       elim (nat_le 64 (length m.cluster.clients)) as (λ b. nat_le 64 (length m.cluster.clients) ≡ b → IsDone m s (cond b (End (Refused NoResources (Count 64))) (Event events.Enter)) t → Goes m s (driver_of s) t) [
-        | true ↦ λ full done. look_goes m shapes inv s held (ap is_plain is) NoResources (Count 64) t (LookRefused-client m s s.op r at_enter.op (leb-true 64 (length m.cluster.clients) full)) done
+        | true ↦ λ full done. full_goes t (leb-true 64 (length m.cluster.clients) full) done
         | false ↦ λ room done. event_goes t (leb-false 64 (length m.cluster.clients) room) done
       ] refl done

@@ -1,7 +1,6 @@
 -- A making is finished on all nodes that are up: the checkpoint is made there, and the calls of others are where they were.
 use Rattle.std.proofs.Common.{◌≡◌, ◌≢◌, ℕ, inl, inr, [], length, Option, Some, None, Bool, true, false, cond, ◌==◌, refl, sym, ap, subst, ◌∙◌}
 use Rattle.std.specs.Prelude.{IsSome, IsSomeAnd, IfSome, slice_index}
-use Rattle.section_iter.specs.Room.{room_declared}
 use Rattle.std.proofs.lemmas.Bool.{eqb-true, eq-eqb}
 use Rattle.std.proofs.lemmas.Option.{same_Some}
 use Rattle.ckpt_types.specs.declared.identities.CallId.{CallId}
@@ -14,15 +13,15 @@ use Rattle.cluster_record.specs.Calls.{same_actor, put_actor}
 use Rattle.cluster_record.specs.Places.{put, change_key}
 use Rattle.cluster_record.specs.RecordState.{RecordState, entry_of, identity_of, complete_of, first_complete, made_with, finished}
 use Rattle.cluster_record.proofs.IdentityLaws.{IdentitiesRise-change_key, AllUpTo-change_key}
-use Rattle.ckpt_machine.specs.Drivers.{Driver}
 use Rattle.ckpt_machine.specs.Drivers as drivers
 use Rattle.ckpt_machine.specs.Entries.{AllStay, WasMade}
-use Rattle.ckpt_machine.specs.InHand.{IsMakingIn, IsInPlace}
+use Rattle.ckpt_machine.specs.InHand.{IsMakingIn}
 use Rattle.ckpt_machine.specs.Invariant.{IsMaker, IsGoodIn, InvariantIn}
 use Rattle.ckpt_machine.specs.Machine.{Machine, CallState}
 use Rattle.ckpt_machine.specs.Steps.{driver_of, with_record, replica_under, reservation_under, opened_state}
 use Rattle.ckpt_machine.specs.Shape.{Shape, IsCompleteOn, IsShaped, is_owner, IsOwner, IsSpread}
 use Rattle.ckpt_machine.proofs.ReplicaSteps.{put_actor-cases, put_actor-other}
+use Rattle.ckpt_machine.proofs.OtherCalls.{LooksAlike, making_still, IsInHand-alike, IsGoodIn-alike, IsLaterEntry-refl}
 use Rattle.ckpt_machine.proofs.OptionLemmas.{IsSomeAnd-at, IsSomeAnd-from}
 use Rattle.ckpt_machine.proofs.Actors.{same_actor-refl, same_actor-true}
 use Rattle.ckpt_machine.proofs.EntryLists.{find_key-change_key}
@@ -85,8 +84,8 @@ module _ (m : Machine) (shapes : ℕ → Shape) (inv : InvariantIn shapes m) (s 
       let apart : drivers.Update own.driver ≡ drivers.Open o = sym own.driver_is ∙ ap driver_of state ∙ is in
       cc apart
 
-  IsOwner-then : (j : ℕ) (sh : Shape) (d : CallId) → IsOwner m j sh d → IsOwner then_machine j sh d
-  IsOwner-then j sh d own = record { state = own.state; in_hand = put_actor-other m.in_hand s.call.actor None d.actor (other_actor d own.state own.in_hand own.call_is (owner_other j sh d own)) ∙ own.in_hand; call_is = own.call_is; driver = own.driver; driver_is = own.driver_is; ckpt = own.ckpt; phase = own.phase }
+  owner_stays : (j : ℕ) (sh : Shape) (d : CallId) → IsOwner m j sh d → then_machine.in_hand d.actor ≡ m.in_hand d.actor
+  owner_stays j sh d own = put_actor-other m.in_hand s.call.actor None d.actor (other_actor d own.state own.in_hand own.call_is (owner_other j sh d own))
 
   -- who makes another checkpoint is another call
   maker_other : (j : ℕ) (d : CallId) → (j == making.ckpt) ≡ false → IsMaker m j d → d ≢ s.call
@@ -98,8 +97,8 @@ module _ (m : Machine) (shapes : ℕ → Shape) (inv : InvariantIn shapes m) (s 
       let ckpt : j ≡ making.ckpt = sym own.ckpt ∙ ap (λ (x : Making). x.ckpt) (same_Some own.making making both) in
       (let w : true ≡ false = sym (eq-eqb j making.ckpt ckpt) ∙ apart in cc w)
 
-  IsMaker-then : (j : ℕ) (d : CallId) → (j == making.ckpt) ≡ false → IsMaker m j d → IsMaker then_machine j d
-  IsMaker-then j d apart own = record { state = own.state; in_hand = put_actor-other m.in_hand s.call.actor None d.actor (other_actor d own.state own.in_hand own.call_is (maker_other j d apart own)) ∙ own.in_hand; call_is = own.call_is; driver = own.driver; driver_is = own.driver_is; making = own.making; making_is = own.making_is; ckpt = own.ckpt }
+  maker_stays : (j : ℕ) (d : CallId) → (j == making.ckpt) ≡ false → IsMaker m j d → then_machine.in_hand d.actor ≡ m.in_hand d.actor
+  maker_stays j d apart own = put_actor-other m.in_hand s.call.actor None d.actor (other_actor d own.state own.in_hand own.call_is (maker_other j d apart own))
 
   -- ---- other checkpoints
 
@@ -110,17 +109,7 @@ module _ (m : Machine) (shapes : ℕ → Shape) (inv : InvariantIn shapes m) (s 
       ∙ (λ i. cond (there i) None (cond (there i) (Some (opened_state g)) (m.replicas j r)))
 
   IsGoodIn-then : (j : ℕ) (sh : Shape) (g : Entry) (maker : Option CallId) → (j == making.ckpt) ≡ false → entry_of j m.cluster.entries ≡ Some g → IsGoodIn m j sh g maker → IsGoodIn then_machine j sh g maker
-  IsGoodIn-then j sh g None other was good = record {
-    nodes = good.nodes;
-    some = good.some;
-    active = good.active;
-    replicas = λ r there. subst (λ o. IsSomeAnd o (IsShaped sh (sh.owners r))) (sym (replica_other j r g other was there)) (good.replicas r there);
-    fits = good.fits;
-    complete = good.complete;
-    lowest = good.lowest;
-    owned = λ r d owns. IsOwner-then j sh d (good.owned r d owns);
-  }
-  IsGoodIn-then j sh g (Some d) other was good = (good.0, IsMaker-then j d other good.1)
+  IsGoodIn-then j sh g maker other was good = IsGoodIn-alike m then_machine j sh g g (IsLaterEntry-refl g) (λ r there. replica_other j r g other was there) (owner_stays j sh) (λ d own. maker_stays j d other own) maker good
 
   -- ---- the checkpoint that is made
 
@@ -178,36 +167,16 @@ module _ (m : Machine) (shapes : ℕ → Shape) (inv : InvariantIn shapes m) (s 
                 let calls : Some z.call ≡ Some s.call = sym made_by ∙ ap (λ (x : Entry). x.making) g_is ∙ by in
                 absurd (other (same_Some z.call s.call calls))
 
-    IfSome-making : (w : Option Making) → IfSome w (IsMakingIn m z) → IfSome w (IsMakingIn then_machine z)
-    IfSome-making None at = tt
-    IfSome-making (Some w) at = making_then w at
-
-    IsIn-then : (d : Driver) → IsInPlace m shapes z d → IsInPlace then_machine (put shapes making.ckpt opened_shape) z d
-    IsIn-then (drivers.Enter r) at = record { op = at.op; client = at.client; up = at.up; not_live = at.not_live }
-    IsIn-then (drivers.Open v) at = record { caller = at.caller; client = at.client; within = at.within; node = at.node; built = at.built; asks = at.asks; named = at.named; asked = at.asked; deadline = at.deadline; making = IfSome-making v.making at.making; given = at.given; room = at.room }
-    IsIn-then (drivers.Update u) at =
-        let apart = not_made u.ckpt at.made in
-        record {
-          call = at.call;
-          update = at.update;
-          kept = at.kept;
-          made = WasMade-then u.ckpt at.made;
-          nodes = at.nodes;
-          owns = λ g there r full. at.owns g (sym (entry_other u.ckpt apart) ∙ there) r full ∙ ap (λ (sh : Shape). is_owner z.call (sh.owners r)) (sym (ap (λ b. cond b opened_shape (shapes u.ckpt)) apart));
-          some = λ g there. at.some g (sym (entry_other u.ckpt apart) ∙ there);
-        }
-    IsIn-then (drivers.Active v) at = record {
-      call = at.call;
-      kind = at.kind;
-      made = WasMade-then v.ckpt at.made;
-      kept = at.kept;
-      room = subst (λ o. IfSome o (λ (x : Entry). z.kept.room ≡ room_declared x.attributes)) (sym (entry_other v.ckpt (not_made v.ckpt at.made))) at.room;
-      handle = at.handle;
+    looks_then : LooksAlike m then_machine shapes (put shapes making.ckpt opened_shape) z
+    looks_then = record {
+      up = λ r up. up;
+      lives = refl;
+      tables = refl;
+      making = λ v at. making_still m then_machine z v making_then at;
+      made = WasMade-then;
+      later = λ j was g found. (g, sym (entry_other j (not_made j was)) ∙ found, refl, refl);
+      owners = λ j was r. ap (λ (sh : Shape). is_owner z.call (sh.owners r)) (ap (λ b. cond b opened_shape (shapes j)) (not_made j was));
     }
-    IsIn-then drivers.Leave at = record { op = at.op; live = at.live }
-    IsIn-then (drivers.Close j) at = record { op = at.op; kept = at.kept; handle = at.handle }
-    IsIn-then (drivers.Unlink name) at = at
-    IsIn-then (drivers.Retain j duration) at = record { op = at.op; from_zero = at.from_zero; kept = at.kept; made = WasMade-then j at.made }
 
   -- ---- the whole
 
@@ -220,17 +189,14 @@ module _ (m : Machine) (shapes : ℕ → Shape) (inv : InvariantIn shapes m) (s 
     up_to = AllUpTo-change_key (made_with m.cluster.up c) (λ x. refl) m.cluster.last_identity making.ckpt m.cluster.entries inv.up_to;
     swept = stays;
     entries = λ j g there. by_test j g there (j == making.ckpt) refl;
-    handles = λ d h among. let was = inv.handles d h among in (was.0, WasMade-then h.id was.1);
+    handles = λ b h among. WasMade-then h.id (inv.handles b h among);
     clients = inv.clients;
     hands = λ a z there. elim (put_actor-cases m.in_hand s.call.actor None a z there) [
       | inl here ↦ absurd (let w : None ≡ Some z = here.1 in cc w)
-      | inr other ↦ (let was = inv.hands a z other.1 in record {
-        actor = was.actor;
-        client = was.client;
-        number = was.number;
-        live = was.live;
-        here = IsIn-then z (λ same. (let w : true ≡ false = sym (same_actor-refl s.call.actor) ∙ ap (λ b. same_actor b s.call.actor) (ap (λ (x : CallId). x.actor) (sym same) ∙ was.actor) ∙ other.0 in cc w)) (driver_of z) was.here;
-      })
+      | inr other ↦ (
+          let was = inv.hands a z other.1 in
+          let apart : z.call ≢ s.call = λ same. (let w : true ≡ false = sym (same_actor-refl s.call.actor) ∙ ap (λ b. same_actor b s.call.actor) (ap (λ (x : CallId). x.actor) (sym same) ∙ was.actor) ∙ other.0 in cc w) in
+          IsInHand-alike m then_machine shapes (put shapes making.ckpt opened_shape) z (looks_then z apart) a (λ live. live) was.number was)
     ];
   }
     where

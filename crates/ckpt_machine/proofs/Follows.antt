@@ -7,30 +7,22 @@ use Rattle.std.proofs.lemmas.List.Elements.{All-filter, All-map, All-push, All-w
 use Rattle.ckpt_types.specs.declared.attributes.CreationAttributes.{CreationAttributes}
 use Rattle.ckpt_types.specs.declared.identities.ActorName.{ActorName}
 use Rattle.ckpt_types.specs.declared.identities.CallId.{CallId}
-use Rattle.ckpt_types.specs.Reads.{NextGiven}
-use Rattle.section_iter.specs.KeptIds.{KeptIds}
-use Rattle.client_handles.specs.declared.handle_view.HandleView.{HandleView}
-use Rattle.node_msgs.specs.declared.next.RecordStep.{RecordStep}
-use Rattle.node_msgs.specs.declared.next.RecordStep.TheVariants as events
 use Rattle.node_msgs.specs.declared.steps.Verb.{Verb}
 use Rattle.node_msgs.specs.declared.steps.Verb.TheVariants as verbs
 use Rattle.node_msgs.specs.declared.steps.StepReply.{StepReply}
 use Rattle.node_msgs.specs.declared.steps.StepReply.TheVariants as words
 use Rattle.cluster_record.specs.declared.entries.Entry.{Entry}
 use Rattle.cluster_record.specs.Calls.{client_of}
-use Rattle.cluster_record.specs.DueOpen.{OpenState, open_event}
-use Rattle.cluster_record.specs.LookUps.{at_ckpt}
+use Rattle.cluster_record.specs.Makings.{making_of}
 use Rattle.cluster_record.specs.Places.{change_key, put2}
-use Rattle.cluster_record.specs.RecordState.{RecordState, entry_of, identity_of, complete_of, has_references, stays, swept, created_as, new_entry, referred, made_with, released, released_all, unnamed, retaining, is_call_of, departed, undone}
+use Rattle.cluster_record.specs.RecordState.{RecordState, entry_of, identity_of, complete_of, has_references, stays, swept, entered, created_as, new_entry, referred, made_with, unreferred, released_all, unnamed, retaining, is_call_of, departed, undone}
 use Rattle.cluster_record.proofs.KeptLaws.{All-change_key}
-use Rattle.ckpt_machine.specs.Beginning.{opened_place, started_place, iteration_place, closed_place}
-use Rattle.ckpt_machine.specs.Drivers.{Driver}
-use Rattle.ckpt_machine.specs.Drivers as drivers
-use Rattle.ckpt_machine.specs.Driving.{making_in, event_ckpt, event_change, event_after}
+use Rattle.ckpt_types.specs.Asks.{Ask, asked}
+use Rattle.ckpt_types.specs.Asks as asks
 use Rattle.ckpt_machine.specs.Machine.{Machine, Effect, ReplicaState, Staged, CallState}
 use Rattle.ckpt_machine.specs.Owned.{IsEffectOf, HasEffect}
 use Rattle.ckpt_machine.specs.Shape.{IsCompleteOn}
-use Rattle.ckpt_machine.specs.Steps.{driver_of, with_record, with_opened, with_handle_at, with_iteration, with_next, without_handle, change_replica, with_committed, committed_slot, effect_of, changed, event_done, on_ok, on_look, without_making, at_some, new_handle, handle_in, replica_under, reservation_under, opened_state}
+use Rattle.ckpt_machine.specs.Steps.{with_record, record_step, created_for, retained_for, change_replica, with_committed, committed_slot, effect_of, changed, on_ok, on_look, without_making, at_some, replica_under, reservation_under, opened_state}
 
 -- ---- what is so in every state of a run
 
@@ -64,8 +56,8 @@ pub record FollowsIn (m : Machine) (IsNew : ℕ → CallId → Type 0) (R : Reco
   pub in_hand : (a : ActorName) → hands a ≡ m.in_hand a
   pub effects : (k r : ℕ) (x : ReplicaState) (d : CallId) → replicas k r ≡ Some x → HasEffect d x.effects → Has m k r d ⊎ IsNew k d
 
-abbrev pub Follows : Machine → (ℕ → CallId → Type 0) → Machine → Type 0
-Follows m IsNew n = FollowsIn m IsNew n.cluster n.replicas n.reserved n.next n.in_hand
+abbrev pub ReplicasFollow : Machine → (ℕ → CallId → Type 0) → Machine → Type 0
+ReplicasFollow m IsNew n = FollowsIn m IsNew n.cluster n.replicas n.reserved n.next n.in_hand
 
 -- ---- one replica
 
@@ -126,7 +118,7 @@ left_hold e t references true left = refl
 left_hold e t references false true = refl
 left_hold e t references false false = refl
 
-released_hold : (c : ℕ) (t : ℤ) (e : Entry) → (released c t e).hold ≡ e.hold
+released_hold : (c : ℕ) (t : ℤ) (e : Entry) → (unreferred c t e).hold ≡ e.hold
 released_hold c t e = left_hold e t (slice_set e.references c (slice_index e.references c - 1)) (slice_index e.references c == 0) (has_references (record e { references = slice_set e.references c (slice_index e.references c - 1) }))
 
 released_all_hold : (c : ℕ) (t : ℤ) (e : Entry) → (released_all c t e).hold ≡ e.hold
@@ -137,16 +129,14 @@ module _ (R : RecordState) (free : All IsFree R.entries) where
   created_free call name None = free
   created_free call name (Some a) = All-push IsFree R.entries (new_entry call name a R) free refl
 
-  at_ckpt_free : (k : Option ℕ) (change : ℕ → RecordState) → ((k : ℕ) → All IsFree (change k).entries) → All IsFree (at_ckpt k R change).entries
-  at_ckpt_free None change each = free
-  at_ckpt_free (Some k) change each = each k
+  -- by what is asked for
+  created_for_free : (call : CallId) (ask : Ask) → All IsFree (created_for call ask R).entries
+  created_for_free call (asks.Open place name flags timeout a) = created_free call name a
+  created_for_free call ask = free
 
-  open_free : (call : CallId) (o : OpenState) (k : Option ℕ) (step : RecordStep) → All IsFree (open_event call o k step R).entries
-  open_free call o k events.Create = created_free call o.ask.name o.ask.attrs
-  open_free call o k events.Open = at_ckpt_free k _ (λ k. changed_free k (referred o.ask.client) R.entries (λ e. refl) free)
-  open_free call o k events.Finish = at_ckpt_free k _ (λ k. changed_free k (made_with R.up o.ask.client) R.entries (λ e. refl) free)
-  open_free call o k events.Undo = at_ckpt_free k _ (λ k. All-filter (λ e. not (e.identity == k)) IsFree R.entries free)
-  open_free call o k step = free
+  retained_for_free : (ask : Ask) (k : ℕ) → All IsFree (retained_for ask k R).entries
+  retained_for_free (asks.Retain place duration) k = changed_free k (retaining duration) R.entries (λ e. refl) free
+  retained_for_free ask k = free
 
   departed_free : (c : ℕ) → All IsFree (departed c R).entries
   departed_free c =
@@ -156,24 +146,14 @@ module _ (R : RecordState) (free : All IsFree R.entries) where
       others : Entry → Bool
       others e = not (is_call_of c e.making)
 
-  change_free : (call : CallId) (d : Driver) (step : RecordStep) → All IsFree (event_change call d step R).entries
-  change_free call (drivers.Enter r) step = free
-  change_free call (drivers.Open o) step = open_free call o (event_ckpt R (drivers.Open o) step) step
-  change_free call (drivers.Update u) step = free
-  change_free call (drivers.Active a) step = free
-  change_free call drivers.Leave step = departed_free (client_of call)
-  change_free call (drivers.Close k) step = changed_free k (released (client_of call) R.moment) R.entries (released_hold (client_of call) R.moment) free
-  change_free call (drivers.Unlink name) step = at_ckpt_free _ _ (λ k. changed_free k unnamed R.entries (λ e. refl) free)
-  change_free call (drivers.Retain k duration) step = changed_free k (retaining duration) R.entries (λ e. refl) free
-
 -- ---- the machine
 
 module _ (m : Machine) (bare : IsBare m) (IsNew : ℕ → CallId → Type 0) where
-  same_follows : Follows m IsNew m
+  same_follows : ReplicasFollow m IsNew m
   same_follows = record { bare = bare; next = λ a. refl; in_hand = λ a. refl; effects = λ k r x d there has. inl (record { replica = x; there = there; effect = has }) }
 
   -- a step of the record
-  pub record_follows : (R : RecordState) → All IsFree R.entries → Follows m IsNew (with_record m R)
+  pub record_follows : (R : RecordState) → All IsFree R.entries → ReplicasFollow m IsNew (with_record m R)
   record_follows R free = record {
     bare = record {
       complete = λ k r x is. (came k r x is).0;
@@ -192,15 +172,22 @@ module _ (m : Machine) (bare : IsBare m) (IsNew : ℕ → CallId → Type 0) whe
       came : (k r : ℕ) (x : ReplicaState) → (with_record m R).replicas k r ≡ Some x → IsSomeAnd (entry_of k R.entries) (λ e. IsCompleteOn e r) × ((m.replicas k r ≡ Some x) ⊎ ((x.effects ≡ []) × (x.marks ≡ None)))
       came k r x is = under (entry_of k R.entries) (slice_index (complete_of (entry_of k m.cluster.entries)) r) r (m.replicas k r) x is
 
-  event_follows : (s : CallState) (step : RecordStep) → Follows m IsNew (event_done m s step)
-  event_follows s step = record_follows (event_after s.call (driver_of s) step m.cluster) (All-filter (stays (event_change s.call (driver_of s) step m.cluster).moment) IsFree (event_change s.call (driver_of s) step m.cluster).entries (change_free m.cluster bare.free s.call (driver_of s) step))
+  step_follows : (step : RecordState → RecordState) → All IsFree (step m.cluster).entries → ReplicasFollow m IsNew (record_step step m)
+  step_follows step free = record_follows (swept (step m.cluster)) (All-filter (stays (step m.cluster).moment) IsFree (step m.cluster).entries free)
 
-  undone_follows : (k : Option ℕ) → Follows m IsNew (without_making m k)
-  undone_follows None = same_follows
-  undone_follows (Some k) = record_follows (swept (undone k m.cluster)) (All-filter (stays m.cluster.moment) IsFree (undone k m.cluster).entries (All-filter (λ e. not (e.identity == k)) IsFree m.cluster.entries bare.free))
+  -- that changes one entry, by the record as it is, and not its hold
+  entry_follows : (k : ℕ) (f : RecordState → Entry → Entry) → ((e : Entry) → (f m.cluster e).hold ≡ e.hold) → ReplicasFollow m IsNew (record_step (λ R. record R { entries = change_key identity_of k (f R) R.entries }) m)
+  entry_follows k f keeps = step_follows (λ R. record R { entries = change_key identity_of k (f R) R.entries }) (changed_free k (f m.cluster) m.cluster.entries keeps bare.free)
+
+  undone_follows : (k : ℕ) → ReplicasFollow m IsNew (record_step (undone k) m)
+  undone_follows k = step_follows (undone k) (All-filter (λ e. not (e.identity == k)) IsFree m.cluster.entries bare.free)
+
+  making_follows : (k : Option ℕ) → ReplicasFollow m IsNew (without_making k m)
+  making_follows None = same_follows
+  making_follows (Some k) = undone_follows k
 
   -- one replica changed
-  pub replica_follows : (k r : ℕ) (x y : ReplicaState) → m.replicas k r ≡ Some x → y.marks ≡ x.marks → ((d : CallId) → HasEffect d y.effects → HasEffect d x.effects ⊎ IsNew k d) → Follows m IsNew (record m { replicas = put2 m.replicas k r (Some y) })
+  pub replica_follows : (k r : ℕ) (x y : ReplicaState) → m.replicas k r ≡ Some x → y.marks ≡ x.marks → ((d : CallId) → HasEffect d y.effects → HasEffect d x.effects ⊎ IsNew k d) → ReplicasFollow m IsNew (record m { replicas = put2 m.replicas k r (Some y) })
   replica_follows k r x y there marks more = record {
     bare = record {
       complete = λ j q z is. by_place j q z (λ j q z. IsSomeAnd (entry_of j m.cluster.entries) (λ e. IsCompleteOn e q)) (bare.complete k r x there) (bare.complete j q z) is;
@@ -225,51 +212,29 @@ module _ (m : Machine) (bare : IsBare m) (IsNew : ℕ → CallId → Type 0) whe
         | false ↦ λ at some. other some
       ] refl is
 
-  changed_replica : (k r : ℕ) (o : Option ReplicaState) → m.replicas k r ≡ o → (change : ReplicaState → ReplicaState) → ((x : ReplicaState) → (change x).marks ≡ x.marks) → ((x : ReplicaState) (d : CallId) → m.replicas k r ≡ Some x → HasEffect d (change x).effects → HasEffect d x.effects ⊎ IsNew k d) → Follows m IsNew (change_replica m k r o change)
+  changed_replica : (k r : ℕ) (o : Option ReplicaState) → m.replicas k r ≡ o → (change : ReplicaState → ReplicaState) → ((x : ReplicaState) → (change x).marks ≡ x.marks) → ((x : ReplicaState) (d : CallId) → m.replicas k r ≡ Some x → HasEffect d (change x).effects → HasEffect d x.effects ⊎ IsNew k d) → ReplicasFollow m IsNew (change_replica m k r o change)
   changed_replica k r None there change marks more = same_follows
   changed_replica k r (Some x) there change marks more = replica_follows k r x (change x) there (marks x) (λ d. more x d there)
 
   -- what is done on OK alone, and at a checkpoint and a node that are named
-  ok_follows : (reply : StepReply) (n : Machine) → Follows m IsNew n → Follows m IsNew (on_ok reply m n)
+  ok_follows : (reply : StepReply) (n : Machine) → ReplicasFollow m IsNew n → ReplicasFollow m IsNew (on_ok reply m n)
   ok_follows words.Ok n follows = follows
   ok_follows reply n follows = same_follows
 
-  look_follows : (reply : StepReply) (done refused : Machine) → Follows m IsNew done → Follows m IsNew refused → Follows m IsNew (on_look reply m done refused)
+  look_follows : (reply : StepReply) (done refused : Machine) → ReplicasFollow m IsNew done → ReplicasFollow m IsNew refused → ReplicasFollow m IsNew (on_look reply m done refused)
   look_follows words.Done done refused after_done after_refused = after_done
   look_follows words.Refused done refused after_done after_refused = after_refused
   look_follows reply done refused after_done after_refused = same_follows
 
-  both_follow : (k r : Option ℕ) (change : ℕ → ℕ → Machine) → ((k r : ℕ) → Follows m IsNew (change k r)) → Follows m IsNew (at_some k m (λ k. at_some r m (change k)))
-  both_follow None r change each = same_follows
-  both_follow (Some k) None change each = same_follows
-  both_follow (Some k) (Some r) change each = each k r
+  one_follows : (n : Option ℕ) (change : ℕ → Machine) → ((n : ℕ) → ReplicasFollow m IsNew (change n)) → ReplicasFollow m IsNew (at_some n m change)
+  one_follows None change each = same_follows
+  one_follows (Some n) change each = each n
 
-  -- a client's tables
-  handle_follows : (n : Machine) (c : ℕ) (h : HandleView) (place : Option ℕ) → Follows m IsNew n → Follows m IsNew (with_handle_at n c h place)
-  handle_follows n c h None follows = follows
-  handle_follows n c h (Some place) follows = follows
-
-  opened_follows : (n : Machine) (s : CallState) (k : Option ℕ) → Follows m IsNew n → Follows m IsNew (with_opened s k n)
-  opened_follows n s None follows = follows
-  opened_follows n s (Some k) follows = handle_follows n (client_of s.call) (new_handle n.cluster (n.last_handles (client_of s.call)) s.op k) (opened_place s.op) follows
-
-  closed_follows : (n : Machine) (c : ℕ) (h : Option HandleView) → Follows m IsNew n → Follows m IsNew (without_handle n c h)
-  closed_follows n c None follows = follows
-  closed_follows n c (Some h) follows = follows
-
-  started_follows : (c : ℕ) (h : Option HandleView) (place : Option ℕ) (kept : KeptIds) → Follows m IsNew (with_iteration m c h place kept)
-  started_follows c (Some h) (Some place) kept = same_follows
-  started_follows c (Some h) None kept = same_follows
-  started_follows c None place kept = same_follows
-
-  next_follows : (c : ℕ) (place : Option ℕ) (kept : Option KeptIds) (next : Option NextGiven) → Follows m IsNew (with_next m c place kept next)
-  next_follows c (Some place) (Some kept) (Some next) = same_follows
-  next_follows c (Some place) (Some kept) None = same_follows
-  next_follows c (Some place) None next = same_follows
-  next_follows c None kept next = same_follows
+  both_follow : (k r : Option ℕ) (change : ℕ → ℕ → Machine) → ((k r : ℕ) → ReplicasFollow m IsNew (change k r)) → ReplicasFollow m IsNew (at_some k m (λ k. at_some r m (change k)))
+  both_follow k r change each = one_follows k _ (λ k. one_follows r (change k) (each k))
 
   -- a reservation
-  reserve_follows : (k r n : ℕ) → IsSomeAnd (entry_of k m.cluster.entries) (λ e. IsIncomplete e r) → Follows m IsNew (record m { reserved = put2 m.reserved k r (Some n) })
+  reserve_follows : (k r n : ℕ) → IsSomeAnd (entry_of k m.cluster.entries) (λ e. IsIncomplete e r) → ReplicasFollow m IsNew (record m { reserved = put2 m.reserved k r (Some n) })
   reserve_follows k r n there = record {
     bare = record { complete = bare.complete; unmarked = bare.unmarked; reserves = reserves; free = bare.free };
     next = λ a. refl;
@@ -293,13 +258,13 @@ module _ (m : Machine) (bare : IsBare m) (IsNew : ℕ → CallId → Type 0) whe
   StepNeeds verbs.Commit (Some k) (Some r) words.Ok = (x : ReplicaState) (slot : Staged) → m.replicas k r ≡ Some x → x.slot ≡ Some slot → IsNew k slot.origin
   StepNeeds verb k r reply = Unit {0}
 
-  reserved_follows : (k r : Option ℕ) (reply : StepReply) → StepNeeds verbs.Reserve k r reply → Follows m IsNew (on_ok reply m (at_some k m (λ k. at_some r m (λ r. record m { reserved = put2 m.reserved k r (Some (slice_index m.cluster.up r)) }))))
+  reserved_follows : (k r : Option ℕ) (reply : StepReply) → StepNeeds verbs.Reserve k r reply → ReplicasFollow m IsNew (on_ok reply m (at_some k m (λ k. at_some r m (λ r. record m { reserved = put2 m.reserved k r (Some (slice_index m.cluster.up r)) }))))
   reserved_follows (Some k) (Some r) words.Ok there = reserve_follows k r (slice_index m.cluster.up r) there
   reserved_follows (Some k) None words.Ok there = same_follows
   reserved_follows None r words.Ok there = same_follows
   reserved_follows k r reply there = same_follows
 
-  commit_follows : (k r : Option ℕ) (reply : StepReply) → StepNeeds verbs.Commit k r reply → Follows m IsNew (on_ok reply m (at_some k m (λ k. at_some r m (λ r. change_replica m k r (m.replicas k r) (with_committed (entry_of k m.cluster.entries))))))
+  commit_follows : (k r : Option ℕ) (reply : StepReply) → StepNeeds verbs.Commit k r reply → ReplicasFollow m IsNew (on_ok reply m (at_some k m (λ k. at_some r m (λ r. change_replica m k r (m.replicas k r) (with_committed (entry_of k m.cluster.entries))))))
   commit_follows (Some k) (Some r) words.Ok new =
       changed_replica k r (m.replicas k r) refl (with_committed (entry_of k m.cluster.entries)) (committed_marks (entry_of k m.cluster.entries))
       (λ x d there has. elim (committed_effects (entry_of k m.cluster.entries) x d has) [
@@ -311,20 +276,20 @@ module _ (m : Machine) (bare : IsBare m) (IsNew : ℕ → CallId → Type 0) whe
   commit_follows k r reply new = same_follows
 
   -- any step
-  pub changed_follows : (s : CallState) (verb : Verb) (k r : Option ℕ) (reply : StepReply) → StepNeeds verb k r reply → Follows m IsNew (changed m s verb k r reply)
-  changed_follows s verbs.Enter k r reply new = ok_follows reply _ (event_follows s events.Enter)
-  changed_follows s verbs.Open k r reply new = ok_follows reply _ (opened_follows _ s k (event_follows s events.Open))
-  changed_follows s verbs.Create k r reply new = ok_follows reply _ (event_follows s events.Create)
+  pub changed_follows : (s : CallState) (verb : Verb) (k r : Option ℕ) (reply : StepReply) → StepNeeds verb k r reply → ReplicasFollow m IsNew (changed m s verb k r reply)
+  changed_follows s verbs.Enter k r reply new = ok_follows reply _ (one_follows r _ (λ r. step_follows (entered (client_of s.call) r s.call.number) bare.free))
+  changed_follows s verbs.Open k r reply new = ok_follows reply _ (one_follows k _ (λ k. entry_follows k (λ R. referred (client_of s.call)) (λ e. refl)))
+  changed_follows s verbs.Create k r reply new = ok_follows reply _ (step_follows (created_for s.call (asked s.op)) (created_for_free m.cluster bare.free s.call (asked s.op)))
   changed_follows s verbs.Reserve k r reply new = reserved_follows k r reply new
-  changed_follows s verbs.Finish k r reply new = ok_follows reply _ (opened_follows _ s k (event_follows s events.Finish))
-  changed_follows s verbs.Undo k r reply new = ok_follows reply _ (event_follows s events.Undo)
+  changed_follows s verbs.Finish k r reply new = ok_follows reply _ (one_follows k _ (λ k. entry_follows k (λ R. made_with R.up (client_of s.call)) (λ e. refl)))
+  changed_follows s verbs.Undo k r reply new = ok_follows reply _ (one_follows k _ undone_follows)
   changed_follows s verbs.Stage k r reply new = ok_follows reply _ (both_follow k r _ (λ k r. changed_replica k r (m.replicas k r) refl _ (λ x. refl) (λ x d there has. inl has)))
   changed_follows s verbs.Commit k r reply new = commit_follows k r reply new
-  changed_follows s verbs.Iter k r reply new = ok_follows reply _ (both_follow k r _ (λ k r. started_follows (client_of s.call) _ (started_place s.op) _))
-  changed_follows s verbs.Next k r reply new = ok_follows reply _ (both_follow k r _ (λ k r. next_follows (client_of s.call) (iteration_place s.op) _ _))
-  changed_follows s verbs.Leave k r reply new = ok_follows reply _ (event_follows s events.Leave)
-  changed_follows s verbs.Close k r reply new = ok_follows reply _ (closed_follows _ (client_of s.call) _ (event_follows s events.Close))
-  changed_follows s verbs.Unlink k r reply new = ok_follows reply _ (event_follows s events.Unlink)
-  changed_follows s verbs.Retain k r reply new = ok_follows reply _ (event_follows s events.Retain)
-  changed_follows s verbs.Look k r reply new = look_follows reply _ _ (closed_follows m (client_of s.call) (handle_in m (client_of s.call) (closed_place s.op)) same_follows) (undone_follows (making_in (driver_of s)))
+  changed_follows s verbs.Iter k r reply new = ok_follows reply _ (both_follow k r _ (λ k r. same_follows))
+  changed_follows s verbs.Next k r reply new = ok_follows reply _ (both_follow k r _ (λ k r. same_follows))
+  changed_follows s verbs.Leave k r reply new = ok_follows reply _ (step_follows (departed (client_of s.call)) (departed_free m.cluster bare.free (client_of s.call)))
+  changed_follows s verbs.Close k r reply new = ok_follows reply _ (one_follows k _ (λ k. entry_follows k (λ R. unreferred (client_of s.call) R.moment) (released_hold (client_of s.call) m.cluster.moment)))
+  changed_follows s verbs.Unlink k r reply new = ok_follows reply _ (one_follows k _ (λ k. entry_follows k (λ R. unnamed) (λ e. refl)))
+  changed_follows s verbs.Retain k r reply new = ok_follows reply _ (one_follows k _ (λ k. step_follows (retained_for (asked s.op) k) (retained_for_free m.cluster bare.free (asked s.op) k)))
+  changed_follows s verbs.Look k r reply new = look_follows reply _ _ same_follows (making_follows (making_of s.call m.cluster))
   changed_follows s verb k r reply new = same_follows

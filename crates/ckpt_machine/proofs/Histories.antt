@@ -1,5 +1,4 @@
 -- Which calls replicas have effects of: of calls that were begun; and one that is in hand commits its update there.
-use Rattle.run_labels.specs.declared.details.Details.{Details}
 use Rattle.std.proofs.Common.{◌≡◌, ◌⊎◌, ℕ, ◌+◌, ◌<◌, inl, inr, List, [], ◌∷◌, Option, Some, None, Bool, true, false, cond, ◌==◌, ℤ, refl, sym, ap, subst, ◌∙◌, arith}
 use Rattle.std.specs.Prelude.{IsSomeAnd, slice_index}
 use Rattle.std.proofs.lemmas.List.Elements.{All-nil, All-filter}
@@ -11,7 +10,7 @@ use Rattle.ckpt_types.specs.declared.answers.Outcome.{Outcome}
 use Rattle.ckpt_types.specs.declared.answers.Outcome.TheVariants.{Done, Refused}
 use Rattle.ckpt_types.specs.declared.identities.CallId.{CallId}
 use Rattle.ckpt_types.specs.declared.operation.Op.{Op}
-use Rattle.ckpt_types.specs.declared.operation.Op.TheVariants as ops
+use Rattle.ckpt_types.specs.declared.update.Update.{Update}
 use Rattle.node_msgs.specs.declared.steps.Verb.{Verb}
 use Rattle.node_msgs.specs.declared.steps.Verb.TheVariants as verbs
 use Rattle.node_msgs.specs.declared.steps.StepReply.{StepReply}
@@ -20,22 +19,20 @@ use Rattle.run_labels.specs.declared.labels.Label.{Label}
 use Rattle.run_labels.specs.declared.labels.Label.TheVariants as labels
 use Rattle.cluster_record.specs.declared.calls.UpdatePhase.TheVariants.{Committing}
 use Rattle.cluster_record.specs.declared.entries.Entry.{Entry}
-use Rattle.cluster_record.specs.Calls.{same_actor, number_of, client_of, put_actor, left}
+use Rattle.cluster_record.specs.Calls.{same_actor, number_of, put_actor, left}
 use Rattle.cluster_record.specs.DueUpdate.{UpdateState, update_on, by_phase, commit_at, update_taken, update_taken_by, commit_taken}
-use Rattle.cluster_record.specs.Places.{put}
-use Rattle.cluster_record.specs.RecordState.{RecordState, entry_of, moved, stays}
-use Rattle.cluster_record.specs.StepDone.{StepDone, done_of, first_lacking, last_having}
-use Rattle.ckpt_machine.specs.Beginning.{ended_place}
+use Rattle.cluster_record.specs.RecordState.{entry_of, moved, stays}
+use Rattle.cluster_record.specs.StepDone.{StepDone, done_of, counting, first_lacking, last_having}
 use Rattle.ckpt_machine.specs.Drivers.{Driver}
 use Rattle.ckpt_machine.specs.Drivers as drivers
 use Rattle.ckpt_machine.specs.Driving.{driver_next, driver_taken}
-use Rattle.ckpt_machine.specs.Guards.{IsMadeBy, OfUpdate, OnReplica, CommitOk, Row, Allowed}
+use Rattle.ckpt_machine.specs.Guards.{IsMadeBy, OnReplica, CommitOk, Row, Allowed}
 use Rattle.ckpt_machine.specs.Invariant.{IsGoodIn, InvariantIn, Invariant}
-use Rattle.ckpt_machine.specs.Machine.{IterationTable, Machine, Staged, ReplicaState, CallState, empty_cluster}
-use Rattle.ckpt_machine.specs.Serving.{update_of}
+use Rattle.ckpt_machine.specs.Machine.{Machine, Staged, ReplicaState, CallState, empty_cluster}
 use Rattle.ckpt_machine.specs.Shape.{Shape, IsCompleteOn, IsShaped, IsOwner, slot_by}
-use Rattle.ckpt_machine.specs.Steps.{Told, IsDone, IsDue, driver_of, due, rooms_of, begun, begun_call, with_ended, with_record, without_iteration, kept_at_beginning, asked_handle, changed, stepped, step_of, after}
-use Rattle.ckpt_machine.proofs.Follows.{IsFree, IsIncomplete, IsBare, Has, Follows, record_follows, StepNeeds, changed_follows}
+use Rattle.ckpt_machine.specs.Steps.{Told, IsDone, IsDue, driver_of, due, rooms_of, begun, with_record, kept_at_beginning, asked_handle, changed, kept_behind, claimed_count, stepped, step_of, after}
+use Rattle.ckpt_machine.proofs.OwnMaking.{making_there}
+use Rattle.ckpt_machine.proofs.Follows.{IsFree, IsIncomplete, IsBare, Has, ReplicasFollow, record_follows, StepNeeds, changed_follows}
 use Rattle.ckpt_machine.specs.Runs.{last_from, last, IsRunFrom, IsRun}
 use Rattle.ckpt_machine.proofs.Lawful.{lawful}
 use Rattle.ckpt_machine.proofs.ReplicaSteps.{put_actor-cases}
@@ -43,6 +40,7 @@ use Rattle.ckpt_machine.proofs.Start.{invariant_empty}
 use Rattle.ckpt_machine.proofs.Actors.{same_actor-refl, same_actor-true}
 use Rattle.ckpt_machine.proofs.NodeLists.{slice_index-replicate}
 use Rattle.ckpt_machine.proofs.Owning.{owner_origin}
+use Rattle.ckpt_machine.proofs.OwnMaking.{making_there}
 use Rattle.ckpt_machine.proofs.OptionLemmas.{IsSomeAnd-at, IsSomeAnd-from}
 
 -- what drives the call commits an update of this checkpoint
@@ -93,21 +91,17 @@ module _ (m : Machine) (shapes : ℕ → Shape) (inv : InvariantIn shapes m) (ba
           by_owner ((shapes k).owners r) refl (sym shaped.slot ∙ ap (λ (z : ReplicaState). z.slot) same ∙ staged) (good.owned r)
 
 -- on no node is complete what is in the making
+pub maker_incomplete : (m : Machine) → Invariant m → (call : CallId) (k r : ℕ) (e : Entry) → entry_of k m.cluster.entries ≡ Some e → e.making ≡ Some call → IsIncomplete e r
+maker_incomplete m inv call k r e found making =
+    let good = subst (λ maker. IsGoodIn m k (inv.shapes k) e maker) making (inv.holds.entries k e found) in
+    ap (λ nodes. slice_index nodes r == 0) good.0.complete ∙ ap (λ n. n == 0) (slice_index-replicate 8 r)
+
 pub making_incomplete : (m : Machine) → Invariant m → (call : CallId) (k r : ℕ) → IsMadeBy m call k → IsSomeAnd (entry_of k m.cluster.entries) (λ e. IsIncomplete e r)
 making_incomplete m inv call k r by =
-    let (e, found, making) = IsSomeAnd-at (entry_of k m.cluster.entries) (λ e. e.making ≡ Some call) by in
-    let good = subst (λ maker. IsGoodIn m k (inv.shapes k) e maker) making (inv.holds.entries k e found) in
-    IsSomeAnd-from (entry_of k m.cluster.entries) (λ e. IsIncomplete e r) e found (ap (λ nodes. slice_index nodes r == 0) good.0.complete ∙ ap (λ n. n == 0) (slice_index-replicate 8 r))
+    let (e, found, making) = IsSomeAnd-at (entry_of k m.cluster.entries) (λ e. e.making ≡ Some call) (making_there m.cluster inv.holds.rises call k by) in
+    IsSomeAnd-from (entry_of k m.cluster.entries) (λ e. IsIncomplete e r) e found (maker_incomplete m inv call k r e found making)
 
 -- ---- a step of a call that commits
-
-pub of_update-is : (op : Op) (P : Type 0) → OfUpdate op P → P
-of_update-is (ops.Create place update) P p = p
-of_update-is (ops.Delete place update) P p = p
-of_update-is (ops.Expire place update) P p = p
-of_update-is (ops.Write place update) P p = p
-of_update-is (ops.Over place update) P p = p
-of_update-is op P p = absurd p
 
 -- it is a commit; or a look, where its checkpoint is gone or nothing is left to commit
 pub data CommitsBy (m : Machine) (u : UpdateState) (t : Told) : Type 0 where
@@ -116,7 +110,7 @@ pub data CommitsBy (m : Machine) (u : UpdateState) (t : Told) : Type 0 where
   nothing_left : t.end ≡ Some (Done answers.Nothing) → CommitsBy m u t
 
 pub commits_by : (m : Machine) (s : CallState) (u : UpdateState) (t : Told) → driver_of s ≡ drivers.Update u → u.phase ≡ Committing → IsDone m s (due m s) t → CommitsBy m u t
-commits_by m s u t is phase done = by_entry (entry_of u.ckpt m.cluster.entries) refl (subst (λ d. IsDone m s (driver_next m.cluster (rooms_of m (client_of s.call)) d) t) is done)
+commits_by m s u t is phase done = by_entry (entry_of u.ckpt m.cluster.entries) refl (subst (λ d. IsDone m s (driver_next m.cluster (rooms_of m s) d) t) is done)
   where
     at : (last : Option ℕ) → IsDone m s (commit_at u last) t → CommitsBy m u t
     at None looked = nothing_left (ap (λ (t : Told). t.end) looked)
@@ -145,11 +139,11 @@ taken_commit d u k is ckpt phase = subst (λ verb. IsCommittingAt k (drivers.Upd
     by_reply (inl is) = committed_phase d u d.reply is
     by_reply (inr ok) = subst (λ reply. ((commit_taken d u reply).phase ≡ Committing) × ((commit_taken d u reply).ckpt ≡ u.ckpt)) (sym ok) (refl, refl)
 
--- where it goes on it commits still
-still : (m : Machine) (s : CallState) (t : Told) (R : RecordState) (k : ℕ) → IsDone m s (due m s) t → t.end ≡ None → IsCommittingAt k (driver_of s) → IsCommittingAt k (driver_taken (done_of R t.verb t.ckpt t.node t.reply) (driver_of s))
-still m s t R k done goes_on at =
+-- where it goes on it commits commits_still
+commits_still : (m : Machine) (s : CallState) (t : Told) (d : StepDone) (k : ℕ) → d.verb ≡ t.verb → IsDone m s (due m s) t → t.end ≡ None → IsCommittingAt k (driver_of s) → IsCommittingAt k (driver_taken d (driver_of s))
+commits_still m s t d k verb done goes_on at =
     elim (commits_by m s at.update t at.driver_is at.phase done) [
-      | commit is ↦ subst (λ d. IsCommittingAt k (driver_taken (done_of R t.verb t.ckpt t.node t.reply) d)) (sym at.driver_is) (taken_commit (done_of R t.verb t.ckpt t.node t.reply) at.update k is at.ckpt (inl at.phase))
+      | commit is ↦ subst (λ x. IsCommittingAt k (driver_taken d x)) (sym at.driver_is) (taken_commit d at.update k (verb ∙ is) at.ckpt (inl at.phase))
       | gone none ends ↦ absurd (let w : None ≡ Some (Refused NotExist Plain) = sym goes_on ∙ ends in cc w)
       | nothing_left ends ↦ absurd (let w : None ≡ Some (Done answers.Nothing) = sym goes_on ∙ ends in cc w)
     ]
@@ -169,27 +163,27 @@ module _ (m : Machine) (inv : Invariant m) (history : HasHistory m) (s : CallSta
   abbrev n : Machine
   n = changed m s t.verb t.ckpt t.node t.reply
 
-  own_commit : (k r : ℕ) (details : Details) → t.verb ≡ verbs.Commit → t.reply ≡ words.Ok → OnReplica m k r (λ e x. CommitOk m s.call (update_of s.op) k r t.end details x) → (x : ReplicaState) (slot : Staged) → m.replicas k r ≡ Some x → x.slot ≡ Some slot → IsOwnCommit k slot.origin
-  own_commit k r details verb reply on x slot at staged = one
+  own_commit : (update : Update) (k r : ℕ) → t.verb ≡ verbs.Commit → t.reply ≡ words.Ok → OnReplica m k r (λ e x. CommitOk m s.call update k r t.end t.details x) → (x : ReplicaState) (slot : Staged) → m.replicas k r ≡ Some x → x.slot ≡ Some slot → IsOwnCommit k slot.origin
+  own_commit update k r verb reply on x slot at staged = one
     where
       one : IsOwnCommit k slot.origin
       one =
-          let (e, found, here) = IsSomeAnd-at (entry_of k m.cluster.entries) (λ e. IsSomeAnd (m.replicas k r) (λ x. CommitOk m s.call (update_of s.op) k r t.end details x)) on in
-          let (y, is, ok) = IsSomeAnd-at (m.replicas k r) (λ x. CommitOk m s.call (update_of s.op) k r t.end details x) here in
+          let (e, found, here) = IsSomeAnd-at (entry_of k m.cluster.entries) (λ e. IsSomeAnd (m.replicas k r) (λ x. CommitOk m s.call update k r t.end t.details x)) on in
+          let (y, is, ok) = IsSomeAnd-at (m.replicas k r) (λ x. CommitOk m s.call update k r t.end t.details x) here in
           let same : y ≡ x = same_Some y x (sym is ∙ at) in
           let slots : ok.slot ≡ slot = same_Some ok.slot slot (sym ok.staged ∙ ap (λ (z : ReplicaState). z.slot) same ∙ staged) in
-          let (by, origin, update) = slot_owned m inv.shapes inv.holds history.bare k r x slot at staged in
+          let (by, origin, same_update) = slot_owned m inv.shapes inv.holds history.bare k r x slot at staged in
           let owner : slot.owner ≡ s.call = ap (λ (z : Staged). z.owner) (sym slots) ∙ ok.owner in
           let own : IsOwner m k (inv.shapes k) s.call = subst (IsOwner m k (inv.shapes k)) owner by in
           let state : own.state ≡ s = same_Some own.state s (sym own.in_hand ∙ held) in
           record { own = origin ∙ owner; verb = verb; reply = reply; update = own.driver; driver_is = ap driver_of (sym state) ∙ own.driver_is; ckpt = own.ckpt }
 
-  pub follows : Follows m IsOwnCommit n
+  pub follows : ReplicasFollow m IsOwnCommit n
   follows = changed_follows m history.bare IsOwnCommit s t.verb t.ckpt t.node t.reply (news t.verb t.ckpt t.node t.reply refl refl row)
     where
       news : (verb : Verb) (k r : Option ℕ) (reply : StepReply) → t.verb ≡ verb → t.reply ≡ reply → Row m s verb (record t { verb = verb; ckpt = k; node = r; reply = reply }) → StepNeeds m history.bare IsOwnCommit verb k r reply
-      news verbs.Commit (Some k) (Some r) words.Ok verb reply row = own_commit k r _ verb reply (of_update-is s.op _ row)
-      news verbs.Reserve (Some k) (Some r) words.Ok verb reply row = making_incomplete m inv s.call k r row.0.1
+      news verbs.Commit (Some k) (Some r) words.Ok verb reply row = own_commit row.1 k r verb reply row.3
+      news verbs.Reserve (Some k) (Some r) words.Ok verb reply row = making_incomplete m inv s.call k r row.0.3.1
       news verb k r reply verb_is reply_is row = tt
 
   -- whoever has an effect after the step had it before, or commits by it
@@ -198,17 +192,21 @@ module _ (m : Machine) (inv : Invariant m) (history : HasHistory m) (s : CallSta
 
   module _ (end : Option Outcome) (ends : t.end ≡ end) (done : IsDone m s (due m s) t) where
     abbrev then_state : CallState
-    then_state = record s { steps = done_of n.cluster t.verb t.ckpt t.node t.reply ∷ s.steps }
+    then_state = kept_behind m s n.cluster t.verb t.ckpt t.node t.reply
 
     abbrev then_machine : Machine
-    then_machine = stepped n s t.verb t.ckpt t.node t.reply end
+    then_machine = stepped n then_state end
 
-    -- where the call goes on, it commits still
+    -- the step as its driver is told of it
+    abbrev told : StepDone
+    told = counting (claimed_count m t.verb t.ckpt t.node) (done_of n.cluster t.verb t.ckpt t.node t.reply)
+
+    -- where the call goes on, it commits commits_still
     own_commits : (k r : ℕ) → end ≡ None → Has then_machine k r s.call → IsCommittingAt k (driver_of then_state)
     own_commits k r none has =
         elim (had k r s.call (record { replica = has.replica; there = has.there; effect = has.effect })) [
-          | inl was ↦ still m s t n.cluster k done (ends ∙ none) (history.commits k r s held was)
-          | inr new ↦ subst (λ d. IsCommittingAt k (driver_taken (done_of n.cluster t.verb t.ckpt t.node t.reply) d)) (sym new.driver_is) (taken_commit (done_of n.cluster t.verb t.ckpt t.node t.reply) new.update k new.verb new.ckpt (inr new.reply))
+          | inl was ↦ commits_still m s t told k refl done (ends ∙ none) (history.commits k r s held was)
+          | inr new ↦ subst (λ x. IsCommittingAt k (driver_taken told x)) (sym new.driver_is) (taken_commit told new.update k new.verb new.ckpt (inr new.reply))
         ]
 
     other_commits : (k r : ℕ) (z : CallState) → same_actor z.call.actor s.call.actor ≡ false → n.in_hand z.call.actor ≡ Some z → Has then_machine k r z.call → IsCommittingAt k (driver_of z)
@@ -241,10 +239,20 @@ module _ (m : Machine) (inv : Invariant m) (history : HasHistory m) (s : CallSta
 -- ---- any label
 
 abbrev pub first_state : Machine → CallId → Op → CallState
-first_state m call op = record { call = call; op = op; kept = kept_at_beginning m.cluster (number_of call.actor) (asked_handle m call.actor op); steps = []; snapshot = None }
+first_state m call op = record { call = call; op = op; kept = kept_at_beginning m.cluster (number_of call.actor) (asked_handle m call.actor op); steps = []; created = None; snapshot = None }
 
 begun_history : (m : Machine) → HasHistory m → (call : CallId) (op : Op) (end : Option Outcome) → call.number ≡ m.next call.actor → HasHistory (begun m call op end)
-begun_history m history call op end number = by_place (ended_place end op)
+begun_history m history call op end number = record {
+  bare = history.bare;
+  given = λ k r d has. number_later d (history.given k r d (record { replica = has.replica; there = has.there; effect = has.effect }));
+  commits = λ k r z in_hand has. elim (put_actor-cases m.in_hand call.actor (left end (first_state m call op)) z.call.actor z in_hand) [
+    | inl own ↦ (
+        let was : Has m k r z.call = record { replica = has.replica; there = has.there; effect = has.effect } in
+        let below : call.number < m.next call.actor = history.given k r call (subst (Has m k r) (sym (begun_is end z own.1)) was) in
+        absurd (omega (arith, below, number)))
+    | inr other ↦ history.commits k r z other.1 (record { replica = has.replica; there = has.there; effect = has.effect })
+  ];
+}
   where
     number_later : (d : CallId) → d.number < m.next d.actor → d.number < put_actor m.next call.actor (m.next call.actor + 1) d.actor
     number_later d below = by_test (same_actor d.actor call.actor) refl
@@ -257,23 +265,6 @@ begun_history m history call op end number = by_place (ended_place end op)
     begun_is None z is = ap (λ (z : CallState). z.call) (same_Some (first_state m call op) z is)
     begun_is (Some e) z is = absurd (cc is)
 
-    with_table : (table : ℕ → IterationTable) → HasHistory (record (begun_call m call op end) { iterations = table })
-    with_table table = record {
-      bare = history.bare;
-      given = λ k r d has. number_later d (history.given k r d (record { replica = has.replica; there = has.there; effect = has.effect }));
-      commits = λ k r z in_hand has. elim (put_actor-cases m.in_hand call.actor (left end (first_state m call op)) z.call.actor z in_hand) [
-        | inl own ↦ (
-            let was : Has m k r z.call = record { replica = has.replica; there = has.there; effect = has.effect } in
-            let below : call.number < m.next call.actor = history.given k r call (subst (Has m k r) (sym (begun_is end z own.1)) was) in
-            absurd (omega (arith, below, number)))
-        | inr other ↦ history.commits k r z other.1 (record { replica = has.replica; there = has.there; effect = has.effect })
-      ];
-    }
-
-    by_place : (place : Option ℕ) → HasHistory (with_ended (number_of call.actor) place (begun_call m call op end))
-    by_place None = with_table m.iterations
-    by_place (Some place) = with_table (put m.iterations (number_of call.actor) (without_iteration place (m.iterations (number_of call.actor))))
-
 moved_history : (m : Machine) → HasHistory m → (t : ℤ) → HasHistory (with_record m (moved t m.cluster))
 moved_history m history t = record {
   bare = follows.bare;
@@ -281,7 +272,7 @@ moved_history m history t = record {
   commits = λ k r s held has. history.commits k r s held (before k r s.call has);
 }
   where
-    follows : Follows m (λ k d. ⊥) (with_record m (moved t m.cluster))
+    follows : ReplicasFollow m (λ k d. ⊥) (with_record m (moved t m.cluster))
     follows = record_follows m history.bare (λ k d. ⊥) (moved t m.cluster) (All-filter (stays t) IsFree m.cluster.entries history.bare.free)
 
     before : (k r : ℕ) (d : CallId) → Has (with_record m (moved t m.cluster)) k r d → Has m k r d
@@ -305,9 +296,9 @@ keeps_history m (labels.Shown k replicas) inv history allowed is = history
 keeps_history m l inv history allowed is = absurd is
 
 -- so it holds in a run, with the invariant
-run_from : (m : Machine) (log : List Label) → Invariant m → HasHistory m → IsRunFrom m log → Invariant (last_from m log) × HasHistory (last_from m log)
-run_from m [] inv history run = (inv, history)
-run_from m (l ∷ log) inv history run = run_from (after m l) log (lawful m l inv run.1).1 (keeps_history m l inv history run.0 run.1) run.2
+run_with_history : (m : Machine) (log : List Label) → Invariant m → HasHistory m → IsRunFrom m log → Invariant (last_from m log) × HasHistory (last_from m log)
+run_with_history m [] inv history run = (inv, history)
+run_with_history m (l ∷ log) inv history run = run_with_history (after m l) log (lawful m l inv run.1).1 (keeps_history m l inv history run.0 run.1) run.2
 
 pub run_history : (log : List Label) → IsRun log → Invariant (last log) × HasHistory (last log)
-run_history log run = run_from empty_cluster log invariant_empty history_empty run
+run_history log run = run_with_history empty_cluster log invariant_empty history_empty run

@@ -2,7 +2,6 @@
 use Rattle.std.proofs.Common.{◌≡◌, Some, refl, sym, ap, subst, ◌∙◌}
 use Rattle.ckpt_types.specs.declared.identities.CallId.{CallId}
 use Rattle.run_labels.specs.declared.labels.Label.TheVariants as labels
-use Rattle.cluster_record.specs.Calls.{client_of}
 use Rattle.ckpt_machine.specs.Drivers.{Driver}
 use Rattle.ckpt_machine.specs.Drivers as drivers
 use Rattle.ckpt_machine.specs.Driving.{driver_next}
@@ -14,9 +13,8 @@ use Rattle.ckpt_machine.proofs.Active.{active_goes}
 use Rattle.ckpt_machine.proofs.Beginnings.{begin_keeps}
 use Rattle.ckpt_machine.proofs.BeginRows.{begin_row, word_row}
 use Rattle.ckpt_machine.proofs.BroughtUp.{nodes_keep}
-use Rattle.ckpt_machine.proofs.Enter.{enter_goes}
 use Rattle.ckpt_machine.proofs.Moment.{moved_keeps}
-use Rattle.ckpt_machine.proofs.OneStepCalls.{close_goes, unlink_goes, retain_goes, leave_goes}
+use Rattle.ckpt_machine.proofs.OneStepCalls.{once_goes}
 use Rattle.ckpt_machine.proofs.Update.{update_goes}
 use Rattle.ckpt_machine.proofs.DueStep.{Goes}
 use Rattle.ckpt_machine.proofs.OwnCheckpoint.{own_step}
@@ -27,15 +25,11 @@ use Rattle.ckpt_machine.proofs.NodeLists.{is_up-none}
 
 module _ (m : Machine) (inv : Invariant m) (s : CallState) (held : m.in_hand s.call.actor ≡ Some s) (t : Told) where
   -- it is allowed, with the invariant after it, and its call comes nearer to its end
-  pub driver_goes : (d : Driver) → driver_of s ≡ d → IsDone m s (driver_next m.cluster (rooms_of m (client_of s.call)) d) t → Goes m s (driver_of s) t
-  driver_goes (drivers.Enter r) is done = enter_goes m inv.shapes inv.holds s r held is (rooms_of m (client_of s.call)) t done
-  driver_goes (drivers.Open o) is done = open_goes m inv.shapes inv.holds s o held is t (subst (λ d. IsDone m s (driver_next m.cluster (rooms_of m (client_of s.call)) d) t) (sym is) done)
+  pub driver_goes : (d : Driver) → driver_of s ≡ d → IsDone m s (driver_next m.cluster (rooms_of m s) d) t → Goes m s (driver_of s) t
+  driver_goes (drivers.Once x) is done = once_goes m inv.shapes inv.holds s x held is t done
+  driver_goes (drivers.Open o) is done = open_goes m inv.shapes inv.holds s o held is t (subst (λ d. IsDone m s (driver_next m.cluster (rooms_of m s) d) t) (sym is) done)
   driver_goes (drivers.Update u) is done = subst (λ d. Goes m s d t) (sym is) (update_goes m inv.shapes inv.holds s u held is t done)
-  driver_goes (drivers.Active a) is done = active_goes m inv.shapes inv.holds s a.call a.ckpt held a.kind is (rooms_of m (client_of s.call)) t refl done
-  driver_goes drivers.Leave is done = leave_goes m inv.shapes inv.holds s held is t done
-  driver_goes (drivers.Close k) is done = close_goes m inv.shapes inv.holds s k held is t done
-  driver_goes (drivers.Unlink name) is done = unlink_goes m inv.shapes inv.holds s name held is t done
-  driver_goes (drivers.Retain k duration) is done = retain_goes m inv.shapes inv.holds s k duration held is t done
+  driver_goes (drivers.Active a) is done = active_goes m inv.shapes inv.holds s a.call a.ckpt held a.kind is (rooms_of m s) t refl done
 
 -- ---- the law
 
@@ -45,7 +39,7 @@ lawful m (labels.Began call op end) inv is = (begin_row m call op end is, begin_
 lawful m (labels.Stepped call op verb k r reply end details) inv step =
     let held : m.in_hand step.state.call.actor ≡ Some step.state = ap (λ (c : CallId). m.in_hand c.actor) step.call_is ∙ step.in_hand in
     let goes = driver_goes m inv step.state held (record { verb = verb; ckpt = k; node = r; reply = reply; end = end; details = details }) (driver_of step.state) refl step.done in
-    let own = own_step m inv.shapes step.state (rooms_of m (client_of step.state.call)) (record { verb = verb; ckpt = k; node = r; reply = reply; end = end; details = details }) (inv.holds.hands step.state.call.actor step.state held).here step.done in
+    let own = own_step m inv.shapes step.state (rooms_of m step.state) (record { verb = verb; ckpt = k; node = r; reply = reply; end = end; details = details }) (inv.holds.hands step.state.call.actor step.state held).here step.done in
     (record { state = step.state; in_hand = step.in_hand; call_is = step.call_is; word = step.word; own = own; row = goes.row }, subst (λ o. Invariant (step_of m o verb k r reply end)) (sym step.in_hand) goes.holds)
 lawful m (labels.Word who word said) inv is = (word_row m who word said is, inv)
 lawful m (labels.Nodes n) inv is = ((is.0, is.1, λ r. is_up-none r m.cluster is.2), record { shapes = inv.shapes; holds = nodes_keep m inv.shapes inv.holds n is.2 })

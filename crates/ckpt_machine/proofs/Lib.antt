@@ -45,10 +45,10 @@ pub mod OptionLemmas
 pub mod Actors
 pub mod DueStep
 pub mod StepLabels
-pub mod Operations
 pub mod EntryLists
 pub mod Runs
 pub mod RunLaws
+pub mod AskedFor
 pub mod OpenFacts
 pub mod OwnMaking
 pub mod Reserved

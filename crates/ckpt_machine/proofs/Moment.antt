@@ -10,12 +10,10 @@ use Rattle.ckpt_machine.specs.Shape.{Shape}
 use Rattle.moment_rules.specs.Times.{is_reached}
 use Rattle.std.proofs.lemmas.Option.{same_Some}
 use Rattle.ckpt_machine.specs.Invariant.{InvariantIn, Invariant}
-use Rattle.ckpt_machine.specs.Later.{IsLaterEntry, IsLaterRecord}
+use Rattle.ckpt_machine.specs.Later.{IsLaterRecord}
+pub use Rattle.ckpt_machine.proofs.OtherCalls.{IsLaterEntry-refl}
 use Rattle.ckpt_machine.proofs.RecordSteps.{record_keeps}
 use Rattle.ckpt_machine.proofs.EntryLists.{AllStay-swept}
-
-pub IsLaterEntry-refl : (e : Entry) → IsLaterEntry e e
-IsLaterEntry-refl e = record { making = refl; complete = refl; active = refl; attributes = refl; generation = refl; clients = refl }
 
 -- an entry that stays is found in a sweep
 pub found_swept : (t : ℤ) (k : ℕ) (es : List Entry) (e : Entry) → entry_of k es ≡ Some e → stays t e ≡ true → entry_of k (filter (stays t) es) ≡ Some e

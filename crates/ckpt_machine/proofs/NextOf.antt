@@ -25,7 +25,8 @@ use Rattle.ckpt_machine.specs.Driving.{driver_next}
 use Rattle.cluster_record.specs.DueOpen.{accepts, create_next, entry_by, entry_next, on_named, reserve_or_finish, on_making, by_making}
 use Rattle.cluster_record.specs.DueUpdate.{commit_at, stage_at, by_phase, update_on}
 use Rattle.cluster_record.specs.DueActive.{on_active, active_on, active_request, starts_iteration}
-use Rattle.cluster_record.specs.DueOnce.{close_of, unlink_of_making, unlink_of, retain_of}
+use Rattle.cluster_record.specs.DueOnce.{OneStep, once_next, close_of, unlink_of_making, unlink_of, retain_of}
+use Rattle.cluster_record.specs.DueOnce as once
 use Rattle.ckpt_machine.proofs.Deadlines.{in_time-either}
 
 -- what a driver asks of a replica has it
@@ -123,12 +124,15 @@ module _ (P : Next → Type 0) (ends : (o : Outcome) → P (End o)) (steps : (st
 
   -- ---- any call
 
+  of_once : (R : RecordState) (x : OneStep) → P (once_next R x)
+  of_once R (once.Enter r) = by_one (nat_le 64 (length R.clients)) _ _
+  of_once R once.Leave = steps _
+  of_once R (once.Close k) = of_close (entry_of k R.entries)
+  of_once R (once.Unlink name) = of_unlink (named name R.entries)
+  of_once R (once.Retain k duration) = of_retain (entry_of k R.entries)
+
   pub next_of : (R : RecordState) (room : Rooms) (x : Driver) → OfAsked P x → P (driver_next R room x)
-  next_of R room (drivers.Enter r) asks = by_one (nat_le 64 (length R.clients)) _ _
+  next_of R room (drivers.Once x) asks = of_once R x
   next_of R room (drivers.Open o) asks = of_open R room.handles o o.making
   next_of R room (drivers.Update u) asks = of_update u asks.0 asks.1 R.moment (entry_of u.ckpt R.entries)
   next_of R room (drivers.Active a) asks = of_active room.iterations a (entry_of a.ckpt R.entries) asks
-  next_of R room drivers.Leave asks = steps _
-  next_of R room (drivers.Close k) asks = of_close (entry_of k R.entries)
-  next_of R room (drivers.Unlink name) asks = of_unlink (named name R.entries)
-  next_of R room (drivers.Retain k duration) asks = of_retain (entry_of k R.entries)

@@ -1,4 +1,4 @@
--- The calls of one step of the record, with any calls of others in hand: a close, an unlink, a setting of the retention, and a client that leaves.
+-- The calls of one step of the record, with any calls of others in hand: a close, an unlink, a setting of the retention, a client that leaves, and one that becomes live.
 use Rattle.std.proofs.Common.{◌≡◌, ℕ, ◌-◌, inl, inr, List, filter, length, Option, Some, None, Bool, true, false, cond, not, ◌&&◌, ◌==◌, ℤ, refl, sym, ap, subst, ◌∙◌}
 use Rattle.std.specs.Prelude.{is_some, IsSome, IfSome, slice_index, slice_set}
 use Rattle.ckpt_types.specs.declared.ais_error.AisError.{AisError}
@@ -10,59 +10,41 @@ use Rattle.ckpt_types.specs.declared.answers.Outcome.TheVariants.{Done, Refused}
 use Rattle.ckpt_types.specs.declared.identities.ActorName.{ActorName}
 use Rattle.ckpt_types.specs.declared.identities.ActorName.TheVariants.{Client, Node}
 use Rattle.ckpt_types.specs.declared.identities.CallId.{CallId}
-use Rattle.ckpt_types.specs.declared.operation.Op.{Op}
-use Rattle.ckpt_types.specs.declared.operation.Op.TheVariants as ops
 use Rattle.node_msgs.specs.declared.next.RecordStep.TheVariants as events
 use Rattle.node_msgs.specs.declared.next.Next.TheVariants.{Event, End}
 use Rattle.node_msgs.specs.declared.steps.Verb.TheVariants as verbs
 use Rattle.node_msgs.specs.declared.steps.StepReply.TheVariants as words
-use Rattle.client_handles.specs.declared.handle_view.HandleView.{HandleView}
+use Rattle.client_handles.specs.ClientState.{emptied}
 use Rattle.cluster_record.specs.declared.entries.Entry.{Entry}
-use Rattle.cluster_record.specs.Calls.{IsClient, number_of, client_of, put_actor}
-use Rattle.cluster_record.specs.DueOnce.{close_of, unlink_of, unlink_of_making, retain_of}
-use Rattle.cluster_record.specs.LookUps.{identity_in, at_ckpt}
+use Rattle.cluster_record.specs.Calls.{IsClient, number_of, client_of}
+use Rattle.cluster_record.specs.DueOnce.{OneStep, Enter, Leave, Close, Unlink, Retain, close_of, unlink_of, unlink_of_making, retain_of, once_next}
+use Rattle.cluster_record.specs.LookUps.{identity_in}
 use Rattle.cluster_record.specs.Places.{find_key}
-use Rattle.cluster_record.specs.RecordState.{RecordState, entry_of, named, client_key, has_references, is_live, swept, released, closed, unnamed, unlinked, retaining, released_all, is_call_of, departed}
+use Rattle.cluster_record.specs.RecordState.{RecordState, entry_of, named, client_key, has_references, is_live, unreferred, closed, unnamed, retaining, released_all, is_call_of, departed}
 use Rattle.cluster_record.proofs.IdentityLaws.{entry_of-find, IdentitiesRise-filter, IdentitiesRise-map, AllUpTo-filter, AllUpTo-map}
 use Rattle.run_labels.specs.declared.details.Details.TheVariants as beside
-use Rattle.ckpt_machine.specs.Beginning.{IsCloseOf, IsRetainOf, IsUnlinkOf, IsFinalize, closed_place}
+use Rattle.ckpt_types.specs.Asks.{asked}
+use Rattle.ckpt_types.specs.Asks as asks
 use Rattle.ckpt_machine.specs.Drivers as drivers
-use Rattle.ckpt_machine.specs.Driving.{event_after}
 use Rattle.ckpt_machine.specs.InHand.{IsLeaveAt, IsCloseAt, IsRetainAt, is_enter, IsInPlace}
 use Rattle.ckpt_machine.specs.Invariant.{IsMaker, IsGoodIn, IsGoodClient, InvariantIn, Invariant}
 use Rattle.ckpt_machine.specs.Machine.{Machine, CallState}
-use Rattle.ckpt_machine.specs.Steps.{Told, IsDone, IsEvent, driver_of, handle_in, with_record, without_handle, without_closed, without_handles, stepped}
-use Rattle.ckpt_machine.specs.Guards.{LookRefused, LookDone, UnlinkLook, RetainLook, CanUnlink, OfFinalize, OfClose, OfUnlink, OfRetain}
+use Rattle.ckpt_machine.specs.Steps.{Told, IsDone, IsEvent, driver_of, with_tables, with_closed, record_step, retained_for}
+use Rattle.ckpt_machine.specs.Guards.{LookRefused, LookDone, UnlinkLook, RetainLook, CanUnlink}
 use Rattle.ckpt_machine.specs.Shape.{Shape}
 use Rattle.ckpt_machine.specs.Later.{IsLaterEntry}
 use Rattle.ckpt_machine.proofs.Entries.{ComesOf-filter, ComesOf-map, ComesOf-then, found_filter, found_map}
-use Rattle.ckpt_machine.proofs.EndedTables.{live_alike, other_client, others_idle, without_handle_keeps, with_none_keeps}
+use Rattle.ckpt_machine.proofs.EndedTables.{live_alike, other_client, closing_keeps, emptied_keeps}
+use Rattle.ckpt_machine.proofs.Enter.{enter_goes}
 use Rattle.ckpt_machine.proofs.Moment.{IsLaterEntry-refl}
 use Rattle.ckpt_machine.proofs.NodeLists.{length-slice_set}
-use Rattle.ckpt_machine.proofs.PlainCalls.{is_plain, IsLaterEntry-then, maker_apart, plain_ends, look_goes, swept_keeps, changed_keeps}
+use Rattle.ckpt_machine.proofs.PlainCalls.{is_plain, ending, IsLaterEntry-then, maker_apart, plain_ends, look_goes, swept_keeps, changed_keeps}
+use Rattle.ckpt_machine.proofs.ReplicaSteps.{put_actor-here}
 use Rattle.ckpt_machine.proofs.References.{released-identity, released_all-identity}
 use Rattle.ckpt_machine.proofs.DueStep.{Goes}
 use Rattle.ckpt_machine.proofs.OptionLemmas.{IsSomeAnd-from}
 use Rattle.ckpt_machine.proofs.StepLabels.{IsEvent-told}
 use Rattle.ckpt_machine.proofs.EntryLists.{find_key-without}
-
--- ---- operations
-
-OfFinalize-is : (op : Op) (P : Type 0) → IsFinalize op → P → OfFinalize op P
-OfFinalize-is ops.Finalize P is p = p
-OfFinalize-is op P is p = absurd is
-
-OfClose-is : (op : Op) (P : Type 0) → IsCloseOf op → P → OfClose op P
-OfClose-is (ops.Close place) P is p = p
-OfClose-is op P is p = absurd is
-
-OfUnlink-is : (op : Op) (name : List ℕ) (P : List ℕ → Type 0) → IsUnlinkOf name op → P name → OfUnlink op P
-OfUnlink-is (ops.Unlink given) name P is p = subst P is p
-OfUnlink-is op name P is p = absurd is
-
-OfRetain-is : (op : Op) (duration : ℤ) (P : Type 0) → IsRetainOf duration op → P → OfRetain op P
-OfRetain-is (ops.Retain place given) duration P is p = p
-OfRetain-is op duration P is p = absurd is
 
 -- ---- references that go
 
@@ -79,7 +61,7 @@ module _ (c : ℕ) (t : ℤ) (e : Entry) where
   abbrev none_of_it : List ℕ
   none_of_it = slice_set e.references c 0
 
-  released-later : IsLaterEntry e (released c t e)
+  released-later : IsLaterEntry e (unreferred c t e)
   released-later = fewer_later e t one_less (length-slice_set e.references c (slice_index e.references c - 1)) (slice_index e.references c == 0) (has_references (record e { references = one_less }))
 
   released_all-later : IsLaterEntry e (released_all c t e)
@@ -93,63 +75,37 @@ retaining-later duration e = record { making = refl; complete = refl; active = r
 
 -- ---- a close
 
--- the call is in hand no more
-abbrev ending : CallState → Machine → Machine
-ending s m = record m { in_hand = put_actor m.in_hand s.call.actor None }
-
-module _ (m : Machine) (shapes : ℕ → Shape) (inv : InvariantIn shapes m) (s : CallState) (k : ℕ) (held : m.in_hand s.call.actor ≡ Some s) (is : driver_of s ≡ drivers.Close k) where
+module _ (m : Machine) (shapes : ℕ → Shape) (inv : InvariantIn shapes m) (s : CallState) (k : ℕ) (held : m.in_hand s.call.actor ≡ Some s) (is : driver_of s ≡ drivers.Once (Close k)) where
   abbrev c : ℕ
   c = client_of s.call
 
-  at_close : IsCloseAt m s k
+  at_close : IsCloseAt s k
   at_close = subst (λ d. IsInPlace m shapes s d) is (inv.hands s.call.actor s held).here
 
-  idle_then : (b : ActorName) (z : CallState) → put_actor m.in_hand s.call.actor None b ≡ Some z → (number_of b == number_of s.call.actor) ≡ false
-  idle_then = others_idle m shapes s.call.actor inv (inv.hands s.call.actor s held).client
-
-  close_keeps : (o : Option HandleView) → Invariant (ending s (without_handle (with_record m (swept (closed k c m.cluster))) c o))
-  close_keeps o = record {
-    shapes = shapes;
-    holds = apart o (without_handle_keeps (record (with_record m (swept (closed k c m.cluster))) { in_hand = put_actor m.in_hand s.call.actor None }) shapes
-        (changed_keeps m shapes inv s held (ap is_plain is) k (released c m.cluster.moment) (released-identity c m.cluster.moment) (released-later c m.cluster.moment)) c idle_then o);
-  }
-    where
-      apart : (o : Option HandleView) → InvariantIn shapes (without_handle (record (with_record m (swept (closed k c m.cluster))) { in_hand = put_actor m.in_hand s.call.actor None }) c o) → InvariantIn shapes (ending s (without_handle (with_record m (swept (closed k c m.cluster))) c o))
-      apart None inv = inv
-      apart (Some h) inv = inv
+  -- the handle goes once the call has ended
+  closing_ends : (n : Machine) → InvariantIn shapes (ending s n) → Invariant (ending s (with_closed s n))
+  closing_ends n ended = record { shapes = shapes; holds = closing_keeps (ending s n) shapes ended s.call.actor (put_actor-here n.in_hand s.call.actor None) (asked s.op) }
 
   close_event : (t : Told) (e : Entry) → entry_of k m.cluster.entries ≡ Some e → IsEvent m s events.Close t → Goes m s (driver_of s) t
-  close_event t e found event = elim (IsEvent-told m s events.Close t (drivers.Close k) event is refl) [
+  close_event t e found event = elim (IsEvent-told m s events.Close t (drivers.Once (Close k)) event is refl) [
     | inl ok ↦ subst (Goes m s (driver_of s)) (sym ok) (record {
-      row = (OfClose-is s.op _ at_close.op (at_close.kept, ap is_some found, refl), refl);
-      holds = subst (λ R. Invariant (stepped (without_closed s (with_record m R)) s verbs.Close (Some k) None words.Ok (Some (Done answers.Nothing)))) (sym (ap (λ d. event_after s.call d events.Close m.cluster) is))
-          (close_keeps (handle_in m c (closed_place s.op)));
+      row = ((at_close.place, at_close.asks, (at_close.kept, ap is_some found, refl)), refl);
+      holds = closing_ends (record_step (closed k c) m) (changed_keeps m shapes inv s held (ap is_plain is) k (unreferred c m.cluster.moment) (released-identity c m.cluster.moment) (released-later c m.cluster.moment));
       nearer = λ none. absurd (cc none);
     })
     | inr memory ↦ absurd (cc (memory.0))
   ]
 
   -- with nothing left to do it ends the handle
-  LookDone-close : (op : Op) → IsCloseOf op → entry_of k m.cluster.entries ≡ None → LookDone m s op answers.Nothing
-  LookDone-close (ops.Close place) closes gone = IsSomeAnd-from s.kept.ckpt (λ k. entry_of k m.cluster.entries ≡ None) k at_close.kept gone
-  LookDone-close op closes gone = absurd closes
-
-  gone_keeps : (o : Option HandleView) → Invariant (ending s (without_handle m c o))
-  gone_keeps o = record { shapes = shapes; holds = apart o (without_handle_keeps (record m { in_hand = put_actor m.in_hand s.call.actor None }) shapes (plain_ends m shapes inv s held (ap is_plain is)) c idle_then o) }
-    where
-      apart : (o : Option HandleView) → InvariantIn shapes (without_handle (record m { in_hand = put_actor m.in_hand s.call.actor None }) c o) → InvariantIn shapes (ending s (without_handle m c o))
-      apart None inv = inv
-      apart (Some h) inv = inv
-
   close_look : (t : Told) → entry_of k m.cluster.entries ≡ None → IsDone m s (End (Done answers.Nothing)) t → Goes m s (driver_of s) t
   close_look t gone done = subst (Goes m s (driver_of s)) (sym done) (record {
-    row = (refl, refl, LookDone-close s.op at_close.op gone, refl);
-    holds = gone_keeps (handle_in m c (closed_place s.op));
+    row = (refl, refl, subst (λ ask. LookDone m s ask answers.Nothing) (sym at_close.asks) (IsSomeAnd-from s.kept.ckpt (λ k. entry_of k m.cluster.entries ≡ None) k at_close.kept gone), refl);
+    holds = closing_ends m (plain_ends m shapes inv s held (ap is_plain is));
     nearer = λ none. absurd (cc none);
   })
 
   -- the next step of a close
-  pub close_goes : (t : Told) → IsDone m s (close_of (entry_of k m.cluster.entries)) t → Goes m s (driver_of s) t
+  close_goes : (t : Told) → IsDone m s (close_of (entry_of k m.cluster.entries)) t → Goes m s (driver_of s) t
   close_goes t done = by_entry (entry_of k m.cluster.entries) refl done where
     by_entry : (o : Option Entry) → entry_of k m.cluster.entries ≡ o → IsDone m s (close_of o) t → Goes m s (driver_of s) t
     by_entry None gone done = close_look t gone done
@@ -157,27 +113,18 @@ module _ (m : Machine) (shapes : ℕ → Shape) (inv : InvariantIn shapes m) (s 
 
 -- ---- an unlink
 
--- a look at its name refuses it
-LookRefused-unlink : (m : Machine) (s : CallState) (op : Op) (name : List ℕ) (error : AisError) (cause : Cause) → IsUnlinkOf name op → UnlinkLook m s name error cause → LookRefused m s op error cause
-LookRefused-unlink m s (ops.Unlink given) name error cause is look = subst (λ n. UnlinkLook m s n error cause) is look
-LookRefused-unlink m s op name error cause is look = absurd is
-
-module _ (m : Machine) (shapes : ℕ → Shape) (inv : InvariantIn shapes m) (s : CallState) (name : List ℕ) (held : m.in_hand s.call.actor ≡ Some s) (is : driver_of s ≡ drivers.Unlink name) where
-  at_unlink : IsUnlinkOf name s.op
+module _ (m : Machine) (shapes : ℕ → Shape) (inv : InvariantIn shapes m) (s : CallState) (name : List ℕ) (held : m.in_hand s.call.actor ≡ Some s) (is : driver_of s ≡ drivers.Once (Unlink name)) where
+  at_unlink : asked s.op ≡ asks.Unlink name
   at_unlink = subst (λ d. IsInPlace m shapes s d) is (inv.hands s.call.actor s held).here
 
   module _ (e : Entry) (found : named name m.cluster.entries ≡ Some e) where
     unlink_event : (t : Told) → e.making ≡ None → IsEvent m s events.Unlink t → Goes m s (driver_of s) t
-    unlink_event t made event = elim (IsEvent-told m s events.Unlink t (drivers.Unlink name) event is refl) [
-      | inl ok ↦ (
-          let same : event_after s.call (driver_of s) events.Unlink m.cluster ≡ swept (unlinked e.identity m.cluster)
-          = ap (λ d. event_after s.call d events.Unlink m.cluster) is ∙ ap (λ o. swept (at_ckpt (identity_in o) m.cluster (λ k. unlinked k m.cluster))) found in
-          subst (Goes m s (driver_of s)) (sym (ok ∙ (λ i. record { verb = verbs.Unlink; ckpt = identity_in (found i); node = None; reply = words.Ok; end = Some (Done answers.Nothing); details = beside.Nothing }))) (record {
-            row = (OfUnlink-is s.op name _ at_unlink (IsSomeAnd-from (named name m.cluster.entries) (CanUnlink e.identity) e found (record { identity = refl; made = made }), refl), refl);
-            holds = subst (λ R. Invariant (stepped (with_record m R) s verbs.Unlink (Some e.identity) None words.Ok (Some (Done answers.Nothing)))) (sym same)
-                (record { shapes = shapes; holds = changed_keeps m shapes inv s held (ap is_plain is) e.identity unnamed (λ x. refl) unnamed-later });
-            nearer = λ none. absurd (cc none);
-          }))
+    unlink_event t made event = elim (IsEvent-told m s events.Unlink t (drivers.Once (Unlink name)) event is refl) [
+      | inl ok ↦ subst (Goes m s (driver_of s)) (sym (ok ∙ (λ i. record { verb = verbs.Unlink; ckpt = identity_in (found i); node = None; reply = words.Ok; end = Some (Done answers.Nothing); details = beside.Nothing }))) (record {
+        row = ((name, at_unlink, (IsSomeAnd-from (named name m.cluster.entries) (CanUnlink e.identity) e found (record { identity = refl; made = made }), refl)), refl);
+        holds = record { shapes = shapes; holds = changed_keeps m shapes inv s held (ap is_plain is) e.identity unnamed (λ x. refl) unnamed-later };
+        nearer = λ none. absurd (cc none);
+      })
       | inr memory ↦ absurd (cc (memory.0))
     ]
 
@@ -193,10 +140,10 @@ module _ (m : Machine) (shapes : ℕ → Shape) (inv : InvariantIn shapes m) (s 
         )
 
   -- the next step of an unlink
-  pub unlink_goes : (t : Told) → IsDone m s (unlink_of (named name m.cluster.entries)) t → Goes m s (driver_of s) t
+  unlink_goes : (t : Told) → IsDone m s (unlink_of (named name m.cluster.entries)) t → Goes m s (driver_of s) t
   unlink_goes t done = by_entry (named name m.cluster.entries) refl done where
     refused : (error : AisError) (cause : Cause) → UnlinkLook m s name error cause → IsDone m s (End (Refused error cause)) t → Goes m s (driver_of s) t
-    refused error cause look done = look_goes m shapes inv s held (ap is_plain is) error cause t (LookRefused-unlink m s s.op name error cause at_unlink look) done
+    refused error cause look done = look_goes m shapes inv s held (ap is_plain is) error cause t (subst (λ ask. LookRefused m s ask error cause) (sym at_unlink) look) done
 
     by_maker : (e : Entry) → named name m.cluster.entries ≡ Some e → (maker : Option CallId) → e.making ≡ maker → IsDone m s (unlink_of_making maker) t → Goes m s (driver_of s) t
     by_maker e found None made done = unlink_event e found t made done
@@ -208,30 +155,26 @@ module _ (m : Machine) (shapes : ℕ → Shape) (inv : InvariantIn shapes m) (s 
 
 -- ---- a setting of the retention
 
-module _ (m : Machine) (shapes : ℕ → Shape) (inv : InvariantIn shapes m) (s : CallState) (k : ℕ) (duration : ℤ) (held : m.in_hand s.call.actor ≡ Some s) (is : driver_of s ≡ drivers.Retain k duration) where
+module _ (m : Machine) (shapes : ℕ → Shape) (inv : InvariantIn shapes m) (s : CallState) (k : ℕ) (duration : ℤ) (held : m.in_hand s.call.actor ≡ Some s) (is : driver_of s ≡ drivers.Once (Retain k duration)) where
   at_retain : IsRetainAt m s k duration
   at_retain = subst (λ d. IsInPlace m shapes s d) is (inv.hands s.call.actor s held).here
 
   retain_event : (t : Told) (e : Entry) → entry_of k m.cluster.entries ≡ Some e → is_some e.name ≡ true → IsEvent m s events.Retain t → Goes m s (driver_of s) t
-  retain_event t e found has event = elim (IsEvent-told m s events.Retain t (drivers.Retain k duration) event is refl) [
+  retain_event t e found has event = elim (IsEvent-told m s events.Retain t (drivers.Once (Retain k duration)) event is refl) [
     | inl ok ↦ subst (Goes m s (driver_of s)) (sym ok) (record {
-      row = (OfRetain-is s.op duration _ at_retain.op (at_retain.kept, IsSomeAnd-from (entry_of k m.cluster.entries) (λ e. IsSome e.name) e found has, refl), refl);
-      holds = subst (λ R. Invariant (stepped (with_record m R) s verbs.Retain (Some k) None words.Ok (Some (Done answers.Nothing)))) (sym (ap (λ d. event_after s.call d events.Retain m.cluster) is))
+      row = ((at_retain.place, duration, at_retain.asks, (at_retain.kept, IsSomeAnd-from (entry_of k m.cluster.entries) (λ e. IsSome e.name) e found has, refl)), refl);
+      holds = subst (λ ask. Invariant (ending s (record_step (retained_for ask k) m))) (sym at_retain.asks)
           (record { shapes = shapes; holds = changed_keeps m shapes inv s held (ap is_plain is) k (retaining duration) (λ x. refl) (retaining-later duration) });
       nearer = λ none. absurd (cc none);
     })
     | inr memory ↦ absurd (cc (memory.0))
   ]
 
-  LookRefused-retain : (op : Op) (error : AisError) → IsRetainOf duration op → RetainLook m s.kept.ckpt error Plain → LookRefused m s op error Plain
-  LookRefused-retain (ops.Retain place given) error is look = look
-  LookRefused-retain op error is look = absurd is
-
   -- the next step
-  pub retain_goes : (t : Told) → IsDone m s (retain_of (entry_of k m.cluster.entries)) t → Goes m s (driver_of s) t
+  retain_goes : (t : Told) → IsDone m s (retain_of (entry_of k m.cluster.entries)) t → Goes m s (driver_of s) t
   retain_goes t done = by_entry (entry_of k m.cluster.entries) refl done where
     refused : (error : AisError) → RetainLook m (Some k) error Plain → IsDone m s (End (Refused error Plain)) t → Goes m s (driver_of s) t
-    refused error look done = look_goes m shapes inv s held (ap is_plain is) error Plain t (LookRefused-retain s.op error at_retain.op (subst (λ o. RetainLook m o error Plain) (sym at_retain.kept) look)) done
+    refused error look done = look_goes m shapes inv s held (ap is_plain is) error Plain t (subst (λ ask. LookRefused m s ask error Plain) (sym at_retain.asks) (subst (λ o. RetainLook m o error Plain) (sym at_retain.kept) look)) done
 
     by_name : (e : Entry) → entry_of k m.cluster.entries ≡ Some e → (o : Option (List ℕ)) → e.name ≡ o → IsDone m s (cond (is_some o) (Event events.Retain) (End (Refused BadOperation Plain))) t → Goes m s (driver_of s) t
     by_name e found None none done = refused BadOperation (IsSomeAnd-from (entry_of k m.cluster.entries) (λ e. e.name ≡ None) e found none) done
@@ -250,7 +193,7 @@ not_call_of c call client other = by_actor call.actor call.number client other w
   by_actor (Client d) n client other = other
   by_actor (Node r) n client other = absurd client
 
-module _ (m : Machine) (shapes : ℕ → Shape) (inv : InvariantIn shapes m) (s : CallState) (held : m.in_hand s.call.actor ≡ Some s) (is : driver_of s ≡ drivers.Leave) where
+module _ (m : Machine) (shapes : ℕ → Shape) (inv : InvariantIn shapes m) (s : CallState) (held : m.in_hand s.call.actor ≡ Some s) (is : driver_of s ≡ drivers.Once Leave) where
   abbrev leaver : ℕ
   leaver = client_of s.call
 
@@ -267,10 +210,10 @@ module _ (m : Machine) (shapes : ℕ → Shape) (inv : InvariantIn shapes m) (s 
   found_other : (d : ℕ) → (d == leaver) ≡ false → find_key client_key d left_then.clients ≡ find_key client_key d m.cluster.clients
   found_other d other = find_key-without client_key leaver d m.cluster.clients ∙ ap (λ b. cond b None (find_key client_key d m.cluster.clients)) other
 
-  leave_keeps : Invariant (record (without_handles leaver (with_record m (swept left_then))) { in_hand = put_actor m.in_hand s.call.actor None })
+  leave_keeps : Invariant (ending s (with_tables s.call.actor emptied (record_step (departed leaver) m)))
   leave_keeps = record {
     shapes = shapes;
-    holds = with_none_keeps (record (with_record m (swept left_then)) { in_hand = put_actor m.in_hand s.call.actor None }) shapes
+    holds = emptied_keeps (ending s (record_step (departed leaver) m)) shapes
         (swept_keeps m shapes inv s held (ap is_plain is) left_then
         (IdentitiesRise-map (released_all leaver m.cluster.moment) (released_all-identity leaver m.cluster.moment) (filter others_made m.cluster.entries) (IdentitiesRise-filter others_made m.cluster.entries inv.rises))
         (AllUpTo-map (released_all leaver m.cluster.moment) (released_all-identity leaver m.cluster.moment) m.cluster.last_identity (filter others_made m.cluster.entries) (AllUpTo-filter others_made m.cluster.last_identity m.cluster.entries inv.up_to))
@@ -285,16 +228,26 @@ module _ (m : Machine) (shapes : ℕ → Shape) (inv : InvariantIn shapes m) (s 
         let apart = other_client m shapes s.call.actor inv (inv.hands s.call.actor s held).client a z other at in
         ap is_some (found_map (released_all leaver m.cluster.moment) (released_all-identity leaver m.cluster.moment) j (filter others_made m.cluster.entries) e
         (found_filter others_made j m.cluster.entries e was (ap (λ o. not (is_call_of leaver o)) by ∙ ap not (not_call_of leaver z.call apart.0 apart.1))))))
-        leaver (others_idle m shapes s.call.actor inv (inv.hands s.call.actor s held).client);
+        s.call.actor (put_actor-here m.in_hand s.call.actor None);
   }
 
   -- the next step of a Finalize
-  pub leave_goes : (t : Told) → IsDone m s (Event events.Leave) t → Goes m s (driver_of s) t
-  leave_goes t event = elim (IsEvent-told m s events.Leave t drivers.Leave event is refl) [
+  leave_goes : (t : Told) → IsDone m s (Event events.Leave) t → Goes m s (driver_of s) t
+  leave_goes t event = elim (IsEvent-told m s events.Leave t (drivers.Once Leave) event is refl) [
     | inl ok ↦ subst (Goes m s (driver_of s)) (sym ok) (record {
-      row = (OfFinalize-is s.op _ at_leave.op (at_leave.live, refl), refl);
-      holds = subst (λ R. Invariant (stepped (without_handles leaver (with_record m R)) s verbs.Leave None None words.Ok (Some (Done answers.Nothing)))) (sym (ap (λ d. event_after s.call d events.Leave m.cluster) is)) leave_keeps;
+      row = ((at_leave.asks, (at_leave.live, refl)), refl);
+      holds = leave_keeps;
       nearer = λ none. absurd (cc none);
     })
     | inr memory ↦ absurd (cc (memory.0))
   ]
+
+-- ---- any of them
+
+-- the next step of a call of one step
+pub once_goes : (m : Machine) (shapes : ℕ → Shape) (inv : InvariantIn shapes m) (s : CallState) (x : OneStep) → m.in_hand s.call.actor ≡ Some s → driver_of s ≡ drivers.Once x → (t : Told) → IsDone m s (once_next m.cluster x) t → Goes m s (driver_of s) t
+once_goes m shapes inv s (Enter r) held is t done = enter_goes m shapes inv s r held is t done
+once_goes m shapes inv s Leave held is t done = leave_goes m shapes inv s held is t done
+once_goes m shapes inv s (Close k) held is t done = close_goes m shapes inv s k held is t done
+once_goes m shapes inv s (Unlink name) held is t done = unlink_goes m shapes inv s name held is t done
+once_goes m shapes inv s (Retain k duration) held is t done = retain_goes m shapes inv s k duration held is t done

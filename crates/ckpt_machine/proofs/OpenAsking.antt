@@ -5,10 +5,9 @@ use Rattle.std.proofs.lemmas.Bool.{leb-true, leb-false}
 use Rattle.moment_rules.specs.Times.{is_reached}
 use Rattle.ckpt_types.specs.declared.ais_error.AisError.{AisError}
 use Rattle.ckpt_types.specs.declared.ais_error.AisError.TheVariants.{NotExist, Exist, Timeout, TryAgain, NoResources}
-use Rattle.ckpt_types.specs.declared.answers.Answer.TheVariants as answers
 use Rattle.ckpt_types.specs.declared.answers.Cause.{Cause}
 use Rattle.ckpt_types.specs.declared.answers.Cause.TheVariants.{Plain, Holder, Deadline, Count}
-use Rattle.ckpt_types.specs.declared.answers.Outcome.TheVariants.{Done, Refused, NoMemory}
+use Rattle.ckpt_types.specs.declared.answers.Outcome.TheVariants.{Refused, NoMemory}
 use Rattle.ckpt_types.specs.declared.attributes.CreationAttributes.{CreationAttributes}
 use Rattle.ckpt_types.specs.declared.calls.OpenAsk.{OpenAsk}
 use Rattle.ckpt_types.specs.declared.identities.CallId.{CallId}
@@ -21,25 +20,25 @@ use Rattle.cluster_record.specs.declared.entries.Entry.{Entry}
 use Rattle.cluster_record.specs.declared.opening.OpenAnswer.TheVariants as opening
 use Rattle.cluster_record.specs.Calls.{client_of, put_actor}
 use Rattle.cluster_record.specs.DueOpen.{OpenState, IsBefore, accepts, create_next, entry_by, entry_next, on_named, on_free_name}
-use Rattle.cluster_record.specs.LookUps.{at_ckpt, identity_in}
+use Rattle.cluster_record.specs.LookUps.{identity_in}
 use Rattle.cluster_record.specs.Opening.{answer_named, answer_unless}
-use Rattle.cluster_record.specs.RecordState.{RecordState, entry_of, named, no_nodes, is_live, new_entry, created_as, opened, swept}
+use Rattle.cluster_record.specs.RecordState.{RecordState, entry_of, named, no_nodes, is_live, new_entry, created_as, swept}
 use Rattle.cluster_record.specs.Refusals.{plainly}
 use Rattle.cluster_record.specs.StepDone.{StepDone, done_of, has}
 use Rattle.cluster_record.proofs.IdentityLaws.{entry_of-find}
 use Rattle.run_labels.specs.declared.details.Details.TheVariants as beside
+use Rattle.ckpt_types.specs.Asks.{asked}
 use Rattle.ckpt_machine.specs.Drivers as drivers
-use Rattle.ckpt_machine.specs.Driving.{driver_taken, event_ckpt, event_node, event_after, event_refusal, refusal_in, opened_end}
-use Rattle.ckpt_machine.specs.Guards.{IsInTime, MayCreate, CreateRow, IsOpenable, MayOpen, OpenRow, MayExist, IsAccepted, OpenLook}
+use Rattle.ckpt_machine.specs.Driving.{driver_taken, event_ckpt, event_node, event_refusal, refusal_in, opened_end}
+use Rattle.ckpt_machine.specs.Guards.{IsInTime, MayCreate, IsOpenable, MayOpen, OpenRow, MayExist, IsAccepted, OpenLook}
 use Rattle.ckpt_machine.specs.InHand.{AreGoodAttributes, is_enter, IsInPlace, IsInHand, IsOpenIn}
 use Rattle.ckpt_machine.specs.Invariant.{IsMaker, IsGoodIn, InvariantIn, Invariant}
 use Rattle.ckpt_machine.specs.Left.{steps_left}
 use Rattle.ckpt_machine.specs.Machine.{Machine, CallState}
-use Rattle.ckpt_machine.specs.Steps.{Told, IsDone, IsEvent, IsRecordAnswer, driver_of, room_of, with_record, with_opened, stepped}
+use Rattle.ckpt_machine.specs.Steps.{Told, IsDone, IsEvent, IsRecordAnswer, driver_of, rooms_of, with_record, created_for}
 use Rattle.ckpt_machine.specs.Shape.{Shape}
 use Rattle.ckpt_machine.proofs.Created.{entry_new, created_keeps}
 use Rattle.ckpt_machine.proofs.Deadlines.{in_time-cases}
-use Rattle.ckpt_machine.proofs.Operations.{OfOpen-is}
 use Rattle.ckpt_machine.proofs.NodeLists.{slice_index-replicate}
 use Rattle.ckpt_machine.proofs.EntryLists.{swept-all}
 use Rattle.ckpt_machine.proofs.EntryLists.{AllStay-push}
@@ -69,7 +68,7 @@ module _ (m : Machine) (shapes : ℕ → Shape) (inv : InvariantIn shapes m) (s 
 
   -- it is refused
   refused : (t : Told) (error : AisError) (cause : Cause) → OpenLook m s ask.name ask.attrs error cause → IsDone m s (End (Refused error cause)) t → Goes m s (drivers.Open asking) t
-  refused t error cause look done = subst (λ d. Goes m s d t) is (look_goes m shapes inv s held (ap is_plain is) error cause t (LookRefused-open m s s.op ask error cause at_open.asks look) done)
+  refused t error cause look done = subst (λ d. Goes m s d t) is (look_goes m shapes inv s held (ap is_plain is) error cause t (LookRefused-open m s ask.name ask.attrs error cause at_open.asks look) done)
 
   -- at its deadline
   refused_late : (t : Told) (d : ℤ) → MayExist (named ask.name m.cluster.entries) ask.attrs → deadline ≡ Some d → is_reached d m.cluster.moment ≡ true → IsDone m s (End (Refused Timeout (Deadline d m.cluster.moment))) t → Goes m s (drivers.Open asking) t
@@ -123,37 +122,44 @@ module _ (m : Machine) (shapes : ℕ → Shape) (inv : InvariantIn shapes m) (s 
     none_reserved r c had = (let w : true ≡ false = sym had ∙ ap (has c) (slice_index-replicate 8 r) ∙ has-none c (had-there c (slice_index no_nodes r) had) in cc w)
 
     -- the call is there
-    own_then : room_of m (client_of s.call) ≡ true → IsInHand then_machine shapes s.call.actor then_state
+    own_then : (rooms_of m s).handles ≡ true → IsInHand then_machine shapes s.call.actor then_state
     own_then room = let hand = inv.hands s.call.actor s held in record {
       actor = refl;
       client = hand.client;
       number = hand.number;
+      built = hand.built;
       live = λ others. hand.live (ap is_enter is);
       here = subst (IsInPlace then_machine shapes then_state) (sym driver_then) (record {
         caller = at_open.caller;
         client = at_open.client;
         within = at_open.within;
         node = at_open.node;
-        built = at_open.built;
-        asks = at_open.asks;
+        asks = let open_asks = at_open.asks in record { place = open_asks.place; flags = open_asks.flags; timeout = open_asks.timeout; asks = open_asks.asks };
         named = at_open.named;
-        asked = at_open.asked;
+        declared = at_open.declared;
         deadline = at_open.deadline;
         making = record { there = IsSomeAnd-from (entry_of next after_it.entries) (λ e. e.making ≡ Some s.call) new found_new refl; nodes = refl; reserved = λ r had. absurd (none_reserved r (slice_index m.cluster.up r) had) };
         given = λ some. ap is_some given;
-        room = λ some. ap (room_of m) at_open.client ∙ room;
+        room = λ some. room;
       });
     }
       where
         -- its entry is the new one
         found_new : entry_of next after_it.entries ≡ Some new
-        found_new = entry_new m shapes inv s held (ap is_plain is) ask.name a (subst AreGoodAttributes given at_open.asked) then_state refl at_making driver_then making refl refl
+        found_new = entry_new m shapes inv s held (ap is_plain is) ask.name a (subst AreGoodAttributes given at_open.declared) then_state refl at_making driver_then making refl refl
+
+    -- no sweep takes anything
+    created_is : swept (created_for s.call (asked s.op) m.cluster) ≡ after_it
+    created_is =
+        ap (λ ask. swept (created_for s.call ask m.cluster)) at_open.asks.asks
+        ∙ ap (λ b. swept (created_as s.call ask.name b m.cluster)) given
+        ∙ swept-all after_it (AllStay-push m.cluster.moment m.cluster.entries new inv.swept refl)
 
     -- the call goes on, making it
-    create_keeps : room_of m (client_of s.call) ≡ true → Invariant (stepped (with_record m after_it) s verbs.Create (Some next) None words.Ok None)
+    create_keeps : (rooms_of m s).handles ≡ true → Invariant then_machine
     create_keeps room = record {
       shapes = shapes;
-      holds = created_keeps m shapes inv s held (ap is_plain is) ask.name a (subst AreGoodAttributes given at_open.asked) then_state refl at_making driver_then making refl refl (own_then room);
+      holds = created_keeps m shapes inv s held (ap is_plain is) ask.name a (subst AreGoodAttributes given at_open.declared) then_state refl at_making driver_then making refl refl (own_then room);
     }
 
     -- its reservations and its finish are left
@@ -161,21 +167,19 @@ module _ (m : Machine) (shapes : ℕ → Shape) (inv : InvariantIn shapes m) (s 
     create_nearer = let few = lacking-few m.cluster.up no_nodes in let nodes : length m.cluster.up ≡ 8 = ap length inv.up.1 in omega (arith, few, nodes)
 
     -- it may be created
-    may_create : room_of m (client_of s.call) ≡ true → length m.cluster.entries < 16 → MayCreate m s ask.name ask.attrs next
+    may_create : (rooms_of m s).handles ≡ true → length m.cluster.entries < 16 → MayCreate m s ask.name ask.attrs next
     may_create room few = record { free = free; asked = ap is_some given; in_time = in_time_is before; room = room; few = few; next = refl }
 
     -- the creation
-    create_goes : (t : Told) → room_of m (client_of s.call) ≡ true → length m.cluster.entries < 16 → IsEvent m s events.Create t → Goes m s (drivers.Open asking) t
+    create_goes : (t : Told) → (rooms_of m s).handles ≡ true → length m.cluster.entries < 16 → IsEvent m s events.Create t → Goes m s (drivers.Open asking) t
     create_goes t room few event = elim (IsEvent-told m s events.Create t (drivers.Open asking) event is refl) [
-      | inl ok ↦ subst (Goes m s (drivers.Open asking)) (sym ok) (
-          let same : event_after s.call (driver_of s) events.Create m.cluster ≡ after_it = ap (λ d. event_after s.call d events.Create m.cluster) is ∙ ap (λ o. swept (created_as s.call ask.name o m.cluster)) given ∙ swept-all after_it (AllStay-push m.cluster.moment m.cluster.entries new inv.swept refl) in
-          record {
-            row = (OfOpen-is s.op ask (λ name b. CreateRow m s name b next words.Ok None) at_open.asks (may_create room few, refl), refl);
-            holds = subst (λ R. Invariant (stepped (with_record m R) s verbs.Create (Some next) None words.Ok None)) (sym same) (create_keeps room);
-            nearer = λ none. subst (λ R. steps_left R (driver_taken (done_of R verbs.Create (Some next) None words.Ok) (drivers.Open asking)) < steps_left m.cluster (drivers.Open asking)) (sym same) create_nearer;
-          })
+      | inl ok ↦ subst (Goes m s (drivers.Open asking)) (sym ok) (record {
+        row = ((ask.name, ask.attrs, at_open.asks, (may_create room few, refl)), refl);
+        holds = subst (λ R. Invariant (record (with_record m R) { in_hand = put_actor m.in_hand s.call.actor (Some (record s { steps = done_of R verbs.Create (Some next) None words.Ok ∷ s.steps })) })) (sym created_is) (create_keeps room);
+        nearer = λ none. subst (λ R. steps_left R (driver_taken (done_of R verbs.Create (Some next) None words.Ok) (drivers.Open asking)) < steps_left m.cluster (drivers.Open asking)) (sym created_is) create_nearer;
+      })
       | inr memory ↦ subst (Goes m s (drivers.Open asking)) (sym memory.1) (record {
-        row = (OfOpen-is s.op ask (λ name b. CreateRow m s name b next words.Memory (Some NoMemory)) at_open.asks (may_create room few, refl), refl);
+        row = ((ask.name, ask.attrs, at_open.asks, (may_create room few, refl)), refl);
         holds = ends;
         nearer = λ none. absurd (cc none);
       })
@@ -229,7 +233,7 @@ module _ (m : Machine) (shapes : ℕ → Shape) (inv : InvariantIn shapes m) (s 
       -- it is to try again
       held_goes : (t : Told) → IsEvent m s events.Open t → Goes m s (drivers.Open asking) t
       held_goes t event = subst (Goes m s (drivers.Open asking)) (sym (held_told t event)) (record {
-        row = (OfOpen-is s.op ask (λ name b. OpenRow m s name b e.identity words.Refused (Some (Refused TryAgain (Holder by)))) at_open.asks held_row, refl);
+        row = ((ask.name, ask.attrs, at_open.asks, held_row), refl);
         holds = ends;
         nearer = λ none. absurd (cc none);
       })
@@ -237,7 +241,7 @@ module _ (m : Machine) (shapes : ℕ → Shape) (inv : InvariantIn shapes m) (s 
     -- it is made
     module _ (made : e.making ≡ None) where
       -- it may be opened
-      may_open : accepts ask.attrs e ≡ true → room_of m (client_of s.call) ≡ true → MayOpen m s ask.name ask.attrs e.identity
+      may_open : accepts ask.attrs e ≡ true → (rooms_of m s).handles ≡ true → MayOpen m s ask.name ask.attrs e.identity
       may_open accepted room = record {
         there = IsSomeAnd-from (named ask.name m.cluster.entries) (IsOpenable ask.attrs e.identity) e found (record { identity = refl; made = made; accepted = accepted });
         in_time = in_time_is before;
@@ -252,20 +256,17 @@ module _ (m : Machine) (shapes : ℕ → Shape) (inv : InvariantIn shapes m) (s 
           ∙ ap (λ b. refusal_in (cond (not b) (opening.Refused (plainly Exist)) (opening.Opened e.identity false))) accepted
 
       -- the opening
-      open_goes : (t : Told) → accepts ask.attrs e ≡ true → room_of m (client_of s.call) ≡ true → IsEvent m s events.Open t → Goes m s (drivers.Open asking) t
+      open_goes : (t : Told) → accepts ask.attrs e ≡ true → (rooms_of m s).handles ≡ true → IsEvent m s events.Open t → Goes m s (drivers.Open asking) t
       open_goes t accepted room event = elim (IsEvent-told m s events.Open t (drivers.Open asking) event is (granted accepted)) [
         | inl ok ↦
-            let same : event_after s.call (driver_of s) events.Open m.cluster ≡ swept (opened e.identity ask.client m.cluster)
-            = ap (λ d. event_after s.call d events.Open m.cluster) is ∙ ap (λ o. swept (at_ckpt (identity_in o) m.cluster (λ k. opened k ask.client m.cluster))) found in
             subst (Goes m s (drivers.Open asking)) (sym (ok ∙ (λ i. record { verb = verbs.Open; ckpt = identity_in (found i); node = None; reply = words.Ok; end = opened_end (identity_in (found i)); details = beside.Nothing }))) (record {
-              row = (OfOpen-is s.op ask (λ name b. OpenRow m s name b e.identity words.Ok (Some (Done (answers.Opened e.identity)))) at_open.asks (may_open accepted room, refl), refl);
-              holds = subst (λ R. Invariant (stepped (with_opened s (Some e.identity) (with_record m R)) s verbs.Open (Some e.identity) None words.Ok (Some (Done (answers.Opened e.identity))))) (sym same)
-                  (opened_keeps m shapes inv s held (ap is_plain is) ask.client e there made (Some e.identity) refl);
+              row = ((ask.name, ask.attrs, at_open.asks, (may_open accepted room, refl)), refl);
+              holds = opened_keeps m shapes inv s held (ap is_plain is) (client_of s.call) e there made;
               nearer = λ none. absurd (cc none);
             })
         | inr memory ↦
             subst (Goes m s (drivers.Open asking)) (sym (memory.1 ∙ (λ i. record { verb = verbs.Open; ckpt = identity_in (found i); node = None; reply = words.Memory; end = Some NoMemory; details = beside.Nothing }))) (record {
-              row = (OfOpen-is s.op ask (λ name b. OpenRow m s name b e.identity words.Memory (Some NoMemory)) at_open.asks (may_open accepted room, refl), refl);
+              row = ((ask.name, ask.attrs, at_open.asks, (may_open accepted room, refl)), refl);
               holds = ends;
               nearer = λ none. absurd (cc none);
             })
@@ -274,7 +275,7 @@ module _ (m : Machine) (shapes : ℕ → Shape) (inv : InvariantIn shapes m) (s 
   -- ---- by the name
 
   -- of a name that is free, where a checkpoint is asked for in time
-  create_next-goes : (room : Bool) (a : CreationAttributes) (t : Told) → room_of m (client_of s.call) ≡ room → ask.attrs ≡ Some a → named ask.name m.cluster.entries ≡ None → IsBefore m.cluster.moment deadline → IsDone m s (create_next m.cluster room) t → Goes m s (drivers.Open asking) t
+  create_next-goes : (room : Bool) (a : CreationAttributes) (t : Told) → (rooms_of m s).handles ≡ room → ask.attrs ≡ Some a → named ask.name m.cluster.entries ≡ None → IsBefore m.cluster.moment deadline → IsDone m s (create_next m.cluster room) t → Goes m s (drivers.Open asking) t
   create_next-goes false a t has_room given free before done =
       refused t NoResources (Count 32) (in_time_is before, inl (record { accepted = subst (λ o. IsAccepted o ask.attrs) (sym free) (ap is_some given); full = has_room; limit = refl })) done
   create_next-goes true a t has_room given free before done =
@@ -284,14 +285,14 @@ module _ (m : Machine) (shapes : ℕ → Shape) (inv : InvariantIn shapes m) (s 
       ] refl done
 
   -- of a name that is free
-  on_free_name-goes : (room : Bool) (a : Option CreationAttributes) (t : Told) → room_of m (client_of s.call) ≡ room → ask.attrs ≡ a → named ask.name m.cluster.entries ≡ None → IsDone m s (on_free_name m.cluster room deadline a) t → Goes m s (drivers.Open asking) t
+  on_free_name-goes : (room : Bool) (a : Option CreationAttributes) (t : Told) → (rooms_of m s).handles ≡ room → ask.attrs ≡ a → named ask.name m.cluster.entries ≡ None → IsDone m s (on_free_name m.cluster room deadline a) t → Goes m s (drivers.Open asking) t
   on_free_name-goes room None t has_room given free done = refused t NotExist Plain (free, given) done
   on_free_name-goes room (Some a) t has_room given free done =
       in_time-cases (λ next. IsDone m s next t → Goes m s (drivers.Open asking) t) deadline m.cluster.moment (create_next m.cluster room)
       (λ d at_d late. refused_late t d (subst (λ o. MayExist o ask.attrs) (sym free) (ap is_some given)) at_d late) (λ before. create_next-goes room a t has_room given free before) done
 
   -- of a name that a checkpoint has which is made, in time
-  made_next-goes : (room : Bool) (e : Entry) (t : Told) → room_of m (client_of s.call) ≡ room → named ask.name m.cluster.entries ≡ Some e → IsBefore m.cluster.moment deadline → e.making ≡ None → (accepted : Bool) → accepts ask.attrs e ≡ accepted
+  made_next-goes : (room : Bool) (e : Entry) (t : Told) → (rooms_of m s).handles ≡ room → named ask.name m.cluster.entries ≡ Some e → IsBefore m.cluster.moment deadline → e.making ≡ None → (accepted : Bool) → accepts ask.attrs e ≡ accepted
       → IsDone m s (cond (not accepted) (End (Refused Exist Plain)) (cond (not room) (End (Refused NoResources (Count 32))) (Event events.Open))) t → Goes m s (drivers.Open asking) t
   made_next-goes room e t has_room found before made false accepted done = refused t Exist Plain (in_time_is before, IsSomeAnd-from (named ask.name m.cluster.entries) (λ f. (f.making ≡ None) × (accepts ask.attrs f ≡ false)) e found (made, accepted)) done
   made_next-goes false e t has_room found before made true accepted done =
@@ -299,17 +300,17 @@ module _ (m : Machine) (shapes : ℕ → Shape) (inv : InvariantIn shapes m) (s 
   made_next-goes true e t has_room found before made true accepted done = open_goes e found before made t accepted has_room done
 
   -- of a name that a checkpoint has, in time
-  entry_next-goes : (room : Bool) (e : Entry) (t : Told) → room_of m (client_of s.call) ≡ room → named ask.name m.cluster.entries ≡ Some e → IsBefore m.cluster.moment deadline → (maker : Option CallId) → e.making ≡ maker → IsDone m s (entry_by maker room ask.attrs e) t → Goes m s (drivers.Open asking) t
+  entry_next-goes : (room : Bool) (e : Entry) (t : Told) → (rooms_of m s).handles ≡ room → named ask.name m.cluster.entries ≡ Some e → IsBefore m.cluster.moment deadline → (maker : Option CallId) → e.making ≡ maker → IsDone m s (entry_by maker room ask.attrs e) t → Goes m s (drivers.Open asking) t
   entry_next-goes room e t has_room found before (Some by) made_by done = held_goes e found before by made_by t done
   entry_next-goes room e t has_room found before None made done = made_next-goes room e t has_room found before made (accepts ask.attrs e) refl done
 
   -- of any name
-  on_named-goes : (room : Bool) (o : Option Entry) (t : Told) → room_of m (client_of s.call) ≡ room → named ask.name m.cluster.entries ≡ o → IsDone m s (on_named m.cluster room deadline ask.attrs o) t → Goes m s (drivers.Open asking) t
+  on_named-goes : (room : Bool) (o : Option Entry) (t : Told) → (rooms_of m s).handles ≡ room → named ask.name m.cluster.entries ≡ o → IsDone m s (on_named m.cluster room deadline ask.attrs o) t → Goes m s (drivers.Open asking) t
   on_named-goes room None t has_room free done = on_free_name-goes room ask.attrs t has_room refl free done
   on_named-goes room (Some e) t has_room found done =
       in_time-cases (λ next. IsDone m s next t → Goes m s (drivers.Open asking) t) deadline m.cluster.moment (entry_next room ask.attrs e)
       (λ d at_d late. refused_late t d (subst (λ o. MayExist o ask.attrs) (sym found) tt) at_d late) (λ before done. entry_next-goes room e t has_room found before e.making refl done) done
 
   -- the next step of an open that makes nothing yet
-  pub asking_goes : (room : Bool) (t : Told) → room_of m (client_of s.call) ≡ room → IsDone m s (on_named m.cluster room deadline ask.attrs (named ask.name m.cluster.entries)) t → Goes m s (drivers.Open asking) t
+  pub asking_goes : (room : Bool) (t : Told) → (rooms_of m s).handles ≡ room → IsDone m s (on_named m.cluster room deadline ask.attrs (named ask.name m.cluster.entries)) t → Goes m s (drivers.Open asking) t
   asking_goes room t has_room done = on_named-goes room (named ask.name m.cluster.entries) t has_room refl done

@@ -7,7 +7,7 @@ use Rattle.moment_rules.specs.Times.{is_reached}
 use Rattle.ckpt_types.specs.declared.ais_error.AisError.TheVariants.{Timeout}
 use Rattle.ckpt_types.specs.declared.answers.Answer.TheVariants as answers
 use Rattle.ckpt_types.specs.declared.answers.Cause.TheVariants.{Deadline}
-use Rattle.ckpt_types.specs.declared.answers.Outcome.TheVariants.{Done, Refused, NoMemory}
+use Rattle.ckpt_types.specs.declared.answers.Outcome.TheVariants.{Refused}
 use Rattle.ckpt_types.specs.declared.calls.OpenAsk.{OpenAsk}
 use Rattle.ckpt_types.specs.declared.identities.CallId.{CallId}
 use Rattle.node_msgs.specs.declared.requests.Request.TheVariants as requests
@@ -18,21 +18,20 @@ use Rattle.node_msgs.specs.declared.steps.Verb.TheVariants as verbs
 use Rattle.node_msgs.specs.declared.steps.StepReply.TheVariants as words
 use Rattle.cluster_record.specs.declared.calls.Making.{Making}
 use Rattle.cluster_record.specs.declared.entries.Entry.{Entry}
-use Rattle.cluster_record.specs.Calls.{put_actor}
+use Rattle.cluster_record.specs.Calls.{client_of, put_actor}
 use Rattle.cluster_record.specs.DueOpen.{OpenState, IsBefore, in_time, reserve_or_finish, on_making}
 use Rattle.cluster_record.specs.Places.{put2}
-use Rattle.cluster_record.specs.RecordState.{RecordState, entry_of, identity_of, named, is_up, first_complete, made_with, finished, stays}
+use Rattle.cluster_record.specs.RecordState.{RecordState, entry_of, identity_of, named, is_up, first_complete, made_with, finished, swept, stays}
 use Rattle.cluster_record.specs.StepDone.{StepDone, done_of, first_lacking, has, lacks}
-use Rattle.ckpt_machine.specs.Beginning.{opened_place}
 use Rattle.ckpt_machine.specs.Drivers as drivers
-use Rattle.ckpt_machine.specs.Driving.{driver_taken, event_after, making_in}
-use Rattle.ckpt_machine.specs.Guards.{IsMadeBy, IsInTime, IsOwnMaking}
+use Rattle.ckpt_machine.specs.Driving.{driver_taken}
+use Rattle.ckpt_machine.specs.Guards.{IsMadeBy, IsInTime}
 use Rattle.ckpt_machine.specs.Entries.{WasMade, IsMakingEntry, AllStay}
 use Rattle.ckpt_machine.specs.InHand.{is_enter, IsMakingIn, IsInPlace, IsOpenIn}
 use Rattle.ckpt_machine.specs.Invariant.{InvariantIn, Invariant}
 use Rattle.ckpt_machine.specs.Left.{steps_left, lacking}
 use Rattle.ckpt_machine.specs.Machine.{Machine, CallState}
-use Rattle.ckpt_machine.specs.Steps.{Told, IsDone, IsServed, IsEvent, driver_of, with_record, with_opened, without_making, stepped}
+use Rattle.ckpt_machine.specs.Steps.{Told, IsDone, IsServed, IsEvent, driver_of, with_record, with_given, with_reservation, record_step, without_making}
 use Rattle.ckpt_machine.specs.Shape.{Shape}
 use Rattle.ckpt_machine.proofs.Deadlines.{in_time-cases}
 use Rattle.ckpt_machine.proofs.Finished.{finish_keeps}
@@ -41,8 +40,9 @@ use Rattle.ckpt_machine.proofs.EntryLists.{entry_of-given, find_key-change_key, 
 use Rattle.ckpt_machine.proofs.StepLabels.{IsServed-told, IsEvent-told}
 use Rattle.ckpt_machine.proofs.StepsLeft.{lacking-set}
 use Rattle.ckpt_machine.proofs.NodeLists.{first_lacking-is, first_lacking-None, index-other, length-slice_set, index-within, not-lacked, lacked-has, first_complete-there}
-use Rattle.ckpt_machine.proofs.OpenFacts.{LookRefused-open, may_exist, handle_keeps}
+use Rattle.ckpt_machine.proofs.OpenFacts.{LookRefused-open, may_exist, given_ends}
 use Rattle.ckpt_machine.proofs.OwnMaking.{open_at, making_at, made_by, making_entry}
+use Rattle.ckpt_machine.proofs.PlainCalls.{ending}
 use Rattle.ckpt_machine.proofs.Reserved.{reserved_keeps}
 use Rattle.ckpt_machine.proofs.Undone.{undone_keeps}
 use Rattle.ckpt_machine.proofs.DueStep.{Goes}
@@ -51,6 +51,10 @@ use Rattle.ckpt_machine.proofs.DueStep.{Goes}
 not_not : (b : Bool) → not b ≡ true → b ≡ false
 not_not true is = absurd (cc is)
 not_not false is = refl
+
+-- the call is in hand, with one step more
+abbrev going_on : CallState → StepDone → Machine → Machine
+going_on s d m = record m { in_hand = put_actor m.in_hand s.call.actor (Some (record s { steps = d ∷ s.steps })) }
 
 module _ (m : Machine) (shapes : ℕ → Shape) (inv : InvariantIn shapes m) (s : CallState) (held : m.in_hand s.call.actor ≡ Some s) (call : CallId) (ask : OpenAsk) (deadline : Option ℤ) (making : Making) (is : driver_of s ≡ drivers.Open (record { call = call; ask = ask; deadline = deadline; making = Some making })) where
   -- what it keeps
@@ -85,28 +89,23 @@ module _ (m : Machine) (shapes : ℕ → Shape) (inv : InvariantIn shapes m) (s 
 
   -- at its deadline
   late_goes : (t : Told) (d : ℤ) → deadline ≡ Some d → is_reached d m.cluster.moment ≡ true → IsDone m s (End (Refused Timeout (Deadline d m.cluster.moment))) t → Goes m s (drivers.Open at_making) t
-  late_goes t d at_d late done =
-      let own : making_in (driver_of s) ≡ Some k = ap making_in is in
-      subst (Goes m s (drivers.Open at_making)) (sym done) (record {
-        row = (
-          refl,
-          refl,
-          (
-            LookRefused-open m s s.op ask Timeout (Deadline d m.cluster.moment) at_open.asks (may_exist (named ask.name m.cluster.entries) ask.attrs (at_open.given refl), sym at_open.deadline ∙ at_d, refl, late),
-            subst (IsOwnMaking m s.call) (sym own) by,
-          ),
-          refl,
-        );
-        holds = subst (λ o. Invariant (stepped (without_making m o) s verbs.Look None None words.Refused (Some (Refused Timeout (Deadline d m.cluster.moment))))) (sym own) (undone_keeps m shapes inv s at_making making held is refl);
-        nearer = λ none. absurd (cc none);
-      })
+  late_goes t d at_d late done = subst (Goes m s (drivers.Open at_making)) (sym done) (record {
+    row = (
+      refl,
+      refl,
+      LookRefused-open m s ask.name ask.attrs Timeout (Deadline d m.cluster.moment) at_open.asks (may_exist (named ask.name m.cluster.entries) ask.attrs (at_open.given refl), sym at_open.deadline ∙ at_d, refl, late),
+      refl,
+    );
+    holds = subst (λ o. Invariant (ending s (without_making o m))) (sym by) (undone_keeps m shapes inv s at_making making held is refl);
+    nearer = λ none. absurd (cc none);
+  })
 
   -- where memory was refused
   undo_goes : (t : Told) → IsBefore m.cluster.moment deadline → IsEvent m s events.Undo t → Goes m s (drivers.Open at_making) t
   undo_goes t before event = elim (IsEvent-told m s events.Undo t (drivers.Open at_making) event is refl) [
     | inl ok ↦ subst (Goes m s (drivers.Open at_making)) (sym ok) (record {
-      row = ((by, in_time_is before, ap making_in is, refl), refl);
-      holds = subst (λ R. Invariant (stepped (with_record m R) s verbs.Undo (Some k) None words.Ok (Some NoMemory))) (sym (ap (λ d. event_after s.call d events.Undo m.cluster) is)) (undone_keeps m shapes inv s at_making making held is refl);
+      row = ((ask.name, ask.attrs, at_open.asks, (by, in_time_is before, refl)), refl);
+      holds = undone_keeps m shapes inv s at_making making held is refl;
       nearer = λ none. absurd (cc none);
     })
     | inr memory ↦ absurd (cc (memory.0))
@@ -141,12 +140,16 @@ module _ (m : Machine) (shapes : ℕ → Shape) (inv : InvariantIn shapes m) (s 
       let (below, there) = and_parts (nat_lt ask.node 8) (not (slice_index m.cluster.up ask.node == 0)) at_open.node in
       first_complete-there 0 m.cluster.up ask.node (not_not (slice_index m.cluster.up ask.node == 0) there)
 
+  -- the client of the call finishes it, and no sweep takes anything
+  finished_is : swept (finished k (client_of s.call) m.cluster) ≡ finished_then
+  finished_is = ap (λ c. swept (finished k c m.cluster)) (sym at_open.client) ∙ swept-all finished_then finished_stays
+
   -- the call ends, and its client has the handle
-  finished_keeps : Invariant (stepped (with_opened s (Some k) (with_record m finished_then)) s verbs.Finish (Some k) None words.Ok (Some (Done (answers.Opened k))))
-  finished_keeps = record {
+  finished_keeps : Invariant (ending s (with_given s k (record_step (finished k (client_of s.call)) m)))
+  finished_keeps = subst (λ R. Invariant (ending s (with_given s k (with_record m R)))) (sym finished_is) (record {
     shapes = _;
-    holds = handle_keeps m shapes inv s held finished_then (finish_keeps m shapes inv s at_making making held is refl ask.client entry.0 entry.1 entry.2 some_up finished_stays) k made_now (opened_place s.op);
-  }
+    holds = given_ends (with_record m finished_then) _ s k (finish_keeps m shapes inv s at_making making held is refl ask.client entry.0 entry.1 entry.2 some_up finished_stays) made_now;
+  })
 
   -- every node that is up has reserved
   all_reserved : first_lacking 0 m.cluster.up making.reserved ≡ None → (r : ℕ) → is_up r m.cluster ≡ true → m.reserved k r ≡ Some (slice_index m.cluster.up r)
@@ -158,9 +161,8 @@ module _ (m : Machine) (shapes : ℕ → Shape) (inv : InvariantIn shapes m) (s 
   finish_goes : (t : Told) → IsBefore m.cluster.moment deadline → first_lacking 0 m.cluster.up making.reserved ≡ None → IsEvent m s events.Finish t → Goes m s (drivers.Open at_making) t
   finish_goes t before none event = elim (IsEvent-told m s events.Finish t (drivers.Open at_making) event is refl) [
     | inl ok ↦ subst (Goes m s (drivers.Open at_making)) (sym ok) (record {
-      row = ((by, in_time_is before, all_reserved none, refl), refl);
-      holds = subst (λ R. Invariant (stepped (with_opened s (Some k) (with_record m R)) s verbs.Finish (Some k) None words.Ok (Some (Done (answers.Opened k)))))
-          (sym (ap (λ d. event_after s.call d events.Finish m.cluster) is ∙ swept-all finished_then finished_stays)) finished_keeps;
+      row = ((ask.name, ask.attrs, at_open.asks, (by, in_time_is before, all_reserved none, refl)), refl);
+      holds = finished_keeps;
       nearer = λ none. absurd (cc none);
     })
     | inr memory ↦ absurd (cc (memory.0))
@@ -170,8 +172,8 @@ module _ (m : Machine) (shapes : ℕ → Shape) (inv : InvariantIn shapes m) (s 
 
   module _ (r : ℕ) (lacked : lacks (slice_index m.cluster.up r) (slice_index making.reserved r) ≡ true) (was_given : making.refused ≡ false) (before : IsBefore m.cluster.moment deadline) where
     -- what it keeps with another making
-    abbrev making_of : Making → OpenState
-    making_of w = record { call = call; ask = ask; deadline = deadline; making = Some w }
+    abbrev with_making : Making → OpenState
+    with_making w = record { call = call; ask = ask; deadline = deadline; making = Some w }
 
     -- the reservation as the call keeps it
     abbrev reserve_done : StepDone
@@ -202,7 +204,7 @@ module _ (m : Machine) (shapes : ℕ → Shape) (inv : InvariantIn shapes m) (s 
 
     -- ---- where the call is then
 
-    module _ (d : StepDone) (w : Making) (g : ℕ → ℕ → Option ℕ) (taken : driver_taken d (drivers.Open at_making) ≡ drivers.Open (making_of w)) (same_ckpt : w.ckpt ≡ making.ckpt) (elsewhere : (j q : ℕ) → (j == making.ckpt) ≡ false → g j q ≡ m.reserved j q) where
+    module _ (d : StepDone) (w : Making) (g : ℕ → ℕ → Option ℕ) (taken : driver_taken d (drivers.Open at_making) ≡ drivers.Open (with_making w)) (same_ckpt : w.ckpt ≡ making.ckpt) (elsewhere : (j q : ℕ) → (j == making.ckpt) ≡ false → g j q ≡ m.reserved j q) where
       -- the call with one step more
       abbrev then_state : CallState
       then_state = record s { steps = d ∷ s.steps }
@@ -212,25 +214,25 @@ module _ (m : Machine) (shapes : ℕ → Shape) (inv : InvariantIn shapes m) (s 
       then_machine = record m { reserved = g; in_hand = put_actor m.in_hand s.call.actor (Some then_state) }
 
       -- where the step has led the call
-      driver_then : driver_of then_state ≡ drivers.Open (making_of w)
+      driver_then : driver_of then_state ≡ drivers.Open (with_making w)
       driver_then = ap (driver_taken d) is ∙ taken
 
       -- the invariant holds then, where it holds of the making
       goes_on : IsMakingIn then_machine then_state w → InvariantIn shapes then_machine
-      goes_on making_then = reserved_keeps m shapes inv s at_making making held is refl g elsewhere then_state refl (making_of w) driver_then w refl same_ckpt (let hand = inv.hands s.call.actor s held in record {
+      goes_on making_then = reserved_keeps m shapes inv s at_making making held is refl g elsewhere then_state refl (with_making w) driver_then w refl same_ckpt (let hand = inv.hands s.call.actor s held in record {
         actor = refl;
         client = hand.client;
         number = hand.number;
+        built = hand.built;
         live = λ others. hand.live (ap is_enter is);
         here = subst (IsInPlace then_machine shapes then_state) (sym driver_then) (record {
           caller = at_open.caller;
           client = at_open.client;
           within = at_open.within;
           node = at_open.node;
-          built = at_open.built;
-          asks = at_open.asks;
+          asks = let open_asks = at_open.asks in record { place = open_asks.place; flags = open_asks.flags; timeout = open_asks.timeout; asks = open_asks.asks };
           named = at_open.named;
-          asked = at_open.asked;
+          declared = at_open.declared;
           deadline = at_open.deadline;
           making = making_then;
           given = λ some. at_open.given refl;
@@ -254,7 +256,7 @@ module _ (m : Machine) (shapes : ℕ → Shape) (inv : InvariantIn shapes m) (s 
         ] refl)
 
     -- the invariant holds after the reservation
-    reserved_holds : Invariant (stepped (record m { reserved = put2 m.reserved k r (Some (slice_index m.cluster.up r)) }) s verbs.Reserve (Some k) (Some r) words.Ok None)
+    reserved_holds : Invariant (going_on s reserve_done (with_reservation k r m))
     reserved_holds = record {
       shapes = shapes;
       holds = goes_on reserve_done reserved put_there refl refl (λ j q other. ap (λ b. cond (b && (q == r)) (Some (slice_index m.cluster.up r)) (m.reserved j q)) other)
@@ -262,7 +264,7 @@ module _ (m : Machine) (shapes : ℕ → Shape) (inv : InvariantIn shapes m) (s 
     }
 
     -- and after its refusal
-    refused_holds : Invariant (stepped m s verbs.Reserve (Some k) (Some r) words.Memory None)
+    refused_holds : Invariant (going_on s memory_done m)
     refused_holds = record {
       shapes = shapes;
       holds = goes_on memory_done refused m.reserved refl refl (λ j q other. refl) (record { there = its.there; nodes = its.nodes; reserved = its.reserved });
@@ -271,7 +273,7 @@ module _ (m : Machine) (shapes : ℕ → Shape) (inv : InvariantIn shapes m) (s 
     -- ---- nearer to its end
 
     -- the steps that are left of a making that was not refused
-    left_is : (w : Making) → w.refused ≡ false → steps_left m.cluster (drivers.Open (making_of w)) ≡ lacking m.cluster.up w.reserved + 1
+    left_is : (w : Making) → w.refused ≡ false → steps_left m.cluster (drivers.Open (with_making w)) ≡ lacking m.cluster.up w.reserved + 1
     left_is w given = ap (λ b. cond b 1 (lacking m.cluster.up w.reserved + 1)) given
 
     -- a node fewer is lacked
@@ -279,15 +281,15 @@ module _ (m : Machine) (shapes : ℕ → Shape) (inv : InvariantIn shapes m) (s 
     one_fewer = lacking-set m.cluster.up making.reserved r same_length lacked
 
     -- so a reservation brings the call nearer to its end
-    reserved_nearer : steps_left m.cluster (drivers.Open (making_of reserved)) < steps_left m.cluster (drivers.Open at_making)
+    reserved_nearer : steps_left m.cluster (drivers.Open (with_making reserved)) < steps_left m.cluster (drivers.Open at_making)
     reserved_nearer =
-        let a : steps_left m.cluster (drivers.Open (making_of reserved)) ≡ lacking m.cluster.up (slice_set making.reserved r (slice_index m.cluster.up r)) + 1 = left_is reserved was_given in
+        let a : steps_left m.cluster (drivers.Open (with_making reserved)) ≡ lacking m.cluster.up (slice_set making.reserved r (slice_index m.cluster.up r)) + 1 = left_is reserved was_given in
         let b : steps_left m.cluster (drivers.Open at_making) ≡ lacking m.cluster.up making.reserved + 1 = left_is making was_given in
         let c = one_fewer in
         subst (λ (n : ℕ). n < steps_left m.cluster (drivers.Open at_making)) (sym a) (subst (λ (n : ℕ). lacking m.cluster.up (slice_set making.reserved r (slice_index m.cluster.up r)) + 1 < n) (sym b) (omega (arith, c)))
 
     -- and its refusal does
-    refused_nearer : steps_left m.cluster (drivers.Open (making_of refused)) < steps_left m.cluster (drivers.Open at_making)
+    refused_nearer : steps_left m.cluster (drivers.Open (with_making refused)) < steps_left m.cluster (drivers.Open at_making)
     refused_nearer =
         let b : steps_left m.cluster (drivers.Open at_making) ≡ lacking m.cluster.up making.reserved + 1 = left_is making was_given in
         let c = one_fewer in
@@ -297,12 +299,12 @@ module _ (m : Machine) (shapes : ℕ → Shape) (inv : InvariantIn shapes m) (s 
     reserve_goes : (t : Told) → IsServed m s r (requests.Reserve k) t → Goes m s (drivers.Open at_making) t
     reserve_goes t served = elim served.may [
       | inl ok ↦ subst (Goes m s (drivers.Open at_making)) (sym (IsServed-told m s r (requests.Reserve k) t (drivers.Open at_making) (replies.Done answers.Nothing) served is ok)) (record {
-        row = ((up_there, by, in_time_is before, refl), refl);
+        row = ((ask.name, ask.attrs, at_open.asks, (up_there, by, in_time_is before, refl)), refl);
         holds = reserved_holds;
         nearer = λ none. reserved_nearer;
       })
       | inr memory ↦ subst (Goes m s (drivers.Open at_making)) (sym (IsServed-told m s r (requests.Reserve k) t (drivers.Open at_making) replies.NoMemory served is memory)) (record {
-        row = ((up_there, by, in_time_is before, refl), refl);
+        row = ((ask.name, ask.attrs, at_open.asks, (up_there, by, in_time_is before, refl)), refl);
         holds = refused_holds;
         nearer = λ none. refused_nearer;
       })

@@ -28,37 +28,35 @@ use Rattle.cluster_record.specs.RecordReady.{CanOpen}
 use Rattle.cluster_record.specs.RecordState.{RecordState, entry_of, named, client_key, is_live, is_live_client, is_live_from}
 use Rattle.cluster_record.specs.StepDone.{lacks, first_lacking}
 use Rattle.cluster_record.proofs.MakingLaws.{making-own}
-use Rattle.ckpt_machine.specs.Beginning.{IsBuilt}
 use Rattle.ckpt_machine.specs.Drivers as drivers
 use Rattle.ckpt_machine.specs.Driving.{driver_next}
 use Rattle.ckpt_machine.specs.Facts.{IsServable, IsReservable, IsFinishable, IsEventReady}
-use Rattle.ckpt_machine.specs.Guards.{IsOwnMaking}
 use Rattle.ckpt_machine.specs.Entries.{IsMakingEntry}
 use Rattle.ckpt_machine.specs.InHand.{AreGoodAttributes, is_enter, IsMakingIn, IsOpenIn}
 use Rattle.ckpt_machine.specs.Invariant.{InvariantIn}
 use Rattle.ckpt_machine.specs.Machine.{Machine, CallState}
-use Rattle.ckpt_machine.specs.Steps.{due, driver_of, room_of, rooms_of}
+use Rattle.ckpt_machine.specs.Steps.{due, driver_of, rooms_of}
 use Rattle.ckpt_machine.specs.Shape.{Shape}
 use Rattle.ckpt_machine.proofs.Deadlines.{in_time-either}
 use Rattle.ckpt_machine.proofs.OptionLemmas.{IsSomeAnd-from}
 use Rattle.ckpt_machine.proofs.NodeLists.{first_lacking-is, first_lacking-None, not-lacked, lacked-has, index-within, slice_index-replicate}
-use Rattle.ckpt_machine.proofs.OwnMaking.{open_at, making_at, made_by, making_entry}
+use Rattle.ckpt_machine.proofs.OwnMaking.{open_at, making_at, making_entry}
 
 -- a reservation is all that an open asks of a node
-abbrev pub IsReservation : Request → Type 0
-IsReservation (requests.Reserve k) = Unit {0}
-IsReservation request = ⊥
+abbrev pub IsReserveOf : Request → Type 0
+IsReserveOf (requests.Reserve k) = Unit {0}
+IsReserveOf request = ⊥
 
 -- what the code relies on of what is due of an open
-abbrev pub IsOpenReady : Machine → CallState → OpenState → Next → Type 0
-IsOpenReady m s o (Serve r request) = (r < 8) × IsServable m r request × IsReservation request
-IsOpenReady m s o (Event step) = IsEventReady m s (drivers.Open o) step
-IsOpenReady m s o (End outcome) = Unit {0}
+abbrev pub IsReadyOpen : Machine → CallState → OpenState → Next → Type 0
+IsReadyOpen m s o (Serve r request) = (r < 8) × IsServable m r request × IsReserveOf request
+IsReadyOpen m s o (Event step) = IsEventReady m s (drivers.Open o) step
+IsReadyOpen m s o (End outcome) = Unit {0}
 
 -- what is not 0 is from 1
-from_one : (n : ℕ) → (n == 0) ≡ false → 1 ≤ n
-from_one zero e = absurd (cc e)
-from_one (suc n) e = omega arith
+one_or_more : (n : ℕ) → (n == 0) ≡ false → 1 ≤ n
+one_or_more zero e = absurd (cc e)
+one_or_more (suc n) e = omega arith
 
 -- attributes that passed their check are well formed
 well_formed : (a : Option CreationAttributes) → AreGoodAttributes a → IfSome a IsWellFormed
@@ -90,45 +88,45 @@ module _ (m : Machine) (shapes : ℕ → Shape) (inv : InvariantIn shapes m) (s 
       record {
         client = at_open.within;
         node = at_open.node;
-        name = (from_one (length o.ask.name) parts.0, ltb-false name_max (length o.ask.name) parts.1);
-        attributes = well_formed o.ask.attrs at_open.asked;
+        name = (one_or_more (length o.ask.name) parts.0, ltb-false name_max (length o.ask.name) parts.1);
+        attributes = well_formed o.ask.attrs at_open.declared;
       }
 
   -- ---- with nothing in the making
 
   -- a checkpoint that is asked for is made where there is room
-  create_ready : (room : Bool) (a : CreationAttributes) → o.ask.attrs ≡ Some a → named o.ask.name m.cluster.entries ≡ None → IsOpenReady m s o (create_next m.cluster room)
+  create_ready : (room : Bool) (a : CreationAttributes) → o.ask.attrs ≡ Some a → named o.ask.name m.cluster.entries ≡ None → IsReadyOpen m s o (create_next m.cluster room)
   create_ready false a given free = tt
   create_ready true a given free =
-      elim (nat_le 16 (length m.cluster.entries)) as (λ b. nat_le 16 (length m.cluster.entries) ≡ b → IsOpenReady m s o (cond b (End (Refused NoResources (Count 16))) (Event events.Create))) [
+      elim (nat_le 16 (length m.cluster.entries)) as (λ b. nat_le 16 (length m.cluster.entries) ≡ b → IsReadyOpen m s o (cond b (End (Refused NoResources (Count 16))) (Event events.Create))) [
         | true ↦ λ full. tt
         | false ↦ λ few. (leb-false 16 (length m.cluster.entries) few, IsSomeAnd-from o.ask.attrs (λ a. Unit {0}) a given tt, free, can_open, at_open.caller)
       ] refl
 
   -- of a name that is free
-  free_ready : (room : Bool) (a : Option CreationAttributes) → o.ask.attrs ≡ a → named o.ask.name m.cluster.entries ≡ None → IsOpenReady m s o (on_free_name m.cluster room o.deadline a)
+  free_ready : (room : Bool) (a : Option CreationAttributes) → o.ask.attrs ≡ a → named o.ask.name m.cluster.entries ≡ None → IsReadyOpen m s o (on_free_name m.cluster room o.deadline a)
   free_ready room None given free = tt
-  free_ready room (Some a) given free = in_time-either (IsOpenReady m s o) o.deadline m.cluster.moment (create_next m.cluster room) (λ outcome. tt) (create_ready room a given free)
+  free_ready room (Some a) given free = in_time-either (IsReadyOpen m s o) o.deadline m.cluster.moment (create_next m.cluster room) (λ outcome. tt) (create_ready room a given free)
 
   -- the record is asked to open what has the attributes asked for, where it is made
-  asked_ready : (e : Entry) → named o.ask.name m.cluster.entries ≡ Some e → (e.making ≡ None → accepts o.ask.attrs e ≡ true) → IsOpenReady m s o (Event events.Open)
+  asked_ready : (e : Entry) → named o.ask.name m.cluster.entries ≡ Some e → (e.making ≡ None → accepts o.ask.attrs e ≡ true) → IsReadyOpen m s o (Event events.Open)
   asked_ready e found takes = (IsSomeAnd-from (named o.ask.name m.cluster.entries) (λ e. e.making ≡ None → accepts o.ask.attrs e ≡ true) e found takes, can_open, at_open.caller)
 
   -- one that is made is opened where it has the attributes asked for and there is room for the handle
-  made_ready : (room accepted : Bool) (e : Entry) → accepts o.ask.attrs e ≡ accepted → named o.ask.name m.cluster.entries ≡ Some e → IsOpenReady m s o (cond (not accepted) (End (Refused Exist Plain)) (cond (not room) (End (Refused NoResources (Count 32))) (Event events.Open)))
+  made_ready : (room accepted : Bool) (e : Entry) → accepts o.ask.attrs e ≡ accepted → named o.ask.name m.cluster.entries ≡ Some e → IsReadyOpen m s o (cond (not accepted) (End (Refused Exist Plain)) (cond (not room) (End (Refused NoResources (Count 32))) (Event events.Open)))
   made_ready room false e takes found = tt
   made_ready false true e takes found = tt
   made_ready true true e takes found = asked_ready e found (λ made. takes)
 
   -- of a name that a checkpoint has
-  entry_ready : (room : Bool) (e : Entry) (maker : Option CallId) → e.making ≡ maker → named o.ask.name m.cluster.entries ≡ Some e → IsOpenReady m s o (entry_by maker room o.ask.attrs e)
+  entry_ready : (room : Bool) (e : Entry) (maker : Option CallId) → e.making ≡ maker → named o.ask.name m.cluster.entries ≡ Some e → IsReadyOpen m s o (entry_by maker room o.ask.attrs e)
   entry_ready room e None made found = made_ready room (accepts o.ask.attrs e) e refl found
   entry_ready room e (Some by) made_by found = asked_ready e found (λ made. absurd (let w : None ≡ Some by = sym made ∙ made_by in cc w))
 
   -- of any name
-  named_ready : (room : Bool) (x : Option Entry) → named o.ask.name m.cluster.entries ≡ x → IsOpenReady m s o (on_named m.cluster room o.deadline o.ask.attrs x)
+  named_ready : (room : Bool) (x : Option Entry) → named o.ask.name m.cluster.entries ≡ x → IsReadyOpen m s o (on_named m.cluster room o.deadline o.ask.attrs x)
   named_ready room None found = free_ready room o.ask.attrs refl found
-  named_ready room (Some e) found = in_time-either (IsOpenReady m s o) o.deadline m.cluster.moment (entry_next room o.ask.attrs e) (λ outcome. tt) (entry_ready room e e.making refl found)
+  named_ready room (Some e) found = in_time-either (IsReadyOpen m s o) o.deadline m.cluster.moment (entry_next room o.ask.attrs e) (λ outcome. tt) (entry_ready room e e.making refl found)
 
   -- ---- with a checkpoint in the making
 
@@ -154,7 +152,7 @@ module _ (m : Machine) (shapes : ℕ → Shape) (inv : InvariantIn shapes m) (s 
     none_complete r = ap (λ nodes. slice_index nodes r) entry.3.complete ∙ slice_index-replicate 8 r
 
     -- the node that is lacked first can reserve
-    reserve_ready : (r : ℕ) → first_lacking 0 m.cluster.up making.reserved ≡ Some r → IsOpenReady m s o (Serve r (requests.Reserve making.ckpt))
+    reserve_ready : (r : ℕ) → first_lacking 0 m.cluster.up making.reserved ≡ Some r → IsReadyOpen m s o (Serve r (requests.Reserve making.ckpt))
     reserve_ready r lacked =
         let at_r = first_lacking-is 0 m.cluster.up making.reserved r lacked in
         let here : r ≡ 0 + at_r.place = at_r.at in
@@ -172,7 +170,7 @@ module _ (m : Machine) (shapes : ℕ → Shape) (inv : InvariantIn shapes m) (s 
         )
 
     -- where none is lacked it can be finished
-    finish_ready : first_lacking 0 m.cluster.up making.reserved ≡ None → IsOpenReady m s o (Event events.Finish)
+    finish_ready : first_lacking 0 m.cluster.up making.reserved ≡ None → IsReadyOpen m s o (Event events.Finish)
     finish_ready none = (
       subst (IsFinishable m) (sym makes) (
         λ r up. its.reserved r (not-lacked (slice_index m.cluster.up r) (slice_index making.reserved r) up (first_lacking-None 0 m.cluster.up making.reserved same_length none r)),
@@ -182,38 +180,32 @@ module _ (m : Machine) (shapes : ℕ → Shape) (inv : InvariantIn shapes m) (s 
     )
 
     -- it can be undone
-    undo_ready : IsOpenReady m s o (Event events.Undo)
+    undo_ready : IsReadyOpen m s o (Event events.Undo)
     undo_ready = (IsSomeAnd-from o.making (λ making. Unit {0}) making makes tt, own)
 
     -- it is undone where memory was refused
-    by_memory : (refused : Bool) (first : Option ℕ) → first_lacking 0 m.cluster.up making.reserved ≡ first → IsOpenReady m s o (cond refused (Event events.Undo) (reserve_or_finish making.ckpt first))
+    by_memory : (refused : Bool) (first : Option ℕ) → first_lacking 0 m.cluster.up making.reserved ≡ first → IsReadyOpen m s o (cond refused (Event events.Undo) (reserve_or_finish making.ckpt first))
     by_memory true first lacked = undo_ready
     by_memory false (Some r) lacked = reserve_ready r lacked
     by_memory false None none = finish_ready none
 
     -- before its deadline
-    making_ready : IsOpenReady m s o (by_making m.cluster (room_of m (client_of s.call)) o (Some making))
-    making_ready = in_time-either (IsOpenReady m s o) o.deadline m.cluster.moment (on_making m.cluster making) (λ outcome. tt) (by_memory making.refused (first_lacking 0 m.cluster.up making.reserved) refl)
+    making_ready : IsReadyOpen m s o (by_making m.cluster (rooms_of m s).handles o (Some making))
+    making_ready = in_time-either (IsReadyOpen m s o) o.deadline m.cluster.moment (on_making m.cluster making) (λ outcome. tt) (by_memory making.refused (first_lacking 0 m.cluster.up making.reserved) refl)
 
   -- ---- any open
 
   -- what is due of it
-  pub open_ready : IsOpenReady m s o (due m s)
-  open_ready = subst (IsOpenReady m s o) (sym due_is) (by_making_of o.making refl)
+  pub open_ready : IsReadyOpen m s o (due m s)
+  open_ready = subst (IsReadyOpen m s o) (sym due_is) (by_making_of o.making refl)
     where
-      due_is : due m s ≡ by_making m.cluster (room_of m (client_of s.call)) o o.making
-      due_is = ap (driver_next m.cluster (rooms_of m (client_of s.call))) is
+      due_is : due m s ≡ by_making m.cluster (rooms_of m s).handles o o.making
+      due_is = ap (driver_next m.cluster (rooms_of m s)) is
 
-      by_making_of : (w : Option Making) → o.making ≡ w → IsOpenReady m s o (by_making m.cluster (room_of m (client_of s.call)) o w)
-      by_making_of None makes = named_ready (room_of m (client_of s.call)) (named o.ask.name m.cluster.entries) refl
+      by_making_of : (w : Option Making) → o.making ≡ w → IsReadyOpen m s o (by_making m.cluster (rooms_of m s).handles o w)
+      by_making_of None makes = named_ready (rooms_of m s).handles (named o.ask.name m.cluster.entries) refl
       by_making_of (Some making) makes = making_ready making makes
 
-  -- it has a place for its handle, and with a checkpoint in the making room for the handle; its client is live, and what it is making is in the making by it
-  pub open_fits : IsBuilt s.op × (IsSome o.making → room_of m (client_of s.call) ≡ true) × (is_live_client (client_of s.call) m.cluster ≡ true) × IsOwnMaking m s.call (making_ckpt o.making)
-  open_fits =
-      let hand = inv.hands s.call.actor s held in
-      (at_open.built, λ some. ap (room_of m) (sym at_open.client) ∙ at_open.room some, client_live m.cluster s.call hand.client (hand.live (ap is_enter is)), by_making_of o.making refl)
-    where
-      by_making_of : (w : Option Making) → o.making ≡ w → IsOwnMaking m s.call (making_ckpt w)
-      by_making_of None makes = tt
-      by_making_of (Some making) makes = made_by m shapes inv s o making held is makes
+  -- with a checkpoint in the making it has room for the handle, and its client is live
+  pub open_fits : (IsSome o.making → (rooms_of m s).handles ≡ true) × (is_live_client (client_of s.call) m.cluster ≡ true)
+  open_fits = let hand = inv.hands s.call.actor s held in (at_open.room, client_live m.cluster s.call hand.client (hand.live (ap is_enter is)))

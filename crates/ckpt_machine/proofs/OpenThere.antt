@@ -1,5 +1,5 @@
 -- An open of a checkpoint that is there: its client has one reference more, and the handle once its call has ended.
-use Rattle.std.proofs.Common.{◌≡◌, ℕ, Option, Some, None, true, refl, sym, ap, subst, ◌∙◌}
+use Rattle.std.proofs.Common.{◌≡◌, ℕ, Option, Some, None, true, refl, sym, ap, ◌∙◌}
 use Rattle.std.specs.Prelude.{IfSome}
 use Rattle.std.proofs.lemmas.Option.{same_Some}
 use Rattle.cluster_record.specs.declared.entries.Entry.{Entry}
@@ -8,16 +8,15 @@ use Rattle.cluster_record.proofs.IdentityLaws.{IdentitiesRise-change_key}
 use Rattle.ckpt_machine.specs.Entries.{WasMade}
 use Rattle.ckpt_machine.specs.Invariant.{InvariantIn, Invariant}
 use Rattle.ckpt_machine.specs.Machine.{Machine, CallState}
-use Rattle.ckpt_machine.specs.Steps.{driver_of, with_record, with_opened}
-use Rattle.ckpt_machine.specs.Beginning.{opened_place}
+use Rattle.ckpt_machine.specs.Steps.{driver_of, with_given, record_step}
 use Rattle.ckpt_machine.specs.Shape.{Shape}
 use Rattle.ckpt_machine.specs.Later.{IsLaterEntry}
 use Rattle.ckpt_machine.proofs.Entries.{ComesOf, ComesOf-change_key, ComesOf-filter, ComesOf-then}
 use Rattle.ckpt_machine.proofs.EntryLists.{entry_of-given}
 use Rattle.ckpt_machine.proofs.Moment.{IsLaterEntry-refl}
 use Rattle.ckpt_machine.proofs.NodeLists.{length-slice_set}
-use Rattle.ckpt_machine.proofs.OpenFacts.{ending, handle_keeps}
-use Rattle.ckpt_machine.proofs.PlainCalls.{is_plain, IsLaterEntry-then, changed_keeps}
+use Rattle.ckpt_machine.proofs.OpenFacts.{given_ends}
+use Rattle.ckpt_machine.proofs.PlainCalls.{is_plain, ending, IsLaterEntry-then, changed_keeps}
 
 -- one reference more changes nothing that the invariant looks at
 referred-later : (c : ℕ) (e : Entry) → IsLaterEntry e (referred c e)
@@ -48,8 +47,8 @@ module _ (m : Machine) (shapes : ℕ → Shape) (inv : InvariantIn shapes m) (s 
           later.making ∙ ap (λ (x : Entry). x.making) (same_Some g e (sym was ∙ there)) ∙ made
 
   -- the call ends, and its client has the handle
-  pub opened_keeps : (o : Option ℕ) → o ≡ Some e.identity → Invariant (ending s (with_opened s o (with_record m R)))
-  opened_keeps o is = subst (λ o. Invariant (ending s (with_opened s o (with_record m R)))) (sym is) (record {
+  pub opened_keeps : Invariant (ending s (with_given s e.identity (record_step (opened e.identity c) m)))
+  opened_keeps = record {
     shapes = shapes;
-    holds = handle_keeps m shapes inv s held R (changed_keeps m shapes inv s held plain e.identity (referred c) (λ x. refl) (referred-later c)) e.identity was_made (opened_place s.op);
-  })
+    holds = given_ends (record_step (opened e.identity c) m) shapes s e.identity (changed_keeps m shapes inv s held plain e.identity (referred c) (λ x. refl) (referred-later c)) was_made;
+  }

@@ -1,4 +1,4 @@
--- What a call asks of a replica it asks of the checkpoint that it was begun on.
+-- What a call asks_own of a replica it asks_own of the checkpoint that it was begun on.
 use Rattle.std.proofs.Common.{ℕ, Option, Some, refl, sym, subst}
 use Rattle.node_msgs.specs.Requests.{ckpt_of}
 use Rattle.node_msgs.specs.Steps.{verb_of, event_verb}
@@ -20,13 +20,13 @@ use Rattle.ckpt_machine.specs.InHand.{IsInPlace}
 use Rattle.ckpt_machine.specs.Shape.{Shape}
 use Rattle.ckpt_machine.proofs.NextOf.{OfAsked, next_of}
 
--- what is next asks so
+-- what is next asks_own so
 abbrev IsAskedOf : Option ℕ → Next → Type 0
 IsAskedOf own (Serve r request) = IsOnOwn (verb_of request) (Some (ckpt_of request)) own
 IsAskedOf own (Event step) = Unit {0}
 IsAskedOf own (End o) = Unit {0}
 
--- no step of the record asks a replica
+-- no step of the record asks_own a replica
 no_event : (step : RecordStep) (ckpt own : Option ℕ) → IsOnOwn (event_verb step) ckpt own
 no_event events.Enter ckpt own = tt
 no_event events.Leave ckpt own = tt
@@ -47,7 +47,7 @@ own_told m s (Serve r request) t asked done = subst (λ verb. IsOnOwn verb t.ckp
 own_told m s (Event step) t asked done = subst (λ verb. IsOnOwn verb t.ckpt s.kept.ckpt) (sym done.verb) (no_event step t.ckpt s.kept.ckpt)
 own_told m s (End o) t asked done = subst (λ (t : Told). IsOnOwn t.verb t.ckpt s.kept.ckpt) (sym done) tt
 
--- ---- what a driver asks
+-- ---- what a driver asks_own
 
 kind_asks : (call : CallId) (k r : ℕ) (kind : ActiveKind) → IsAskedOf (Some k) (Serve r (request_by call k kind))
 kind_asks call k r kinds.Apply = tt
@@ -58,16 +58,12 @@ kind_asks call k r (kinds.Iterate choice) = refl
 kind_asks call k r kinds.Next = refl
 
 -- an update and a call to the active are of the checkpoint that their call keeps
-asks : (m : Machine) (shapes : ℕ → Shape) (s : CallState) (d : Driver) → IsInPlace m shapes s d → OfAsked (IsAskedOf s.kept.ckpt) d
-asks m shapes s (drivers.Update u) at = (λ r t. sym at.kept, λ r. sym at.kept)
-asks m shapes s (drivers.Active a) at = λ r. subst (λ own. IsAskedOf own (Serve r (active_request a))) (sym at.kept) (kind_asks a.call a.ckpt r a.kind)
-asks m shapes s (drivers.Enter r) at = tt
-asks m shapes s (drivers.Open o) at = tt
-asks m shapes s drivers.Leave at = tt
-asks m shapes s (drivers.Close k) at = tt
-asks m shapes s (drivers.Unlink name) at = tt
-asks m shapes s (drivers.Retain k duration) at = tt
+asks_own : (m : Machine) (shapes : ℕ → Shape) (s : CallState) (d : Driver) → IsInPlace m shapes s d → OfAsked (IsAskedOf s.kept.ckpt) d
+asks_own m shapes s (drivers.Update u) at = (λ r t. sym at.kept, λ r. sym at.kept)
+asks_own m shapes s (drivers.Active a) at = λ r. subst (λ own. IsAskedOf own (Serve r (active_request a))) (sym at.kept) (kind_asks a.call a.ckpt r a.kind)
+asks_own m shapes s (drivers.Once x) at = tt
+asks_own m shapes s (drivers.Open o) at = tt
 
 -- so a due step is on it
 pub own_step : (m : Machine) (shapes : ℕ → Shape) (s : CallState) (room : Rooms) (t : Told) → IsInPlace m shapes s (driver_of s) → IsDone m s (driver_next m.cluster room (driver_of s)) t → IsOnOwn t.verb t.ckpt s.kept.ckpt
-own_step m shapes s room t at done = own_told m s (driver_next m.cluster room (driver_of s)) t (next_of (IsAskedOf s.kept.ckpt) (λ o. tt) (λ step. tt) (λ r k. tt) m.cluster room (driver_of s) (asks m shapes s (driver_of s) at)) done
+own_step m shapes s room t at done = own_told m s (driver_next m.cluster room (driver_of s)) t (next_of (IsAskedOf s.kept.ckpt) (λ o. tt) (λ step. tt) (λ r k. tt) m.cluster room (driver_of s) (asks_own m shapes s (driver_of s) at)) done

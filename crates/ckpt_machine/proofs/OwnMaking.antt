@@ -1,16 +1,22 @@
 -- What an open that is making a checkpoint knows of it, and that others make others.
-use Rattle.std.proofs.Common.{◌≡◌, ◌≢◌, ℕ, Some, Bool, true, false, ◌==◌, refl, sym, ap, subst, ◌∙◌}
-use Rattle.std.specs.Prelude.{IfSome}
+use Rattle.std.proofs.Common.{◌≡◌, ◌≢◌, ℕ, List, [], ◌∷◌, Option, Some, None, Bool, true, false, cond, ◌==◌, refl, sym, ap, subst, ◌∙◌}
+use Rattle.std.specs.Prelude.{is_some, IsSome, IsSomeAnd, IfSome, find}
 use Rattle.std.proofs.lemmas.Bool.{eqb-true}
 use Rattle.std.proofs.lemmas.Option.{same_Some}
 use Rattle.ckpt_types.specs.declared.identities.ActorName.{ActorName}
 use Rattle.ckpt_types.specs.declared.identities.CallId.{CallId}
 use Rattle.cluster_record.specs.declared.calls.Making.{Making}
 use Rattle.cluster_record.specs.declared.entries.Entry.{Entry}
-use Rattle.cluster_record.specs.DueOpen.{OpenState}
+use Rattle.cluster_record.specs.DueOpen.{OpenState, making_ckpt}
 use Rattle.cluster_record.specs.Calls.{same_actor}
-use Rattle.cluster_record.specs.RecordState.{entry_of}
+use Rattle.cluster_record.specs.LookUps.{identity_in}
+use Rattle.cluster_record.specs.Makings.{is_by, making_of}
+use Rattle.cluster_record.specs.Identities.{IdentitiesRise}
+use Rattle.cluster_record.specs.RecordState.{RecordState, entry_of}
+use Rattle.cluster_record.proofs.IdentityLaws.{entry_of-find}
+use Rattle.ckpt_machine.specs.Drivers.{Driver}
 use Rattle.ckpt_machine.specs.Drivers as drivers
+use Rattle.ckpt_machine.specs.Driving.{making_in}
 use Rattle.ckpt_machine.specs.Entries.{IsMakingEntry}
 use Rattle.ckpt_machine.specs.InHand.{IsMakingIn, IsInPlace, IsOpenIn}
 use Rattle.ckpt_machine.specs.Invariant.{IsMaker, IsGoodIn, InvariantIn}
@@ -18,8 +24,8 @@ use Rattle.ckpt_machine.specs.Machine.{Machine, CallState}
 use Rattle.ckpt_machine.specs.Steps.{driver_of}
 use Rattle.ckpt_machine.specs.Guards.{IsMadeBy}
 use Rattle.ckpt_machine.specs.Shape.{Shape, IsOwner}
-use Rattle.ckpt_machine.proofs.Actors.{same_actor-refl, same_actor-true}
-use Rattle.ckpt_machine.proofs.OptionLemmas.{IsSomeAnd-at}
+use Rattle.ckpt_machine.proofs.Actors.{same_actor-refl, same_actor-true, same_call-refl, same_call-true}
+use Rattle.ckpt_machine.proofs.OptionLemmas.{IsSomeAnd-at, IsSomeAnd-from}
 
 -- a call in hand of another actor is another call
 pub actor_apart : (s : CallState) (a : ActorName) (z : CallState) → z.call.actor ≡ a → same_actor a s.call.actor ≡ false → z.call ≢ s.call
@@ -52,6 +58,80 @@ module _ (m : Machine) (s : CallState) (o : OpenState) (held : m.in_hand s.call.
 pub open_at : (m : Machine) (shapes : ℕ → Shape) (inv : InvariantIn shapes m) (s : CallState) (o : OpenState) → m.in_hand s.call.actor ≡ Some s → driver_of s ≡ drivers.Open o → IsOpenIn m s o
 open_at m shapes inv s o held is = subst (λ d. IsInPlace m shapes s d) is (inv.hands s.call.actor s held).here
 
+-- ---- what a call is making, by the record and by its own steps
+
+-- what passes a test among the entries is found by it
+finds : (p : Entry → Bool) (k : ℕ) (entries : List Entry) (e : Entry) → entry_of k entries ≡ Some e → p e ≡ true → (found : Entry) × (find p entries ≡ Some found)
+finds p k [] e there passes = absurd (cc there)
+finds p k (x ∷ xs) e there passes =
+    elim (p x) as (λ b. p x ≡ b → (found : Entry) × (cond b (Some x) (find p xs) ≡ Some found)) [
+      | true ↦ λ is. (x, refl)
+      | false ↦ λ is. elim (x.identity == k) as (λ b. cond b (Some x) (entry_of k xs) ≡ Some e → (found : Entry) × (find p xs ≡ Some found)) [
+        | true ↦ λ here. absurd (let w : true ≡ false = sym passes ∙ ap p (sym (same_Some x e here)) ∙ is in cc w)
+        | false ↦ λ behind. finds p k xs e behind passes
+      ] there
+    ] refl
+
+-- what is found passes the test
+pub found_passes : (p : Entry → Bool) (entries : List Entry) (e : Entry) → find p entries ≡ Some e → p e ≡ true
+found_passes p [] e found = absurd (cc found)
+found_passes p (x ∷ xs) e found =
+    elim (p x) as (λ b. p x ≡ b → cond b (Some x) (find p xs) ≡ Some e → p e ≡ true) [
+      | true ↦ λ is here. ap p (sym (same_Some x e here)) ∙ is
+      | false ↦ λ is behind. found_passes p xs e behind
+    ] refl found
+
+-- what is tested to be in the making by a call is
+pub is_by-true : (call : CallId) (maker : Option CallId) → is_by call maker ≡ true → maker ≡ Some call
+is_by-true call None is = absurd (cc is)
+is_by-true call (Some maker) is = ap Some (same_call-true maker call is)
+
+-- what a call is making by the record is there, in the making by it
+pub making_there : (R : RecordState) → IdentitiesRise R.entries → (call : CallId) (k : ℕ) → making_of call R ≡ Some k → IsSomeAnd (entry_of k R.entries) (λ e. e.making ≡ Some call)
+making_there R rises call k by = by_entry (find (λ e. is_by call e.making) R.entries) refl
+  where
+    by_entry : (o : Option Entry) → find (λ e. is_by call e.making) R.entries ≡ o → IsSomeAnd (entry_of k R.entries) (λ e. e.making ≡ Some call)
+    by_entry None none = absurd (let w : None ≡ Some k = ap identity_in (sym none) ∙ by in cc w)
+    by_entry (Some e) found =
+        let identity : e.identity ≡ k = same_Some e.identity k (ap identity_in (sym found) ∙ by) in
+        IsSomeAnd-from (entry_of k R.entries) (λ e. e.making ≡ Some call) e (ap (λ j. entry_of j R.entries) (sym identity) ∙ entry_of-find (λ e. is_by call e.making) R.entries e rises found)
+        (is_by-true call e.making (found_passes (λ e. is_by call e.making) R.entries e found))
+
+module _ (m : Machine) (shapes : ℕ → Shape) (inv : InvariantIn shapes m) (s : CallState) (held : m.in_hand s.call.actor ≡ Some s) where
+  -- what is in the making by the call is what its steps say that it makes
+  made_by_steps : (k : ℕ) → IsMadeBy m s.call k → making_in (driver_of s) ≡ Some k
+  made_by_steps k by =
+      let (e, there, maker_is) = IsSomeAnd-at (entry_of k m.cluster.entries) (λ e. e.making ≡ Some s.call) (making_there m.cluster inv.rises s.call k by) in
+      let good : IsGoodIn m k (shapes k) e (Some s.call) = subst (IsGoodIn m k (shapes k) e) maker_is (inv.entries k e there) in
+      let maker : IsMaker m k s.call = good.1 in
+      let state : s ≡ maker.state = same_Some s maker.state (sym held ∙ maker.in_hand) in
+      ap (λ (x : CallState). making_in (driver_of x)) state ∙ ap making_in maker.driver_is ∙ ap making_ckpt maker.making_is ∙ ap Some maker.ckpt
+
+  -- what its steps say that it makes is in the making by it
+  making_found : (d : Driver) (k : ℕ) → IsInPlace m shapes s d → making_in d ≡ Some k → IsSome (making_of s.call m.cluster)
+  making_found (drivers.Once x) k at is = absurd (cc is)
+  making_found (drivers.Open o) k at is = by_making o.making at.making is where
+    by_making : (making : Option Making) → IfSome making (IsMakingIn m s) → making_ckpt making ≡ Some k → IsSome (making_of s.call m.cluster)
+    by_making None at is = absurd (cc is)
+    by_making (Some making) at is =
+        let (e, there, by) = IsSomeAnd-at (entry_of making.ckpt m.cluster.entries) (λ e. e.making ≡ Some s.call) at.there in
+        let (found, found_is) = finds (λ e. is_by s.call e.making) making.ckpt m.cluster.entries e there (ap (is_by s.call) by ∙ same_call-refl s.call) in
+        ap (λ o. is_some (identity_in o)) found_is
+  making_found (drivers.Update u) k at is = absurd (cc is)
+  making_found (drivers.Active a) k at is = absurd (cc is)
+
+  -- what a call is making by the record is what it is making by its own steps
+  pub making_is : making_of s.call m.cluster ≡ making_in (driver_of s)
+  making_is = by_record (making_of s.call m.cluster) refl
+    where
+      by_steps : making_of s.call m.cluster ≡ None → (k : Option ℕ) → making_in (driver_of s) ≡ k → making_in (driver_of s) ≡ None
+      by_steps none None is = is
+      by_steps none (Some k) is = absurd (let w : false ≡ true = sym (ap is_some none) ∙ making_found (driver_of s) k (inv.hands s.call.actor s held).here is in cc w)
+
+      by_record : (o : Option ℕ) → making_of s.call m.cluster ≡ o → making_of s.call m.cluster ≡ making_in (driver_of s)
+      by_record None none = none ∙ sym (by_steps none (making_in (driver_of s)) refl)
+      by_record (Some k) by = by ∙ sym (made_by_steps k by)
+
 module _ (m : Machine) (shapes : ℕ → Shape) (inv : InvariantIn shapes m) (s : CallState) (o : OpenState) (making : Making) (held : m.in_hand s.call.actor ≡ Some s) (is : driver_of s ≡ drivers.Open o) (makes : o.making ≡ Some making) where
   -- how far the making is
   pub making_at : IsMakingIn m s making
@@ -59,7 +139,7 @@ module _ (m : Machine) (shapes : ℕ → Shape) (inv : InvariantIn shapes m) (s 
 
   -- its checkpoint is in the making by it
   pub made_by : IsMadeBy m s.call making.ckpt
-  made_by = making_at.there
+  made_by = making_is m shapes inv s held ∙ ap making_in is ∙ ap making_ckpt makes
 
   -- the entry, as it was created
   pub making_entry : (e : Entry) × (entry_of making.ckpt m.cluster.entries ≡ Some e) × (e.making ≡ Some s.call) × IsMakingEntry e

@@ -1,20 +1,19 @@
 -- What an update in hand knows of its checkpoint.
-use Rattle.std.proofs.Common.{◌≡◌, ◌≢◌, ℕ, Option, Some, None, Bool, true, false, ◌&&◌, ◌==◌, refl, sym, ap, subst, ◌∙◌}
+use Rattle.std.proofs.Common.{◌≡◌, ◌≢◌, ℕ, Option, Some, None, Bool, true, false, refl, sym, ap, subst, ◌∙◌}
 use Rattle.std.specs.Prelude.{IfSome, slice_index}
-use Rattle.std.proofs.lemmas.Bool.{eqb-true, eq-eqb, and_parts}
 use Rattle.std.proofs.lemmas.Option.{same_Some}
 use Rattle.ckpt_types.specs.declared.identities.CallId.{CallId}
 use Rattle.cluster_record.specs.declared.entries.Entry.{Entry}
 use Rattle.cluster_record.specs.declared.calls.UpdatePhase.{UpdatePhase}
 use Rattle.cluster_record.specs.declared.calls.UpdatePhase.TheVariants.{Staging, Committing}
 use Rattle.cluster_record.specs.DueUpdate.{UpdateState}
-use Rattle.cluster_record.specs.Calls.{same_actor, same_call, put_actor}
+use Rattle.cluster_record.specs.Calls.{same_actor, put_actor}
 use Rattle.cluster_record.specs.Places.{put}
 use Rattle.cluster_record.specs.RecordState.{entry_of, is_live}
 use Rattle.cluster_record.specs.StepDone.{has}
 use Rattle.ckpt_machine.specs.Drivers as drivers
 use Rattle.ckpt_machine.specs.Machine.{Machine, ReplicaState, CallState}
-use Rattle.ckpt_machine.specs.Serving.{update_of}
+use Rattle.ckpt_types.specs.Asks.{update_of}
 use Rattle.ckpt_machine.specs.Steps.{driver_of, seen, seen_at, seen_by}
 use Rattle.ckpt_machine.specs.Guards.{OnReplica}
 use Rattle.ckpt_machine.specs.Shape.{Shape, IsCompleteOn, IsShaped, is_owner, IsOwner, IsSpread, PhaseFits}
@@ -22,21 +21,9 @@ use Rattle.ckpt_machine.specs.InHand.{is_enter, IsInPlace, IsUpdateIn}
 use Rattle.ckpt_machine.specs.Invariant.{IsGoodIn, InvariantIn, Invariant}
 use Rattle.ckpt_machine.proofs.ReplicaSteps.{IsOwner-other, none_changed, step_keeps}
 use Rattle.ckpt_machine.proofs.OptionLemmas.{IsSomeAnd-at, IsSomeAnd-from}
-use Rattle.ckpt_machine.proofs.Actors.{same_actor-refl, same_actor-true}
+use Rattle.ckpt_machine.proofs.Actors.{same_actor-true, same_call-refl, same_call-true}
 
 -- ---- calls
-
--- a call is itself
-pub same_call-refl : (c : CallId) → same_call c c ≡ true
-same_call-refl c = λ i. same_actor-refl c.actor i && eq-eqb c.number c.number refl i
-
--- what is tested to be a call is it
-pub same_call-true : (a b : CallId) → same_call a b ≡ true → a ≡ b
-same_call-true a b is =
-    let (actors, numbers) = and_parts (same_actor a.actor b.actor) (a.number == b.number) is in
-    let actor = same_actor-true a.actor b.actor actors in
-    let number = eqb-true a.number b.number numbers in
-    λ i. record { actor = actor i; number = number i }
 
 -- who owns a slot by the test owns it
 pub is_owner-true : (c : CallId) (o : Option CallId) → is_owner c o ≡ true → o ≡ Some c

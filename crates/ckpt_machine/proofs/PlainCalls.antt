@@ -15,6 +15,7 @@ use Rattle.cluster_record.specs.declared.entries.Entry.{Entry}
 use Rattle.cluster_record.specs.DueOpen.{making_ckpt}
 use Rattle.cluster_record.specs.Calls.{same_actor, client_of, put_actor}
 use Rattle.cluster_record.specs.Identities.{IdentitiesRise, AllUpTo}
+use Rattle.cluster_record.specs.Makings.{making_of}
 use Rattle.cluster_record.specs.Places.{find_key, change_key}
 use Rattle.cluster_record.specs.RecordState.{RecordState, entry_of, identity_of, client_key, is_live, is_live_client, no_nodes, stays, swept}
 use Rattle.cluster_record.proofs.IdentityLaws.{KeepsIdentity, IdentitiesRise-filter, AllUpTo-filter, IdentitiesRise-change_key, AllUpTo-change_key}
@@ -22,8 +23,9 @@ use Rattle.ckpt_machine.specs.Drivers.{Driver}
 use Rattle.ckpt_machine.specs.Drivers as drivers
 use Rattle.ckpt_machine.specs.Driving.{making_in}
 use Rattle.ckpt_machine.specs.Machine.{Machine, CallState}
-use Rattle.ckpt_machine.specs.Steps.{Told, IsDone, driver_of, with_record, without_making, stepped}
-use Rattle.ckpt_machine.specs.Guards.{LookRefused, IsOwnMaking}
+use Rattle.ckpt_types.specs.Asks.{asked}
+use Rattle.ckpt_machine.specs.Steps.{Told, IsDone, driver_of, with_record, without_making, kept_behind, stepped}
+use Rattle.ckpt_machine.specs.Guards.{LookRefused}
 use Rattle.ckpt_machine.specs.Shape.{Shape, IsOwner}
 use Rattle.ckpt_machine.specs.Invariant.{IsMaker, IsGoodClient, InvariantIn, Invariant}
 use Rattle.ckpt_machine.specs.Later.{IsLaterEntry, IsLaterRecord}
@@ -31,6 +33,7 @@ use Rattle.ckpt_machine.proofs.OtherCalls.{IsIn-apart, IsGoodIn-apart}
 use Rattle.ckpt_machine.proofs.Entries.{ComesOf, ComesOf-filter, ComesOf-change_key, ComesOf-then, found_filter, there_still}
 use Rattle.ckpt_machine.proofs.Moment.{IsLaterEntry-refl, making_stays}
 use Rattle.ckpt_machine.proofs.ReplicaSteps.{put_actor-cases, put_actor-other}
+use Rattle.ckpt_machine.proofs.OwnMaking.{making_is}
 use Rattle.ckpt_machine.proofs.RecordSteps.{record_keeps}
 use Rattle.ckpt_machine.proofs.DueStep.{Goes}
 use Rattle.ckpt_machine.proofs.Actors.{same_actor-true}
@@ -38,28 +41,24 @@ use Rattle.ckpt_machine.proofs.EntryLists.{AllStay-swept}
 
 -- neither an update, nor an open that is making a checkpoint
 abbrev pub is_plain : Driver → Bool
-is_plain (drivers.Enter r) = true
+is_plain (drivers.Once x) = true
 is_plain (drivers.Open o) = not (is_some o.making)
 is_plain (drivers.Update u) = false
 is_plain (drivers.Active a) = true
-is_plain drivers.Leave = true
-is_plain (drivers.Close k) = true
-is_plain (drivers.Unlink name) = true
-is_plain (drivers.Retain k duration) = true
 
 -- one that is neither makes nothing
 makes_none : (d : Driver) → is_plain d ≡ true → making_in d ≡ None
-makes_none (drivers.Enter r) plain = refl
+makes_none (drivers.Once x) plain = refl
 makes_none (drivers.Open o) plain = by_making o.making plain where
   by_making : (w : Option Making) → not (is_some w) ≡ true → making_ckpt w ≡ None
   by_making None plain = refl
   by_making (Some w) plain = absurd (cc plain)
 makes_none (drivers.Update u) plain = refl
 makes_none (drivers.Active a) plain = refl
-makes_none drivers.Leave plain = refl
-makes_none (drivers.Close k) plain = refl
-makes_none (drivers.Unlink name) plain = refl
-makes_none (drivers.Retain k duration) plain = refl
+
+-- the call is in hand no more
+abbrev pub ending : CallState → Machine → Machine
+ending s m = record m { in_hand = put_actor m.in_hand s.call.actor None }
 
 pub IsLaterEntry-then : (e f g : Entry) → IsLaterEntry e f → IsLaterEntry f g → IsLaterEntry e g
 IsLaterEntry-then e f g first second = record {
@@ -112,17 +111,17 @@ module _ (m : Machine) (shapes : ℕ → Shape) (inv : InvariantIn shapes m) (s 
     clients = inv.clients;
     hands = λ a z left. elim (put_actor-cases m.in_hand s.call.actor None a z left) [
       | inl here ↦ absurd (let w : None ≡ Some z = here.1 in cc w)
-      | inr other ↦ (let was = inv.hands a z other.1 in record { actor = was.actor; client = was.client; number = was.number; live = was.live; here = IsIn-apart m shapes m.next others z (driver_of z) was.here })
+      | inr other ↦ (let was = inv.hands a z other.1 in record { actor = was.actor; client = was.client; number = was.number; built = was.built; live = was.live; here = IsIn-apart m shapes m.next others z (driver_of z) was.here })
     ];
   }
 
   -- by a look that refuses it
-  pub look_goes : (error : AisError) (cause : Cause) (t : Told) → LookRefused m s s.op error cause → IsDone m s (End (Refused error cause)) t → Goes m s (driver_of s) t
+  pub look_goes : (error : AisError) (cause : Cause) (t : Told) → LookRefused m s (asked s.op) error cause → IsDone m s (End (Refused error cause)) t → Goes m s (driver_of s) t
   look_goes error cause t look done =
-      let none : making_in (driver_of s) ≡ None = makes_none (driver_of s) plain in
+      let none : making_of s.call m.cluster ≡ None = making_is m shapes inv s held ∙ makes_none (driver_of s) plain in
       subst (Goes m s (driver_of s)) (sym done) (record {
-        row = (refl, refl, (look, subst (IsOwnMaking m s.call) (sym none) tt), refl);
-        holds = subst (λ k. Invariant (stepped (without_making m k) s verbs.Look None None words.Refused (Some (Refused error cause)))) (sym none) (record { shapes = shapes; holds = plain_ends });
+        row = (refl, refl, look, refl);
+        holds = subst (λ k. let behind = without_making k m in Invariant (stepped behind (kept_behind m s behind.cluster verbs.Look None None words.Refused) (Some (Refused error cause)))) (sym none) (record { shapes = shapes; holds = plain_ends });
         nearer = λ none. absurd (cc none);
       })
 

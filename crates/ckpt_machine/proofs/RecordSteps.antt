@@ -1,28 +1,21 @@
 -- After a step of the record that takes entries away, the other calls are where they were, and the checkpoints that are left are as they were.
-use Rattle.std.proofs.Common.{◌≡◌, ℕ, ◌≤◌, length, Option, Some, None, true, false, cond, not, ◌&&◌, ◌==◌, refl, sym, ap, subst, ◌∙◌}
-use Rattle.std.specs.Prelude.{is_some, IsSome, IsSomeAnd, IfSome, slice_index, nat_lt}
+use Rattle.std.proofs.Common.{◌≡◌, ℕ, ◌≤◌, Option, Some, None, true, false, cond, not, ◌&&◌, ◌==◌, refl, sym, ap, subst, ◌∙◌}
+use Rattle.std.specs.Prelude.{is_some, IsSome, IfSome, slice_index, nat_lt}
 use Rattle.std.proofs.lemmas.Option.{same_Some}
-use Rattle.ckpt_types.specs.Updates.{outcome}
-use Rattle.ckpt_types.specs.Attributes.{is_malformed}
 use Rattle.ckpt_types.specs.declared.identities.ActorName.{ActorName}
 use Rattle.ckpt_types.specs.declared.identities.CallId.{CallId}
 use Rattle.cluster_record.specs.declared.calls.Making.{Making}
-use Rattle.cluster_record.specs.declared.calls.UpdatePhase.{UpdatePhase}
-use Rattle.cluster_record.specs.declared.calls.UpdatePhase.TheVariants.{Staging, Committing}
-use Rattle.section_iter.specs.Room.{room_declared}
 use Rattle.cluster_record.specs.declared.entries.Entry.{Entry}
-use Rattle.cluster_record.specs.DueUpdate.{UpdateState}
-use Rattle.cluster_record.specs.RecordState.{RecordState, entry_of, complete_of, first_complete, is_up, no_nodes}
-use Rattle.cluster_record.specs.StepDone.{has, last_having}
-use Rattle.ckpt_machine.specs.Drivers.{Driver}
-use Rattle.ckpt_machine.specs.Drivers as drivers
+use Rattle.cluster_record.specs.RecordState.{RecordState, entry_of, complete_of, no_nodes}
+use Rattle.cluster_record.specs.StepDone.{has}
 use Rattle.ckpt_machine.specs.Entries.{WasMade}
-use Rattle.ckpt_machine.specs.InHand.{IsMakingIn, IsInPlace, HasSome}
-use Rattle.ckpt_machine.specs.Invariant.{IsMaker, IsGoodIn, InvariantIn}
+use Rattle.ckpt_machine.specs.InHand.{IsMakingIn}
+use Rattle.ckpt_machine.specs.Invariant.{IsGoodIn, InvariantIn}
 use Rattle.ckpt_machine.specs.Machine.{Machine, ReplicaState, CallState}
-use Rattle.ckpt_machine.specs.Steps.{opened_state, driver_of, with_record, replica_under, reservation_under}
-use Rattle.ckpt_machine.specs.Shape.{Shape, IsCompleteOn, IsShaped, is_owner, IsOwner, IsSpread}
+use Rattle.ckpt_machine.specs.Steps.{opened_state, with_record, replica_under, reservation_under}
+use Rattle.ckpt_machine.specs.Shape.{Shape, IsCompleteOn}
 use Rattle.ckpt_machine.specs.Later.{IsLaterEntry, IsLaterRecord}
+use Rattle.ckpt_machine.proofs.OtherCalls.{LooksAlike, making_still, IsInHand-alike, IsGoodIn-alike}
 use Rattle.ckpt_machine.proofs.OptionLemmas.{IsSomeAnd-at, IsSomeAnd-from}
 use Rattle.ckpt_machine.proofs.NodeLists.{slice_index-replicate}
 
@@ -55,45 +48,10 @@ module _ (m : Machine) (shapes : ℕ → Shape) (inv : InvariantIn shapes m) (R 
           let (e, there, later) = after_it.later k f found in
           later.making ∙ subst (λ o. IfSome o (λ (e : Entry). e.making ≡ None)) there was.made
 
-  -- ---- calls
-
-  IsOwner-kept : (k : ℕ) (sh : Shape) (call : CallId) → IsOwner m k sh call → IsOwner then_machine k sh call
-  IsOwner-kept k sh call own = record { state = own.state; in_hand = after_it.owners k sh call own ∙ own.in_hand; call_is = own.call_is; driver = own.driver; driver_is = own.driver_is; ckpt = own.ckpt; phase = own.phase }
-
-  IsMaker-kept : (k : ℕ) (call : CallId) → IsSome (entry_of k R.entries) → IsMaker m k call → IsMaker then_machine k call
-  IsMaker-kept k call there maker = record { state = maker.state; in_hand = after_it.makers k call there maker ∙ maker.in_hand; call_is = maker.call_is; driver = maker.driver; driver_is = maker.driver_is; making = maker.making; making_is = maker.making_is; ckpt = maker.ckpt }
-
-  up_kept : (r : ℕ) → is_up r R ≡ is_up r m.cluster
-  up_kept r = ap (λ nodes. nat_lt r 8 && not (slice_index nodes r == 0)) after_it.up
-
   -- ---- checkpoints
 
-  IsSpread-kept : (k : ℕ) (sh : Shape) (e f : Entry) → entry_of k m.cluster.entries ≡ Some e → entry_of k R.entries ≡ Some f → IsLaterEntry e f → IsSpread m k sh e → IsSpread then_machine k sh f
-  IsSpread-kept k sh e f was is later spread = record {
-    nodes = ap length later.complete ∙ spread.nodes;
-    some = subst (λ cs. IsSome (first_complete 0 cs)) (sym later.complete) spread.some;
-    active = later.active ∙ spread.active ∙ sym (ap (first_complete 0) later.complete);
-    replicas = λ r there. let before = was_complete r there in subst (λ o. IsSomeAnd o (IsShaped sh (sh.owners r))) (sym (replica_kept k r e f was is later.complete before)) (spread.replicas r before);
-    fits = λ r call owns. ap (λ a. outcome a sh.update sh.moment sh.sections) later.attributes ∙ spread.fits r call owns;
-    complete = λ r call owns. subst (λ cs. (slice_index cs r == 0) ≡ false) (sym later.complete) (spread.complete r call owns);
-    lowest = λ q r call below there owns. spread.lowest q r call below (was_complete q there) owns;
-    owned = λ r call owns. IsOwner-kept k sh call (spread.owned r call owns);
-  }
-    where
-      was_complete : (r : ℕ) → IsCompleteOn f r → IsCompleteOn e r
-      was_complete r there = subst (λ cs. (slice_index cs r == 0) ≡ false) later.complete there
-
   IsGoodIn-kept : (k : ℕ) (sh : Shape) (e f : Entry) (maker : Option CallId) → entry_of k m.cluster.entries ≡ Some e → entry_of k R.entries ≡ Some f → IsLaterEntry e f → IsGoodIn m k sh e maker → IsGoodIn then_machine k sh f maker
-  IsGoodIn-kept k sh e f None was is later good = IsSpread-kept k sh e f was is later good
-  IsGoodIn-kept k sh e f (Some call) was is later good = (
-    record {
-      complete = later.complete ∙ good.0.complete;
-      generation = later.generation ∙ good.0.generation;
-      well_formed = ap is_malformed later.attributes ∙ good.0.well_formed;
-      clients = later.clients ∙ good.0.clients;
-    },
-    IsMaker-kept k call (subst (λ o. IsSome o) (sym is) refl) good.1,
-  )
+  IsGoodIn-kept k sh e f maker was is later good = IsGoodIn-alike m then_machine k sh e f later (λ r there. replica_kept k r e f was is later.complete there) (after_it.owners k sh) (λ d own. after_it.makers k d (subst (λ o. IsSome o) (sym is) refl) own) maker good
 
   -- ---- where a call is
 
@@ -125,53 +83,16 @@ module _ (m : Machine) (shapes : ℕ → Shape) (inv : InvariantIn shapes m) (R 
             zeros : (r : ℕ) → (slice_index no_nodes r == 0) ≡ true
             zeros r = ap (λ n. n == 0) (slice_index-replicate 8 r)
 
-    IfSome-making : (making : Option Making) → IfSome making (IsMakingIn m z) → IfSome making (IsMakingIn then_machine z)
-    IfSome-making None at = tt
-    IfSome-making (Some making) at = making_kept making at
-
-    room_kept : (k : ℕ) → IfSome (entry_of k m.cluster.entries) (λ e. z.kept.room ≡ room_declared e.attributes) → IfSome (entry_of k R.entries) (λ e. z.kept.room ≡ room_declared e.attributes)
-    room_kept k was = by_entry (entry_of k R.entries) refl
-      where
-        by_entry : (o : Option Entry) → entry_of k R.entries ≡ o → IfSome o (λ e. z.kept.room ≡ room_declared e.attributes)
-        by_entry None gone = tt
-        by_entry (Some f) is =
-            let (e, there, later) = after_it.later k f is in
-            subst (λ o. IfSome o (λ (e : Entry). z.kept.room ≡ room_declared e.attributes)) there was ∙ sym (ap room_declared later.attributes)
-
-    HasSome-kept : (u : UpdateState) (e f : Entry) → f.complete ≡ e.complete → (ph : UpdatePhase) → HasSome u e ph → HasSome u f ph
-    HasSome-kept u e f same Staging some = tt
-    HasSome-kept u e f same Committing some = subst (λ cs. IsSome (last_having 0 cs u.owned)) (sym same) some
-
-    IsIn-kept : (d : Driver) → IsInPlace m shapes z d → IsInPlace then_machine shapes z d
-    IsIn-kept (drivers.Enter r) at = record { op = at.op; client = at.client; up = up_kept r ∙ at.up; not_live = after_it.lives a z left ∙ at.not_live }
-    IsIn-kept (drivers.Open o) at = record {
-      caller = at.caller;
-      client = at.client;
-      within = at.within;
-      node = up_kept o.ask.node ∙ at.node;
-      built = at.built;
-      asks = at.asks;
-      named = at.named;
-      asked = at.asked;
-      deadline = at.deadline;
-      making = IfSome-making o.making at.making;
-      given = at.given;
-      room = at.room;
+    looks_kept : LooksAlike m then_machine shapes shapes z
+    looks_kept = record {
+      up = λ r up. ap (λ nodes. nat_lt r 8 && not (slice_index nodes r == 0)) after_it.up ∙ up;
+      lives = after_it.lives a z left;
+      tables = refl;
+      making = λ o at. making_still m then_machine z o making_kept at;
+      made = WasMade-kept;
+      later = λ k was f found. let (e, there, later) = after_it.later k f found in (e, there, later.complete, later.attributes);
+      owners = λ k was r. refl;
     }
-    IsIn-kept (drivers.Update u) at = record {
-      call = at.call;
-      update = at.update;
-      kept = at.kept;
-      made = WasMade-kept u.ckpt at.made;
-      nodes = at.nodes;
-      owns = λ f is. let (e, was, later) = after_it.later u.ckpt f is in subst (λ cs. (r : ℕ) → (slice_index cs r == 0) ≡ false → has (slice_index cs r) (slice_index u.owned r) ≡ is_owner z.call ((shapes u.ckpt).owners r)) (sym later.complete) (at.owns e was);
-      some = λ f is. let (e, was, later) = after_it.later u.ckpt f is in HasSome-kept u e f later.complete u.phase (at.some e was);
-    }
-    IsIn-kept (drivers.Active v) at = record { call = at.call; kind = at.kind; made = WasMade-kept v.ckpt at.made; kept = at.kept; room = room_kept v.ckpt at.room; handle = at.handle }
-    IsIn-kept drivers.Leave at = record { op = at.op; live = after_it.lives a z left ∙ at.live }
-    IsIn-kept (drivers.Close k) at = record { op = at.op; kept = at.kept; handle = at.handle }
-    IsIn-kept (drivers.Unlink name) at = at
-    IsIn-kept (drivers.Retain k duration) at = record { op = at.op; from_zero = at.from_zero; kept = at.kept; made = WasMade-kept k at.made }
 
   -- ---- the whole
 
@@ -186,7 +107,7 @@ module _ (m : Machine) (shapes : ℕ → Shape) (inv : InvariantIn shapes m) (R 
     entries = λ k f is. (
         let (e, was, later) = after_it.later k f is in
         subst (IsGoodIn then_machine k (shapes k) f) (sym later.making) (IsGoodIn-kept k (shapes k) e f e.making was is later (inv.entries k e was)));
-    handles = λ c h among. let was = inv.handles c h among in (was.0, WasMade-kept h.id was.1);
+    handles = λ b h among. WasMade-kept h.id (inv.handles b h among);
     clients = after_it.clients;
-    hands = λ a z left. let was = inv.hands a z (after_it.was_held a z left) in record { actor = was.actor; client = was.client; number = was.number; live = λ others. after_it.live a z left (was.live others); here = IsIn-kept a z left (driver_of z) was.here };
+    hands = λ a z left. let was = inv.hands a z (after_it.was_held a z left) in IsInHand-alike m then_machine shapes shapes z (looks_kept a z left) a (after_it.live a z left) was.number was;
   }

@@ -2,7 +2,7 @@
 use Rattle.std.proofs.Common.{◌≡◌, ℕ, ◌-◌, List, Bool, true, false, cond, ◌==◌, ℤ, refl}
 use Rattle.std.specs.Prelude.{slice_index, slice_set}
 use Rattle.cluster_record.specs.declared.entries.Entry.{Entry}
-use Rattle.cluster_record.specs.RecordState.{has_references, released, released_all}
+use Rattle.cluster_record.specs.RecordState.{has_references, unreferred, released_all}
 use Rattle.cluster_record.proofs.IdentityLaws.{KeepsIdentity}
 
 -- whether any are left or not
@@ -12,7 +12,7 @@ left_identity e t references false true = refl
 left_identity e t references false false = refl
 
 -- one of a client
-pub released-identity : (c : ℕ) (t : ℤ) → KeepsIdentity (released c t)
+pub released-identity : (c : ℕ) (t : ℤ) → KeepsIdentity (unreferred c t)
 released-identity c t e = left_identity e t (slice_set e.references c (slice_index e.references c - 1)) (slice_index e.references c == 0) (has_references (record e { references = slice_set e.references c (slice_index e.references c - 1) }))
 
 -- or all of a client

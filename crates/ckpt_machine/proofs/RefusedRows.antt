@@ -20,25 +20,25 @@ first = record { actor = Client 0; number = 1 }
 abbrev up : List Label
 up = labels.Nodes 1 ∷ []
 
-abbrev refused : Label
-refused = labels.Began first (ops.Close 0) (Some (Refused errors.BadHandle Plain))
+abbrev refusal_label : Label
+refusal_label = labels.Began first (ops.Close 0) (Some (Refused errors.BadHandle Plain))
 
-is_refusal : IsRefusal refused
+is_refusal : IsRefusal refusal_label
 is_refusal = tt
 
--- its number is taken, and no other's
-taken : (last (up ++ refused ∷ [])).next (Client 0) ≡ 2
-taken = refl
+-- its number is number_is_taken, and no other's
+number_is_taken : (last (up ++ refusal_label ∷ [])).next (Client 0) ≡ 2
+number_is_taken = refl
 
-others : (last (up ++ refused ∷ [])).next (Client 1) ≡ 1
+others : (last (up ++ refusal_label ∷ [])).next (Client 1) ≡ 1
 others = refl
 
 -- it is in hand no more
-ended : (last (up ++ refused ∷ [])).in_hand (Client 0) ≡ None
-ended = refl
+call_has_ended : (last (up ++ refusal_label ∷ [])).in_hand (Client 0) ≡ None
+call_has_ended = refl
 
 -- the record is as it was
-recorded : (last (up ++ refused ∷ [])).cluster ≡ (last up).cluster
+recorded : (last (up ++ refusal_label ∷ [])).cluster ≡ (last up).cluster
 recorded = refl
 
 -- an effect is of the call that it names

@@ -6,34 +6,31 @@ use Rattle.std.proofs.lemmas.Option.{same_Some}
 use Rattle.ckpt_types.specs.declared.answers.Outcome.{Outcome}
 use Rattle.ckpt_types.specs.declared.identities.CallId.{CallId}
 use Rattle.ckpt_types.specs.declared.operation.Op.{Op}
+use Rattle.ckpt_types.specs.declared.update.Update.{Update}
 use Rattle.node_msgs.specs.declared.steps.Verb.TheVariants as verbs
 use Rattle.node_msgs.specs.declared.steps.StepReply.{StepReply}
 use Rattle.node_msgs.specs.declared.steps.StepReply.TheVariants as words
 use Rattle.run_labels.specs.declared.labels.Label.{Label}
 use Rattle.run_labels.specs.declared.labels.Label.TheVariants as labels
 use Rattle.cluster_record.specs.declared.entries.Entry.{Entry}
-use Rattle.cluster_record.specs.Calls.{number_of}
 use Rattle.cluster_record.specs.RecordState.{RecordState, identity_of, entry_of, complete_of, swept, undone}
 use Rattle.cluster_record.specs.Places.{put}
 use Rattle.std.proofs.lemmas.Bool.{eqb-true}
 use Rattle.cluster_record.proofs.KeptLaws.{All-find_key}
-use Rattle.ckpt_machine.specs.Beginning.{ended_place}
-use Rattle.ckpt_machine.specs.Complete.{complete_replicas}
-use Rattle.ckpt_machine.specs.Guards.{IsMadeBy, CommitOk, CommitRow, Row, Allowed, ends_update}
+use Rattle.ckpt_machine.specs.Guards.{IsMadeBy, CommitRow, Row, Allowed}
 use Rattle.ckpt_machine.specs.Invariant.{IsGoodIn, Invariant}
 use Rattle.ckpt_machine.specs.Machine.{Machine, ReplicaState, CallState}
 use Rattle.ckpt_machine.specs.Owned.{OwnsNothing, HasNoEffect, HasNothing}
 use Rattle.ckpt_machine.specs.Refusals.{IsRefused, IsRefusal, LeavesAll, UndoesOwn, LeavesBy, unmade, unmade_swept, Refuses, call_of}
 use Rattle.ckpt_machine.specs.Runs.{last}
-use Rattle.ckpt_machine.specs.Serving.{update_of, update_answer}
 use Rattle.ckpt_machine.specs.Shape.{IsCompleteOn}
-use Rattle.ckpt_machine.specs.Steps.{Told, IsDone, IsDue, due, begun, begun_call, with_ended, changed, stepped, step_of, after, replica_under, replicas_under, reservation_under, opened_state}
+use Rattle.ckpt_machine.specs.Steps.{Told, IsDone, IsDue, due, begun, changed, step_of, after, replica_under, replicas_under, reservation_under, opened_state}
 use Rattle.ckpt_machine.proofs.Follows.{IsFree, IsIncomplete, IsBare, Has}
 use Rattle.ckpt_machine.proofs.Histories.{HasHistory, commits_by, commit, gone, nothing_left, slot_owned, making_incomplete, had, keeps_history, run_history}
 use Rattle.ckpt_machine.proofs.Lawful.{lawful}
 use Rattle.ckpt_machine.proofs.EntryLists.{find_key-without, AllStay-filter, swept-all}
 use Rattle.ckpt_machine.proofs.ReplicaSteps.{put_actor-here}
-use Rattle.ckpt_machine.proofs.Refusing.{at_node, of_update, on_replica, committed, left_none, refusal_leaves}
+use Rattle.ckpt_machine.proofs.Refusing.{at_node, commit_ends, left_none, refusal_leaves}
 use Rattle.ckpt_machine.specs.Laws.{RefusedHasNothing}
 use Rattle.ckpt_machine.proofs.Runs.{last-push, run_before, run_front}
 use Rattle.ckpt_machine.proofs.OptionLemmas.{IsSomeAnd-at}
@@ -61,12 +58,12 @@ module _ (m : Machine) (inv : Invariant m) (bare : IsBare m) (call : CallId) (no
 
 -- ---- a commit refuses nothing
 
-commit_row : (m : Machine) (s : CallState) (k r : ℕ) (reply : StepReply) (end : Option Outcome) (details : Details) → CommitRow m s k r reply end details → IsRefused end → ⊥
-commit_row m s k r words.Ok end details row refused = on_replica m k r (λ e x. CommitOk m s.call (update_of s.op) k r end details x) row (λ e x (ok : CommitOk m s.call (update_of s.op) k r end details x). committed (ends_update s.call r ok.slot (complete_replicas m k)) (update_answer (update_of s.op)) end ok.answer refused)
-commit_row m s k r reply end details row refused = absurd row
+commit_row : (m : Machine) (call : CallId) (update : Update) (k r : ℕ) (reply : StepReply) (end : Option Outcome) (details : Details) → CommitRow m call update k r reply end details → IsRefused end → ⊥
+commit_row m call update k r words.Ok end details row refused = commit_ends m call update k r end details row refused
+commit_row m call update k r reply end details row refused = absurd row
 
 no_commit : (m : Machine) (s : CallState) (t : Told) → t.verb ≡ verbs.Commit → Row m s t.verb t → IsRefused t.end → ⊥
-no_commit m s t verb row refused = at_node t.ckpt t.node _ (subst (λ verb. Row m s verb t) verb row) (λ k r p. of_update s.op _ p (λ p. commit_row m s k r t.reply t.end _ p refused))
+no_commit m s t verb row refused = at_node t.ckpt t.node _ (subst (λ verb. Row m s verb t) verb row) (λ k r p. commit_row m s.call p.1 k r t.reply t.end t.details p.3 refused)
 
 -- ---- a step that refuses
 
@@ -84,7 +81,7 @@ module _ (m : Machine) (inv : Invariant m) (history : HasHistory m) (s : CallSta
       ]
 
   -- and has none
-  pub has_none : HasNoEffect (stepped (changed m s t.verb t.ckpt t.node t.reply) s t.verb t.ckpt t.node t.reply t.end) s.call
+  pub has_none : HasNoEffect (step_of m (Some s) t.verb t.ckpt t.node t.reply t.end) s.call
   has_none k r x there has = elim (had m inv history s held t row k r s.call (record { replica = x; there = there; effect = has })) [
     | inl was ↦ had_none k r was
     | inr new ↦ no_commit m s t new.verb row refused
@@ -92,32 +89,26 @@ module _ (m : Machine) (inv : Invariant m) (history : HasHistory m) (s : CallSta
 
 -- ---- any label
 
-begun_none : (m : Machine) → HasHistory m → (call : CallId) (op : Op) (end : Option Outcome) → call.number ≡ m.next call.actor → (place : Option ℕ) → HasNoEffect (with_ended (number_of call.actor) place (begun_call m call op end)) call
-begun_none m history call op end number None k r x there has = let below = history.given k r call (record { replica = x; there = there; effect = has }) in omega (arith, below, number)
-begun_none m history call op end number (Some place) k r x there has = let below = history.given k r call (record { replica = x; there = there; effect = has }) in omega (arith, below, number)
-
-begun_ended : (m : Machine) (call : CallId) (op : Op) (end : Option Outcome) → IsRefused end → (place : Option ℕ) → (with_ended (number_of call.actor) place (begun_call m call op end)).in_hand call.actor ≡ None
-begun_ended m call op end refused None = put_actor-here m.in_hand call.actor _ ∙ left_none end _ refused
-begun_ended m call op end refused (Some place) = put_actor-here m.in_hand call.actor _ ∙ left_none end _ refused
+begun_none : (m : Machine) → HasHistory m → (call : CallId) (op : Op) (end : Option Outcome) → call.number ≡ m.next call.actor → HasNoEffect (begun m call op end) call
+begun_none m history call op end number k r x there has = let below = history.given k r call (record { replica = x; there = there; effect = has }) in omega (arith, below, number)
 
 -- what is refused has nothing
 pub refused_has_nothing : (m : Machine) (l : Label) → Invariant m → HasHistory m → Allowed m l → IsDue m l → IsRefusal l → IsSomeAnd (call_of l) (HasNothing (after m l))
 refused_has_nothing m (labels.Began call op end) inv history allowed is refused = record {
-  owns = owns_nothing (begun m call op end) (lawful m (labels.Began call op end) inv is).1 (keeps_history m (labels.Began call op end) inv history allowed is).bare call (begun_ended m call op end refused (ended_place end op));
-  effects = begun_none m history call op end is.number (ended_place end op);
+  owns = owns_nothing (begun m call op end) (lawful m (labels.Began call op end) inv is).1 (keeps_history m (labels.Began call op end) inv history allowed is).bare call (put_actor-here m.in_hand call.actor _ ∙ left_none end _ refused);
+  effects = begun_none m history call op end is.number;
 }
 refused_has_nothing m (labels.Stepped call op verb k r reply end details) inv history allowed step refused =
     let s = step.state in
     let held : m.in_hand s.call.actor ≡ Some s = ap (λ (c : CallId). m.in_hand c.actor) step.call_is ∙ step.in_hand in
     let same : allowed.state ≡ s = same_Some allowed.state s (sym allowed.in_hand ∙ step.in_hand) in
-    let then_state = changed m s verb k r reply in
-    let ended : (stepped then_state s verb k r reply end).in_hand call.actor ≡ None =
-    ap (λ (c : CallId). (stepped then_state s verb k r reply end).in_hand c.actor) (sym step.call_is) ∙ put_actor-here then_state.in_hand s.call.actor _ ∙ left_none end _ refused in
-    let none = has_none m inv history s held _ (subst (λ z. Row m z verb _) same allowed.row) step.done refused in
+    let n = step_of m (Some s) verb k r reply end in
+    let ended : n.in_hand call.actor ≡ None = ap (λ (c : CallId). n.in_hand c.actor) (sym step.call_is) ∙ put_actor-here (changed m s verb k r reply).in_hand s.call.actor _ ∙ left_none end _ refused in
+    let none : HasNoEffect n s.call = has_none m inv history s held _ (subst (λ z. Row m z verb _) same allowed.row) step.done refused in
     record {
       owns = owns_nothing (after m (labels.Stepped call op verb k r reply end details)) (lawful m (labels.Stepped call op verb k r reply end details) inv step).1 (keeps_history m (labels.Stepped call op verb k r reply end details) inv history allowed step).bare call
           (subst (λ o. (step_of m o verb k r reply end).in_hand call.actor ≡ None) (sym step.in_hand) ended);
-      effects = subst (λ o. HasNoEffect (step_of m o verb k r reply end) call) (sym step.in_hand) (subst (HasNoEffect (stepped then_state s verb k r reply end)) step.call_is none);
+      effects = subst (λ o. HasNoEffect (step_of m o verb k r reply end) call) (sym step.in_hand) (subst (HasNoEffect n) step.call_is none);
     }
 refused_has_nothing m l inv history allowed is refused = absurd refused
 
@@ -192,10 +183,7 @@ module _ (m : Machine) (inv : Invariant m) (bare : IsBare m) (call : CallId) (k 
     replicas = λ j r. all.replicas j r ∙ ap (λ R. replicas_under m.cluster R m.replicas j r) same_record ∙ same_replicas j r;
     reserved = λ j r. all.reserved j r ∙ ap (λ (R : RecordState). reservation_under (entry_of j R.entries) r (m.reserved j r)) same_record ∙ same_reserved j r;
     snapshots = all.snapshots;
-    handles = all.handles;
-    places = all.places;
-    last_handles = all.last_handles;
-    iterations = all.iterations;
+    tables = all.tables;
     pending = all.pending;
     next = all.next;
     others = all.others;

@@ -1,24 +1,22 @@
 -- A step that changes one replica and the call in hand of one actor leaves what holds of every other call and of every other checkpoint.
 use Rattle.std.proofs.Common.{◌≡◌, ◌⊎◌, ℕ, inl, inr, Option, Some, None, Bool, true, false, cond, ◌&&◌, ◌==◌, refl, sym, ap, subst, ◌∙◌}
-use Rattle.std.specs.Prelude.{IsSomeAnd, IfSome}
 use Rattle.std.proofs.lemmas.Bool.{eqb-true, eq-eqb}
 use Rattle.std.proofs.lemmas.Option.{same_Some}
 use Rattle.ckpt_types.specs.declared.identities.ActorName.{ActorName}
 use Rattle.ckpt_types.specs.declared.identities.CallId.{CallId}
-use Rattle.cluster_record.specs.declared.calls.Making.{Making}
 use Rattle.cluster_record.specs.declared.entries.Entry.{Entry}
 use Rattle.cluster_record.specs.DueUpdate.{UpdateState}
 use Rattle.cluster_record.specs.Calls.{same_actor, put_actor}
 use Rattle.cluster_record.specs.Places.{put, put2}
 use Rattle.cluster_record.specs.RecordState.{entry_of}
-use Rattle.ckpt_machine.specs.Drivers.{Driver}
 use Rattle.ckpt_machine.specs.Drivers as drivers
 use Rattle.ckpt_machine.specs.Machine.{Machine, ReplicaState, CallState}
 use Rattle.ckpt_machine.specs.Steps.{driver_of}
-use Rattle.ckpt_machine.specs.Shape.{Shape, IsShaped, is_owner, IsOwner, IsSpread}
-use Rattle.ckpt_machine.specs.InHand.{IsMakingIn, IsInPlace, IsInHand}
+use Rattle.ckpt_machine.specs.Shape.{Shape, is_owner, IsOwner, IsSpread}
+use Rattle.ckpt_machine.specs.InHand.{IsInHand}
 use Rattle.ckpt_machine.specs.Invariant.{IsMaker, IsGoodIn, InvariantIn}
 use Rattle.ckpt_machine.proofs.Actors.{same_actor-refl, same_actor-true}
+use Rattle.ckpt_machine.proofs.OtherCalls.{LooksAlike, making_still, IsInHand-alike, IsOwner-alike, IsGoodIn-alike, IsLaterEntry-refl}
 
 -- ---- calls
 
@@ -35,6 +33,18 @@ put_actor-here f a x = ap (λ b. cond b x (f a)) (same_actor-refl a)
 
 pub put_actor-other : {X : Type 0} (f : ActorName → X) (a : ActorName) (x : X) (b : ActorName) → same_actor b a ≡ false → put_actor f a x b ≡ f b
 put_actor-other f a x b other = ap (λ t. cond t x (f b)) other
+
+-- where the one is put that was there, all stay
+pub put_actor-same : {X : Type 0} (f : ActorName → X) (a : ActorName) (x : X) → x ≡ f a → (b : ActorName) → put_actor f a x b ≡ f b
+put_actor-same f a x same b = elim (same_actor b a) as (λ t. same_actor b a ≡ t → cond t x (f b) ≡ f b) [ true ↦ λ is. same ∙ ap f (sym (same_actor-true b a is)) | false ↦ λ other. refl ] refl
+
+-- what is in hand is another's than one's who has nothing in hand
+pub held_by_other : {X : Type 0} (f : ActorName → Option X) (a : ActorName) → f a ≡ None → (b : ActorName) (x : X) → f b ≡ Some x → same_actor b a ≡ false
+held_by_other f a idle b x held = by_test (same_actor b a) refl
+  where
+    by_test : (t : Bool) → same_actor b a ≡ t → same_actor b a ≡ false
+    by_test false other = other
+    by_test true same = absurd (let w : None ≡ Some x = sym idle ∙ ap f (sym (same_actor-true b a same)) ∙ held in cc w)
 
 -- ---- the step
 
@@ -67,40 +77,11 @@ module _ (m : Machine) (shapes : ℕ → Shape) (inv : InvariantIn shapes m) (s 
           absurd (let e : true ≡ false = sym (eq-eqb j u.ckpt ckpt) ∙ other in cc)
 
   pub IsOwner-other : (f : ℕ → ℕ → Option ReplicaState) (o : Option CallState) (j : ℕ) (sh : Shape) (call : CallId) → same_actor call.actor s.call.actor ≡ false → IsOwner m j sh call → IsOwner (with_step f o) j sh call
-  IsOwner-other f o j sh call other own = record {
-    state = own.state;
-    in_hand = put_actor-other m.in_hand s.call.actor o call.actor other ∙ own.in_hand;
-    call_is = own.call_is;
-    driver = own.driver;
-    driver_is = own.driver_is;
-    ckpt = own.ckpt;
-    phase = own.phase;
-  }
-
-  IsSpread-other : (f : ℕ → ℕ → Option ReplicaState) (o : Option CallState) → StaysElsewhere f → (j : ℕ) (sh : Shape) (e : Entry) → (j == u.ckpt) ≡ false → IsSpread m j sh e → IsSpread (with_step f o) j sh e
-  IsSpread-other f o stays j sh e other spread = record {
-    nodes = spread.nodes;
-    some = spread.some;
-    active = spread.active;
-    replicas = λ q there. subst (λ y. IsSomeAnd y (IsShaped sh (sh.owners q))) (sym (stays j q other)) (spread.replicas q there);
-    fits = spread.fits;
-    complete = spread.complete;
-    lowest = spread.lowest;
-    owned = λ q call owns. let own = spread.owned q call owns in IsOwner-other f o j sh call (other_owner j sh call other own) own;
-  }
+  IsOwner-other f o j sh call other own = IsOwner-alike m (with_step f o) j sh call (put_actor-other m.in_hand s.call.actor o call.actor other) own
 
   -- one in the making is by another call
-  IsMaker-other : (f : ℕ → ℕ → Option ReplicaState) (o : Option CallState) (j : ℕ) (call : CallId) → IsMaker m j call → IsMaker (with_step f o) j call
-  IsMaker-other f o j call maker = record {
-    state = maker.state;
-    in_hand = put_actor-other m.in_hand s.call.actor o call.actor (by_test (same_actor call.actor s.call.actor) refl) ∙ maker.in_hand;
-    call_is = maker.call_is;
-    driver = maker.driver;
-    driver_is = maker.driver_is;
-    making = maker.making;
-    making_is = maker.making_is;
-    ckpt = maker.ckpt;
-  }
+  maker_other : (j : ℕ) (call : CallId) → IsMaker m j call → same_actor call.actor s.call.actor ≡ false
+  maker_other j call maker = by_test (same_actor call.actor s.call.actor) refl
     where
       by_test : (b : Bool) → same_actor call.actor s.call.actor ≡ b → same_actor call.actor s.call.actor ≡ false
       by_test false is_not = is_not
@@ -110,8 +91,8 @@ module _ (m : Machine) (shapes : ℕ → Shape) (inv : InvariantIn shapes m) (s 
           absurd (cc apart)
 
   IsGoodIn-other : (f : ℕ → ℕ → Option ReplicaState) (o : Option CallState) → StaysElsewhere f → (j : ℕ) (sh : Shape) (e : Entry) (maker : Option CallId) → (j == u.ckpt) ≡ false → IsGoodIn m j sh e maker → IsGoodIn (with_step f o) j sh e maker
-  IsGoodIn-other f o stays j sh e None other good = IsSpread-other f o stays j sh e other good
-  IsGoodIn-other f o stays j sh e (Some call) other good = (good.0, IsMaker-other f o j call good.1)
+  IsGoodIn-other f o stays j sh e maker other good = IsGoodIn-alike m (with_step f o) j sh e e (IsLaterEntry-refl e) (λ q there. stays j q other)
+      (λ call own. put_actor-other m.in_hand s.call.actor o call.actor (other_owner j sh call other own)) (λ call own. put_actor-other m.in_hand s.call.actor o call.actor (maker_other j call own)) maker good
 
   -- ---- the other calls in hand
 
@@ -132,49 +113,19 @@ module _ (m : Machine) (shapes : ℕ → Shape) (inv : InvariantIn shapes m) (s 
         | false ↦ λ same. refl
       ] refl
 
-  IfSome-making : (f : ℕ → ℕ → Option ReplicaState) (o : Option CallState) (z : CallState) (making : Option Making) → IfSome making (IsMakingIn m z) → IfSome making (IsMakingIn (with_step f o) z)
-  IfSome-making f o z None at = tt
-  IfSome-making f o z (Some making) at = record { there = at.there; nodes = at.nodes; reserved = at.reserved }
-
-  IsIn-other : (f : ℕ → ℕ → Option ReplicaState) (o : Option CallState) (sh : Shape) → KeepsOthers sh → (z : CallState) → same_actor z.call.actor s.call.actor ≡ false → (d : Driver) → IsInPlace m shapes z d → IsInPlace (with_step f o) (put shapes u.ckpt sh) z d
-  IsIn-other f o sh keeps z other (drivers.Enter q) at = record { op = at.op; client = at.client; up = at.up; not_live = at.not_live }
-  IsIn-other f o sh keeps z other (drivers.Open v) at = record {
-    caller = at.caller;
-    client = at.client;
-    within = at.within;
-    node = at.node;
-    built = at.built;
-    asks = at.asks;
-    named = at.named;
-    asked = at.asked;
-    deadline = at.deadline;
-    making = IfSome-making f o z v.making at.making;
-    given = at.given;
-    room = at.room;
+  looks_same : (f : ℕ → ℕ → Option ReplicaState) (o : Option CallState) (sh : Shape) → KeepsOthers sh → (z : CallState) → same_actor z.call.actor s.call.actor ≡ false → LooksAlike m (with_step f o) shapes (put shapes u.ckpt sh) z
+  looks_same f o sh keeps z other = record {
+    up = λ r up. up;
+    lives = refl;
+    tables = refl;
+    making = λ v at. making_still m (with_step f o) z v (λ w at. record { there = at.there; nodes = at.nodes; reserved = at.reserved }) at;
+    made = λ k was. was;
+    later = λ k was e found. (e, found, refl, refl);
+    owners = λ k was q. owners_kept sh keeps z.call k q other;
   }
-  IsIn-other f o sh keeps z other (drivers.Update v) at = record {
-    call = at.call;
-    update = at.update;
-    kept = at.kept;
-    made = at.made;
-    nodes = at.nodes;
-    owns = λ e found q there. at.owns e found q there ∙ sym (owners_kept sh keeps z.call v.ckpt q other);
-    some = at.some;
-  }
-  IsIn-other f o sh keeps z other (drivers.Active a) at = record { call = at.call; kind = at.kind; made = at.made; kept = at.kept; room = at.room; handle = at.handle }
-  IsIn-other f o sh keeps z other drivers.Leave at = record { op = at.op; live = at.live }
-  IsIn-other f o sh keeps z other (drivers.Close k) at = record { op = at.op; kept = at.kept; handle = at.handle }
-  IsIn-other f o sh keeps z other (drivers.Unlink name) at = at
-  IsIn-other f o sh keeps z other (drivers.Retain k duration) at = record { op = at.op; from_zero = at.from_zero; kept = at.kept; made = at.made }
 
   IsInHand-other : (f : ℕ → ℕ → Option ReplicaState) (o : Option CallState) (sh : Shape) → KeepsOthers sh → (a : ActorName) (z : CallState) → same_actor a s.call.actor ≡ false → IsInHand m shapes a z → IsInHand (with_step f o) (put shapes u.ckpt sh) a z
-  IsInHand-other f o sh keeps a z other at = record {
-    actor = at.actor;
-    client = at.client;
-    number = at.number;
-    live = at.live;
-    here = IsIn-other f o sh keeps z (ap (λ b. same_actor b s.call.actor) at.actor ∙ other) (driver_of z) at.here;
-  }
+  IsInHand-other f o sh keeps a z other at = IsInHand-alike m (with_step f o) shapes (put shapes u.ckpt sh) z (looks_same f o sh keeps z (ap (λ b. same_actor b s.call.actor) at.actor ∙ other)) a (λ live. live) at.number at
 
   -- ---- the whole
 

@@ -1,20 +1,19 @@
 -- A step that changes the reservations of the checkpoint that a call is making, and how far this call is: what holds of every other call and of every checkpoint stays.
 use Rattle.std.proofs.Common.{◌≡◌, ◌≢◌, ℕ, inl, inr, Option, Some, None, Bool, true, false, ◌==◌, refl, sym, ap, subst, ◌∙◌}
-use Rattle.std.specs.Prelude.{IfSome}
 use Rattle.std.proofs.lemmas.Option.{same_Some}
 use Rattle.ckpt_types.specs.declared.identities.CallId.{CallId}
 use Rattle.cluster_record.specs.declared.calls.Making.{Making}
 use Rattle.cluster_record.specs.declared.entries.Entry.{Entry}
 use Rattle.cluster_record.specs.DueOpen.{OpenState}
 use Rattle.cluster_record.specs.Calls.{same_actor, put_actor}
-use Rattle.ckpt_machine.specs.Drivers.{Driver}
 use Rattle.ckpt_machine.specs.Drivers as drivers
 use Rattle.ckpt_machine.specs.Machine.{Machine, CallState}
 use Rattle.ckpt_machine.specs.Steps.{driver_of}
 use Rattle.ckpt_machine.specs.Shape.{Shape, IsOwner}
-use Rattle.ckpt_machine.specs.InHand.{IsMakingIn, IsInPlace, IsInHand}
+use Rattle.ckpt_machine.specs.InHand.{IsMakingIn, IsInHand}
 use Rattle.ckpt_machine.specs.Invariant.{IsMaker, IsGoodIn, InvariantIn}
 use Rattle.ckpt_machine.proofs.Actors.{same_actor-true}
+use Rattle.ckpt_machine.proofs.OtherCalls.{making_still, LooksAlike, IsInHand-alike, IsOwner-alike, IsMaker-alike}
 use Rattle.ckpt_machine.proofs.OwnMaking.{owner_apart, maker_same, not_own, actor_apart}
 use Rattle.ckpt_machine.proofs.ReplicaSteps.{put_actor-cases, put_actor-here, put_actor-other}
 
@@ -29,14 +28,14 @@ module _ (m : Machine) (shapes : ℕ → Shape) (inv : InvariantIn shapes m) (s 
 
   -- a slot has its owner still
   IsOwner-then : (j : ℕ) (sh : Shape) (d : CallId) → IsOwner m j sh d → IsOwner then_machine j sh d
-  IsOwner-then j sh d own = record { state = own.state; in_hand = put_actor-other m.in_hand s.call.actor (Some w) d.actor (owner_apart m s o held is j sh d own) ∙ own.in_hand; call_is = own.call_is; driver = own.driver; driver_is = own.driver_is; ckpt = own.ckpt; phase = own.phase }
+  IsOwner-then j sh d own = IsOwner-alike m then_machine j sh d (put_actor-other m.in_hand s.call.actor (Some w) d.actor (owner_apart m s o held is j sh d own)) own
 
   -- one in the making is by another call, or is this one
   IsMaker-then : (j : ℕ) (d : CallId) → IsMaker m j d → IsMaker then_machine j d
   IsMaker-then j d own = by_test (same_actor d.actor s.call.actor) refl
     where
       by_test : (b : Bool) → same_actor d.actor s.call.actor ≡ b → IsMaker then_machine j d
-      by_test false other = record { state = own.state; in_hand = put_actor-other m.in_hand s.call.actor (Some w) d.actor other ∙ own.in_hand; call_is = own.call_is; driver = own.driver; driver_is = own.driver_is; making = own.making; making_is = own.making_is; ckpt = own.ckpt }
+      by_test false other = IsMaker-alike m then_machine j d (put_actor-other m.in_hand s.call.actor (Some w) d.actor other) own
       by_test true same =
           let actor : d.actor ≡ s.call.actor = same_actor-true d.actor s.call.actor same in
           let state : own.state ≡ s = same_Some own.state s (sym own.in_hand ∙ ap m.in_hand actor ∙ held) in
@@ -71,21 +70,17 @@ module _ (m : Machine) (shapes : ℕ → Shape) (inv : InvariantIn shapes m) (s 
   making_then : (z : CallState) → z.call ≢ s.call → (x : Making) → IsMakingIn m z x → IsMakingIn then_machine z x
   making_then z other x at = record { there = at.there; nodes = at.nodes; reserved = λ r had. elsewhere x.ckpt r (not_own m shapes inv s o making held is makes z other x at) ∙ at.reserved r had }
 
-  -- where it makes something
-  IfSome-making : (z : CallState) → z.call ≢ s.call → (x : Option Making) → IfSome x (IsMakingIn m z) → IfSome x (IsMakingIn then_machine z)
-  IfSome-making z other None at = tt
-  IfSome-making z other (Some x) at = making_then z other x at
-
-  -- another call is where it was
-  IsIn-then : (z : CallState) → z.call ≢ s.call → (d : Driver) → IsInPlace m shapes z d → IsInPlace then_machine shapes z d
-  IsIn-then z other (drivers.Enter r) at = record { op = at.op; client = at.client; up = at.up; not_live = at.not_live }
-  IsIn-then z other (drivers.Open x) at = record { caller = at.caller; client = at.client; within = at.within; node = at.node; built = at.built; asks = at.asks; named = at.named; asked = at.asked; deadline = at.deadline; making = IfSome-making z other x.making at.making; given = at.given; room = at.room }
-  IsIn-then z other (drivers.Update u) at = record { call = at.call; update = at.update; kept = at.kept; made = at.made; nodes = at.nodes; owns = at.owns; some = at.some }
-  IsIn-then z other (drivers.Active a) at = record { call = at.call; kind = at.kind; made = at.made; kept = at.kept; room = at.room; handle = at.handle }
-  IsIn-then z other drivers.Leave at = record { op = at.op; live = at.live }
-  IsIn-then z other (drivers.Close k) at = record { op = at.op; kept = at.kept; handle = at.handle }
-  IsIn-then z other (drivers.Unlink name) at = at
-  IsIn-then z other (drivers.Retain k duration) at = record { op = at.op; from_zero = at.from_zero; kept = at.kept; made = at.made }
+  -- so it sees what it saw
+  looks_then : (z : CallState) → z.call ≢ s.call → LooksAlike m then_machine shapes shapes z
+  looks_then z other = record {
+    up = λ r up. up;
+    lives = refl;
+    tables = refl;
+    making = λ o at. making_still m then_machine z o (making_then z other) at;
+    made = λ k was. was;
+    later = λ k was e found. (e, found, refl, refl);
+    owners = λ k was r. refl;
+  }
 
   -- ---- the whole
 
@@ -102,12 +97,6 @@ module _ (m : Machine) (shapes : ℕ → Shape) (inv : InvariantIn shapes m) (s 
     clients = inv.clients;
     hands = λ a z there. elim (put_actor-cases m.in_hand s.call.actor (Some w) a z there) [
       | inl here ↦ subst (λ b. IsInHand then_machine shapes b z) (sym here.0) (subst (IsInHand then_machine shapes s.call.actor) (same_Some w z here.1) own)
-      | inr other ↦ (let was = inv.hands a z other.1 in record {
-        actor = was.actor;
-        client = was.client;
-        number = was.number;
-        live = was.live;
-        here = IsIn-then z (actor_apart s a z was.actor other.0) (driver_of z) was.here;
-      })
+      | inr other ↦ (let was = inv.hands a z other.1 in IsInHand-alike m then_machine shapes shapes z (looks_then z (actor_apart s a z was.actor other.0)) a (λ live. live) was.number was)
     ];
   }

@@ -15,10 +15,10 @@ use Rattle.cluster_record.specs.StepDone.{StepDone, done_of, has, lacks, last_ha
 use Rattle.node_msgs.specs.declared.steps.Verb.TheVariants as verbs
 use Rattle.node_msgs.specs.declared.steps.StepReply.TheVariants as words
 use Rattle.ckpt_machine.specs.Drivers as drivers
-use Rattle.ckpt_machine.specs.Serving.{update_of}
+use Rattle.ckpt_types.specs.Asks.{update_of}
 use Rattle.ckpt_machine.specs.Driving.{driver_taken}
 use Rattle.ckpt_machine.specs.Machine.{Machine, Applied, ReplicaState, CallState}
-use Rattle.ckpt_machine.specs.Steps.{driver_of, staged_moment, with_slot, stepped}
+use Rattle.ckpt_machine.specs.Steps.{driver_of, staged_moment, with_slot, stepped, kept_behind}
 use Rattle.ckpt_machine.specs.Complete.{complete_replicas, replicas_from}
 use Rattle.ckpt_machine.specs.Guards.{OnEach, IfSlot, StageOk, StageRow}
 use Rattle.ckpt_machine.specs.Shape.{Shape, IsCompleteOn, IsShaped, is_owner, IsOwner, IsSpread, slot_by, sections_by, effects_by}
@@ -26,8 +26,8 @@ use Rattle.ckpt_machine.specs.InHand.{is_enter, IsUpdateIn, IsInPlace, IsInHand,
 use Rattle.ckpt_machine.specs.Invariant.{InvariantIn, Invariant}
 use Rattle.ckpt_machine.proofs.NodeLists.{OnEach-from, index-set, index-other, length-slice_set, index-within, not-lacked, has-itself}
 use Rattle.ckpt_machine.proofs.ReplicaSteps.{put_actor-here, one_changed, step_keeps}
-use Rattle.ckpt_machine.proofs.Owning.{same_call-refl, is_owner-true, owner_alone, at, made, on_replica}
-use Rattle.ckpt_machine.proofs.Actors.{same_actor-refl}
+use Rattle.ckpt_machine.proofs.Owning.{is_owner-true, owner_alone, at, made, on_replica}
+use Rattle.ckpt_machine.proofs.Actors.{same_actor-refl, same_call-refl}
 
 -- the shape is of the call's own update, which has an outcome, and which no replica has
 pub record Stages (z : Shape) (s : CallState) (t : ℤ) (e : Entry) : Type 0 where
@@ -86,7 +86,7 @@ module _ (m : Machine) (shapes : ℕ → Shape) (inv : InvariantIn shapes m) (s 
           IfSome-more (m.replicas u.ckpt q) (IsShaped z (z.owners q)) _ (λ y is. subst (λ w. IfSlot w (λ slot. slot ≡ record { owner = s.call; origin = s.call; update = update_of s.op; moment = staged_moment m u.ckpt })) (sym is.slot) (slots_own q (z.owners q) refl)) (spread.replicas q complete));
     }
 
-    pub stage_row : StageRow m s u.ckpt r words.Ok None
+    pub stage_row : StageRow m s (update_of s.op) u.ckpt r words.Ok None
     stage_row = (on_replica m shapes inv s u held is e found r x (StageOk m s.call (update_of s.op) u.ckpt) there stage_ok, refl)
 
     -- ---- the state after it
@@ -220,7 +220,9 @@ module _ (m : Machine) (shapes : ℕ → Shape) (inv : InvariantIn shapes m) (s 
           here_then : IsUpdateIn then_machine (put shapes u.ckpt staged) then_state then_driver
           here_then = let was = at m shapes inv s u held is in record {
             call = was.call;
+            place = was.place;
             update = was.update;
+            asks = was.asks;
             kept = was.kept;
             made = was.made;
             nodes = length-slice_set u.owned r (slice_index e.complete r) ∙ was.nodes;
@@ -233,10 +235,11 @@ module _ (m : Machine) (shapes : ℕ → Shape) (inv : InvariantIn shapes m) (s 
             actor = refl;
             client = hand.client;
             number = hand.number;
+            built = hand.built;
             live = λ others. hand.live (ap is_enter is);
             here = subst (IsInPlace then_machine (put shapes u.ckpt staged) then_state) (sym driver_then) here_then;
           })
 
-      pub stage_leads : Invariant (stepped (record m { replicas = put2 m.replicas u.ckpt r (Some with_stage) }) s verbs.Stage (Some u.ckpt) (Some r) words.Ok None)
+      pub stage_leads : Invariant (stepped (record m { replicas = put2 m.replicas u.ckpt r (Some with_stage) }) (kept_behind m s m.cluster verbs.Stage (Some u.ckpt) (Some r) words.Ok) None)
       unfolding stage_done
       stage_leads = stage_keeps

@@ -1,4 +1,4 @@
--- A call comes nearer to its end with each step over its nodes: an update, and a making.
+-- A call comes update_nearer to its end with each step over its nodes: an update, and a making.
 use Rattle.std.proofs.Common.{◌≡◌, ℕ, zero, suc, ◌+◌, ◌<◌, ◌≤◌, List, [], ◌∷◌, length, Bool, true, false, cond, not, ◌&&◌, ◌==◌, refl, ap, ◌∙◌, arith}
 use Rattle.std.specs.Prelude.{slice_index, slice_set}
 use Rattle.std.proofs.lemmas.Bool.{eq-eqb}
@@ -8,8 +8,8 @@ use Rattle.cluster_record.specs.StepDone.{has, lacks}
 use Rattle.ckpt_machine.specs.Left.{lacking, having, update_left}
 use Rattle.ckpt_machine.proofs.NodeLists.{lacked-has, had-there, has-itself, has-none}
 
--- a stage brings it nearer to its end, and so does a commit
-pub record ComesNearer (complete owned : List ℕ) (r : ℕ) : Type 0 where
+-- a stage brings it update_nearer to its end, and so does a commit
+pub record UpdateComesNearer (complete owned : List ℕ) (r : ℕ) : Type 0 where
   pub staged : lacks (slice_index complete r) (slice_index owned r) ≡ true → update_left complete (slice_set owned r (slice_index complete r)) Staging < update_left complete owned Staging
   pub committed : (phase : UpdatePhase) → has (slice_index complete r) (slice_index owned r) ≡ true → update_left complete (slice_set owned r 0) Committing < update_left complete owned phase
 
@@ -52,8 +52,8 @@ having-committed (c ∷ cs) [] r same is = absurd (omega (arith, same))
 having-committed (c ∷ cs) (o ∷ os) zero same is = let a : one_if (has c 0) ≡ 0 = ap one_if (has-none c (had-there c o is)) in let b : one_if (has c o) ≡ 1 = ap one_if is in omega (arith, a, b)
 having-committed (c ∷ cs) (o ∷ os) (suc r) same is = let rest : having cs (slice_set os r 0) + 1 ≡ having cs os = having-committed cs os r (omega (arith, same)) is in omega (arith, rest)
 
-pub nearer : (cs os : List ℕ) (r : ℕ) → length os ≡ length cs → ComesNearer cs os r
-nearer cs os r same = record {
+pub update_nearer : (cs os : List ℕ) (r : ℕ) → length os ≡ length cs → UpdateComesNearer cs os r
+update_nearer cs os r same = record {
   staged = λ is. omega (arith, lacking-set cs os r same is, having-staged cs os r same is);
   committed = by_phase;
 }

@@ -12,7 +12,7 @@ use Rattle.cluster_record.specs.RecordState.{RecordState, entry_of, identity_of,
 use Rattle.cluster_record.proofs.IdentityLaws.{IdentitiesRise-filter, AllUpTo-filter}
 use Rattle.ckpt_machine.specs.Drivers as drivers
 use Rattle.ckpt_machine.specs.Machine.{Machine, CallState}
-use Rattle.ckpt_machine.specs.Steps.{driver_of, with_record}
+use Rattle.ckpt_machine.specs.Steps.{driver_of, record_step}
 use Rattle.ckpt_machine.specs.Shape.{Shape}
 use Rattle.ckpt_machine.specs.Invariant.{IsMaker, InvariantIn, Invariant}
 use Rattle.ckpt_machine.specs.Later.{IsLaterEntry, IsLaterRecord}
@@ -22,7 +22,7 @@ use Rattle.ckpt_machine.proofs.Entries.{ComesOf, ComesOf-filter, ComesOf-then, f
 use Rattle.ckpt_machine.proofs.Moment.{IsLaterEntry-refl, making_stays}
 use Rattle.ckpt_machine.proofs.ReplicaSteps.{put_actor-cases, put_actor-other}
 use Rattle.ckpt_machine.proofs.OwnMaking.{owner_apart, maker_same, entry_apart, actor_apart}
-use Rattle.ckpt_machine.proofs.PlainCalls.{IsLaterEntry-then}
+use Rattle.ckpt_machine.proofs.PlainCalls.{ending, IsLaterEntry-then}
 use Rattle.ckpt_machine.proofs.RecordSteps.{record_keeps}
 
 module _ (m : Machine) (shapes : ℕ → Shape) (inv : InvariantIn shapes m) (s : CallState) (o : OpenState) (making : Making) (held : m.in_hand s.call.actor ≡ Some s) (is : driver_of s ≡ drivers.Open o) (makes : o.making ≡ Some making) where
@@ -104,5 +104,5 @@ module _ (m : Machine) (shapes : ℕ → Shape) (inv : InvariantIn shapes m) (s 
   }
 
   -- the invariant holds after it
-  pub undone_keeps : Invariant (record (with_record m (swept (undone making.ckpt m.cluster))) { in_hand = put_actor m.in_hand s.call.actor None })
+  pub undone_keeps : Invariant (ending s (record_step (undone making.ckpt) m))
   undone_keeps = record { shapes = shapes; holds = record_keeps m shapes inv R left_hands later }

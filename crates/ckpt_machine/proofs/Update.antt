@@ -7,8 +7,6 @@ use Rattle.ckpt_types.specs.declared.answers.Answer.TheVariants as answers
 use Rattle.ckpt_types.specs.declared.answers.Cause.TheVariants.{Plain, Holder}
 use Rattle.ckpt_types.specs.declared.answers.Outcome.TheVariants.{Refused}
 use Rattle.ckpt_types.specs.declared.identities.CallId.{CallId}
-use Rattle.ckpt_types.specs.declared.operation.Op.{Op}
-use Rattle.ckpt_types.specs.declared.operation.Op.TheVariants as ops
 use Rattle.ckpt_types.specs.Sections.{Section}
 use Rattle.ckpt_types.specs.Updates.{Refusal, outcome}
 use Rattle.cluster_record.specs.declared.entries.Entry.{Entry}
@@ -28,15 +26,18 @@ use Rattle.node_msgs.specs.declared.steps.StepReply.TheVariants as words
 use Rattle.run_labels.specs.declared.details.Details.TheVariants as beside
 use Rattle.ckpt_machine.specs.Drivers.{Driver}
 use Rattle.ckpt_machine.specs.Drivers as drivers
-use Rattle.ckpt_machine.specs.InHand.{IsUpdateOf, OwnsIn, HasSome}
+use Rattle.ckpt_machine.specs.InHand.{OwnsIn, HasSome}
 use Rattle.ckpt_machine.specs.Invariant.{InvariantIn, Invariant}
-use Rattle.ckpt_machine.specs.Serving.{update_of, update_answer, told_id, stage_reply, done_or_refused, reply_at, details_at, record_seen, slot_id}
+use Rattle.ckpt_types.specs.Asks.{Ask, asked, update_asked, update_of}
+use Rattle.ckpt_types.specs.Asks as asks
+use Rattle.cluster_record.specs.Makings.{making_of}
+use Rattle.ckpt_machine.specs.Serving.{update_answer, told_id, stage_reply, done_or_refused, reply_at, details_at, record_seen, slot_id}
 use Rattle.ckpt_machine.specs.Driving.{making_in, refused_cause, driver_taken}
 use Rattle.ckpt_machine.specs.Machine.{Machine, Staged, ReplicaState, CallState}
-use Rattle.ckpt_machine.specs.Steps.{Told, IsDone, IsServed, driver_of, stepped, staged_moment, ended_details, with_committed, with_slot, seen_at, seen_slot, change_replica, without_making}
-use Rattle.ckpt_machine.specs.Guards.{StageRefused, StageHeld, owns_slot, LookRefused, GoneLook, IsOwnMaking}
+use Rattle.ckpt_machine.specs.Steps.{Told, IsDone, IsServed, driver_of, stepped, kept_behind, staged_moment, ended_details, with_committed, with_slot, seen_at, seen_slot, change_replica, without_making}
+use Rattle.ckpt_machine.specs.Guards.{StageRefused, StageHeld, owns_slot, LookRefused, GoneLook}
 use Rattle.ckpt_machine.specs.Left.{update_left, steps_left}
-use Rattle.ckpt_machine.proofs.StepsLeft.{nearer}
+use Rattle.ckpt_machine.proofs.StepsLeft.{update_nearer}
 use Rattle.ckpt_machine.specs.Shape.{Shape, IsCompleteOn, IsShaped, is_owner, IsOwner, IsSpread, IsStaging, IsCommitting, PhaseFits, slot_by, sections_by, effects_by}
 use Rattle.ckpt_machine.proofs.NodeLists.{first_lacking-is, first_lacking-None, last_having-is, last_having-None, first_complete-some, not-lacked, lacked-has, had-there}
 use Rattle.ckpt_machine.proofs.Owning.{is_owner-here, owner_alone, owner_live, at, spread, own_phase, owns_had, replica_at, seen_is, on_replica, ended_keeps}
@@ -44,17 +45,8 @@ use Rattle.ckpt_machine.proofs.StagedMoment.{none_owned, moment_first, moment_la
 use Rattle.ckpt_machine.proofs.Stage.{Stages, IfSome-more, on_complete, sections-undone, stage_row, stage_leads}
 use Rattle.ckpt_machine.proofs.Commit.{Commits, commit_row, commit_leads, commit_is}
 pub use Rattle.ckpt_machine.proofs.DueStep.{Moves, Goes}
-use Rattle.ckpt_machine.proofs.Operations.{OfUpdate-is}
+use Rattle.ckpt_machine.proofs.OwnMaking.{making_is}
 use Rattle.ckpt_machine.proofs.StepLabels.{IsServed-told}
-
--- an update of a checkpoint that is gone is refused
-refused_gone : (m : Machine) (s : CallState) (op : Op) → IsUpdateOf op → GoneLook m s.kept.ckpt NotExist Plain → LookRefused m s op NotExist Plain
-refused_gone m s (ops.Create place update) is gone = gone
-refused_gone m s (ops.Delete place update) is gone = gone
-refused_gone m s (ops.Expire place update) is gone = gone
-refused_gone m s (ops.Write place update) is gone = gone
-refused_gone m s (ops.Over place update) is gone = gone
-refused_gone m s op is gone = absurd is
 
 -- whose slot it is, by its owner
 slot_owner : (z : Shape) (call : CallId) (o : Option CallId) → owns_slot call (slot_by z o) ≡ is_owner call o
@@ -69,13 +61,18 @@ module _ (m : Machine) (shapes : ℕ → Shape) (inv : InvariantIn shapes m) (s 
 
   gone_moves : (t : Told) → entry_of u.ckpt m.cluster.entries ≡ None → IsDone m s (End (Refused NotExist Plain)) t → Goes m s (drivers.Update u) t
   gone_moves t gone done =
-      let none : making_in (driver_of s) ≡ None = ap making_in is in
+      let none : making_of s.call m.cluster ≡ None = making_is m shapes inv s held ∙ ap making_in is in
+      let was = at m shapes inv s u held is in
       subst (Goes m s (drivers.Update u)) (sym done) (record {
-        row = (refl, refl, (refused_gone m s s.op (at m shapes inv s u held is).update (subst (λ o. GoneLook m o NotExist Plain) (sym (at m shapes inv s u held is).kept) gone), subst (IsOwnMaking m s.call) (sym none) tt), refl);
-        holds = subst (λ k. Invariant (stepped (without_making m k) s verbs.Look None None words.Refused (Some (Refused NotExist Plain)))) (sym none)
+        row = (refl, refl, subst (λ (a : Ask). LookRefused m s a NotExist Plain) (sym was.asks) (subst (λ o. GoneLook m o NotExist Plain) (sym was.kept) gone), refl);
+        holds = subst (λ k. let n = without_making k m in Invariant (stepped n (kept_behind m s n.cluster verbs.Look None None words.Refused) (Some (Refused NotExist Plain)))) (sym none)
             (ended_keeps m shapes inv s u held is (λ e found. absurd (let w : None ≡ Some e = sym gone ∙ found in cc)));
         nearer = λ none. absurd (cc none);
       })
+
+  -- what the operation asks for is its update
+  asks_own : asked s.op ≡ asks.Change (at m shapes inv s u held is).place (update_of s.op)
+  asks_own = let was = at m shapes inv s u held is in was.asks ∙ ap (asks.Change was.place) (sym (ap update_asked was.asks))
 
   module _ (e : Entry) (found : entry_of u.ckpt m.cluster.entries ≡ Some e) where
     abbrev was : IsSpread m u.ckpt (shapes u.ckpt) e
@@ -108,17 +105,17 @@ module _ (m : Machine) (shapes : ℕ → Shape) (inv : InvariantIn shapes m) (s 
       lacks_it : is_owner s.call ((shapes u.ckpt).owners r) ≡ false
       lacks_it = sym (owns_at r complete) ∙ (lacked-has (slice_index e.complete r) (slice_index u.owned r) lacked).1
 
-      abbrev asked : Request
-      asked = requests.Stage u.call u.ckpt moment
+      abbrev to_stage : Request
+      to_stage = requests.Stage u.call u.ckpt moment
 
-      module _ (x : ReplicaState) (there : m.replicas u.ckpt r ≡ Some x) (t : Told) (served : IsServed m s r asked t) where
+      module _ (x : ReplicaState) (there : m.replicas u.ckpt r ≡ Some x) (t : Told) (served : IsServed m s r to_stage t) where
         abbrev Gives : Result (List Section) Refusal → Type 0
         Gives result = outcome e.attributes (update_of s.op) moment x.sections ≡ result
 
         answered : (z : Option Staged) → x.slot ≡ z → served.answer ≡ stage_reply (outcome e.attributes (update_of s.op) moment x.sections) (seen_slot z)
         answered z slot =
             served.may
-            ∙ ap (reply_at asked s.op (record_seen m.cluster u.ckpt)) (seen_is m shapes inv s u held is e found r x there)
+            ∙ ap (reply_at to_stage s.op (record_seen m.cluster u.ckpt)) (seen_is m shapes inv s u held is e found r x there)
             ∙ ap (λ y. stage_reply (outcome e.attributes (update_of s.op) moment x.sections) (seen_slot y)) slot
 
         -- held by another call
@@ -126,57 +123,67 @@ module _ (m : Machine) (shapes : ℕ → Shape) (inv : InvariantIn shapes m) (s 
         held_moves none d owns slot =
             let another : same_call d s.call ≡ false = sym (ap (is_owner s.call) owns) ∙ lacks_it in
             let live : is_live m.cluster d ≡ true = owner_live m shapes u.ckpt (shapes u.ckpt) d inv (was.owned r d owns) in
-            let told = IsServed-told m s r asked t (drivers.Update u) (replies.Held d) served is (answered _ slot) in
+            let told = IsServed-told m s r to_stage t (drivers.Update u) (replies.Held d) served is (answered _ slot) in
             subst (Goes m s (drivers.Update u)) (sym (told ∙ (λ i. record { verb = verbs.Stage; ckpt = Some u.ckpt; node = Some r; reply = words.Held d; end = cond (live i) (Some (Refused TryAgain (Holder d))) None; details = ended_details (cond (live i) (Some (Refused TryAgain (Holder d))) None) (no_details i) }))) (record {
               row = (
-                OfUpdate-is s.op _ (at m shapes inv s u held is).update (on_replica m shapes inv s u held is e found r x (λ f y. StageHeld m s.call d (Some (Refused TryAgain (Holder d))) y) there (record {
-                  owner = subst (λ y. IsSomeAnd y (λ slot. slot.owner ≡ d)) (sym slot) refl;
-                  another = another;
-                  live = live;
-                  answer = refl;
-                })),
+                (
+                  _,
+                  _,
+                  asks_own,
+                  on_replica m shapes inv s u held is e found r x (λ f y. StageHeld m s.call d (Some (Refused TryAgain (Holder d))) y) there (record {
+                    owner = subst (λ y. IsSomeAnd y (λ slot. slot.owner ≡ d)) (sym slot) refl;
+                    another = another;
+                    live = live;
+                    answer = refl;
+                  }),
+                ),
                 refl,
               );
               holds = ended_keeps m shapes inv s u held is (λ f there. owns_none none);
               nearer = λ none. absurd (cc none);
             })
           where
-            no_details : details_at asked s.op (record_seen m.cluster u.ckpt) (seen_at m u.ckpt r) ≡ beside.Nothing
-            no_details = ap (details_at asked s.op (record_seen m.cluster u.ckpt)) (seen_is m shapes inv s u held is e found r x there)
+            no_details : details_at to_stage s.op (record_seen m.cluster u.ckpt) (seen_at m u.ckpt r) ≡ beside.Nothing
+            no_details = ap (details_at to_stage s.op (record_seen m.cluster u.ckpt)) (seen_is m shapes inv s u held is e found r x there)
 
         staged_nearer : steps_left m.cluster (driver_taken (done_of m.cluster verbs.Stage (Some u.ckpt) (Some r) words.Ok) (drivers.Update u)) < steps_left m.cluster (drivers.Update u)
         staged_nearer = subst (λ (o : Option Entry). update_left (complete_of o) (slice_set u.owned r (slice_index (complete_of o) r)) Staging < update_left (complete_of o) u.owned u.phase) (sym found)
-            (subst (λ ph. update_left e.complete (slice_set u.owned r (slice_index e.complete r)) Staging < update_left e.complete u.owned ph) (sym staging) ((nearer e.complete u.owned r same_length).staged lacked))
+            (subst (λ ph. update_left e.complete (slice_set u.owned r (slice_index e.complete r)) Staging < update_left e.complete u.owned ph) (sym staging) ((update_nearer e.complete u.owned r same_length).staged lacked))
 
         -- staged
         staged_moves : (w : Shape) (spread_w : IsSpread m u.ckpt w e) (stages : Stages w s moment e) (mom : staged_moment m u.ckpt ≡ moment) (shaped : IsShaped w None x) → OwnsIn w s u e → w.owners r ≡ None
             → ((call : CallId) (q : ℕ) → same_actor call.actor s.call.actor ≡ false → is_owner call (w.owners q) ≡ is_owner call ((shapes u.ckpt).owners q)) → x.slot ≡ None → Gives (Ok w.outcome) → Goes m s (drivers.Update u) t
         staged_moves w spread_w stages mom shaped owns free keeps slot gives =
-            let told = IsServed-told m s r asked t (drivers.Update u) (replies.Done answers.Nothing) served is (answered None slot ∙ ap (done_or_refused (replies.Done answers.Nothing)) gives) in
+            let told = IsServed-told m s r to_stage t (drivers.Update u) (replies.Done answers.Nothing) served is (answered None slot ∙ ap (done_or_refused (replies.Done answers.Nothing)) gives) in
             subst (Goes m s (drivers.Update u)) (sym told) (record {
-              row = (OfUpdate-is s.op _ (at m shapes inv s u held is).update (stage_row m shapes inv s u held is e found w moment spread_w stages mom r x there shaped), refl);
-              holds = subst (λ o. Invariant (stepped (change_replica m u.ckpt r o (with_slot s.call (update_of s.op) (staged_moment m u.ckpt))) s verbs.Stage (Some u.ckpt) (Some r) words.Ok None)) (sym there)
+              row = ((_, _, asks_own, stage_row m shapes inv s u held is e found w moment spread_w stages mom r x there shaped), refl);
+              holds = subst (λ o. let n = change_replica m u.ckpt r o (with_slot s.call (update_of s.op) (staged_moment m u.ckpt)) in Invariant (stepped n (kept_behind m s n.cluster verbs.Stage (Some u.ckpt) (Some r) words.Ok) None)) (sym there)
                   (stage_leads m shapes inv s u held is e found w moment spread_w stages mom r x there shaped complete refl owns before free keeps);
-              nearer = λ none. subst (λ o. let R = (stepped (change_replica m u.ckpt r o (with_slot s.call (update_of s.op) (staged_moment m u.ckpt))) s verbs.Stage (Some u.ckpt) (Some r) words.Ok None).cluster in
+              nearer = λ none. subst (λ o. let R = (change_replica m u.ckpt r o (with_slot s.call (update_of s.op) (staged_moment m u.ckpt))).cluster in
                   steps_left R (driver_taken (done_of R verbs.Stage (Some u.ckpt) (Some r) words.Ok) (drivers.Update u)) < steps_left m.cluster (drivers.Update u)) (sym there) staged_nearer;
             })
 
         -- refused by the sections
         refused_moves : (why : Refusal) → last ≡ None → x.slot ≡ None → Gives (Err why) → Goes m s (drivers.Update u) t
         refused_moves why none slot gives =
-            let told = IsServed-told m s r asked t (drivers.Update u) (replies.Refused why.error why.index) served is (answered None slot ∙ ap (done_or_refused (replies.Done answers.Nothing)) gives) in
+            let told = IsServed-told m s r to_stage t (drivers.Update u) (replies.Refused why.error why.index) served is (answered None slot ∙ ap (done_or_refused (replies.Done answers.Nothing)) gives) in
             subst (Goes m s (drivers.Update u)) (sym told) (record {
               row = (
-                OfUpdate-is s.op _ (at m shapes inv s u held is).update (on_replica m shapes inv s u held is e found r x (StageRefused m s u.ckpt (Some (Refused why.error (refused_cause s.op why.index)))) there (record {
-                  free = slot;
-                  none_own = on_complete m u.ckpt e found (λ y. owns_slot s.call y.slot ≡ false) (λ q there.
-                      IfSome-more (m.replicas u.ckpt q) (IsShaped (shapes u.ckpt) ((shapes u.ckpt).owners q)) (λ y. owns_slot s.call y.slot ≡ false)
-                      (λ y is. ap (owns_slot s.call) is.slot ∙ slot_owner (shapes u.ckpt) s.call ((shapes u.ckpt).owners q) ∙ sym (owns_at q there) ∙ last_having-None 0 e.complete u.owned same_length none q) (was.replicas q there));
-                  why = why;
-                  refused = ap (λ l. outcome e.attributes (update_of s.op) (kept_moment l m.cluster.moment u.moment) x.sections) (sym none) ∙ gives;
-                  answer = refl;
-                })),
-                ap (details_at asked s.op (record_seen m.cluster u.ckpt)) (seen_is m shapes inv s u held is e found r x there),
+                (
+                  _,
+                  _,
+                  asks_own,
+                  on_replica m shapes inv s u held is e found r x (StageRefused m s (update_of s.op) u.ckpt (Some (Refused why.error (refused_cause s.op why.index)))) there (record {
+                    free = slot;
+                    none_own = on_complete m u.ckpt e found (λ y. owns_slot s.call y.slot ≡ false) (λ q there.
+                        IfSome-more (m.replicas u.ckpt q) (IsShaped (shapes u.ckpt) ((shapes u.ckpt).owners q)) (λ y. owns_slot s.call y.slot ≡ false)
+                        (λ y is. ap (owns_slot s.call) is.slot ∙ slot_owner (shapes u.ckpt) s.call ((shapes u.ckpt).owners q) ∙ sym (owns_at q there) ∙ last_having-None 0 e.complete u.owned same_length none q) (was.replicas q there));
+                    why = why;
+                    refused = ap (λ l. outcome e.attributes (update_of s.op) (kept_moment l m.cluster.moment u.moment) x.sections) (sym none) ∙ gives;
+                    answer = refl;
+                  }),
+                ),
+                ap (details_at to_stage s.op (record_seen m.cluster u.ckpt)) (seen_is m shapes inv s u held is e found r x there),
               );
               holds = ended_keeps m shapes inv s u held is (λ f there. owns_none none);
               nearer = λ none. absurd (cc none);
@@ -298,7 +305,7 @@ module _ (m : Machine) (shapes : ℕ → Shape) (inv : InvariantIn shapes m) (s 
       A = update_answer (update_of s.op)
 
       committed_nearer : steps_left m.cluster (driver_taken (done_of m.cluster verbs.Commit (Some u.ckpt) (Some r) words.Ok) (drivers.Update u)) < steps_left m.cluster (drivers.Update u)
-      committed_nearer = subst (λ (o : Option Entry). update_left (complete_of o) (slice_set u.owned r 0) Committing < update_left (complete_of o) u.owned u.phase) (sym found) ((nearer e.complete u.owned r same_length).committed u.phase had)
+      committed_nearer = subst (λ (o : Option Entry). update_left (complete_of o) (slice_set u.owned r 0) Committing < update_left (complete_of o) u.owned u.phase) (sym found) ((update_nearer e.complete u.owned r same_length).committed u.phase had)
 
       pub commit_moves : (commits : Commits (shapes u.ckpt) s e) (x : ReplicaState) → m.replicas u.ckpt r ≡ Some x → IsShaped (shapes u.ckpt) (Some s.call) x → (t : Told) → IsServed m s r to_commit t → Goes m s (drivers.Update u) t
       commit_moves commits x there shaped t served =
@@ -308,11 +315,11 @@ module _ (m : Machine) (shapes : ℕ → Shape) (inv : InvariantIn shapes m) (s 
           let end : commit_end Committing A (last_having 0 (complete_of (entry_of u.ckpt m.cluster.entries)) (slice_set u.owned r 0)) ≡ done_if_none A left_then
           = ap (λ o. commit_end Committing A (last_having 0 (complete_of o) (slice_set u.owned r 0))) found in
           subst (Goes m s (drivers.Update u)) (sym (told ∙ (λ i. record { verb = verbs.Commit; ckpt = Some u.ckpt; node = Some r; reply = words.Ok; end = end i; details = ended_details (end i) (details i) }))) (record {
-            row = OfUpdate-is s.op _ (at m shapes inv s u held is).update (commit_row m shapes inv s u held is e found was commits r had behind x there shaped own_r);
-            holds = subst (λ o. Invariant (stepped (change_replica m u.ckpt r o (with_committed (entry_of u.ckpt m.cluster.entries))) s verbs.Commit (Some u.ckpt) (Some r) words.Ok (done_if_none A left_then))) (sym there)
-                (subst (λ y. Invariant (stepped (record m { replicas = put2 m.replicas u.ckpt r (Some y) }) s verbs.Commit (Some u.ckpt) (Some r) words.Ok (done_if_none A left_then))) (sym (commit_is m shapes inv s u held is e found was commits r had behind x there shaped own_r))
+            row = (_, _, asks_own, commit_row m shapes inv s u held is e found was commits r had behind x there shaped own_r);
+            holds = subst (λ o. let n = change_replica m u.ckpt r o (with_committed (entry_of u.ckpt m.cluster.entries)) in Invariant (stepped n (kept_behind m s n.cluster verbs.Commit (Some u.ckpt) (Some r) words.Ok) (done_if_none A left_then))) (sym there)
+                (subst (λ y. Invariant (stepped (record m { replicas = put2 m.replicas u.ckpt r (Some y) }) (kept_behind m s m.cluster verbs.Commit (Some u.ckpt) (Some r) words.Ok) (done_if_none A left_then))) (sym (commit_is m shapes inv s u held is e found was commits r had behind x there shaped own_r))
                 (commit_leads m shapes inv s u held is e found was commits r had behind x there shaped own_r));
-            nearer = λ none. subst (λ o. let R = (stepped (change_replica m u.ckpt r o (with_committed (entry_of u.ckpt m.cluster.entries))) s verbs.Commit (Some u.ckpt) (Some r) words.Ok (done_if_none A left_then)).cluster in
+            nearer = λ none. subst (λ o. let R = (change_replica m u.ckpt r o (with_committed (entry_of u.ckpt m.cluster.entries))).cluster in
                 steps_left R (driver_taken (done_of R verbs.Commit (Some u.ckpt) (Some r) words.Ok) (drivers.Update u)) < steps_left m.cluster (drivers.Update u)) (sym there) committed_nearer;
           })
 

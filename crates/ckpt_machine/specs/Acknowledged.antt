@@ -6,13 +6,14 @@ use Rattle.ckpt_types.specs.declared.operation.Op.{Op}
 use Rattle.ckpt_types.specs.declared.update.Update.{Update}
 use Rattle.run_labels.specs.declared.labels.Label.{Label}
 use Rattle.run_labels.specs.declared.labels.Label.TheVariants as labels
-use Rattle.run_labels.specs.declared.words.OpWord.{OpWord}
-use Rattle.run_labels.specs.declared.words.OpWord.TheVariants as opwords
-use Rattle.run_labels.specs.OpWord.{word_of_op}
+use Rattle.ckpt_types.specs.declared.words.OpWord.{OpWord}
+use Rattle.ckpt_types.specs.declared.words.OpWord.TheVariants as opwords
+use Rattle.ckpt_types.specs.OpWord.{word_of_op}
 use Rattle.ckpt_machine.specs.Machine.{Machine, Effect, Applied, ReplicaState}
 use Rattle.ckpt_machine.specs.Runs.{last}
-use Rattle.ckpt_machine.specs.Serving.{update_of}
-use Rattle.ckpt_machine.specs.Steps.{ckpt_of_handle, asked_handle}
+use Rattle.ckpt_types.specs.Asks.{update_of}
+use Rattle.ckpt_machine.specs.Steps.{asked_handle}
+use Rattle.ckpt_machine.specs.Tables.{ckpt_of_handle}
 
 -- ---- the answer, as a user sees it
 

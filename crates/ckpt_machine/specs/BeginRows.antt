@@ -1,5 +1,5 @@
 -- What the machine allows a call to answer at its beginning: each answer with its cause, where none before it applies; and the words that may stand in place of a call or a step.
-use Rattle.std.specs.Prelude.{◌≡◌, ℕ, ◌<◌, length, Option, Some, None, is_some, is_none, IsSome, Bool, true, false, not, ◌&&◌, ◌||◌, pos, int_lt}
+use Rattle.std.specs.Prelude.{◌≡◌, ℕ, ◌<◌, length, Option, Some, None, is_none, IsSome, Bool, true, false, not, ◌&&◌, ◌||◌, pos, int_lt}
 use Rattle.ckpt_types.specs.declared.ais_error.AisError.{AisError}
 use Rattle.ckpt_types.specs.declared.ais_error.AisError.TheVariants as errors
 use Rattle.ckpt_types.specs.declared.answers.Answer.TheVariants as answers
@@ -13,69 +13,67 @@ use Rattle.ckpt_types.specs.declared.identities.Who.TheVariants.{Actor}
 use Rattle.ckpt_types.specs.declared.identities.Who.TheVariants as whos
 use Rattle.ckpt_types.specs.declared.open_flags.OpenFlags.{OpenFlags}
 use Rattle.ckpt_types.specs.declared.operation.Op.{Op}
-use Rattle.ckpt_types.specs.declared.operation.Op.TheVariants as ops
 use Rattle.ckpt_types.specs.Attributes.{has_bad_open_flags}
 use Rattle.ckpt_types.specs.Limits.{nodes_max}
 use Rattle.run_labels.specs.declared.words.LineWord.{LineWord}
 use Rattle.run_labels.specs.declared.words.LineWord.TheVariants as linewords
-use Rattle.run_labels.specs.declared.words.OpWord.TheVariants as opwords
+use Rattle.ckpt_types.specs.declared.words.OpWord.TheVariants as opwords
 use Rattle.run_labels.specs.declared.words.Said.{Said}
 use Rattle.run_labels.specs.declared.words.Said.TheVariants.{Busy, Idle, Live, Down}
 use Rattle.client_handles.specs.declared.handle_view.HandleView.{HandleView}
 use Rattle.cluster_record.specs.Calls.{number_of, IsClient}
 use Rattle.cluster_record.specs.RecordState.{is_live_client, is_up}
-use Rattle.ckpt_machine.specs.Beginning.{version_is_bad, name_is_bad, attributes_are_bad, vector_is_bad, update_is_bad, choice_is_bad, may_write, may_read, may_always, handle_place, iteration_place, takes_room, IsBuilt}
+use Rattle.ckpt_machine.specs.Beginning.{version_is_bad, name_is_bad, attributes_are_bad, vector_is_bad, update_is_bad, choice_is_bad, may_write, may_read, may_always}
+use Rattle.ckpt_types.specs.Asks.{Ask, asked, takes_room, IsBuilt}
+use Rattle.ckpt_types.specs.Asks as asks
 use Rattle.ckpt_machine.specs.Machine.{Machine}
 use Rattle.ckpt_machine.specs.Steps.{MayBegin, asked_handle}
 
 -- ---- the causes
 
 -- an Initialize of a version that the service does not speak
-abbrev pub has_bad_version : Op → Bool
-has_bad_version (ops.Client r version callbacks) = version_is_bad version
-has_bad_version op = false
+abbrev pub has_bad_version : Ask → Bool
+has_bad_version (asks.Enter r version callbacks) = version_is_bad version
+has_bad_version ask = false
 
 -- any other call is of a client that is live
-abbrev pub is_of_client : Op → Bool
-is_of_client (ops.Client r version callbacks) = false
-is_of_client op = true
+abbrev pub is_of_client : Ask → Bool
+is_of_client (asks.Enter r version callbacks) = false
+is_of_client ask = true
 
 -- it is about the handle of a place, or about the iteration of one
-abbrev pub is_of_place : Op → Bool
-is_of_place op = is_some (handle_place op) || is_some (iteration_place op)
+abbrev pub is_of_place : Ask → Bool
+is_of_place (asks.Enter r version callbacks) = false
+is_of_place (asks.Open place name flags timeout a) = false
+is_of_place (asks.Unlink name) = false
+is_of_place asks.Leave = false
+is_of_place asks.Unbuilt = false
+is_of_place ask = true
 
 -- the client of the call is not live, or the place stands for no handle, or for no iteration
-abbrev pub has_bad_handle : Bool → Option HandleView → Op → Bool
-has_bad_handle live h op = (is_of_client op && not live) || (is_of_place op && is_none h)
+abbrev pub has_bad_handle : Bool → Option HandleView → Ask → Bool
+has_bad_handle live h ask = (is_of_client ask && not live) || (is_of_place ask && is_none h)
 
 -- an open with no flag, or an unknown one
-abbrev pub has_bad_flags : Op → Bool
-has_bad_flags (ops.Open place name flags timeout a) = has_bad_open_flags flags
-has_bad_flags op = false
+abbrev pub has_bad_flags : Ask → Bool
+has_bad_flags (asks.Open place name flags timeout a) = has_bad_open_flags flags
+has_bad_flags ask = false
 
--- what is a bad argument of each operation: a name, timeout or attributes; a number of elements; a choice; a duration
-abbrev pub has_bad_arguments : Op → Bool
-has_bad_arguments (ops.Open place name flags timeout a) = name_is_bad name || int_lt timeout (pos 0) || attributes_are_bad flags a
-has_bad_arguments (ops.Create place update) = update_is_bad update
-has_bad_arguments (ops.Delete place update) = update_is_bad update
-has_bad_arguments (ops.Expire place update) = update_is_bad update
-has_bad_arguments (ops.Write place update) = update_is_bad update
-has_bad_arguments (ops.Over place update) = update_is_bad update
-has_bad_arguments (ops.Read place elements) = vector_is_bad (length elements)
-has_bad_arguments (ops.Iter iteration place chosen time) = choice_is_bad chosen
-has_bad_arguments (ops.Retain place duration) = int_lt duration (pos 0)
-has_bad_arguments op = false
+-- what is a bad argument of each: a name, timeout or attributes; a number of elements; a choice; a duration
+abbrev pub has_bad_arguments : Ask → Bool
+has_bad_arguments (asks.Open place name flags timeout a) = name_is_bad name || int_lt timeout (pos 0) || attributes_are_bad flags a
+has_bad_arguments (asks.Change place update) = update_is_bad update
+has_bad_arguments (asks.Read place elements) = vector_is_bad (length elements)
+has_bad_arguments (asks.Iterate iteration place chosen time) = choice_is_bad chosen
+has_bad_arguments (asks.Retain place duration) = int_lt duration (pos 0)
+has_bad_arguments ask = false
 
 -- what its handle is to be opened for
-abbrev pub needs_opened : Op → OpenFlags → Bool
-needs_opened (ops.Create place update) = may_write
-needs_opened (ops.Delete place update) = may_write
-needs_opened (ops.Expire place update) = may_write
-needs_opened (ops.Write place update) = may_write
-needs_opened (ops.Over place update) = may_write
-needs_opened (ops.Read place elements) = may_read
-needs_opened (ops.Iter iteration place chosen time) = may_read
-needs_opened op = may_always
+abbrev pub needs_opened : Ask → OpenFlags → Bool
+needs_opened (asks.Change place update) = may_write
+needs_opened (asks.Read place elements) = may_read
+needs_opened (asks.Iterate iteration place chosen time) = may_read
+needs_opened ask = may_always
 
 -- there is a handle, which was not opened for this
 abbrev pub was_not_opened_for : (OpenFlags → Bool) → Option HandleView → Bool
@@ -83,40 +81,40 @@ was_not_opened_for may None = false
 was_not_opened_for may (Some h) = not (may h.flags)
 
 -- its handle was not opened for what it asks
-abbrev pub lacks_access : Option HandleView → Op → Bool
-lacks_access h op = was_not_opened_for (needs_opened op) h
+abbrev pub lacks_access : Option HandleView → Ask → Bool
+lacks_access h ask = was_not_opened_for (needs_opened ask) h
 
 -- the end of an iteration is answered at once; every other call goes on
-abbrev pub ends_at_once : Op → Bool
-ends_at_once (ops.EndIter iteration) = true
-ends_at_once op = false
+abbrev pub ends_at_once : Ask → Bool
+ends_at_once (asks.EndIteration iteration) = true
+ends_at_once ask = false
 
 -- ---- the answers, of a client that is live or not, and with the handle of the place
 
 -- a refusal, where its cause is there and none before it
-abbrev pub BeginRefused : Bool → Option HandleView → Op → AisError → Type 0
-BeginRefused live h op errors.Version = has_bad_version op ≡ true
-BeginRefused live h op errors.BadHandle = (has_bad_version op ≡ false) × (has_bad_handle live h op ≡ true)
-BeginRefused live h op errors.BadFlags = (has_bad_version op ≡ false) × (has_bad_handle live h op ≡ false) × (has_bad_flags op ≡ true)
-BeginRefused live h op errors.InvalidParam = (has_bad_version op ≡ false) × (has_bad_handle live h op ≡ false) × (has_bad_flags op ≡ false) × (has_bad_arguments op ≡ true)
-BeginRefused live h op errors.Access = (has_bad_version op ≡ false) × (has_bad_handle live h op ≡ false) × (has_bad_flags op ≡ false) × (has_bad_arguments op ≡ false) × (lacks_access h op ≡ true)
-BeginRefused live h op error = ⊥
+abbrev pub BeginRefused : Bool → Option HandleView → Ask → AisError → Type 0
+BeginRefused live h ask errors.Version = has_bad_version ask ≡ true
+BeginRefused live h ask errors.BadHandle = (has_bad_version ask ≡ false) × (has_bad_handle live h ask ≡ true)
+BeginRefused live h ask errors.BadFlags = (has_bad_version ask ≡ false) × (has_bad_handle live h ask ≡ false) × (has_bad_flags ask ≡ true)
+BeginRefused live h ask errors.InvalidParam = (has_bad_version ask ≡ false) × (has_bad_handle live h ask ≡ false) × (has_bad_flags ask ≡ false) × (has_bad_arguments ask ≡ true)
+BeginRefused live h ask errors.Access = (has_bad_version ask ≡ false) × (has_bad_handle live h ask ≡ false) × (has_bad_flags ask ≡ false) × (has_bad_arguments ask ≡ false) × (lacks_access h ask ≡ true)
+BeginRefused live h ask error = ⊥
 
 -- no refusal applies
-pub record MeetsNoRefusal (live : Bool) (h : Option HandleView) (op : Op) : Type 0 where
-  pub version : has_bad_version op ≡ false
-  pub handle : has_bad_handle live h op ≡ false
-  pub flags : has_bad_flags op ≡ false
-  pub arguments : has_bad_arguments op ≡ false
-  pub access : lacks_access h op ≡ false
+pub record MeetsNoRefusal (live : Bool) (h : Option HandleView) (ask : Ask) : Type 0 where
+  pub version : has_bad_version ask ≡ false
+  pub handle : has_bad_handle live h ask ≡ false
+  pub flags : has_bad_flags ask ≡ false
+  pub arguments : has_bad_arguments ask ≡ false
+  pub access : lacks_access h ask ≡ false
 
 -- a refusal; OK at once; no memory for the room of an iteration; or the call goes on
-abbrev pub BeginRow : Bool → Option HandleView → Op → Option Outcome → Type 0
-BeginRow live h op (Some (Refused error Plain)) = BeginRefused live h op error
-BeginRow live h op (Some (Done answers.Nothing)) = MeetsNoRefusal live h op × (ends_at_once op ≡ true)
-BeginRow live h op (Some NoMemory) = MeetsNoRefusal live h op × (takes_room op ≡ true)
-BeginRow live h op None = MeetsNoRefusal live h op × (ends_at_once op ≡ false)
-BeginRow live h op end = ⊥
+abbrev pub BeginRow : Bool → Option HandleView → Ask → Option Outcome → Type 0
+BeginRow live h ask (Some (Refused error Plain)) = BeginRefused live h ask error
+BeginRow live h ask (Some (Done answers.Nothing)) = MeetsNoRefusal live h ask × (ends_at_once ask ≡ true)
+BeginRow live h ask (Some NoMemory) = MeetsNoRefusal live h ask × (takes_room ask ≡ true)
+BeginRow live h ask None = MeetsNoRefusal live h ask × (ends_at_once ask ≡ false)
+BeginRow live h ask end = ⊥
 
 -- a client begins an operation that is built, with the number that is its next, while it has no call in hand
 pub record IsAllowedBegin (m : Machine) (call : CallId) (op : Op) (end : Option Outcome) : Type 0 where
@@ -124,8 +122,8 @@ pub record IsAllowedBegin (m : Machine) (call : CallId) (op : Op) (end : Option 
   pub built : IsBuilt op
   pub number : call.number ≡ m.next call.actor
   pub none_in_hand : m.in_hand call.actor ≡ None
-  pub may : MayBegin m.cluster (number_of call.actor) op
-  pub row : BeginRow (is_live_client (number_of call.actor) m.cluster) (asked_handle m call.actor op) op end
+  pub may : MayBegin m.cluster (number_of call.actor) (asked op)
+  pub row : BeginRow (is_live_client (number_of call.actor) m.cluster) (asked_handle m call.actor op) (asked op) end
 
 -- ---- the words
 

@@ -1,23 +1,21 @@
 -- What a call does next, by its own steps and the record: the steps of each call, decision by decision.
-use Rattle.std.specs.Prelude.{ℕ, ◌+◌, List, [], ◌∷◌, length, Option, Some, None, Bool, true, false, nat_le, if◌then◌else◌, ℤ}
+use Rattle.std.specs.Prelude.{ℕ, ◌+◌, List, [], ◌∷◌, Option, Some, None, Bool, true, false, if◌then◌else◌, ℤ}
 use Rattle.moment_rules.specs.Times.{sum_until_end}
-use Rattle.ckpt_types.specs.declared.ais_error.AisError.TheVariants.{NotExist, TryAgain, NoResources}
+use Rattle.ckpt_types.specs.declared.ais_error.AisError.TheVariants.{NotExist, TryAgain}
 use Rattle.ckpt_types.specs.declared.answers.Answer.{Answer}
 use Rattle.ckpt_types.specs.declared.answers.Answer.TheVariants as answers
 use Rattle.ckpt_types.specs.declared.answers.Cause.{Cause}
-use Rattle.ckpt_types.specs.declared.answers.Cause.TheVariants.{Plain, Index, Holder, Count}
+use Rattle.ckpt_types.specs.declared.answers.Cause.TheVariants.{Plain, Index, Holder}
 use Rattle.ckpt_types.specs.declared.answers.Outcome.{Outcome}
 use Rattle.ckpt_types.specs.declared.answers.Outcome.TheVariants.{Done, Refused, NoMemory}
 use Rattle.ckpt_types.specs.declared.identities.CallId.{CallId}
 use Rattle.ckpt_types.specs.declared.operation.Op.{Op}
 use Rattle.ckpt_types.specs.declared.operation.Op.TheVariants as ops
-use Rattle.ckpt_types.specs.Limits.{clients_max}
 use Rattle.node_msgs.specs.declared.replies.Reply.{Reply}
 use Rattle.node_msgs.specs.declared.replies.Reply.TheVariants as replies
 use Rattle.node_msgs.specs.declared.next.RecordStep.{RecordStep}
 use Rattle.node_msgs.specs.declared.next.RecordStep.TheVariants as events
 use Rattle.node_msgs.specs.declared.next.Next.{Next}
-use Rattle.node_msgs.specs.declared.next.Next.TheVariants.{Event, End}
 use Rattle.ckpt_machine.specs.Drivers.{Rooms}
 use Rattle.ckpt_machine.specs.Drivers.{Driver}
 use Rattle.ckpt_machine.specs.Drivers as drivers
@@ -25,17 +23,19 @@ use Rattle.cluster_record.specs.declared.calls.ActiveKind.{ActiveKind}
 use Rattle.cluster_record.specs.declared.calls.ActiveKind.TheVariants as kinds
 use Rattle.section_iter.specs.declared.room.Room.{Room}
 use Rattle.cluster_record.specs.Calls.{client_of}
-use Rattle.ckpt_machine.specs.Beginning.{choice_of}
-use Rattle.cluster_record.specs.LookUps.{identity_in, at_ckpt}
-use Rattle.cluster_record.specs.RecordState.{RecordState, named, entered, swept, closed, unlinked, retained, departed}
+use Rattle.ckpt_types.specs.Asks.{Ask, asked}
+use Rattle.ckpt_types.specs.Asks as asks
+use Rattle.ckpt_machine.specs.Tables.{choice_of}
+use Rattle.cluster_record.specs.LookUps.{identity_in}
+use Rattle.cluster_record.specs.RecordState.{RecordState, named}
 use Rattle.cluster_record.specs.StepDone.{StepDone}
 use Rattle.cluster_record.specs.declared.opening.OpenAnswer.{OpenAnswer}
 use Rattle.cluster_record.specs.declared.opening.OpenAnswer.TheVariants as opening
 use Rattle.cluster_record.specs.Opening.{open_answer}
-use Rattle.cluster_record.specs.DueOpen.{open_begun, open_next, open_taken, making_ckpt, open_event}
+use Rattle.cluster_record.specs.DueOpen.{open_begun, open_next, open_taken, making_ckpt}
 use Rattle.cluster_record.specs.DueUpdate.{update_begun, update_next, update_taken, done_end_by}
 use Rattle.cluster_record.specs.DueActive.{active_begun, active_next}
-use Rattle.cluster_record.specs.DueOnce.{close_next, unlink_next, retain_next}
+use Rattle.cluster_record.specs.DueOnce.{Enter, Leave, Close, Unlink, Retain, once_next}
 
 -- a refusal of a vector tells the index of its first refused element
 abbrev pub refused_cause : Op → ℕ → Cause
@@ -45,36 +45,24 @@ refused_cause op index = Plain
 
 -- by the record, and by what the client's own tables have a free place for
 abbrev pub driver_next : RecordState → Rooms → Driver → Next
-driver_next R rooms (drivers.Enter r) = if nat_le clients_max (length R.clients) then End (Refused NoResources (Count clients_max)) else Event events.Enter
+driver_next R rooms (drivers.Once x) = once_next R x
 driver_next R rooms (drivers.Open o) = open_next R rooms.handles o
 driver_next R rooms (drivers.Update u) = update_next R u
 driver_next R rooms (drivers.Active a) = active_next R rooms.iterations a
-driver_next R rooms drivers.Leave = Event events.Leave
-driver_next R rooms (drivers.Close k) = close_next R k
-driver_next R rooms (drivers.Unlink name) = unlink_next R name
-driver_next R rooms (drivers.Retain k duration) = retain_next R k
 
 -- the driver after a step of its call
 abbrev pub driver_taken : StepDone → Driver → Driver
-driver_taken d (drivers.Enter r) = drivers.Enter r
+driver_taken d (drivers.Once x) = drivers.Once x
 driver_taken d (drivers.Open o) = drivers.Open (open_taken d o)
 driver_taken d (drivers.Update u) = drivers.Update (update_taken d u)
 driver_taken d (drivers.Active a) = drivers.Active a
-driver_taken d drivers.Leave = drivers.Leave
-driver_taken d (drivers.Close k) = drivers.Close k
-driver_taken d (drivers.Unlink name) = drivers.Unlink name
-driver_taken d (drivers.Retain k duration) = drivers.Retain k duration
 
 -- how the call ends where a node has done what it asked
 abbrev pub done_end : StepDone → Answer → Driver → Option Outcome
-done_end d answer (drivers.Enter r) = None
+done_end d answer (drivers.Once x) = None
 done_end d answer (drivers.Open o) = None
 done_end d answer (drivers.Update u) = done_end_by d answer u d.verb
 done_end d answer (drivers.Active a) = Some (Done answer)
-done_end d answer drivers.Leave = None
-done_end d answer (drivers.Close k) = None
-done_end d answer (drivers.Unlink name) = None
-done_end d answer (drivers.Retain k duration) = None
 
 -- how a call of an operation ends by a node's reply; where nothing comes of it, the call goes on
 abbrev pub driver_end : Op → StepDone → Reply → Driver → Option Outcome
@@ -90,14 +78,14 @@ event_ckpt R (drivers.Open o) events.Create = Some (R.last_identity + 1)
 event_ckpt R (drivers.Open o) events.Open = identity_in (named o.ask.name R.entries)
 event_ckpt R (drivers.Open o) events.Finish = making_ckpt o.making
 event_ckpt R (drivers.Open o) events.Undo = making_ckpt o.making
-event_ckpt R (drivers.Close k) events.Close = Some k
-event_ckpt R (drivers.Unlink name) events.Unlink = identity_in (named name R.entries)
-event_ckpt R (drivers.Retain k duration) events.Retain = Some k
+event_ckpt R (drivers.Once (Close k)) events.Close = Some k
+event_ckpt R (drivers.Once (Unlink name)) events.Unlink = identity_in (named name R.entries)
+event_ckpt R (drivers.Once (Retain k duration)) events.Retain = Some k
 event_ckpt R driver step = None
 
 -- the node of a step of the record
 abbrev pub event_node : Driver → RecordStep → Option ℕ
-event_node (drivers.Enter r) events.Enter = Some r
+event_node (drivers.Once (Enter r)) events.Enter = Some r
 event_node driver step = None
 
 -- how a call ends by a step of the record that was done, and its checkpoint
@@ -144,20 +132,6 @@ takes_memory events.Open = true
 takes_memory events.Create = true
 takes_memory step = false
 
--- what the record becomes by a step of a call
-abbrev pub event_change : CallId → Driver → RecordStep → RecordState → RecordState
-event_change call (drivers.Enter r) step R = entered (client_of call) r call.number R
-event_change call (drivers.Open o) step R = open_event call o (event_ckpt R (drivers.Open o) step) step R
-event_change call drivers.Leave step R = departed (client_of call) R
-event_change call (drivers.Close k) step R = closed k (client_of call) R
-event_change call (drivers.Unlink name) step R = at_ckpt (identity_in (named name R.entries)) R (λ k. unlinked k R)
-event_change call (drivers.Retain k duration) step R = retained k duration R
-event_change call driver step R = R
-
--- and what is over is swept away
-abbrev pub event_after : CallId → Driver → RecordStep → RecordState → RecordState
-event_after call driver step R = swept (event_change call driver step R)
-
 -- what a call keeps of the tables and of the record at its beginning: the checkpoint of its handle, the room for the identifiers that this one declares, the client's node, and the moment
 pub record Kept : Type 0 where
   pub ckpt : Option ℕ
@@ -165,14 +139,14 @@ pub record Kept : Type 0 where
   pub node : ℕ
   pub moment : ℤ
 
--- the deadline of an operation that began at a moment, where it has a timeout
-abbrev pub deadline_from : ℤ → Op → Option ℤ
-deadline_from moment (ops.Open place name flags timeout attributes) = Some (sum_until_end moment timeout)
-deadline_from moment op = None
+-- the deadline of what was asked for at a moment, where it has a timeout
+abbrev pub deadline_from : ℤ → Ask → Option ℤ
+deadline_from moment (asks.Open place name flags timeout a) = Some (sum_until_end moment timeout)
+deadline_from moment ask = None
 
 -- the driver of a call on the checkpoint that it keeps
 abbrev pub on_kept : Option ℕ → (ℕ → Driver) → Driver
-on_kept None start = drivers.Enter 0
+on_kept None start = drivers.Once (Enter 0)
 on_kept (Some k) start = start k
 
 -- an update has staged nowhere when it begins
@@ -183,26 +157,23 @@ update_start call ckpt = on_kept ckpt (λ k. drivers.Update (update_begun call k
 abbrev pub active_start : CallId → ActiveKind → Option ℕ → Driver
 active_start call kind ckpt = on_kept ckpt (λ k. drivers.Active (active_begun call k kind))
 
--- the driver of a call that begins; operations that are not built have none of their own, and none of them begins
-abbrev pub driver_start : CallId → Op → Kept → Driver
-driver_start call (ops.Client r version callbacks) kept = drivers.Enter r
-driver_start call (ops.Open place name flags timeout attributes) kept = drivers.Open (open_begun call (record { name = name; attrs = attributes; client = client_of call; node = kept.node }) (Some (sum_until_end kept.moment timeout)))
-driver_start call (ops.Create place update) kept = update_start call kept.ckpt
-driver_start call (ops.Delete place update) kept = update_start call kept.ckpt
-driver_start call (ops.Expire place update) kept = update_start call kept.ckpt
-driver_start call (ops.Write place update) kept = update_start call kept.ckpt
-driver_start call (ops.Over place update) kept = update_start call kept.ckpt
-driver_start call (ops.Read place elements) kept = active_start call kinds.Read kept.ckpt
-driver_start call (ops.Status place) kept = active_start call kinds.Status kept.ckpt
-driver_start call (ops.Iter iteration place chosen time) kept = active_start call (kinds.Iterate (choice_of chosen time)) kept.ckpt
-driver_start call (ops.Next iteration) kept = active_start call kinds.Next kept.ckpt
-driver_start call (ops.Close place) kept = on_kept kept.ckpt (λ k. drivers.Close k)
-driver_start call (ops.Retain place duration) kept = on_kept kept.ckpt (λ k. drivers.Retain k duration)
-driver_start call (ops.Unlink name) kept = drivers.Unlink name
-driver_start call ops.Finalize kept = drivers.Leave
-driver_start call op kept = drivers.Enter 0
+-- the driver of a call that begins; what ends at its beginning, or is not built, has none of its own
+abbrev pub driver_start : CallId → Ask → Kept → Driver
+driver_start call (asks.Enter r version callbacks) kept = drivers.Once (Enter r)
+driver_start call (asks.Open place name flags timeout a) kept = drivers.Open (open_begun call (record { name = name; attrs = a; client = client_of call; node = kept.node }) (Some (sum_until_end kept.moment timeout)))
+driver_start call (asks.Change place update) kept = update_start call kept.ckpt
+driver_start call (asks.Read place elements) kept = active_start call kinds.Read kept.ckpt
+driver_start call (asks.Status place) kept = active_start call kinds.Status kept.ckpt
+driver_start call (asks.Iterate iteration place chosen time) kept = active_start call (kinds.Iterate (choice_of chosen time)) kept.ckpt
+driver_start call (asks.Next iteration) kept = active_start call kinds.Next kept.ckpt
+driver_start call (asks.EndIteration iteration) kept = drivers.Once (Enter 0)
+driver_start call (asks.Close place) kept = on_kept kept.ckpt (λ k. drivers.Once (Close k))
+driver_start call (asks.Retain place duration) kept = on_kept kept.ckpt (λ k. drivers.Once (Retain k duration))
+driver_start call (asks.Unlink name) kept = drivers.Once (Unlink name)
+driver_start call asks.Leave kept = drivers.Once Leave
+driver_start call asks.Unbuilt kept = drivers.Once (Enter 0)
 
 -- where a call's steps have led it, the newest first
 abbrev pub driver_state : CallId → Op → Kept → List StepDone → Driver
-driver_state call op kept [] = driver_start call op kept
+driver_state call op kept [] = driver_start call (asked op) kept
 driver_state call op kept (d ∷ steps) = driver_taken d (driver_state call op kept steps)

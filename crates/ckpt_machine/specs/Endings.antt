@@ -4,9 +4,9 @@ use Rattle.ckpt_types.specs.declared.answers.Outcome.{Outcome}
 use Rattle.ckpt_types.specs.declared.answers.Outcome.TheVariants.{Done, Refused, NoMemory}
 use Rattle.run_labels.specs.declared.labels.Label.{Label}
 use Rattle.run_labels.specs.declared.labels.Label.TheVariants as labels
-use Rattle.run_labels.specs.declared.words.OpWord.{OpWord}
-use Rattle.run_labels.specs.declared.words.OpWord.TheVariants as opwords
-use Rattle.run_labels.specs.OpWord.{word_of_op}
+use Rattle.ckpt_types.specs.declared.words.OpWord.{OpWord}
+use Rattle.ckpt_types.specs.declared.words.OpWord.TheVariants as opwords
+use Rattle.ckpt_types.specs.OpWord.{word_of_op}
 
 -- the calls that take memory of their own, and may be refused it, of those not built yet too; an update, a read, a status, a close and all others never are
 abbrev pub may_lack_memory : OpWord → Bool

@@ -1,33 +1,35 @@
 -- What the code relies on in every state of a run.
-use Rattle.std.specs.Prelude.{◌≡◌, ℕ, ◌<◌, ◌≤◌, length, Option, Some, None, IsSome, IsSomeAnd, Contains, true, false, ◌==◌, ℤ, pos, ◌≤ℤ◌, slice_index}
+use Rattle.std.specs.Prelude.{◌≡◌, ℕ, ◌<◌, length, Option, Some, None, IsSome, IsSomeAnd, true, false, ◌==◌, ℤ, pos, ◌≤ℤ◌, slice_index}
 use Rattle.ckpt_types.specs.declared.identities.ActorName.{ActorName}
 use Rattle.ckpt_types.specs.declared.identities.CallId.{CallId}
 use Rattle.ckpt_types.specs.declared.sections.Choice.{Choice}
 use Rattle.ckpt_types.specs.Attributes.{is_malformed}
-use Rattle.ckpt_types.specs.Limits.{nodes_max, clients_max, checkpoints_max}
+use Rattle.ckpt_types.specs.Limits.{nodes_max, clients_max, checkpoints_max, places_max}
 use Rattle.node_msgs.specs.declared.requests.Request.{Request}
 use Rattle.node_msgs.specs.declared.requests.Request.TheVariants as requests
 use Rattle.node_msgs.specs.declared.next.RecordStep.{RecordStep}
 use Rattle.node_msgs.specs.declared.next.RecordStep.TheVariants as events
 use Rattle.node_msgs.specs.declared.next.Next.TheVariants.{Serve, Event}
-use Rattle.client_handles.specs.declared.handle_view.HandleView.{HandleView}
-use Rattle.cluster_record.specs.Makings.{IsMakingOf}
+use Rattle.cluster_record.specs.Makings.{IsMakingOf, making_of}
+use Rattle.cluster_record.specs.DueOnce as once
 use Rattle.cluster_record.specs.DueOpen.{making_ckpt, accepts}
 use Rattle.ckpt_machine.specs.Drivers.{Driver}
 use Rattle.ckpt_machine.specs.Drivers as drivers
 use Rattle.cluster_record.specs.declared.calls.Making.{Making}
 use Rattle.cluster_record.specs.DueOpen.{OpenState}
 use Rattle.cluster_record.specs.declared.entries.Entry.{Entry}
-use Rattle.cluster_record.specs.Calls.{IsClient, client_of, number_of}
+use Rattle.cluster_record.specs.Calls.{IsClient, client_of}
 use Rattle.cluster_record.specs.Identities.{IdentitiesRise, AllUpTo}
 use Rattle.cluster_record.specs.RecordState.{RecordState, entry_of, named, is_up, is_live_client}
 use Rattle.node_msgs.specs.Requests.{ckpt_of}
 use Rattle.ckpt_machine.specs.Serving.{IsReadyFor}
-use Rattle.ckpt_machine.specs.Guards.{IsOwnMaking}
+use Rattle.ckpt_machine.specs.Driving.{making_in}
 use Rattle.cluster_record.specs.RecordReady.{CanBecomeLive, CanOpen}
-use Rattle.ckpt_machine.specs.Beginning.{IsIterOf, IsNextOf, IsBuilt, closed_place}
+use Rattle.ckpt_types.specs.Asks.{asked, IsBuilt}
+use Rattle.ckpt_types.specs.Asks as asks
+use Rattle.ckpt_machine.specs.Tables.{choice_of}
 use Rattle.ckpt_machine.specs.Machine.{Machine, ReplicaState, CallState}
-use Rattle.ckpt_machine.specs.Steps.{due, driver_of, room_of, room_at, seen_at, staged_moment, asked_handle, handle_in}
+use Rattle.ckpt_machine.specs.Steps.{due, driver_of, rooms_of, room_at, seen_at, staged_moment, asked_handle}
 
 -- a replica can be reserved: the node is up, the checkpoint is in the making, the node is not complete, and the attributes passed their check
 pub record IsReservable (R : RecordState) (r : ℕ) (e : Entry) : Type 0 where
@@ -56,15 +58,15 @@ IsFinishable m (Some making) = AllReserved m making.ckpt × IsSomeAnd (entry_of 
 
 -- what a due step of the record asks of it
 abbrev pub IsEventReady : Machine → CallState → Driver → RecordStep → Type 0
-IsEventReady m s (drivers.Enter r) events.Enter = CanBecomeLive s.call r m.cluster × (length m.cluster.clients < clients_max)
+IsEventReady m s (drivers.Once (once.Enter r)) events.Enter = CanBecomeLive s.call r m.cluster × (length m.cluster.clients < clients_max)
+IsEventReady m s (drivers.Once once.Leave) events.Leave = Unit {0}
+IsEventReady m s (drivers.Once (once.Close k)) events.Close = Unit {0}
+IsEventReady m s (drivers.Once (once.Unlink name)) events.Unlink = IsSomeAnd (named name m.cluster.entries) (λ e. e.making ≡ None)
+IsEventReady m s (drivers.Once (once.Retain k duration)) events.Retain = IsSomeAnd (entry_of k m.cluster.entries) (λ e. IsSome e.name) × (pos 0 ≤ℤ duration)
 IsEventReady m s (drivers.Open o) events.Create = (length m.cluster.entries < checkpoints_max) × IsSomeAnd o.ask.attrs (λ a. Unit {0}) × (named o.ask.name m.cluster.entries ≡ None) × CanOpen o.ask m.cluster × IsClient s.call.actor
 IsEventReady m s (drivers.Open o) events.Open = IsSomeAnd (named o.ask.name m.cluster.entries) (λ e. e.making ≡ None → accepts o.ask.attrs e ≡ true) × CanOpen o.ask m.cluster × IsClient s.call.actor
 IsEventReady m s (drivers.Open o) events.Finish = IsFinishable m o.making × IsMakingOf m.cluster o.ask.client (making_ckpt o.making)
 IsEventReady m s (drivers.Open o) events.Undo = IsSomeAnd o.making (λ making. Unit {0}) × IsMakingOf m.cluster o.ask.client (making_ckpt o.making)
-IsEventReady m s drivers.Leave events.Leave = Unit {0}
-IsEventReady m s (drivers.Close k) events.Close = Unit {0}
-IsEventReady m s (drivers.Unlink name) events.Unlink = IsSomeAnd (named name m.cluster.entries) (λ e. e.making ≡ None)
-IsEventReady m s (drivers.Retain k duration) events.Retain = IsSomeAnd (entry_of k m.cluster.entries) (λ e. IsSome e.name) × (pos 0 ≤ℤ duration)
 IsEventReady m s driver step = ⊥
 
 -- a call to the active alone
@@ -72,22 +74,40 @@ abbrev pub IsActive : Driver → Type 0
 IsActive (drivers.Active a) = Unit {0}
 IsActive driver = ⊥
 
+-- a call starts an iteration by this choice: its handle is there, and it has room for all identifiers that its checkpoint declares
+pub record IsStarting (m : Machine) (s : CallState) (k : ℕ) (choice : Choice) : Type 0 where
+  pub iteration : ℕ
+  pub place : ℕ
+  pub chosen : ℕ
+  pub time : ℤ
+  pub asks : asked s.op ≡ asks.Iterate iteration place chosen time
+  pub choice_is : choice ≡ choice_of chosen time
+  pub within : iteration < places_max
+  pub handle : IsSome (asked_handle m s.call.actor s.op)
+  pub room : s.kept.room ≡ room_at m.cluster (Some k)
+  pub active : IsActive (driver_of s)
+
+-- a call goes on with an iteration, whose handle is there
+pub record IsGoingOn (m : Machine) (s : CallState) : Type 0 where
+  pub iteration : ℕ
+  pub asks : asked s.op ≡ asks.Next iteration
+  pub within : iteration < places_max
+  pub handle : IsSome (asked_handle m s.call.actor s.op)
+
 -- what the code relies on, of each call in hand
 pub record Facts (m : Machine) : Type 0 where
-  -- a call in hand is its actor's
+  -- a call in hand is its actor's, and is built
   pub callers : (a : ActorName) (s : CallState) → m.in_hand a ≡ Some s → s.call.actor ≡ a
+  pub built : (a : ActorName) (s : CallState) → m.in_hand a ≡ Some s → IsBuilt s.op
   pub rises : IdentitiesRise m.cluster.entries
   pub up_to : AllUpTo m.cluster.last_identity m.cluster.entries
   pub ready : (a : ActorName) (s : CallState) (r : ℕ) (request : Request) → m.in_hand a ≡ Some s → due m s ≡ Serve r request → (r < nodes_max) × IsServable m r request
   -- a due stage has the moment of the slots that stand
   pub moments : (a : ActorName) (s : CallState) (r : ℕ) (call : CallId) (k : ℕ) (t : ℤ) → m.in_hand a ≡ Some s → due m s ≡ Serve r (requests.Stage call k t) → IsSomeAnd (m.replicas k r) HasNoSlot → staged_moment m k ≡ t
   pub events : (a : ActorName) (s : CallState) (step : RecordStep) → m.in_hand a ≡ Some s → due m s ≡ Event step → IsEventReady m s (driver_of s) step
-  -- an open has a place for its handle, and with a checkpoint in the making room for the handle; its client is live, and what it is making is in the making by it
-  pub opens : (a : ActorName) (s : CallState) (o : OpenState) → m.in_hand a ≡ Some s → driver_of s ≡ drivers.Open o → IsBuilt s.op × (IsSome o.making → room_of m (client_of s.call) ≡ true) × (is_live_client (client_of s.call) m.cluster ≡ true) × IsOwnMaking m s.call (making_ckpt o.making)
-  -- an iteration that is started has room for all identifiers that are declared, and one that goes on is there
-  pub starts : (a : ActorName) (s : CallState) (r : ℕ) (call : CallId) (k : ℕ) (choice : Choice) → m.in_hand a ≡ Some s → due m s ≡ Serve r (requests.Iterate call k choice) → (s.kept.room ≡ room_at m.cluster (Some k)) × IsIterOf choice s.op × IsSome (asked_handle m a s.op) × IsActive (driver_of s)
-  pub goes_on : (a : ActorName) (s : CallState) (r : ℕ) (call : CallId) (k : ℕ) → m.in_hand a ≡ Some s → due m s ≡ Serve r (requests.Next call k) → IsNextOf s.op × IsSome (asked_handle m a s.op)
-  -- a handle is there that is closed
-  pub closes : (a : ActorName) (s : CallState) (place : ℕ) → m.in_hand a ≡ Some s → closed_place s.op ≡ Some place → IsSome (handle_in m (number_of a) (Some place))
-  -- the numbers of handles are from 1
-  pub numbered : (c : ℕ) (h : HandleView) → Contains (m.handles c) h → 1 ≤ h.handle
+  -- an open has room for the handle of what it is making, and its client is live
+  pub opens : (a : ActorName) (s : CallState) (o : OpenState) → m.in_hand a ≡ Some s → driver_of s ≡ drivers.Open o → (IsSome o.making → (rooms_of m s).handles ≡ true) × (is_live_client (client_of s.call) m.cluster ≡ true)
+  -- what a call is making by its own steps is what is in the making by it
+  pub makes : (a : ActorName) (s : CallState) → m.in_hand a ≡ Some s → making_of s.call m.cluster ≡ making_in (driver_of s)
+  pub starts : (a : ActorName) (s : CallState) (r : ℕ) (call : CallId) (k : ℕ) (choice : Choice) → m.in_hand a ≡ Some s → due m s ≡ Serve r (requests.Iterate call k choice) → IsStarting m s k choice
+  pub goes_on : (a : ActorName) (s : CallState) (r : ℕ) (call : CallId) (k : ℕ) → m.in_hand a ≡ Some s → due m s ≡ Serve r (requests.Next call k) → IsGoingOn m s

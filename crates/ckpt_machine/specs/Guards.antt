@@ -11,8 +11,8 @@ use Rattle.ckpt_types.specs.declared.answers.Outcome.{Outcome}
 use Rattle.ckpt_types.specs.declared.answers.Outcome.TheVariants.{Done, Refused, NoMemory}
 use Rattle.ckpt_types.specs.declared.attributes.CreationAttributes.{CreationAttributes}
 use Rattle.ckpt_types.specs.declared.identities.CallId.{CallId}
-use Rattle.ckpt_types.specs.declared.operation.Op.{Op}
-use Rattle.ckpt_types.specs.declared.operation.Op.TheVariants as ops
+use Rattle.ckpt_types.specs.declared.calls.CallbackSet.{CallbackSet}
+use Rattle.ckpt_types.specs.declared.calls.Version.{Version}
 use Rattle.ckpt_types.specs.declared.update.ReadElement.{ReadElement}
 use Rattle.ckpt_types.specs.declared.update.Update.{Update}
 use Rattle.ckpt_types.specs.Updates.{Refusal, outcome}
@@ -20,25 +20,28 @@ use Rattle.ckpt_types.specs.Reads.{read, status, NextGiven, given, description}
 use Rattle.ckpt_types.specs.Limits.{clients_max, checkpoints_max, handles_max, iterations_max, nodes_max}
 use Rattle.run_labels.specs.declared.details.Details.{Details}
 use Rattle.run_labels.specs.declared.details.Details.TheVariants as beside
-use Rattle.run_labels.specs.declared.words.OpWord.{OpWord}
+use Rattle.ckpt_types.specs.declared.words.OpWord.{OpWord}
 use Rattle.node_msgs.specs.declared.steps.Verb.{Verb}
 use Rattle.node_msgs.specs.declared.steps.Verb.TheVariants as verbs
 use Rattle.node_msgs.specs.declared.steps.StepReply.{StepReply}
 use Rattle.node_msgs.specs.declared.steps.StepReply.TheVariants as words
 use Rattle.run_labels.specs.declared.labels.Label.{Label}
 use Rattle.run_labels.specs.declared.labels.Label.TheVariants as labels
-use Rattle.run_labels.specs.OpWord.{word_of_op}
+use Rattle.ckpt_types.specs.OpWord.{word_of_op}
 use Rattle.cluster_record.specs.declared.entries.Entry.{Entry}
 use Rattle.cluster_record.specs.Calls.{same_call, client_of}
 use Rattle.cluster_record.specs.RecordState.{entry_of, named, attributes_now, is_live, is_live_client, is_up, IsMomentFrom}
 use Rattle.cluster_record.specs.DueOpen.{IsBefore, accepts}
 use Rattle.ckpt_machine.specs.BeginRows.{IsAllowedBegin, IsAllowedWord}
 use Rattle.ckpt_machine.specs.Complete.{complete_replicas}
-use Rattle.ckpt_machine.specs.Driving.{deadline_from, making_in, refused_cause}
-use Rattle.ckpt_machine.specs.Serving.{update_of, update_answer, told_id}
+use Rattle.cluster_record.specs.Makings.{making_of}
+use Rattle.ckpt_types.specs.Asks.{Ask, asked}
+use Rattle.ckpt_types.specs.Asks as asks
+use Rattle.ckpt_machine.specs.Driving.{deadline_from, refused_cause}
+use Rattle.ckpt_machine.specs.Serving.{update_answer, told_id}
 use Rattle.ckpt_machine.specs.Machine.{Machine, Staged, ReplicaState, CallState}
 use Rattle.ckpt_machine.specs.Listing.{listing_at}
-use Rattle.ckpt_machine.specs.Steps.{Told, driver_of, room_of, rooms_of, ids_asked, staged_moment, effect_of}
+use Rattle.ckpt_machine.specs.Steps.{Told, rooms_of, ids_asked, staged_moment, effect_of}
 
 -- ---- the complete replicas of a checkpoint, at once
 
@@ -78,11 +81,11 @@ pub record StageOk (m : Machine) (call : CallId) (update : Update) (k : ℕ) (e 
   pub only_own : OnEach (λ y. IfSlot y.slot (λ slot. slot ≡ record { owner = call; origin = call; update = update; moment = staged_moment m k })) (complete_replicas m k)
 
 -- refused: no complete replica has a slot of the call, and the outcome at the record's moment is the refusal
-pub record StageRefused (m : Machine) (s : CallState) (k : ℕ) (end : Option Outcome) (e : Entry) (x : ReplicaState) : Type 0 where
+pub record StageRefused (m : Machine) (s : CallState) (update : Update) (k : ℕ) (end : Option Outcome) (e : Entry) (x : ReplicaState) : Type 0 where
   pub free : x.slot ≡ None
   pub none_own : OnEach (λ y. owns_slot s.call y.slot ≡ false) (complete_replicas m k)
   pub why : Refusal
-  pub refused : outcome e.attributes (update_of s.op) m.cluster.moment x.sections ≡ Err why
+  pub refused : outcome e.attributes update m.cluster.moment x.sections ≡ Err why
   -- the cause is the index for a write alone
   pub answer : end ≡ Some (Refused why.error (refused_cause s.op why.index))
 
@@ -94,11 +97,11 @@ pub record StageHeld (m : Machine) (call by : CallId) (end : Option Outcome) (x 
   pub answer : end ≡ Some (Refused errors.TryAgain (Holder by))
 
 -- a stage is done, refused by the sections, or held off by another call
-abbrev pub StageRow : Machine → CallState → ℕ → ℕ → StepReply → Option Outcome → Type 0
-StageRow m s k r words.Ok end = OnReplica m k r (StageOk m s.call (update_of s.op) k) × (end ≡ None)
-StageRow m s k r words.Refused end = OnReplica m k r (StageRefused m s k end)
-StageRow m s k r (words.Held by) end = OnReplica m k r (λ e x. StageHeld m s.call by end x)
-StageRow m s k r reply end = ⊥
+abbrev pub StageRow : Machine → CallState → Update → ℕ → ℕ → StepReply → Option Outcome → Type 0
+StageRow m s update k r words.Ok end = OnReplica m k r (StageOk m s.call update k) × (end ≡ None)
+StageRow m s update k r words.Refused end = OnReplica m k r (StageRefused m s update k end)
+StageRow m s update k r (words.Held by) end = OnReplica m k r (λ e x. StageHeld m s.call by end x)
+StageRow m s update k r reply end = ⊥
 
 -- the replica has the same slot still, or has committed it
 abbrev pub HasSlotOrEffect : ReplicaState → Staged → ReplicaState → Option Staged → Type 0
@@ -121,9 +124,9 @@ pub record CommitOk (m : Machine) (call : CallId) (update : Update) (k r : ℕ) 
   pub told : details ≡ (if ends_update call r slot (complete_replicas m k) then told_id update slot.moment x.sections else beside.Nothing)
 
 -- a commit is done
-abbrev pub CommitRow : Machine → CallState → ℕ → ℕ → StepReply → Option Outcome → Details → Type 0
-CommitRow m s k r words.Ok end details = OnReplica m k r (λ e x. CommitOk m s.call (update_of s.op) k r end details x)
-CommitRow m s k r reply end details = ⊥
+abbrev pub CommitRow : Machine → CallId → Update → ℕ → ℕ → StepReply → Option Outcome → Details → Type 0
+CommitRow m call update k r words.Ok end details = OnReplica m k r (λ e x. CommitOk m call update k r end details x)
+CommitRow m call update k r reply end details = ⊥
 
 -- ---- reads, on the active
 
@@ -151,7 +154,7 @@ StatusRow m k r reply end details = ⊥
 -- an iteration is started, for which the client has a free place
 pub record IterOk (m : Machine) (s : CallState) (r : ℕ) (end : Option Outcome) (e : Entry) (x : ReplicaState) : Type 0 where
   pub active : e.active ≡ Some r
-  pub room : (rooms_of m (client_of s.call)).iterations ≡ true
+  pub room : (rooms_of m s).iterations ≡ true
   pub answer : end ≡ Some (Done answers.Nothing)
 
 -- the active starts an iteration
@@ -188,13 +191,13 @@ EnterRow m c r words.Ok end = MayEnter m c r × (end ≡ Some (Done answers.Vers
 EnterRow m c r words.Memory end = MayEnter m c r × (end ≡ Some NoMemory)
 EnterRow m c r reply end = ⊥
 
--- the checkpoint is in the making by the call
+-- the checkpoint is what the call is making
 abbrev pub IsMadeBy : Machine → CallId → ℕ → Type 0
-IsMadeBy m call k = IsSomeAnd (entry_of k m.cluster.entries) (λ e. e.making ≡ Some call)
+IsMadeBy m call k = making_of call m.cluster ≡ Some k
 
 -- the deadline that a call has, if it has one
 abbrev pub deadline_of : CallState → Option ℤ
-deadline_of s = deadline_from s.kept.moment s.op
+deadline_of s = deadline_from s.kept.moment (asked s.op)
 
 -- the deadline of the call is not reached
 abbrev pub IsInTime : Machine → CallState → Type 0
@@ -205,7 +208,7 @@ pub record MayCreate (m : Machine) (s : CallState) (name : List ℕ) (a : Option
   pub free : named name m.cluster.entries ≡ None
   pub asked : IsSome a
   pub in_time : IsInTime m s
-  pub room : room_of m (client_of s.call) ≡ true
+  pub room : (rooms_of m s).handles ≡ true
   pub few : length m.cluster.entries < checkpoints_max
   pub next : k ≡ m.cluster.last_identity + 1
 
@@ -228,7 +231,7 @@ FinishRow m s k reply end = ⊥
 
 -- what the call is making is undone
 abbrev pub UndoRow : Machine → CallState → ℕ → StepReply → Option Outcome → Type 0
-UndoRow m s k words.Ok end = IsMadeBy m s.call k × IsInTime m s × (making_in (driver_of s) ≡ Some k) × (end ≡ Some NoMemory)
+UndoRow m s k words.Ok end = IsMadeBy m s.call k × IsInTime m s × (end ≡ Some NoMemory)
 UndoRow m s k reply end = ⊥
 
 -- a checkpoint of this identity is made, and has the attributes asked for
@@ -241,7 +244,7 @@ pub record IsOpenable (a : Option CreationAttributes) (k : ℕ) (e : Entry) : Ty
 pub record MayOpen (m : Machine) (s : CallState) (name : List ℕ) (a : Option CreationAttributes) (k : ℕ) : Type 0 where
   pub there : IsSomeAnd (named name m.cluster.entries) (IsOpenable a k)
   pub in_time : IsInTime m s
-  pub room : room_of m (client_of s.call) ≡ true
+  pub room : (rooms_of m s).handles ≡ true
 
 -- the checkpoint of the name is in the making by another call, which is live; this one is to try again
 pub record OpenHeld (m : Machine) (s : CallState) (name : List ℕ) (k : ℕ) (by : CallId) (end : Option Outcome) : Type 0 where
@@ -300,14 +303,14 @@ IsAccepted (Some e) a = (e.making ≡ None) × (accepts a e ≡ true)
 -- the client has as many handles as it may have
 pub record HasNoPlace (m : Machine) (s : CallState) (name : List ℕ) (a : Option CreationAttributes) (n : ℕ) : Type 0 where
   pub accepted : IsAccepted (named name m.cluster.entries) a
-  pub full : room_of m (client_of s.call) ≡ false
+  pub full : (rooms_of m s).handles ≡ false
   pub limit : n ≡ handles_max
 
 -- a checkpoint is asked for where as many are there as may be
 pub record IsFull (m : Machine) (s : CallState) (name : List ℕ) (a : Option CreationAttributes) (n : ℕ) : Type 0 where
   pub free : named name m.cluster.entries ≡ None
   pub asked : IsSome a
-  pub room : room_of m (client_of s.call) ≡ true
+  pub room : (rooms_of m s).handles ≡ true
   pub full : checkpoints_max ≤ length m.cluster.entries
   pub limit : n ≡ checkpoints_max
 
@@ -341,7 +344,7 @@ NoActiveLook m k error cause = ⊥
 
 -- there is no active, or the client has as many iterations as it may have
 abbrev pub IterLook : Machine → CallState → AisError → Cause → Type 0
-IterLook m s errors.NoResources (Count n) = IsSomeAnd s.kept.ckpt (λ k. IsSomeAnd (entry_of k m.cluster.entries) (λ e. IsSome e.active)) × ((rooms_of m (client_of s.call)).iterations ≡ false) × (n ≡ iterations_max)
+IterLook m s errors.NoResources (Count n) = IsSomeAnd s.kept.ckpt (λ k. IsSomeAnd (entry_of k m.cluster.entries) (λ e. IsSome e.active)) × ((rooms_of m s).iterations ≡ false) × (n ≡ iterations_max)
 IterLook m s error cause = NoActiveLook m s.kept.ckpt error cause
 
 -- no checkpoint has the name, or another live call is making it
@@ -355,37 +358,28 @@ abbrev pub RetainLook : Machine → Option ℕ → AisError → Cause → Type 0
 RetainLook m (Some k) errors.BadOperation Plain = IsSomeAnd (entry_of k m.cluster.entries) (λ e. e.name ≡ None)
 RetainLook m k error cause = GoneLook m k error cause
 
--- what the record alone refuses, by the operation
-abbrev pub LookRefused : Machine → CallState → Op → AisError → Cause → Type 0
-LookRefused m s (ops.Client r version callbacks) error cause = EnterLook m error cause
-LookRefused m s (ops.Open place name flags timeout a) error cause = OpenLook m s name a error cause
-LookRefused m s (ops.Create place update) error cause = GoneLook m s.kept.ckpt error cause
-LookRefused m s (ops.Delete place update) error cause = GoneLook m s.kept.ckpt error cause
-LookRefused m s (ops.Expire place update) error cause = GoneLook m s.kept.ckpt error cause
-LookRefused m s (ops.Write place update) error cause = GoneLook m s.kept.ckpt error cause
-LookRefused m s (ops.Over place update) error cause = GoneLook m s.kept.ckpt error cause
-LookRefused m s (ops.Read place elements) error cause = NoActiveLook m s.kept.ckpt error cause
-LookRefused m s (ops.Status place) error cause = NoActiveLook m s.kept.ckpt error cause
-LookRefused m s (ops.Iter iteration place chosen time) error cause = IterLook m s error cause
-LookRefused m s (ops.Next iteration) error cause = NoActiveLook m s.kept.ckpt error cause
-LookRefused m s (ops.Unlink name) error cause = UnlinkLook m s name error cause
-LookRefused m s (ops.Retain place duration) error cause = RetainLook m s.kept.ckpt error cause
-LookRefused m s op error cause = ⊥
+-- what the record alone refuses, by what is asked for
+abbrev pub LookRefused : Machine → CallState → Ask → AisError → Cause → Type 0
+LookRefused m s (asks.Enter r version callbacks) error cause = EnterLook m error cause
+LookRefused m s (asks.Open place name flags timeout a) error cause = OpenLook m s name a error cause
+LookRefused m s (asks.Change place update) error cause = GoneLook m s.kept.ckpt error cause
+LookRefused m s (asks.Read place elements) error cause = NoActiveLook m s.kept.ckpt error cause
+LookRefused m s (asks.Status place) error cause = NoActiveLook m s.kept.ckpt error cause
+LookRefused m s (asks.Iterate iteration place chosen time) error cause = IterLook m s error cause
+LookRefused m s (asks.Next iteration) error cause = NoActiveLook m s.kept.ckpt error cause
+LookRefused m s (asks.Unlink name) error cause = UnlinkLook m s name error cause
+LookRefused m s (asks.Retain place duration) error cause = RetainLook m s.kept.ckpt error cause
+LookRefused m s ask error cause = ⊥
 
 -- nothing is left to do: a close of a checkpoint that is gone
-abbrev pub LookDone : Machine → CallState → Op → Answer → Type 0
-LookDone m s (ops.Close place) answers.Nothing = IsSomeAnd s.kept.ckpt (λ k. entry_of k m.cluster.entries ≡ None)
-LookDone m s op answer = ⊥
+abbrev pub LookDone : Machine → CallState → Ask → Answer → Type 0
+LookDone m s (asks.Close place) answers.Nothing = IsSomeAnd s.kept.ckpt (λ k. entry_of k m.cluster.entries ≡ None)
+LookDone m s ask answer = ⊥
 
--- what a call is making, where it is making something, is in the making by this very call
-abbrev pub IsOwnMaking : Machine → CallId → Option ℕ → Type 0
-IsOwnMaking m call None = Unit {0}
-IsOwnMaking m call (Some k) = IsMadeBy m call k
-
--- a refusal undoes no making but the call's own
+-- the record alone refuses the call, or has nothing left for it to do
 abbrev pub LookRow : Machine → CallState → StepReply → Option Outcome → Type 0
-LookRow m s words.Refused (Some (Refused error cause)) = LookRefused m s s.op error cause × IsOwnMaking m s.call (making_in (driver_of s))
-LookRow m s words.Done (Some (Done answer)) = LookDone m s s.op answer
+LookRow m s words.Refused (Some (Refused error cause)) = LookRefused m s (asked s.op) error cause
+LookRow m s words.Done (Some (Done answer)) = LookDone m s (asked s.op) answer
 LookRow m s reply end = ⊥
 
 -- ---- any step
@@ -410,83 +404,31 @@ abbrev pub AtNodeAlone : Option ℕ → Option ℕ → (ℕ → Type 0) → Type
 AtNodeAlone None (Some r) P = P r
 AtNodeAlone k r P = ⊥
 
--- the operation is an open, of this name and with these attributes
-abbrev pub OfOpen : Op → (List ℕ → Option CreationAttributes → Type 0) → Type 0
-OfOpen (ops.Open place name flags timeout a) P = P name a
-OfOpen op P = ⊥
+-- the call asks to open the checkpoint of a name, with these attributes
+pub record AsksToOpen (s : CallState) (name : List ℕ) (a : Option CreationAttributes) : Type 0 where
+  pub place : ℕ
+  pub flags : ℕ
+  pub timeout : ℤ
+  pub asks : asked s.op ≡ asks.Open place name flags timeout a
 
--- the operation is a read of these elements
-abbrev pub OfRead : Op → (List ReadElement → Type 0) → Type 0
-OfRead (ops.Read place elements) P = P elements
-OfRead op P = ⊥
-
--- the operation is one of the five updates
-abbrev pub OfUpdate : Op → Type 0 → Type 0
-OfUpdate (ops.Create place update) P = P
-OfUpdate (ops.Delete place update) P = P
-OfUpdate (ops.Expire place update) P = P
-OfUpdate (ops.Write place update) P = P
-OfUpdate (ops.Over place update) P = P
-OfUpdate op P = ⊥
-
--- the operation is a status
-abbrev pub OfStatus : Op → Type 0 → Type 0
-OfStatus (ops.Status place) P = P
-OfStatus op P = ⊥
-
--- the operation starts an iteration
-abbrev pub OfIter : Op → Type 0 → Type 0
-OfIter (ops.Iter iteration place chosen time) P = P
-OfIter op P = ⊥
-
--- the operation goes on with an iteration
-abbrev pub OfNext : Op → Type 0 → Type 0
-OfNext (ops.Next iteration) P = P
-OfNext op P = ⊥
-
--- the operation is a Finalize
-abbrev pub OfFinalize : Op → Type 0 → Type 0
-OfFinalize ops.Finalize P = P
-OfFinalize op P = ⊥
-
--- the operation is a close
-abbrev pub OfClose : Op → Type 0 → Type 0
-OfClose (ops.Close place) P = P
-OfClose op P = ⊥
-
--- the operation is an unlink of this name
-abbrev pub OfUnlink : Op → (List ℕ → Type 0) → Type 0
-OfUnlink (ops.Unlink name) P = P name
-OfUnlink op P = ⊥
-
--- the operation sets a retention
-abbrev pub OfRetain : Op → Type 0 → Type 0
-OfRetain (ops.Retain place duration) P = P
-OfRetain op P = ⊥
-
--- the operation is an Initialize on this node
-abbrev pub OfClient : Op → ℕ → Type 0 → Type 0
-OfClient (ops.Client r version callbacks) q P = (q ≡ r) × P
-OfClient op q P = ⊥
-
--- THE ROWS: a verb, and when its step is allowed, with which reply, end and details
+-- THE ROWS: a verb, what the call asks for, and when its step is allowed, with which reply, end and details
 abbrev pub Row : Machine → CallState → Verb → Told → Type 0
-Row m s verbs.Enter t = AtNodeAlone t.ckpt t.node (λ r. OfClient s.op r (EnterRow m (client_of s.call) r t.reply t.end)) × (t.details ≡ beside.Nothing)
-Row m s verbs.Open t = AtCkpt t.ckpt t.node (λ k. OfOpen s.op (λ name a. OpenRow m s name a k t.reply t.end)) × (t.details ≡ beside.Nothing)
-Row m s verbs.Create t = AtCkpt t.ckpt t.node (λ k. OfOpen s.op (λ name a. CreateRow m s name a k t.reply t.end)) × (t.details ≡ beside.Nothing)
-Row m s verbs.Reserve t = AtNode t.ckpt t.node (λ k r. ReserveRow m s k r t.reply t.end) × (t.details ≡ beside.Nothing)
-Row m s verbs.Finish t = AtCkpt t.ckpt t.node (λ k. FinishRow m s k t.reply t.end) × (t.details ≡ beside.Nothing)
-Row m s verbs.Undo t = AtCkpt t.ckpt t.node (λ k. UndoRow m s k t.reply t.end) × (t.details ≡ beside.Nothing)
-Row m s verbs.Stage t = AtNode t.ckpt t.node (λ k r. OfUpdate s.op (StageRow m s k r t.reply t.end)) × (t.details ≡ beside.Nothing)
-Row m s verbs.Commit t = AtNode t.ckpt t.node (λ k r. OfUpdate s.op (CommitRow m s k r t.reply t.end t.details))
-Row m s verbs.Read t = AtNode t.ckpt t.node (λ k r. OfRead s.op (λ elements. ReadRow m elements k r t))
-Row m s verbs.Status t = AtNode t.ckpt t.node (λ k r. OfStatus s.op (StatusRow m k r t.reply t.end t.details))
-Row m s verbs.Iter t = AtNode t.ckpt t.node (λ k r. OfIter s.op (IterRow m s k r t.reply t.end)) × (t.details ≡ beside.Nothing)
-Row m s verbs.Next t = AtNode t.ckpt t.node (λ k r. OfNext s.op (NextRow m s k r t))
-Row m s verbs.Leave t = AtNone t.ckpt t.node (OfFinalize s.op (LeaveRow m (client_of s.call) t.reply t.end)) × (t.details ≡ beside.Nothing)
-Row m s verbs.Close t = AtCkpt t.ckpt t.node (λ k. OfClose s.op (CloseRow m s k t.reply t.end)) × (t.details ≡ beside.Nothing)
-Row m s verbs.Unlink t = AtCkpt t.ckpt t.node (λ k. OfUnlink s.op (λ name. UnlinkRow m name k t.reply t.end)) × (t.details ≡ beside.Nothing)
-Row m s verbs.Retain t = AtCkpt t.ckpt t.node (λ k. OfRetain s.op (RetainRow m s k t.reply t.end)) × (t.details ≡ beside.Nothing)
+Row m s verbs.Enter t = AtNodeAlone t.ckpt t.node (λ r. (version : Version) × (callbacks : CallbackSet) × (asked s.op ≡ asks.Enter r version callbacks) × EnterRow m (client_of s.call) r t.reply t.end) × (t.details ≡ beside.Nothing)
+Row m s verbs.Open t = AtCkpt t.ckpt t.node (λ k. (name : List ℕ) × (a : Option CreationAttributes) × AsksToOpen s name a × OpenRow m s name a k t.reply t.end) × (t.details ≡ beside.Nothing)
+Row m s verbs.Create t = AtCkpt t.ckpt t.node (λ k. (name : List ℕ) × (a : Option CreationAttributes) × AsksToOpen s name a × CreateRow m s name a k t.reply t.end) × (t.details ≡ beside.Nothing)
+Row m s verbs.Reserve t = AtNode t.ckpt t.node (λ k r. (name : List ℕ) × (a : Option CreationAttributes) × AsksToOpen s name a × ReserveRow m s k r t.reply t.end) × (t.details ≡ beside.Nothing)
+Row m s verbs.Finish t = AtCkpt t.ckpt t.node (λ k. (name : List ℕ) × (a : Option CreationAttributes) × AsksToOpen s name a × FinishRow m s k t.reply t.end) × (t.details ≡ beside.Nothing)
+Row m s verbs.Undo t = AtCkpt t.ckpt t.node (λ k. (name : List ℕ) × (a : Option CreationAttributes) × AsksToOpen s name a × UndoRow m s k t.reply t.end) × (t.details ≡ beside.Nothing)
+Row m s verbs.Stage t = AtNode t.ckpt t.node (λ k r. (place : ℕ) × (update : Update) × (asked s.op ≡ asks.Change place update) × StageRow m s update k r t.reply t.end) × (t.details ≡ beside.Nothing)
+Row m s verbs.Commit t = AtNode t.ckpt t.node (λ k r. (place : ℕ) × (update : Update) × (asked s.op ≡ asks.Change place update) × CommitRow m s.call update k r t.reply t.end t.details)
+Row m s verbs.Read t = AtNode t.ckpt t.node (λ k r. (place : ℕ) × (elements : List ReadElement) × (asked s.op ≡ asks.Read place elements) × ReadRow m elements k r t)
+Row m s verbs.Status t = AtNode t.ckpt t.node (λ k r. (place : ℕ) × (asked s.op ≡ asks.Status place) × StatusRow m k r t.reply t.end t.details)
+Row m s verbs.Iter t = AtNode t.ckpt t.node (λ k r. (iteration place chosen : ℕ) × (time : ℤ) × (asked s.op ≡ asks.Iterate iteration place chosen time) × IterRow m s k r t.reply t.end) × (t.details ≡ beside.Nothing)
+Row m s verbs.Next t = AtNode t.ckpt t.node (λ k r. (iteration : ℕ) × (asked s.op ≡ asks.Next iteration) × NextRow m s k r t)
+Row m s verbs.Leave t = AtNone t.ckpt t.node ((asked s.op ≡ asks.Leave) × LeaveRow m (client_of s.call) t.reply t.end) × (t.details ≡ beside.Nothing)
+Row m s verbs.Close t = AtCkpt t.ckpt t.node (λ k. (place : ℕ) × (asked s.op ≡ asks.Close place) × CloseRow m s k t.reply t.end) × (t.details ≡ beside.Nothing)
+Row m s verbs.Unlink t = AtCkpt t.ckpt t.node (λ k. (name : List ℕ) × (asked s.op ≡ asks.Unlink name) × UnlinkRow m name k t.reply t.end) × (t.details ≡ beside.Nothing)
+Row m s verbs.Retain t = AtCkpt t.ckpt t.node (λ k. (place : ℕ) × (duration : ℤ) × (asked s.op ≡ asks.Retain place duration) × RetainRow m s k t.reply t.end) × (t.details ≡ beside.Nothing)
 Row m s verbs.Look t = (t.ckpt ≡ None) × (t.node ≡ None) × LookRow m s t.reply t.end × (t.details ≡ beside.Nothing)
 Row m s verb t = ⊥
 

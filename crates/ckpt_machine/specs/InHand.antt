@@ -1,9 +1,10 @@
 -- Where a call in hand is: what is so of it, by what drives it.
 use Rattle.std.specs.Prelude.{◌≡◌, ℕ, ◌<◌, length, Option, Some, None, IsSome, IsSomeAnd, IfSome, true, false, ℤ, pos, ◌≤ℤ◌, slice_index, Bool}
 use Rattle.ckpt_types.specs.declared.attributes.CreationAttributes.{CreationAttributes}
-use Rattle.ckpt_types.specs.declared.calls.OpenAsk.{OpenAsk}
+use Rattle.ckpt_types.specs.declared.calls.CallbackSet.{CallbackSet}
+use Rattle.ckpt_types.specs.declared.calls.Version.{Version}
+use Rattle.ckpt_types.specs.declared.update.Update.{Update}
 use Rattle.ckpt_types.specs.declared.identities.ActorName.{ActorName}
-use Rattle.ckpt_types.specs.declared.operation.Op.{Op}
 use Rattle.ckpt_types.specs.Attributes.{is_malformed}
 use Rattle.ckpt_types.specs.Limits.{client_numbers, nodes_max}
 use Rattle.ckpt_machine.specs.Drivers.{Driver}
@@ -17,44 +18,30 @@ use Rattle.cluster_record.specs.declared.calls.UpdatePhase.TheVariants.{Staging,
 use Rattle.cluster_record.specs.Calls.{IsClient, client_of}
 use Rattle.cluster_record.specs.RecordState.{entry_of, is_live_client, is_up, is_live}
 use Rattle.ckpt_machine.specs.Driving.{deadline_from}
-use Rattle.ckpt_machine.specs.Beginning.{IsIterOf, IsNextOf, IsCloseOf, IsRetainOf, IsUnlinkOf, IsFinalize, IsBuilt, name_is_bad}
+use Rattle.cluster_record.specs.DueOnce.{OneStep}
+use Rattle.cluster_record.specs.DueOnce as once
+use Rattle.ckpt_types.specs.Asks.{Ask, asked, IsBuilt}
+use Rattle.ckpt_types.specs.Asks as asking
+use Rattle.ckpt_machine.specs.Beginning.{name_is_bad}
+use Rattle.ckpt_machine.specs.Guards.{AsksToOpen}
+use Rattle.ckpt_machine.specs.Tables.{choice_of}
 use Rattle.ckpt_machine.specs.Machine.{Machine, CallState}
-use Rattle.ckpt_machine.specs.Steps.{driver_of, room_of, asked_handle}
+use Rattle.ckpt_machine.specs.Steps.{driver_of, rooms_of, asked_handle}
 use Rattle.section_iter.specs.Room.{room_declared}
 use Rattle.cluster_record.specs.declared.calls.UpdatePhase.{UpdatePhase}
 use Rattle.cluster_record.specs.StepDone.{has, last_having}
 use Rattle.ckpt_machine.specs.Shape.{Shape, IsCompleteOn, is_owner}
-use Rattle.ckpt_types.specs.declared.operation.Op.TheVariants as ops
 use Rattle.ckpt_machine.specs.Drivers as drivers
 use Rattle.cluster_record.specs.declared.calls.ActiveKind.TheVariants as kinds
 use Rattle.ckpt_machine.specs.Entries.{WasMade}
 
--- an Initialize on the node
-abbrev pub IsClientOf : Op → ℕ → Type 0
-IsClientOf (ops.Client r version callbacks) q = q ≡ r
-IsClientOf op q = ⊥
-
--- an open asks for what its operation names
-abbrev pub OpensAs : Op → OpenAsk → Type 0
-OpensAs (ops.Open place name flags timeout a) ask = (ask.name ≡ name) × (ask.attrs ≡ a)
-OpensAs op ask = ⊥
-
--- one of the five updates
-abbrev pub IsUpdateOf : Op → Type 0
-IsUpdateOf (ops.Create place update) = Unit {0}
-IsUpdateOf (ops.Delete place update) = Unit {0}
-IsUpdateOf (ops.Expire place update) = Unit {0}
-IsUpdateOf (ops.Write place update) = Unit {0}
-IsUpdateOf (ops.Over place update) = Unit {0}
-IsUpdateOf op = ⊥
-
--- a call to the active is of the kind that its operation asks for
-abbrev pub IsKindOf : ActiveKind → Op → Type 0
-IsKindOf kinds.Read (ops.Read place elements) = Unit {0}
-IsKindOf kinds.Status (ops.Status place) = Unit {0}
-IsKindOf (kinds.Iterate choice) op = IsIterOf choice op
-IsKindOf kinds.Next op = IsNextOf op
-IsKindOf kind op = ⊥
+-- by what is asked of the active, the kind of the call
+abbrev pub active_kind : Ask → Option ActiveKind
+active_kind (asking.Read place elements) = Some kinds.Read
+active_kind (asking.Status place) = Some kinds.Status
+active_kind (asking.Iterate iteration place chosen time) = Some (kinds.Iterate (choice_of chosen time))
+active_kind (asking.Next iteration) = Some kinds.Next
+active_kind ask = None
 
 -- attributes that were given passed their check
 abbrev pub AreGoodAttributes : Option CreationAttributes → Type 0
@@ -63,7 +50,9 @@ AreGoodAttributes (Some a) = is_malformed a ≡ false
 
 -- a client that is not live is to become so, on a node that is up
 pub record IsEnterAt (m : Machine) (s : CallState) (r : ℕ) : Type 0 where
-  pub op : IsClientOf s.op r
+  pub version : Version
+  pub callbacks : CallbackSet
+  pub asks : asked s.op ≡ asking.Enter r version callbacks
   pub client : IsClient s.call.actor
   pub up : is_up r m.cluster ≡ true
   pub not_live : is_live_client (client_of s.call) m.cluster ≡ false
@@ -80,15 +69,14 @@ pub record IsOpenIn (m : Machine) (s : CallState) (o : OpenState) : Type 0 where
   pub client : o.ask.client ≡ client_of s.call
   pub within : o.ask.client < client_numbers
   pub node : is_up o.ask.node m.cluster ≡ true
-  pub built : IsBuilt s.op
-  pub asks : OpensAs s.op o.ask
+  pub asks : AsksToOpen s o.ask.name o.ask.attrs
   pub named : name_is_bad o.ask.name ≡ false
-  pub asked : AreGoodAttributes o.ask.attrs
-  pub deadline : o.deadline ≡ deadline_from s.kept.moment s.op
+  pub declared : AreGoodAttributes o.ask.attrs
+  pub deadline : o.deadline ≡ deadline_from s.kept.moment (asked s.op)
   pub making : IfSome o.making (IsMakingIn m s)
   -- what it is making was asked for, and its client has a free place for the handle
   pub given : IsSome o.making → IsSome o.ask.attrs
-  pub room : IsSome o.making → room_of m o.ask.client ≡ true
+  pub room : IsSome o.making → (rooms_of m s).handles ≡ true
 
 -- an update owns just the slots for which it keeps a node
 abbrev pub OwnsIn : Shape → CallState → UpdateState → Entry → Type 0
@@ -102,7 +90,9 @@ HasSome u e Committing = IsSome (last_having 0 e.complete u.owned)
 -- an update is of a checkpoint that was made, and of the slots there it owns those for which it keeps a node
 pub record IsUpdateIn (m : Machine) (shapes : ℕ → Shape) (s : CallState) (u : UpdateState) : Type 0 where
   pub call : u.call ≡ s.call
-  pub update : IsUpdateOf s.op
+  pub place : ℕ
+  pub update : Update
+  pub asks : asked s.op ≡ asking.Change place update
   pub kept : s.kept.ckpt ≡ Some u.ckpt
   pub made : WasMade m.cluster u.ckpt
   pub nodes : length u.owned ≡ nodes_max
@@ -112,7 +102,7 @@ pub record IsUpdateIn (m : Machine) (shapes : ℕ → Shape) (s : CallState) (u 
 -- a call to the active is of the kind of its operation, on a checkpoint that was made, and its handle is there
 pub record IsActiveIn (m : Machine) (s : CallState) (a : ActiveState) : Type 0 where
   pub call : a.call ≡ s.call
-  pub kind : IsKindOf a.kind s.op
+  pub kind : active_kind (asked s.op) ≡ Some a.kind
   pub made : WasMade m.cluster a.ckpt
   pub kept : s.kept.ckpt ≡ Some a.ckpt
   -- where its checkpoint is still there, it declares what it did at the beginning
@@ -121,48 +111,58 @@ pub record IsActiveIn (m : Machine) (s : CallState) (a : ActiveState) : Type 0 w
 
 -- a client that is live leaves
 pub record IsLeaveAt (m : Machine) (s : CallState) : Type 0 where
-  pub op : IsFinalize s.op
+  pub asks : asked s.op ≡ asking.Leave
   pub live : is_live_client (client_of s.call) m.cluster ≡ true
 
--- a handle is there that is closed
-pub record IsCloseAt (m : Machine) (s : CallState) (k : ℕ) : Type 0 where
-  pub op : IsCloseOf s.op
+-- a handle is closed
+pub record IsCloseAt (s : CallState) (k : ℕ) : Type 0 where
+  pub place : ℕ
+  pub asks : asked s.op ≡ asking.Close place
   pub kept : s.kept.ckpt ≡ Some k
-  pub handle : IsSome (asked_handle m s.call.actor s.op)
 
 -- a retention is set that is not negative, of a checkpoint that was made
 pub record IsRetainAt (m : Machine) (s : CallState) (k : ℕ) (duration : ℤ) : Type 0 where
-  pub op : IsRetainOf duration s.op
+  pub place : ℕ
+  pub asks : asked s.op ≡ asking.Retain place duration
   pub from_zero : pos 0 ≤ℤ duration
   pub kept : s.kept.ckpt ≡ Some k
   pub made : WasMade m.cluster k
 
+-- a call of one step is at that step
+abbrev pub IsOnceAt : Machine → CallState → OneStep → Type 0
+IsOnceAt m s (once.Enter r) = IsEnterAt m s r
+IsOnceAt m s once.Leave = IsLeaveAt m s
+IsOnceAt m s (once.Close k) = IsCloseAt s k
+IsOnceAt m s (once.Unlink name) = asked s.op ≡ asking.Unlink name
+IsOnceAt m s (once.Retain k duration) = IsRetainAt m s k duration
+
 -- a call in hand is where its steps have led it, by its driver
 abbrev pub IsInPlace : Machine → (ℕ → Shape) → CallState → Driver → Type 0
-IsInPlace m shapes s (drivers.Enter r) = IsEnterAt m s r
+IsInPlace m shapes s (drivers.Once x) = IsOnceAt m s x
 IsInPlace m shapes s (drivers.Open o) = IsOpenIn m s o
 IsInPlace m shapes s (drivers.Update u) = IsUpdateIn m shapes s u
 IsInPlace m shapes s (drivers.Active a) = IsActiveIn m s a
-IsInPlace m shapes s drivers.Leave = IsLeaveAt m s
-IsInPlace m shapes s (drivers.Close k) = IsCloseAt m s k
-IsInPlace m shapes s (drivers.Unlink name) = IsUnlinkOf name s.op
-IsInPlace m shapes s (drivers.Retain k duration) = IsRetainAt m s k duration
+
+-- an Initialize becomes live, and all other calls of one step are of a client that is
+abbrev pub enters : OneStep → Bool
+enters (once.Enter r) = true
+enters once.Leave = false
+enters (once.Close k) = false
+enters (once.Unlink name) = false
+enters (once.Retain k duration) = false
 
 -- an Initialize
 abbrev pub is_enter : Driver → Bool
-is_enter (drivers.Enter r) = true
+is_enter (drivers.Once x) = enters x
 is_enter (drivers.Open o) = false
 is_enter (drivers.Update u) = false
 is_enter (drivers.Active a) = false
-is_enter drivers.Leave = false
-is_enter (drivers.Close k) = false
-is_enter (drivers.Unlink name) = false
-is_enter (drivers.Retain k duration) = false
 
--- a call in hand is its actor's, a client; its number was given, each but an Initialize is live, and it is where its steps have led it
+-- a call in hand is its actor's, a client; its number was given, it is built, each but an Initialize is live, and it is where its steps have led it
 pub record IsInHand (m : Machine) (shapes : ℕ → Shape) (a : ActorName) (s : CallState) : Type 0 where
   pub actor : s.call.actor ≡ a
   pub client : IsClient s.call.actor
   pub number : s.call.number < m.next a
+  pub built : IsBuilt s.op
   pub live : is_enter (driver_of s) ≡ false → is_live m.cluster s.call ≡ true
   pub here : IsInPlace m shapes s (driver_of s)

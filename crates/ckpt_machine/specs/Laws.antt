@@ -6,7 +6,7 @@ use Rattle.node_msgs.specs.declared.steps.Verb.{Verb}
 use Rattle.run_labels.specs.declared.details.Details.{Details}
 use Rattle.run_labels.specs.declared.labels.Label.{Label}
 use Rattle.run_labels.specs.declared.labels.Label.TheVariants as labels
-use Rattle.run_labels.specs.declared.words.OpWord.{OpWord}
+use Rattle.ckpt_types.specs.declared.words.OpWord.{OpWord}
 use Rattle.cluster_record.specs.StepDone.{done_of}
 use Rattle.ckpt_machine.specs.Acknowledged.{AcknowledgedStay}
 use Rattle.ckpt_machine.specs.AllOrNone.{IsAllOrNoneThroughout}

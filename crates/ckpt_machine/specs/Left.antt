@@ -32,11 +32,7 @@ update_left complete owned Committing = having complete owned + 1
 
 -- at most so many steps are left of a call
 abbrev pub steps_left : RecordState → Driver → ℕ
-steps_left R (drivers.Enter r) = 1
+steps_left R (drivers.Once x) = 1
 steps_left R (drivers.Open o) = making_left R o.making
 steps_left R (drivers.Update u) = update_left (complete_of (entry_of u.ckpt R.entries)) u.owned u.phase
 steps_left R (drivers.Active a) = 1
-steps_left R drivers.Leave = 1
-steps_left R (drivers.Close k) = 1
-steps_left R (drivers.Unlink name) = 1
-steps_left R (drivers.Retain k duration) = 1

@@ -1,6 +1,7 @@
 pub mod Drivers
 pub mod Replicas
 pub mod Beginning
+pub mod Tables
 pub mod Serving
 pub mod Driving
 pub mod Machine

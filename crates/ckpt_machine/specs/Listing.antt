@@ -1,6 +1,7 @@
 -- What a `show` line lists: the replicas of a checkpoint that is made, on its complete nodes.
 use Rattle.std.specs.Prelude.{ℕ, List, Option, Some, None, Bool, false, ◌==◌, ℤ, length, map, take}
 use Rattle.ckpt_types.specs.declared.identities.CallId.{CallId}
+use Rattle.ckpt_types.specs.Limits.{listed_bytes_max}
 use Rattle.ckpt_types.specs.Sections.{Section, present}
 use Rattle.ckpt_types.specs.Reads.{description}
 use Rattle.run_labels.specs.declared.shown.ShownReplica.{ShownReplica}
@@ -11,10 +12,6 @@ use Rattle.cluster_record.specs.declared.entries.Entry.{Entry}
 use Rattle.cluster_record.specs.RecordState.{entry_of}
 use Rattle.ckpt_machine.specs.Complete.{complete_replicas}
 use Rattle.ckpt_machine.specs.Machine.{Machine, Staged, Marked, ReplicaState}
-
--- the most bytes of a section that are listed, its first ones
-abbrev pub listed_bytes_max : ℕ
-listed_bytes_max = 16
 
 -- this node has the active replica
 abbrev pub is_active : Option ℕ → ℕ → Bool

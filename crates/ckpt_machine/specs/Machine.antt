@@ -1,15 +1,13 @@
 -- The state of the checkpoint machine.
-use Rattle.std.specs.Prelude.{ℕ, List, [], Option, None, replicate, ℤ}
+use Rattle.std.specs.Prelude.{ℕ, List, [], Option, None, false, ℤ}
 use Rattle.ckpt_types.specs.declared.calls.AsyncKind.{AsyncKind}
 use Rattle.ckpt_types.specs.declared.answers.Outcome.{Outcome}
 use Rattle.ckpt_types.specs.declared.identities.ActorName.{ActorName}
 use Rattle.ckpt_types.specs.declared.identities.CallId.{CallId}
 use Rattle.ckpt_types.specs.declared.operation.Op.{Op}
 use Rattle.ckpt_types.specs.declared.update.Update.{Update}
-use Rattle.ckpt_types.specs.Limits.{places_max}
 use Rattle.ckpt_types.specs.Sections.{Section}
-use Rattle.client_handles.specs.declared.begun.BegunIteration.{BegunIteration}
-use Rattle.client_handles.specs.declared.handle_view.HandleView.{HandleView}
+use Rattle.client_handles.specs.ClientState.{ClientState, new_client}
 use Rattle.cluster_record.specs.RecordState.{RecordState, empty_record}
 use Rattle.cluster_record.specs.StepDone.{StepDone}
 use Rattle.ckpt_machine.specs.Driving.{Kept}
@@ -48,12 +46,6 @@ pub record Snapshot : Type 0 where
   pub effects : List Effect
   pub generation : ℕ
 
--- what a client keeps of iterations: the number of the one last begun or 0, those that have not ended in the order of their beginning, and by place the number of the one to which it was set last or 0
-pub record IterationTable : Type 0 where
-  pub last : ℕ
-  pub begun : List BegunIteration
-  pub places : List ℕ
-
 -- an asynchronous call that has not been dispatched, with its outcome once it is finished
 pub record PendingCall : Type 0 where
   pub call : CallId
@@ -61,12 +53,13 @@ pub record PendingCall : Type 0 where
   pub invocation : ℕ
   pub outcome : Option Outcome
 
--- a call that is begun and not ended: what it kept at its beginning, its steps, the newest first, and the snapshot in its hand
+-- a call that is begun and not ended: what it kept at its beginning, its steps, the newest first, the identifier of the section that its commits have made, and the snapshot in its hand
 pub record CallState : Type 0 where
   pub call : CallId
   pub op : Op
   pub kept : Kept
   pub steps : List StepDone
+  pub created : Option (List ℕ)
   pub snapshot : Option Snapshot
 
 -- THE STATE of the cluster
@@ -77,21 +70,18 @@ pub record Machine : Type 0 where
   pub reserved : ℕ → ℕ → Option ℕ
   -- the background snapshot of each checkpoint
   pub snapshots : ℕ → Option Snapshot
-  -- by client: its handles in the order of their opening, by place the number of a handle, the number of the handle last taken or 0, its iterations, its asynchronous calls
-  pub handles : ℕ → List HandleView
-  pub places : ℕ → ℕ → Option ℕ
-  pub last_handles : ℕ → ℕ
-  pub iterations : ℕ → IterationTable
-  pub pending : ℕ → List PendingCall
+  -- what each client keeps, the very value that its tables show, and its asynchronous calls; a node has none of these
+  pub tables : ActorName → ClientState
+  pub pending : ActorName → List PendingCall
   -- the number that each client's and node's next call gets
   pub next : ActorName → ℕ
   -- the call in hand of each client and node, and the unfinished asynchronous operations
   pub in_hand : ActorName → Option CallState
   pub operations : CallId → Option CallState
 
--- none was begun, and no place is set
-abbrev pub no_iterations : IterationTable
-no_iterations = record { last = 0; begun = []; places = replicate places_max 0 }
+-- no callback is registered, no handle was opened, no iteration begun, and no place set
+abbrev pub no_tables : ClientState
+no_tables = new_client (record { opens = false; syncs = false })
 
 -- no node is up, and nothing has happened
 abbrev pub empty_cluster : Machine
@@ -100,11 +90,8 @@ empty_cluster = record {
   replicas = λ k r. None;
   reserved = λ k r. None;
   snapshots = λ k. None;
-  handles = λ c. [];
-  places = λ c p. None;
-  last_handles = λ c. 0;
-  iterations = λ c. no_iterations;
-  pending = λ c. [];
+  tables = λ a. no_tables;
+  pending = λ a. [];
   next = λ a. 1;
   in_hand = λ a. None;
   operations = λ call. None;

@@ -12,7 +12,7 @@ use Rattle.cluster_record.specs.Calls.{same_actor, put_actor}
 use Rattle.cluster_record.specs.Places.{put}
 use Rattle.cluster_record.specs.RecordState.{undone}
 use Rattle.ckpt_machine.specs.Owned.{HasNothing}
-use Rattle.ckpt_machine.specs.Steps.{without_making}
+use Rattle.ckpt_machine.specs.Steps.{record_step}
 use Rattle.ckpt_machine.specs.Guards.{IsMadeBy}
 use Rattle.ckpt_machine.specs.Runs.{last}
 
@@ -43,11 +43,8 @@ pub record LeavesAll (actor : ActorName) (n m' : Machine) : Type 0 where
   pub reserved : (k r : ℕ) → m'.reserved k r ≡ n.reserved k r
   pub snapshots : (k : ℕ) → m'.snapshots k ≡ n.snapshots k
   -- the tables of every client
-  pub handles : (c : ℕ) → m'.handles c ≡ n.handles c
-  pub places : (c p : ℕ) → m'.places c p ≡ n.places c p
-  pub last_handles : (c : ℕ) → m'.last_handles c ≡ n.last_handles c
-  pub iterations : (c : ℕ) → m'.iterations c ≡ n.iterations c
-  pub pending : (c : ℕ) → m'.pending c ≡ n.pending c
+  pub tables : (a : ActorName) → m'.tables a ≡ n.tables a
+  pub pending : (a : ActorName) → m'.pending a ≡ n.pending a
   -- the calls
   pub next : (a : ActorName) → m'.next a ≡ n.next a
   pub others : (a : ActorName) → same_actor a actor ≡ false → m'.in_hand a ≡ n.in_hand a
@@ -60,7 +57,7 @@ unmade k m = record m { cluster = undone k m.cluster; reserved = put m.reserved 
 
 -- the same as a step of the record: what is over is swept away then
 abbrev pub unmade_swept : ℕ → Machine → Machine
-unmade_swept k m = without_making m (Some k)
+unmade_swept k m = record_step (undone k) m
 
 -- all is as it was, but that the checkpoint that this call was making is undone
 pub record UndoesOwn (undo : ℕ → Machine → Machine) (call : CallId) (m m' : Machine) : Type 0 where

@@ -31,8 +31,8 @@ IsRun log = IsRunFrom empty_cluster log
 -- what counts up is no more than so many
 pub record Counts (m : Machine) (n : ℕ) : Type 0 where
   pub next : (a : ActorName) → m.next a ≤ n + 1
-  pub last_handles : (c : ℕ) → m.last_handles c ≤ n
-  pub last_iterations : (c : ℕ) → (m.iterations c).last ≤ n
+  pub last_handles : (a : ActorName) → (m.tables a).last_number ≤ n
+  pub last_iterations : (a : ActorName) → (m.tables a).last_iteration ≤ n
   pub effects : (k r : ℕ) (x : ReplicaState) → m.replicas k r ≡ Some x → length x.effects ≤ n
   pub identity : m.cluster.last_identity ≤ n
   pub references : (k : ℕ) (e : Entry) (c : ℕ) → entry_of k m.cluster.entries ≡ Some e → slice_index e.references c ≤ n

@@ -6,9 +6,7 @@ use Rattle.ckpt_types.specs.declared.answers.Answer.TheVariants as answers
 use Rattle.ckpt_types.specs.declared.attributes.CreationAttributes.{CreationAttributes}
 use Rattle.ckpt_types.specs.declared.identities.CallId.{CallId}
 use Rattle.ckpt_types.specs.declared.operation.Op.{Op}
-use Rattle.ckpt_types.specs.declared.operation.Op.TheVariants as ops
 use Rattle.ckpt_types.specs.declared.sections.Choice.{Choice}
-use Rattle.ckpt_types.specs.declared.update.ReadElement.{ReadElement}
 use Rattle.ckpt_types.specs.declared.update.Update.{Update}
 use Rattle.ckpt_types.specs.declared.update.Update.TheVariants as updates
 use Rattle.ckpt_types.specs.Sections.{Section, opening, present}
@@ -21,28 +19,11 @@ use Rattle.node_msgs.specs.declared.replies.Reply.{Reply}
 use Rattle.node_msgs.specs.declared.replies.Reply.TheVariants as replies
 use Rattle.run_labels.specs.declared.details.Details.{Details}
 use Rattle.run_labels.specs.declared.details.Details.TheVariants as beside
-use Rattle.ckpt_machine.specs.Replicas.{RecordSeen}
-use Rattle.ckpt_machine.specs.Replicas.{Replica}
-use Rattle.ckpt_machine.specs.Replicas.{Slot}
+use Rattle.ckpt_types.specs.Asks.{update_of, elements_of}
+use Rattle.ckpt_machine.specs.Replicas.{RecordSeen, Replica, Slot}
 use Rattle.cluster_record.specs.declared.entries.Entry.{Entry}
 use Rattle.cluster_record.specs.Places.{find_key, change_key, list_or}
 use Rattle.cluster_record.specs.RecordState.{RecordState, entry_of}
-
--- ---- what travels beside a request
-
--- the update of an operation
-abbrev pub update_of : Op → Update
-update_of (ops.Create place update) = update
-update_of (ops.Delete place update) = update
-update_of (ops.Expire place update) = update
-update_of (ops.Write place update) = update
-update_of (ops.Over place update) = update
-update_of _ = updates.Nothing
-
--- the elements of a read
-abbrev pub elements_of : Op → List ReadElement
-elements_of (ops.Read place elements) = elements
-elements_of _ = []
 
 -- ---- a reply of one replica
 
@@ -81,10 +62,19 @@ abbrev pub update_answer : Update → Answer
 update_answer (updates.Create new expiration bytes) = answers.Created
 update_answer update = answers.Nothing
 
--- that identifier, which an update at a moment makes over the sections before it
+-- that identifier, which a creation at a moment makes over the sections before it
+abbrev pub made_id : Update → ℤ → List Section → Option (List ℕ)
+made_id (updates.Create new expiration bytes) t sections = Some (new_id new (present t sections))
+made_id update t sections = None
+
+-- an identifier, told beside an answer
+abbrev pub id_told : Option (List ℕ) → Details
+id_told None = beside.Nothing
+id_told (Some id) = beside.Pieces (id ∷ [])
+
+-- the identifier that an update makes, told so
 abbrev pub told_id : Update → ℤ → List Section → Details
-told_id (updates.Create new expiration bytes) t sections = beside.Pieces (new_id new (present t sections) ∷ [])
-told_id update t sections = beside.Nothing
+told_id update t sections = id_told (made_id update t sections)
 
 -- told by the replica that commits it
 abbrev pub slot_id : Update → List Section → Option Slot → Details

@@ -12,7 +12,7 @@ use Rattle.cluster_record.specs.Calls.{same_call}
 use Rattle.cluster_record.specs.DueUpdate.{UpdateState}
 use Rattle.cluster_record.specs.RecordState.{first_complete}
 use Rattle.ckpt_machine.specs.Drivers as drivers
-use Rattle.ckpt_machine.specs.Serving.{update_of}
+use Rattle.ckpt_types.specs.Asks.{update_of}
 use Rattle.ckpt_machine.specs.Machine.{Machine, Effect, Applied, Staged, ReplicaState, CallState}
 use Rattle.ckpt_machine.specs.Steps.{driver_of}
 

@@ -1,10 +1,8 @@
 -- Which label is due, with its answer, and the state after a label.
-use Rattle.section_iter.specs.KeptIds.{KeptIds}
 use Rattle.section_iter.specs.Room.{room_declared}
 use Rattle.section_iter.specs.declared.room.Room.{Room}
-use Rattle.section_iter.specs.Next.{kept_after}
-use Rattle.std.specs.Option.{option_and_then}
-use Rattle.std.specs.Prelude.{slice_set, ◌≡◌, ◌≢◌, ◌⊎◌, ℕ, ◌+◌, ◌<◌, ◌≤◌, List, [], ◌∷◌, ◌++◌, length, Option, Some, None, IsTrue, Bool, true, false, ◌==◌, nat_lt, if◌then◌else◌, ℤ, slice_index}
+use Rattle.std.specs.Option.{option_or}
+use Rattle.std.specs.Prelude.{◌≡◌, ◌≢◌, ◌⊎◌, ℕ, ◌+◌, ◌<◌, ◌≤◌, List, [], ◌∷◌, ◌++◌, length, Option, Some, None, IsTrue, true, false, ◌==◌, if◌then◌else◌, ℤ, slice_index}
 use Rattle.ckpt_types.specs.declared.answers.Answer.TheVariants as answers
 use Rattle.ckpt_types.specs.declared.answers.Outcome.{Outcome}
 use Rattle.ckpt_types.specs.declared.answers.Outcome.TheVariants.{Done, NoMemory}
@@ -15,24 +13,21 @@ use Rattle.ckpt_types.specs.declared.identities.Who.{Who}
 use Rattle.ckpt_types.specs.declared.identities.Who.TheVariants.{Actor}
 use Rattle.ckpt_types.specs.declared.identities.Who.TheVariants as whos
 use Rattle.ckpt_types.specs.declared.operation.Op.{Op}
-use Rattle.ckpt_types.specs.declared.operation.Op.TheVariants as ops
 use Rattle.ckpt_types.specs.declared.update.Update.{Update}
-use Rattle.ckpt_types.specs.Sections.{opening}
+use Rattle.ckpt_types.specs.Sections.{Section, opening}
 use Rattle.ckpt_types.specs.Updates.{outcome}
-use Rattle.ckpt_types.specs.Reads.{NextGiven}
-use Rattle.ckpt_types.specs.Limits.{iterations_max, handles_max, nodes_max}
+use Rattle.ckpt_types.specs.Limits.{nodes_max}
 use Rattle.node_msgs.specs.declared.requests.Request.{Request}
 use Rattle.node_msgs.specs.declared.requests.Request.TheVariants as requests
 use Rattle.node_msgs.specs.declared.replies.Reply.{Reply}
 use Rattle.node_msgs.specs.declared.replies.Reply.TheVariants as replies
 use Rattle.node_msgs.specs.declared.next.RecordStep.{RecordStep}
-use Rattle.node_msgs.specs.declared.next.RecordStep.TheVariants as events
 use Rattle.node_msgs.specs.declared.next.Next.{Next}
 use Rattle.node_msgs.specs.declared.next.Next.TheVariants.{Serve, Event, End}
 use Rattle.run_labels.specs.declared.details.Details.{Details}
 use Rattle.run_labels.specs.declared.details.Details.TheVariants as beside
-use Rattle.run_labels.specs.declared.words.OpWord.{OpWord}
-use Rattle.run_labels.specs.declared.words.OpWord.TheVariants as opwords
+use Rattle.ckpt_types.specs.declared.words.OpWord.{OpWord}
+use Rattle.ckpt_types.specs.declared.words.OpWord.TheVariants as opwords
 use Rattle.node_msgs.specs.declared.steps.Verb.{Verb}
 use Rattle.node_msgs.specs.declared.steps.Verb.TheVariants as verbs
 use Rattle.run_labels.specs.declared.words.LineWord.{LineWord}
@@ -43,10 +38,7 @@ use Rattle.node_msgs.specs.declared.steps.StepReply.{StepReply}
 use Rattle.node_msgs.specs.declared.steps.StepReply.TheVariants as words
 use Rattle.run_labels.specs.declared.labels.Label.{Label}
 use Rattle.run_labels.specs.declared.labels.Label.TheVariants as labels
-use Rattle.run_labels.specs.OpWord.{word_of_op}
-use Rattle.client_handles.specs.Numbered.{without, stands_for}
-use Rattle.client_handles.specs.ClientState.{handle_number, handle_numbered, iteration_number, goes_over, keeping}
-use Rattle.client_handles.specs.declared.begun.BegunIteration.{BegunIteration}
+use Rattle.ckpt_types.specs.OpWord.{word_of_op}
 use Rattle.client_handles.specs.declared.handle_view.HandleView.{HandleView}
 use Rattle.ckpt_machine.specs.Drivers.{Driver}
 use Rattle.ckpt_machine.specs.Drivers.{Rooms}
@@ -54,17 +46,22 @@ use Rattle.cluster_record.specs.declared.entries.Entry.{Entry}
 use Rattle.ckpt_machine.specs.Replicas.{Replica}
 use Rattle.ckpt_machine.specs.Replicas.{Slot}
 use Rattle.cluster_record.specs.Calls.{number_of, client_of, IsClient, put_actor, left}
-use Rattle.cluster_record.specs.Places.{find_key, put, put2}
+use Rattle.cluster_record.specs.Places.{find_key, put2}
 use Rattle.cluster_record.specs.LookUps.{node_of_client, declared_in, creation_flags_of}
-use Rattle.cluster_record.specs.RecordState.{RecordState, entry_of, complete_of, client_key, is_live_client, is_up, no_nodes, brought_up, IsMomentFrom, moved, swept, undone}
+use Rattle.cluster_record.specs.RecordState.{RecordState, entry_of, complete_of, client_key, is_live_client, is_up, no_nodes, brought_up, IsMomentFrom, moved, swept, entered, created_as, finished, opened, undone, closed, unlinked, retained, departed}
 use Rattle.node_msgs.specs.Requests.{ckpt_of}
-use Rattle.ckpt_machine.specs.Serving.{update_of, record_seen, reply_at, details_at, or_same, next_reply_at, next_details, given_at, chosen_at}
+use Rattle.ckpt_machine.specs.Serving.{made_id, record_seen, reply_at, details_at, or_same, next_reply_at, next_details, given_at, chosen_at}
 use Rattle.node_msgs.specs.Steps.{word_of, verb_of, event_verb}
-use Rattle.ckpt_machine.specs.Driving.{Kept, driver_state, driver_next, driver_taken, driver_end, event_ckpt, event_node, event_end, event_after, event_refusal, making_in, takes_memory}
-use Rattle.cluster_record.specs.StepDone.{done_of}
-use Rattle.ckpt_machine.specs.Beginning.{begin_end, handle_place, iteration_place, closed_place, started_place, ended_place, chosen_choice, opened_place, opened_for, takes_room, IsBuilt}
+use Rattle.ckpt_machine.specs.Driving.{Kept, driver_state, driver_next, driver_taken, driver_end, event_ckpt, event_node, event_end, event_refusal, takes_memory}
 use Rattle.ckpt_machine.specs.Listing.{listing_at}
-use Rattle.ckpt_machine.specs.Machine.{IterationTable, Machine, Effect, Applied, Staged, ReplicaState, CallState}
+use Rattle.ckpt_machine.specs.Machine.{Machine, Effect, Applied, Staged, ReplicaState, CallState}
+use Rattle.client_handles.specs.ClientState.{ClientState, emptied}
+use Rattle.cluster_record.specs.Makings.{making_of}
+use Rattle.cluster_record.specs.StepDone.{done_of, counting}
+use Rattle.ckpt_types.specs.Asks.{Ask, asked, update_of, takes_room, IsBuilt}
+use Rattle.ckpt_types.specs.Asks as asks
+use Rattle.ckpt_machine.specs.Tables.{rooms_in, handle_asked, ckpt_of_handle, kept_asked, ids_of, handle_given, started, gone_on, closing, ended_at_once}
+use Rattle.ckpt_machine.specs.Beginning.{begin_end}
 
 -- ---- what the code sees of one replica
 
@@ -93,37 +90,17 @@ seen_at m k r = seen_by k (entry_of k m.cluster.entries) (m.replicas k r)
 abbrev pub driver_of : CallState → Driver
 driver_of s = driver_state s.call s.op s.kept s.steps
 
--- the client has a free place for a handle
-abbrev pub room_of : Machine → ℕ → Bool
-room_of m c = nat_lt (length (m.handles c)) handles_max
-
--- what its tables have a free place for
-abbrev pub rooms_of : Machine → ℕ → Rooms
-rooms_of m c = record { handles = room_of m c; iterations = nat_lt (length (m.iterations c).begun) iterations_max }
+-- what the tables of a call's client have a free place for
+abbrev pub rooms_of : Machine → CallState → Rooms
+rooms_of m s = rooms_in (m.tables s.call.actor)
 
 -- what the call does next
 abbrev pub due : Machine → CallState → Next
-due m s = driver_next m.cluster (rooms_of m (client_of s.call)) (driver_of s)
-
--- ---- iterations
-
--- the iteration for which a place stands: none where it was never set, or the iteration has ended
-abbrev pub iteration_in : IterationTable → Option ℕ → Option BegunIteration
-iteration_in table None = None
-iteration_in table (Some place) = stands_for iteration_number table.places table.begun place
-
--- what is kept of it
-abbrev pub kept_in : IterationTable → Option ℕ → Option KeptIds
-kept_in table place = option_and_then (λ (it : BegunIteration). it.kept) (iteration_in table place)
-
--- the identifiers that are kept
-abbrev pub ids_of : Option KeptIds → List (List ℕ)
-ids_of None = []
-ids_of (Some kept) = kept.ids
+due m s = driver_next m.cluster (rooms_of m s) (driver_of s)
 
 -- the identifiers that the iteration keeps with which a call goes on
 abbrev pub ids_asked : Machine → CallState → List (List ℕ)
-ids_asked m s = ids_of (kept_in (m.iterations (client_of s.call)) (iteration_place s.op))
+ids_asked m s = ids_of (kept_asked (asked s.op) (m.tables s.call.actor))
 
 -- a reservation is done or refused for memory; every other answer is that of the one replica
 abbrev pub MayAnswer : Machine → CallState → Request → ℕ → Reply → Type 0
@@ -195,33 +172,9 @@ pub record IsDueStep (m : Machine) (call : CallId) (op : OpWord) (t : Told) : Ty
 
 -- ---- a beginning
 
--- the handle for which a place of a client stands
-abbrev pub handle_of_number : List HandleView → Option ℕ → Option HandleView
-handle_of_number handles None = None
-handle_of_number handles (Some n) = handle_numbered n handles
-
--- the handle of a place
-abbrev pub handle_in : Machine → ℕ → Option ℕ → Option HandleView
-handle_in m c None = None
-handle_in m c (Some place) = handle_of_number (m.handles c) (m.places c place)
-
--- the handle over which an iteration of a client goes
-abbrev pub handle_over : List HandleView → Option BegunIteration → Option HandleView
-handle_over handles it = option_and_then (λ (it : BegunIteration). handle_numbered it.handle handles) it
-
--- the handle of the place of a handle, or else of the place of an iteration
-abbrev pub handle_by : Machine → ℕ → Option ℕ → Option ℕ → Option HandleView
-handle_by m c (Some place) iteration = handle_in m c (Some place)
-handle_by m c None iteration = handle_over (m.handles c) (iteration_in (m.iterations c) iteration)
-
 -- the handle that an operation is about
 abbrev pub asked_handle : Machine → ActorName → Op → Option HandleView
-asked_handle m a op = handle_by m (number_of a) (handle_place op) (iteration_place op)
-
--- the checkpoint of a handle
-abbrev pub ckpt_of_handle : Option HandleView → Option ℕ
-ckpt_of_handle None = None
-ckpt_of_handle (Some h) = Some h.id
+asked_handle m a op = handle_asked (asked op) (m.tables a)
 
 -- the room for all identifiers that a checkpoint declares; none for a checkpoint that is gone
 abbrev pub room_in : Option CreationAttributes → Room
@@ -238,13 +191,13 @@ abbrev pub kept_at_beginning : RecordState → ℕ → Option HandleView → Kep
 kept_at_beginning R c h = record { ckpt = ckpt_of_handle h; room = room_at R (ckpt_of_handle h); node = node_of_client (find_key client_key c R.clients); moment = R.moment }
 
 -- an Initialize begins for a client that is not live, on a node that is up
-abbrev pub MayBegin : RecordState → ℕ → Op → Type 0
-MayBegin R c (ops.Client r version callbacks) = (is_live_client c R ≡ false) × (is_up r R ≡ true)
-MayBegin R c op = Unit {0}
+abbrev pub MayBegin : RecordState → ℕ → Ask → Type 0
+MayBegin R c (asks.Enter r version callbacks) = (is_live_client c R ≡ false) × (is_up r R ≡ true)
+MayBegin R c ask = Unit {0}
 
 -- a call answers at once by its first refusal, or goes on; one that takes room may be refused the memory
-abbrev pub IsBeginEnd : Op → Option Outcome → Option Outcome → Type 0
-IsBeginEnd op due end = (end ≡ due) ⊎ (IsTrue (takes_room op) × (due ≡ None) × (end ≡ Some NoMemory))
+abbrev pub IsBeginEnd : Ask → Option Outcome → Option Outcome → Type 0
+IsBeginEnd ask due end = (end ≡ due) ⊎ (IsTrue (takes_room ask) × (due ≡ None) × (end ≡ Some NoMemory))
 
 -- the call begins, and answers at once or goes on
 pub record IsBegun (m : Machine) (call : CallId) (op : Op) (end : Option Outcome) : Type 0 where
@@ -252,8 +205,8 @@ pub record IsBegun (m : Machine) (call : CallId) (op : Op) (end : Option Outcome
   pub built : IsBuilt op
   pub number : call.number ≡ m.next call.actor
   pub none_in_hand : m.in_hand call.actor ≡ None
-  pub may : MayBegin m.cluster (number_of call.actor) op
-  pub answer : IsBeginEnd op (begin_end (is_live_client (number_of call.actor) m.cluster) (asked_handle m call.actor op) op) end
+  pub may : MayBegin m.cluster (number_of call.actor) (asked op)
+  pub answer : IsBeginEnd (asked op) (begin_end (is_live_client (number_of call.actor) m.cluster) (asked_handle m call.actor op) (asked op)) end
 
 -- ---- a word in place of a call
 
@@ -379,112 +332,107 @@ abbrev pub at_some : Option ℕ → Machine → (ℕ → Machine) → Machine
 at_some None m change = m
 at_some (Some n) m change = change n
 
--- the handle that an open gives, of the number after the client's last one, and the place that stands for it
-abbrev pub new_handle : RecordState → ℕ → Op → ℕ → HandleView
-new_handle R last op k = record { id = k; flags = opened_for op; creation_flags = creation_flags_of (entry_of k R.entries); handle = last + 1 }
+-- the tables of an actor are changed
+abbrev pub with_tables : ActorName → (ClientState → ClientState) → Machine → Machine
+with_tables a change m = record m { tables = put_actor m.tables a (change (m.tables a)) }
 
--- a client has one handle more, for which a place stands
-abbrev pub with_handle_at : Machine → ℕ → HandleView → Option ℕ → Machine
-with_handle_at m c h None = m
-with_handle_at m c h (Some place) = record m { handles = put m.handles c (m.handles c ++ h ∷ []); places = put2 m.places c place (Some h.handle); last_handles = put m.last_handles c h.handle }
+-- the opener's handle of a checkpoint, by what the record has of it now
+abbrev pub with_given : CallState → ℕ → Machine → Machine
+with_given s k m = with_tables s.call.actor (handle_given (asked s.op) k (creation_flags_of (entry_of k m.cluster.entries))) m
 
--- the opener's handle; m has the record after the step
-abbrev pub with_opened : CallState → Option ℕ → Machine → Machine
-with_opened s None m = m
-with_opened s (Some k) m = with_handle_at m (client_of s.call) (new_handle m.cluster (m.last_handles (client_of s.call)) s.op k) (opened_place s.op)
+-- the handle is ended that the call ends, if it ends one
+abbrev pub with_closed : CallState → Machine → Machine
+with_closed s m = with_tables s.call.actor (closing (asked s.op)) m
 
--- an iteration that a client starts over a handle, with these identifiers, in room for so many; the place stands for it
-abbrev pub with_started : ℕ → ℕ → KeptIds → IterationTable → IterationTable
-with_started place handle kept table = record {
-  last = table.last + 1;
-  begun = table.begun ++ record { number = table.last + 1; handle = handle; kept = Some kept } ∷ [];
-  places = slice_set table.places place (table.last + 1);
-}
+-- the iteration that the call starts keeps what the replica of a node gives to its choice now
+abbrev pub with_started : CallState → ℕ → ℕ → Machine → Machine
+with_started s k r m = with_tables s.call.actor (started (asked s.op) s.kept.room (λ choice. chosen_at choice m.cluster.moment (seen_at m k r))) m
 
--- a client has one iteration more
-abbrev pub with_iteration : Machine → ℕ → Option HandleView → Option ℕ → KeptIds → Machine
-with_iteration m c (Some h) (Some place) kept = record m { iterations = put m.iterations c (with_started place h.handle kept (m.iterations c)) }
-with_iteration m c h place kept = m
+-- the iteration of the call has given the section that comes next on the replica of a node
+abbrev pub with_gone_on : CallState → ℕ → ℕ → Machine → Machine
+with_gone_on s k r m = with_tables s.call.actor (gone_on (asked s.op) (given_at (ids_asked m s) m.cluster.moment (seen_at m k r))) m
 
--- the replica of a node gives what is chosen now
-abbrev pub start_done : Machine → CallState → ℕ → ℕ → Machine
-start_done m s k r = with_iteration m (client_of s.call) (asked_handle m s.call.actor s.op) (started_place s.op)
-    (record { ids = chosen_at (chosen_choice s.op) m.cluster.moment (seen_at m k r); room = s.kept.room })
+-- the record takes a step, and what is over is swept away behind it
+abbrev pub record_step : (RecordState → RecordState) → Machine → Machine
+record_step step m = with_record m (swept (step m.cluster))
 
--- this is kept of a place's iteration
-abbrev pub with_kept_at : ℕ → KeptIds → IterationTable → IterationTable
-with_kept_at place kept table = record table { begun = keeping (Some kept) (slice_index table.places place) table.begun }
+-- a checkpoint is in the making by a call that asks to open it
+abbrev pub created_for : CallId → Ask → RecordState → RecordState
+created_for call (asks.Open place name flags timeout a) R = created_as call name a R
+created_for call ask R = R
 
--- it keeps what stands behind the one that was given; all where none was
-abbrev pub with_next : Machine → ℕ → Option ℕ → Option KeptIds → Option NextGiven → Machine
-with_next m c (Some place) (Some kept) (Some next) = record m { iterations = put m.iterations c (with_kept_at place (kept_after kept (Some next)) (m.iterations c)) }
-with_next m c place kept next = m
+-- the retention that is asked for
+abbrev pub retained_for : Ask → ℕ → RecordState → RecordState
+retained_for (asks.Retain place duration) k R = retained k duration R
+retained_for ask k R = R
 
--- the iteration of a place has given one section
-abbrev pub next_done : Machine → CallState → ℕ → ℕ → Machine
-next_done m s k r = with_next m (client_of s.call) (iteration_place s.op) (kept_in (m.iterations (client_of s.call)) (iteration_place s.op)) (given_at (ids_asked m s) m.cluster.moment (seen_at m k r))
+-- the node has reserved for a checkpoint, in its present incarnation
+abbrev pub with_reservation : ℕ → ℕ → Machine → Machine
+with_reservation k r m = record m { reserved = put2 m.reserved k r (Some (slice_index m.cluster.up r)) }
 
--- without a handle, and without the iterations over it
-abbrev pub without_handle : Machine → ℕ → Option HandleView → Machine
-without_handle m c None = m
-without_handle m c (Some h) = record m {
-  handles = put m.handles c (without handle_number h.handle (m.handles c));
-  iterations = put m.iterations c (record (m.iterations c) { begun = without goes_over h.handle (m.iterations c).begun });
-}
-
--- the handle is closed that the operation closes, if it closes one
-abbrev pub without_closed : CallState → Machine → Machine
-without_closed s m = without_handle m (client_of s.call) (handle_in m (client_of s.call) (closed_place s.op))
-
--- a client has no handle and no iteration
-abbrev pub without_handles : ℕ → Machine → Machine
-without_handles c m = record m { handles = put m.handles c []; iterations = put m.iterations c (record (m.iterations c) { begun = [] }) }
-
--- the making of a checkpoint is undone, where one is in the making, and what is over is swept away
-abbrev pub without_making : Machine → Option ℕ → Machine
-without_making m None = m
-without_making m (Some k) = with_record m (swept (undone k m.cluster))
-
--- the record has done a step of the call
-abbrev pub event_done : Machine → CallState → RecordStep → Machine
-event_done m s step = with_record m (event_after s.call (driver_of s) step m.cluster)
+-- what the call is making is undone, where it is making a checkpoint
+abbrev pub without_making : Option ℕ → Machine → Machine
+without_making None m = m
+without_making (Some k) m = record_step (undone k) m
 
 -- what a step changes, the call's own steps aside
 abbrev pub changed : Machine → CallState → Verb → Option ℕ → Option ℕ → StepReply → Machine
-changed m s verbs.Enter k r reply = on_ok reply m (event_done m s events.Enter)
-changed m s verbs.Open k r reply = on_ok reply m (with_opened s k (event_done m s events.Open))
-changed m s verbs.Create k r reply = on_ok reply m (event_done m s events.Create)
-changed m s verbs.Reserve k r reply = on_ok reply m (at_some k m (λ k. at_some r m (λ r. record m { reserved = put2 m.reserved k r (Some (slice_index m.cluster.up r)) })))
-changed m s verbs.Finish k r reply = on_ok reply m (with_opened s k (event_done m s events.Finish))
-changed m s verbs.Undo k r reply = on_ok reply m (event_done m s events.Undo)
+changed m s verbs.Enter k r reply = on_ok reply m (at_some r m (λ r. record_step (entered (client_of s.call) r s.call.number) m))
+changed m s verbs.Leave k r reply = on_ok reply m (with_tables s.call.actor emptied (record_step (departed (client_of s.call)) m))
+changed m s verbs.Create k r reply = on_ok reply m (record_step (created_for s.call (asked s.op)) m)
+changed m s verbs.Reserve k r reply = on_ok reply m (at_some k m (λ k. at_some r m (λ r. with_reservation k r m)))
+changed m s verbs.Finish k r reply = on_ok reply m (at_some k m (λ k. with_given s k (record_step (finished k (client_of s.call)) m)))
+changed m s verbs.Undo k r reply = on_ok reply m (at_some k m (λ k. record_step (undone k) m))
+changed m s verbs.Open k r reply = on_ok reply m (at_some k m (λ k. with_given s k (record_step (opened k (client_of s.call)) m)))
+changed m s verbs.Close k r reply = on_ok reply m (at_some k m (λ k. with_closed s (record_step (closed k (client_of s.call)) m)))
+changed m s verbs.Unlink k r reply = on_ok reply m (at_some k m (λ k. record_step (unlinked k) m))
+changed m s verbs.Retain k r reply = on_ok reply m (at_some k m (λ k. record_step (retained_for (asked s.op) k) m))
 changed m s verbs.Stage k r reply = on_ok reply m (at_some k m (λ k. at_some r m (λ r. change_replica m k r (m.replicas k r) (with_slot s.call (update_of s.op) (staged_moment m k)))))
 changed m s verbs.Commit k r reply = on_ok reply m (at_some k m (λ k. at_some r m (λ r. change_replica m k r (m.replicas k r) (with_committed (entry_of k m.cluster.entries)))))
-changed m s verbs.Iter k r reply = on_ok reply m (at_some k m (λ k. at_some r m (start_done m s k)))
-changed m s verbs.Next k r reply = on_ok reply m (at_some k m (λ k. at_some r m (next_done m s k)))
-changed m s verbs.Leave k r reply = on_ok reply m (without_handles (client_of s.call) (event_done m s events.Leave))
-changed m s verbs.Close k r reply = on_ok reply m (without_closed s (event_done m s events.Close))
-changed m s verbs.Unlink k r reply = on_ok reply m (event_done m s events.Unlink)
-changed m s verbs.Retain k r reply = on_ok reply m (event_done m s events.Retain)
-changed m s verbs.Look k r reply = on_look reply m (without_closed s m) (without_making m (making_in (driver_of s)))
+changed m s verbs.Iter k r reply = on_ok reply m (at_some k m (λ k. at_some r m (λ r. with_started s k r m)))
+changed m s verbs.Next k r reply = on_ok reply m (at_some k m (λ k. at_some r m (λ r. with_gone_on s k r m)))
+changed m s verbs.Look k r reply = on_look reply m (with_closed s m) (without_making (making_of s.call m.cluster) m)
 changed m s verb k r reply = m
 
--- m is the state after the change: what the call keeps of the record is of then
-abbrev pub stepped : Machine → CallState → Verb → Option ℕ → Option ℕ → StepReply → Option Outcome → Machine
-stepped m s verb k r reply end = record m { in_hand = put_actor m.in_hand s.call.actor (left end (record s { steps = done_of m.cluster verb k r reply ∷ s.steps })) }
+-- ---- what a call keeps of a step
+
+-- how many updates a replica has
+abbrev pub count_in : Option ReplicaState → ℕ
+count_in None = 0
+count_in (Some x) = length x.effects
+
+-- what a claim tells of the replica; 0 by any other step
+abbrev pub claimed_count : Machine → Verb → Option ℕ → Option ℕ → ℕ
+claimed_count m verbs.Claim (Some k) (Some r) = count_in (m.replicas k r)
+claimed_count m verb k r = 0
+
+-- the identifier that the commit of a staged creation makes; else the one that an earlier commit made
+abbrev pub made_by : Option (List ℕ) → List Section → Option Staged → Option (List ℕ)
+made_by before sections None = before
+made_by before sections (Some slot) = option_or (made_id slot.update slot.moment sections) before
+
+-- made by a commit on a replica
+abbrev pub made_on : Option (List ℕ) → Option ReplicaState → Option (List ℕ)
+made_on before None = before
+made_on before (Some x) = made_by before x.sections x.slot
+
+-- the identifier that the call has made behind a step
+abbrev pub created_by : Machine → CallState → Verb → Option ℕ → Option ℕ → Option (List ℕ)
+created_by m s verbs.Commit (Some k) (Some r) = made_on s.created (m.replicas k r)
+created_by m s verb k r = s.created
+
+-- what a call keeps behind a step of what the state before it had: the count that was claimed, and what was created; the record is as it is after the step
+abbrev pub kept_behind : Machine → CallState → RecordState → Verb → Option ℕ → Option ℕ → StepReply → CallState
+kept_behind m s R verb k r reply = record s { steps = counting (claimed_count m verb k r) (done_of R verb k r reply) ∷ s.steps; created = created_by m s verb k r }
+
+-- the call is in hand as it is behind the step, unless the step has ended it
+abbrev pub stepped : Machine → CallState → Option Outcome → Machine
+stepped m s end = record m { in_hand = put_actor m.in_hand s.call.actor (left end s) }
 
 -- a step of the call that is in hand
 abbrev pub step_of : Machine → Option CallState → Verb → Option ℕ → Option ℕ → StepReply → Option Outcome → Machine
 step_of m None verb k r reply end = m
-step_of m (Some s) verb k r reply end = stepped (changed m s verb k r reply) s verb k r reply end
-
--- an iteration that a call ends at its beginning
-abbrev pub without_iteration : ℕ → IterationTable → IterationTable
-without_iteration place table = record table { begun = without iteration_number (slice_index table.places place) table.begun }
-
--- a client is without the iteration of a place
-abbrev pub with_ended : ℕ → Option ℕ → Machine → Machine
-with_ended c None m = m
-with_ended c (Some place) m = record m { iterations = put m.iterations c (without_iteration place (m.iterations c)) }
+step_of m (Some s) verb k r reply end = let behind = changed m s verb k r reply in stepped behind (kept_behind m s behind.cluster verb k r reply) end
 
 -- a call has begun, and is in hand if it goes on
 abbrev pub begun_call : Machine → CallId → Op → Option Outcome → Machine
@@ -495,13 +443,14 @@ begun_call m call op end = record m {
     op = op;
     kept = kept_at_beginning m.cluster (number_of call.actor) (asked_handle m call.actor op);
     steps = [];
+    created = None;
     snapshot = None;
   }));
 }
 
 -- a call has begun, and has ended an iteration where it ends one
 abbrev pub begun : Machine → CallId → Op → Option Outcome → Machine
-begun m call op end = with_ended (number_of call.actor) (ended_place end op) (begun_call m call op end)
+begun m call op end = with_tables call.actor (ended_at_once end (asked op)) (begun_call m call op end)
 
 -- THE STATE AFTER A LABEL
 abbrev pub after : Machine → Label → Machine

@@ -6,7 +6,7 @@ use Rattle.ckpt_types.specs.declared.sections.SectionState.TheVariants.{Valid}
 use Rattle.ckpt_types.specs.declared.update.IoElement.{IoElement}
 use Rattle.ckpt_types.specs.declared.update.NewId.{NewId}
 use Rattle.ckpt_types.specs.Sections.{Section, section_at, is_taken, with_section, without_section, memory_used}
-use Rattle.ckpt_types.specs.Updates.{Refusal, on_section, and_then, outgrows, new_id, is_bad_id, created, deleted, expiration_set, overwritten, written, element_written}
+use Rattle.ckpt_types.specs.Updates.{Refusal, on_section, and_then, outgrows, new_id, is_bad_id, section_created, section_deleted, expiration_set, overwritten, written, element_written}
 
 -- ---- what went on where there is an answer
 
@@ -16,13 +16,13 @@ if-Ok true refusal r after e = absurd (cc e)
 if-Ok false refusal r after e = (refl, e)
 
 -- one value is the other where both are the answer
-pub same_Ok : {A : Type 0} (x y : A) → ◌≡◌ {A = Result A Refusal} (Ok x) (Ok y) → x ≡ y
-same_Ok x y e = cc e
+pub accepted_same : {A : Type 0} (x y : A) → ◌≡◌ {A = Result A Refusal} (Ok x) (Ok y) → x ≡ y
+accepted_same x y e = cc e
 
 -- the last test did not refuse, and this is the answer
 pub if-Ok_last : {A : Type 0} (test : Bool) (refusal : Refusal) (x after : A) → (if test then Err refusal else Ok x) ≡ Ok after → (test ≡ false) × (x ≡ after)
 if-Ok_last true refusal x after e = absurd (cc e)
-if-Ok_last false refusal x after e = (refl, same_Ok x after e)
+if-Ok_last false refusal x after e = (refl, accepted_same x after e)
 
 -- what does not outgrow keeps to the declared bytes
 within_at : (a : CreationAttributes) (placed after : List Section) → outgrows a placed ≡ false → placed ≡ after → memory_used after ≤ a.checkpoint_size
@@ -83,8 +83,8 @@ pub record IsElementWritten (a : CreationAttributes) (t : ℤ) (e : IoElement) (
   pub left : with_section (record was { bytes = written was.bytes e.offset e.bytes; last_update = t }) sections ≡ after
 
 -- a creation that is not refused
-pub created-Ok : (a : CreationAttributes) (new : NewId) (expiration : ℤ) (bytes : List ℕ) (t : ℤ) (sections after : List Section) → created a new expiration bytes t sections ≡ Ok after → IsCreated a new expiration bytes t sections after
-created-Ok a new expiration bytes t sections after e =
+pub section_created-Ok : (a : CreationAttributes) (new : NewId) (expiration : ℤ) (bytes : List ℕ) (t : ℤ) (sections after : List Section) → section_created a new expiration bytes t sections ≡ Ok after → IsCreated a new expiration bytes t sections after
+section_created-Ok a new expiration bytes t sections after e =
     let (many, e1) = if-Ok (a.max_sections == 1) _ _ after e in
     let (given, e2) = if-Ok (is_bad_id a new || int_le expiration t || nat_lt a.max_section_size (length bytes)) _ _ after e1 in
     let (free, e3) = if-Ok (is_taken (new_id new sections) sections) _ _ after e2 in
@@ -104,11 +104,11 @@ created-Ok a new expiration bytes t sections after e =
     }
 
 -- a deletion that is not refused
-pub deleted-Ok : (a : CreationAttributes) (id : List ℕ) (sections after : List Section) → deleted a id sections ≡ Ok after → IsDeleted a id sections after
-deleted-Ok a id sections after e =
+pub section_deleted-Ok : (a : CreationAttributes) (id : List ℕ) (sections after : List Section) → section_deleted a id sections ≡ Ok after → IsDeleted a id sections after
+section_deleted-Ok a id sections after e =
     let (many, e1) = if-Ok (a.max_sections == 1) _ _ after e in
     let (gone, there, e2) = on_section-Ok 0 (section_at id sections) _ after e1 in
-    record { many = eqb-false a.max_sections 1 many; gone = gone; there = there; left = same_Ok _ after e2 }
+    record { many = eqb-false a.max_sections 1 many; gone = gone; there = there; left = accepted_same _ after e2 }
 
 -- another expiration that is not refused
 pub expiration_set-Ok : (a : CreationAttributes) (id : List ℕ) (expiration t : ℤ) (sections after : List Section) → expiration_set a id expiration t sections ≡ Ok after → IsExpirationSet a id expiration t sections after

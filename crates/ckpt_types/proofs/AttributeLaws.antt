@@ -85,24 +85,24 @@ abbrev pub bits_of : OpenFlags → ℕ
 bits_of flags = (if flags.read then checkpoint_read else 0) + (if flags.write then checkpoint_write else 0) + (if flags.create then checkpoint_create else 0)
 
 -- the flags that the bits name
-abbrev named : ℕ → OpenFlags
-named bits = record { read = has_flag bits checkpoint_read; write = has_flag bits checkpoint_write; create = has_flag bits checkpoint_create }
+abbrev flags_named : ℕ → OpenFlags
+flags_named bits = record { read = has_flag bits checkpoint_read; write = has_flag bits checkpoint_write; create = has_flag bits checkpoint_create }
 
 -- bits of known flags are the bits of the flags that they name
-bits_of-named : (bits : ℕ) → bits ≤ open_flags_all → bits ≡ bits_of (named bits)
-bits_of-named bits few = eqb-true _ _ (agree_below_at (λ n. n == bits_of (named n)) (λ n. true) 8 bits refl (omega arith))
+bits_of-named : (bits : ℕ) → bits ≤ open_flags_all → bits ≡ bits_of (flags_named bits)
+bits_of-named bits few = eqb-true _ _ (agree_below_at (λ n. n == bits_of (flags_named n)) (λ n. true) 8 bits refl (omega arith))
 
 -- flags that are told from bits tell the bits
 bits_from_flags : (bits : ℕ) (flags : OpenFlags) → open_flags_of bits ≡ Ok flags → (1 ≤ bits) × (bits ≤ open_flags_all) × (bits ≡ bits_of flags)
 bits_from_flags bits flags told =
     elim (cases_Bool (has_bad_open_flags bits)) [
-      | inl bad ↦ let refused : Err BadFlags ≡ Ok flags = sym (cond-true (has_bad_open_flags bits) (Err BadFlags) (Ok (named bits)) bad) ∙ told in absurd (cc)
+      | inl bad ↦ let refused : Err BadFlags ≡ Ok flags = sym (cond-true (has_bad_open_flags bits) (Err BadFlags) (Ok (flags_named bits)) bad) ∙ told in absurd (cc)
       | inr good ↦
           let parts = or_parts (bits == 0) (nat_lt open_flags_all bits) good in
           let few : bits ≤ open_flags_all = ltb-false _ _ parts.1 in
           let some : bits ≡ 0 → ⊥ = eqb-false _ _ parts.0 in
-          let done : Ok (named bits) ≡ Ok flags = sym (cond-false (has_bad_open_flags bits) (Err BadFlags) (Ok (named bits)) good) ∙ told in
-          let same : named bits ≡ flags = cc in
+          let done : Ok (flags_named bits) ≡ Ok flags = sym (cond-false (has_bad_open_flags bits) (Err BadFlags) (Ok (flags_named bits)) good) ∙ told in
+          let same : flags_named bits ≡ flags = cc in
           (omega arith, few, bits_of-named bits few ∙ ap bits_of same)
     ]
 

@@ -12,7 +12,7 @@ use Rattle.ckpt_types.specs.declared.update.Update.{Update}
 use Rattle.ckpt_types.specs.declared.update.Update.TheVariants as updates
 use Rattle.ckpt_types.specs.Sections.{Section, Rises, Fits, section_at, with_section, without_section, is_present, present, opening, default_section, memory_used, size_of, is_named}
 use Rattle.ckpt_types.specs.Updates.{new_id, is_bad_id, written, element_written, elements_written, outcome}
-use Rattle.ckpt_types.proofs.Accepted.{IsCreated, IsExpirationSet, IsOverwritten, IsElementWritten, and_then-Ok, created-Ok, deleted-Ok, expiration_set-Ok, overwritten-Ok, element_written-Ok, same_Ok}
+use Rattle.ckpt_types.proofs.Accepted.{IsCreated, IsExpirationSet, IsOverwritten, IsElementWritten, and_then-Ok, section_created-Ok, section_deleted-Ok, expiration_set-Ok, overwritten-Ok, element_written-Ok, accepted_same}
 use Rattle.ckpt_types.proofs.Numbering.{length-generated_id}
 use Rattle.ckpt_types.proofs.Presence.{section_at-named, All-section_at, Rises-present, length-filter-le, memory_used-filter-le}
 use Rattle.ckpt_types.proofs.Placing.{Rises-with_section, Rises-without_section, All-with_section, length-with_section_taken, length-with_section_free, memory_used-with_section_over}
@@ -21,7 +21,7 @@ use Rattle.ckpt_types.proofs.Placing.{Rises-with_section, Rises-without_section,
 
 -- what the elements of a write leave rises
 pub Rises-elements_written : (a : CreationAttributes) (t : ℤ) (place : ℕ) (elements : List IoElement) (sections after : List Section) → Rises sections → elements_written a t place elements sections ≡ Ok after → Rises after
-Rises-elements_written a t place [] sections after rises is = subst Rises (same_Ok sections after is) rises
+Rises-elements_written a t place [] sections after rises is = subst Rises (accepted_same sections after is) rises
 Rises-elements_written a t place (e ∷ elements) sections after rises is =
     let (next, first, rest) = and_then-Ok (element_written a t place e sections) (elements_written a t (place + 1) elements) after is in
     let here = element_written-Ok a t place e sections next first in
@@ -34,15 +34,15 @@ Rises-outcome a (updates.Overwrite id bytes) t sections after rises is =
     let over = overwritten-Ok a id bytes t (present t sections) after is in
     subst Rises over.left (Rises-with_section _ (present t sections) (Rises-present t sections rises))
 Rises-outcome a (updates.Create new expiration bytes) t sections after rises is =
-    let made = created-Ok a new expiration bytes t (present t sections) after is in
+    let made = section_created-Ok a new expiration bytes t (present t sections) after is in
     subst Rises made.left (Rises-with_section _ (present t sections) (Rises-present t sections rises))
 Rises-outcome a (updates.Delete id) t sections after rises is =
-    let gone = deleted-Ok a id (present t sections) after is in
+    let gone = section_deleted-Ok a id (present t sections) after is in
     subst Rises gone.left (Rises-without_section id (present t sections) (Rises-present t sections rises))
 Rises-outcome a (updates.SetExpiration id expiration) t sections after rises is =
     let put = expiration_set-Ok a id expiration t (present t sections) after is in
     subst Rises put.left (Rises-with_section _ (present t sections) (Rises-present t sections rises))
-Rises-outcome a updates.Nothing t sections after rises is = subst Rises (same_Ok (present t sections) after is) (Rises-present t sections rises)
+Rises-outcome a updates.Nothing t sections after rises is = subst Rises (accepted_same (present t sections) after is) (Rises-present t sections rises)
 
 -- what a checkpoint has when it is made rises
 pub Rises-opening : (a : CreationAttributes) (made : ℤ) → Rises (opening a made)
@@ -94,8 +94,8 @@ length-new_id-le a (Given id) sections good = ltb-false a.max_section_id_size (l
 length-new_id-le a Generated sections good = rw (length-generated_id sections) (ltb-false a.max_section_id_size 8 good)
 
 -- a section more keeps to what was declared
-pub Fits-created : (a : CreationAttributes) (new : NewId) (expiration : ℤ) (bytes : List ℕ) (t : ℤ) (sections after : List Section) → Rises sections → Fits a sections → IsCreated a new expiration bytes t sections after → Fits a after
-Fits-created a new expiration bytes t sections after rises fits is =
+pub Fits-section_created : (a : CreationAttributes) (new : NewId) (expiration : ℤ) (bytes : List ℕ) (t : ℤ) (sections after : List Section) → Rises sections → Fits a sections → IsCreated a new expiration bytes t sections after → Fits a after
+Fits-section_created a new expiration bytes t sections after rises fits is =
     let section : Section = record { id = new_id new sections; bytes = bytes; expiration = expiration; state = Valid; last_update = t } in
     let more : length (with_section section sections) ≡ length sections + 1 = length-with_section_free section sections rises is.free in
     let within : memory_used (with_section section sections) ≤ a.checkpoint_size = subst (λ s. memory_used s ≤ a.checkpoint_size) (sym is.left) is.within in
@@ -137,7 +137,7 @@ Fits-expiration_set a id expiration t sections after rises fits is =
 
 -- what the elements of a write leave keeps to what was declared
 pub Fits-elements_written : (a : CreationAttributes) (t : ℤ) (place : ℕ) (elements : List IoElement) (sections after : List Section) → Rises sections → Fits a sections → elements_written a t place elements sections ≡ Ok after → Fits a after
-Fits-elements_written a t place [] sections after rises fits is = subst (Fits a) (same_Ok sections after is) fits
+Fits-elements_written a t place [] sections after rises fits is = subst (Fits a) (accepted_same sections after is) fits
 Fits-elements_written a t place (e ∷ elements) sections after rises fits is =
     let (next, first, rest) = and_then-Ok (element_written a t place e sections) (elements_written a t (place + 1) elements) after is in
     let here = element_written-Ok a t place e sections next first in
@@ -147,10 +147,10 @@ Fits-elements_written a t place (e ∷ elements) sections after rises fits is =
 pub Fits-outcome : (a : CreationAttributes) (u : Update) (t : ℤ) (sections after : List Section) → Rises sections → Fits a sections → outcome a u t sections ≡ Ok after → Fits a after
 Fits-outcome a (updates.Write elements) t sections after rises fits is = Fits-elements_written a t 0 elements (present t sections) after (Rises-present t sections rises) (Fits-present a t sections fits) is
 Fits-outcome a (updates.Overwrite id bytes) t sections after rises fits is = Fits-overwritten a id bytes t (present t sections) after (Rises-present t sections rises) (Fits-present a t sections fits) (overwritten-Ok a id bytes t (present t sections) after is)
-Fits-outcome a (updates.Create new expiration bytes) t sections after rises fits is = Fits-created a new expiration bytes t (present t sections) after (Rises-present t sections rises) (Fits-present a t sections fits) (created-Ok a new expiration bytes t (present t sections) after is)
-Fits-outcome a (updates.Delete id) t sections after rises fits is = subst (Fits a) (deleted-Ok a id (present t sections) after is).left (Fits-without_section a id (present t sections) (Fits-present a t sections fits))
+Fits-outcome a (updates.Create new expiration bytes) t sections after rises fits is = Fits-section_created a new expiration bytes t (present t sections) after (Rises-present t sections rises) (Fits-present a t sections fits) (section_created-Ok a new expiration bytes t (present t sections) after is)
+Fits-outcome a (updates.Delete id) t sections after rises fits is = subst (Fits a) (section_deleted-Ok a id (present t sections) after is).left (Fits-without_section a id (present t sections) (Fits-present a t sections fits))
 Fits-outcome a (updates.SetExpiration id expiration) t sections after rises fits is = Fits-expiration_set a id expiration t (present t sections) after (Rises-present t sections rises) (Fits-present a t sections fits) (expiration_set-Ok a id expiration t (present t sections) after is)
-Fits-outcome a updates.Nothing t sections after rises fits is = subst (Fits a) (same_Ok (present t sections) after is) (Fits-present a t sections fits)
+Fits-outcome a updates.Nothing t sections after rises fits is = subst (Fits a) (accepted_same (present t sections) after is) (Fits-present a t sections fits)
 
 -- nothing keeps to whatever was declared
 pub Fits-none : (a : CreationAttributes) → Fits a []

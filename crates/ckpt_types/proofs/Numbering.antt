@@ -60,7 +60,7 @@ find-numbers_from test n (suc count) =
 -- ---- the free number
 
 -- the number is free
-abbrev is_free : List Section → ℕ → Bool
+abbrev pub is_free : List Section → ℕ → Bool
 is_free sections n = not (is_taken (numbered_id n) sections)
 
 -- what the definition of the free number finds

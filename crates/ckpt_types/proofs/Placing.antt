@@ -20,16 +20,16 @@ is_named_alike id r s same = ap (λ x. pointwise nat_eq x id) same
 -- ---- what is found
 
 -- two tests of which not both hold can be made in either order
-two_tests : (r s : Section) (b c : Bool) (found : Option Section) → (b ≡ true → c ≡ true → ⊥) → cond c (Some s) (cond b (Some r) found) ≡ cond b (Some r) (cond c (Some s) found)
-two_tests r s true true found apart = absurd (apart refl refl)
-two_tests r s true false found apart = refl
-two_tests r s false true found apart = refl
-two_tests r s false false found apart = refl
+two_found : (r s : Section) (b c : Bool) (found : Option Section) → (b ≡ true → c ≡ true → ⊥) → cond c (Some s) (cond b (Some r) found) ≡ cond b (Some r) (cond c (Some s) found)
+two_found r s true true found apart = absurd (apart refl refl)
+two_found r s true false found apart = refl
+two_found r s false true found apart = refl
+two_found r s false false found apart = refl
 
 -- a test made once more behind itself changes nothing
-same_test : (r s : Section) (b : Bool) (found : Option Section) → cond b (Some r) found ≡ cond b (Some r) (cond b (Some s) found)
-same_test r s true found = refl
-same_test r s false found = refl
+same_found : (r s : Section) (b : Bool) (found : Option Section) → cond b (Some r) found ≡ cond b (Some r) (cond b (Some s) found)
+same_found r s true found = refl
+same_found r s false found = refl
 
 -- of two sections of which the order puts one behind the other, not both have one identifier
 named_apart : (new s : Section) (id : List ℕ) → id_cmp new.id s.id ≡ Greater → is_named id new ≡ true → is_named id s ≡ true → ⊥
@@ -43,8 +43,8 @@ section_at-with_section new id [] = refl
 section_at-with_section new id (s ∷ sections) =
     elim (id_cmp new.id s.id) as (λ o. id_cmp new.id s.id ≡ o → section_at id (match_ordering o (new ∷ s ∷ sections) (new ∷ sections) (s ∷ with_section new sections)) ≡ cond (is_named id new) (Some new) (cond (is_named id s) (Some s) (section_at id sections))) [
       | Less ↦ λ is. refl
-      | Equal ↦ λ is. rw (is_named_alike id s new (id_cmp-Equal new.id s is)) (same_test new s (is_named id new) (section_at id sections))
-      | Greater ↦ λ is. ap (cond (is_named id s) (Some s)) (section_at-with_section new id sections) ∙ two_tests new s (is_named id new) (is_named id s) (section_at id sections) (named_apart new s id is)
+      | Equal ↦ λ is. rw (is_named_alike id s new (id_cmp-Equal new.id s is)) (same_found new s (is_named id new) (section_at id sections))
+      | Greater ↦ λ is. ap (cond (is_named id s) (Some s)) (section_at-with_section new id sections) ∙ two_found new s (is_named id new) (is_named id s) (section_at id sections) (named_apart new s id is)
     ] refl
 
 -- a section placed is found

@@ -22,8 +22,8 @@ abbrev checkpoint : ℕ → ℕ → ℕ → CreationAttributes
 checkpoint size sections each = record { creation_flags = wr_all_replicas; checkpoint_size = size; retention_duration = pos 0; max_sections = sections; max_section_size = each; max_section_id_size = 8 }
 
 -- a valid section that never expires, last updated at moment 0
-abbrev section : List ℕ → List ℕ → Section
-section id bytes = record { id = id; bytes = bytes; expiration = end_of_time; state = states.Valid; last_update = pos 0 }
+abbrev plain_section : List ℕ → List ℕ → Section
+plain_section id bytes = record { id = id; bytes = bytes; expiration = end_of_time; state = states.Valid; last_update = pos 0 }
 
 abbrev updated_at : ℕ → Section → Section
 updated_at t s = record s { last_update = pos t }
@@ -31,12 +31,12 @@ updated_at t s = record s { last_update = pos t }
 abbrev expires_at : ℕ → Section → Section
 expires_at t s = record s { expiration = pos t }
 
-abbrev corrupted : Section → Section
-corrupted s = record s { state = states.Corrupted }
+abbrev as_corrupted : Section → Section
+as_corrupted s = record s { state = states.Corrupted }
 
 -- an element of a write
-abbrev into : List ℕ → ℕ → List ℕ → IoElement
-into id offset bytes = record { id = id; offset = offset; bytes = bytes }
+abbrev put_into : List ℕ → ℕ → List ℕ → IoElement
+put_into id offset bytes = record { id = id; offset = offset; bytes = bytes }
 
 -- an element of a read
 abbrev from : List ℕ → ℕ → ℕ → ReadElement
@@ -44,7 +44,7 @@ from id offset len = record { id = id; offset = offset; len = len }
 
 -- a write of one element
 abbrev write : List ℕ → ℕ → List ℕ → Update
-write id offset bytes = updates.Write (into id offset bytes ∷ [])
+write id offset bytes = updates.Write (put_into id offset bytes ∷ [])
 
 -- a new section of that identifier, which never expires
 abbrev create : List ℕ → List ℕ → Update
@@ -55,8 +55,8 @@ abbrev create_generated : Update
 create_generated = updates.Create Generated end_of_time []
 
 -- the identifier of 8 bytes whose last is n, and the others zeros
-abbrev number : ℕ → List ℕ
-number n = replicate 7 0 ++ n ∷ []
+abbrev id_of_number : ℕ → List ℕ
+id_of_number n = replicate 7 0 ++ n ∷ []
 
 abbrev choice : ℕ → ℕ → Choice
 choice which time = record { chosen = which; time = pos time }
@@ -67,16 +67,16 @@ abbrev two_of_eight : CreationAttributes
 two_of_eight = checkpoint 16 2 8
 
 abbrev with_abc : List Section
-with_abc = section (codes "a") (codes "abc") ∷ []
+with_abc = plain_section (codes "a") (codes "abc") ∷ []
 
 abbrev with_abcd : List Section
-with_abcd = section (codes "a") (codes "abcd") ∷ []
+with_abcd = plain_section (codes "a") (codes "abcd") ∷ []
 
 abbrev with_a_gap : List Section
-with_a_gap = section (codes "a") (codes "abcd" ++ 0 ∷ codes "f") ∷ []
+with_a_gap = plain_section (codes "a") (codes "abcd" ++ 0 ∷ codes "f") ∷ []
 
 abbrev with_two_gaps : List Section
-with_two_gaps = section (codes "a") (codes "abcd" ++ 0 ∷ codes "f" ++ 0 ∷ codes "h") ∷ []
+with_two_gaps = plain_section (codes "a") (codes "abcd" ++ 0 ∷ codes "f" ++ 0 ∷ codes "h") ∷ []
 
 pub create_makes_a_valid_section : outcome two_of_eight (create (codes "a") (codes "abc")) (pos 0) [] ≡ Ok with_abc
 create_makes_a_valid_section = refl
@@ -107,13 +107,13 @@ read_past_the_end_is_refused = refl
 -- ---- vectors
 
 abbrev with_two : List Section
-with_two = section (codes "a") (codes "aa") ∷ section (codes "b") (codes "bb") ∷ []
+with_two = plain_section (codes "a") (codes "aa") ∷ plain_section (codes "b") (codes "bb") ∷ []
 
-pub refused_vector_names_its_element : outcome two_of_eight (updates.Write (into (codes "a") 0 (codes "X") ∷ into (codes "b") 0 (codes "Y") ∷ into (codes "c") 0 (codes "Z") ∷ [])) (pos 0) with_two
+pub refused_vector_names_its_element : outcome two_of_eight (updates.Write (put_into (codes "a") 0 (codes "X") ∷ put_into (codes "b") 0 (codes "Y") ∷ put_into (codes "c") 0 (codes "Z") ∷ [])) (pos 0) with_two
     ≡ refuse_at 2 NotExist
 refused_vector_names_its_element = refl
 
-pub first_refused_element_is_named : outcome two_of_eight (updates.Write (into (codes "a") 0 (codes "X") ∷ into (codes "b") 8 (codes "Y") ∷ into (codes "c") 0 (codes "Z") ∷ [])) (pos 0) with_two
+pub first_refused_element_is_named : outcome two_of_eight (updates.Write (put_into (codes "a") 0 (codes "X") ∷ put_into (codes "b") 8 (codes "Y") ∷ put_into (codes "c") 0 (codes "Z") ∷ [])) (pos 0) with_two
     ≡ refuse_at 1 InvalidParam
 first_refused_element_is_named = refl
 
@@ -123,8 +123,8 @@ read_gives_a_piece_for_each_element = refl
 pub refused_read_names_its_element : read (from (codes "a") 0 2 ∷ from (codes "c") 0 2 ∷ []) (pos 0) with_two ≡ refuse_at 1 NotExist
 refused_read_names_its_element = refl
 
-pub elements_go_in_order : outcome two_of_eight (updates.Write (into (codes "a") 0 (codes "abcd") ∷ into (codes "a") 2 (codes "xy") ∷ [])) (pos 0) (section (codes "a") [] ∷ [])
-    ≡ Ok (section (codes "a") (codes "abxy") ∷ [])
+pub elements_go_in_order : outcome two_of_eight (updates.Write (put_into (codes "a") 0 (codes "abcd") ∷ put_into (codes "a") 2 (codes "xy") ∷ [])) (pos 0) (plain_section (codes "a") [] ∷ [])
+    ≡ Ok (plain_section (codes "a") (codes "abxy") ∷ [])
 elements_go_in_order = refl
 
 -- ---- space: 10 bytes in 2 sections of at most 8
@@ -133,10 +133,10 @@ abbrev ten_bytes : CreationAttributes
 ten_bytes = checkpoint 10 2 8
 
 abbrev with_eight_bytes : List Section
-with_eight_bytes = section (codes "a") (codes "12345678") ∷ []
+with_eight_bytes = plain_section (codes "a") (codes "12345678") ∷ []
 
 abbrev with_ten_bytes : List Section
-with_ten_bytes = section (codes "a") (codes "12345678") ∷ section (codes "b") (codes "12") ∷ []
+with_ten_bytes = plain_section (codes "a") (codes "12345678") ∷ plain_section (codes "b") (codes "12") ∷ []
 
 pub just_fits : outcome ten_bytes (create (codes "b") (codes "12")) (pos 0) with_eight_bytes ≡ Ok with_ten_bytes
 just_fits = refl
@@ -156,9 +156,9 @@ abbrev four_bytes : CreationAttributes
 four_bytes = checkpoint 4 1 8
 
 abbrev with_four_bytes : List Section
-with_four_bytes = section [] (codes "abcd") ∷ []
+with_four_bytes = plain_section [] (codes "abcd") ∷ []
 
-pub checkpoint_of_one_section_begins_with_it : opening four_bytes (pos 0) ≡ section [] [] ∷ []
+pub checkpoint_of_one_section_begins_with_it : opening four_bytes (pos 0) ≡ plain_section [] [] ∷ []
 checkpoint_of_one_section_begins_with_it = refl
 
 pub checkpoint_of_two_sections_begins_with_none : opening two_of_eight (pos 0) ≡ []
@@ -186,10 +186,10 @@ default_section_only-expire = refl
 -- ---- expiration
 
 abbrev expiring : List Section
-expiring = updated_at 10 (expires_at 20 (section (codes "a") (codes "x"))) ∷ []
+expiring = updated_at 10 (expires_at 20 (plain_section (codes "a") (codes "x"))) ∷ []
 
 abbrev expiring_and_y : List Section
-expiring_and_y = updated_at 10 (expires_at 20 (section (codes "a") (codes "x"))) ∷ updated_at 10 (section (codes "b") (codes "y")) ∷ []
+expiring_and_y = updated_at 10 (expires_at 20 (plain_section (codes "a") (codes "x"))) ∷ updated_at 10 (plain_section (codes "b") (codes "y")) ∷ []
 
 pub expiration_must_be_above_the_moment : outcome two_of_eight (updates.Create (Given (codes "a")) (pos 10) []) (pos 10) [] ≡ refuse InvalidParam
 expiration_must_be_above_the_moment = refl
@@ -210,10 +210,10 @@ pub expired_section_can_not_be_read : read (from (codes "a") 0 1 ∷ []) (pos 20
 expired_section_can_not_be_read = refl
 
 pub expired_section_does_not_count : outcome two_of_eight (create (codes "c") (codes "z")) (pos 20) expiring_and_y
-    ≡ Ok (updated_at 10 (section (codes "b") (codes "y")) ∷ updated_at 20 (section (codes "c") (codes "z")) ∷ [])
+    ≡ Ok (updated_at 10 (plain_section (codes "b") (codes "y")) ∷ updated_at 20 (plain_section (codes "c") (codes "z")) ∷ [])
 expired_section_does_not_count = refl
 
-pub new_expiration_leaves_the_last_update : outcome two_of_eight (updates.SetExpiration (codes "a") (pos 30)) (pos 15) expiring ≡ Ok (updated_at 10 (expires_at 30 (section (codes "a") (codes "x"))) ∷ [])
+pub new_expiration_leaves_the_last_update : outcome two_of_eight (updates.SetExpiration (codes "a") (pos 30)) (pos 15) expiring ≡ Ok (updated_at 10 (expires_at 30 (plain_section (codes "a") (codes "x"))) ∷ [])
 new_expiration_leaves_the_last_update = refl
 
 pub new_expiration_must_be_above_the_moment : outcome two_of_eight (updates.SetExpiration (codes "a") (pos 15)) (pos 15) expiring ≡ refuse InvalidParam
@@ -224,19 +224,19 @@ new_expiration_must_be_above_the_moment = refl
 abbrev four_of_sixteen : CreationAttributes
 four_of_sixteen = checkpoint 64 4 16
 
-pub first_generated_number_is_1 : outcome four_of_sixteen create_generated (pos 0) [] ≡ Ok (section (number 1) [] ∷ [])
+pub first_generated_number_is_1 : outcome four_of_sixteen create_generated (pos 0) [] ≡ Ok (plain_section (id_of_number 1) [] ∷ [])
 first_generated_number_is_1 = refl
 
-pub next_generated_number_is_2 : outcome four_of_sixteen create_generated (pos 0) (section (number 1) [] ∷ []) ≡ Ok (section (number 1) [] ∷ section (number 2) [] ∷ [])
+pub next_generated_number_is_2 : outcome four_of_sixteen create_generated (pos 0) (plain_section (id_of_number 1) [] ∷ []) ≡ Ok (plain_section (id_of_number 1) [] ∷ plain_section (id_of_number 2) [] ∷ [])
 next_generated_number_is_2 = refl
 
-pub number_1_is_deleted : outcome four_of_sixteen (updates.Delete (number 1)) (pos 0) (section (number 1) [] ∷ section (number 2) [] ∷ []) ≡ Ok (section (number 2) [] ∷ [])
+pub number_1_is_deleted : outcome four_of_sixteen (updates.Delete (id_of_number 1)) (pos 0) (plain_section (id_of_number 1) [] ∷ plain_section (id_of_number 2) [] ∷ []) ≡ Ok (plain_section (id_of_number 2) [] ∷ [])
 number_1_is_deleted = refl
 
-pub generated_number_is_used_again_after_a_delete : outcome four_of_sixteen create_generated (pos 0) (section (number 2) [] ∷ []) ≡ Ok (section (number 1) [] ∷ section (number 2) [] ∷ [])
+pub generated_number_is_used_again_after_a_delete : outcome four_of_sixteen create_generated (pos 0) (plain_section (id_of_number 2) [] ∷ []) ≡ Ok (plain_section (id_of_number 1) [] ∷ plain_section (id_of_number 2) [] ∷ [])
 generated_number_is_used_again_after_a_delete = refl
 
-pub generated_is_least : generated_id (section (number 2) [] ∷ []) ≡ number 1
+pub generated_is_least : generated_id (plain_section (id_of_number 2) [] ∷ []) ≡ id_of_number 1
 generated_is_least = refl
 
 pub generated_needs_room_for_8_bytes : outcome (record two_of_eight { max_section_id_size = 7 }) create_generated (pos 0) [] ≡ refuse InvalidParam
@@ -251,24 +251,24 @@ abbrev any : Choice
 any = choice sections_any 0
 
 abbrev four : List Section
-four = section (codes "a") [] ∷ section (codes "b") [] ∷ section (codes "c") [] ∷ section (codes "d") [] ∷ []
+four = plain_section (codes "a") [] ∷ plain_section (codes "b") [] ∷ plain_section (codes "c") [] ∷ plain_section (codes "d") [] ∷ []
 
 abbrev without_b : List Section
-without_b = section (codes "a") [] ∷ section (codes "c") [] ∷ section (codes "d") [] ∷ []
+without_b = plain_section (codes "a") [] ∷ plain_section (codes "c") [] ∷ plain_section (codes "d") [] ∷ []
 
 abbrev without_b_and_c : List Section
-without_b_and_c = section (codes "a") [] ∷ section (codes "d") [] ∷ []
+without_b_and_c = plain_section (codes "a") [] ∷ plain_section (codes "d") [] ∷ []
 
 abbrev with_c_again : List Section
-with_c_again = section (codes "a") [] ∷ section (codes "c") (codes "q") ∷ section (codes "d") [] ∷ []
+with_c_again = plain_section (codes "a") [] ∷ plain_section (codes "c") (codes "q") ∷ plain_section (codes "d") [] ∷ []
 
 abbrev with_e_too : List Section
-with_e_too = section (codes "a") [] ∷ section (codes "c") (codes "q") ∷ section (codes "d") [] ∷ section (codes "e") [] ∷ []
+with_e_too = plain_section (codes "a") [] ∷ plain_section (codes "c") (codes "q") ∷ plain_section (codes "d") [] ∷ plain_section (codes "e") [] ∷ []
 
 pub iteration_in_byte_order : chosen any (pos 0) four ≡ codes "a" ∷ codes "b" ∷ codes "c" ∷ codes "d" ∷ []
 iteration_in_byte_order = refl
 
-pub iteration_gives_the_first : given (codes "a" ∷ codes "b" ∷ codes "c" ∷ codes "d" ∷ []) (pos 0) four ≡ Some (record { section = section (codes "a") []; rest = codes "b" ∷ codes "c" ∷ codes "d" ∷ [] })
+pub iteration_gives_the_first : given (codes "a" ∷ codes "b" ∷ codes "c" ∷ codes "d" ∷ []) (pos 0) four ≡ Some (record { section = plain_section (codes "a") []; rest = codes "b" ∷ codes "c" ∷ codes "d" ∷ [] })
 iteration_gives_the_first = refl
 
 pub deleted_section_goes : outcome eight_of_eight (updates.Delete (codes "b")) (pos 0) four ≡ Ok without_b
@@ -280,7 +280,7 @@ next_deleted_section_goes = refl
 pub section_is_not_deleted_twice : outcome eight_of_eight (updates.Delete (codes "b")) (pos 0) without_b ≡ refuse NotExist
 section_is_not_deleted_twice = refl
 
-pub prefix_comes_first : outcome eight_of_eight (create (codes "ab") []) (pos 0) without_b_and_c ≡ Ok (section (codes "a") [] ∷ section (codes "ab") [] ∷ section (codes "d") [] ∷ [])
+pub prefix_comes_first : outcome eight_of_eight (create (codes "ab") []) (pos 0) without_b_and_c ≡ Ok (plain_section (codes "a") [] ∷ plain_section (codes "ab") [] ∷ plain_section (codes "d") [] ∷ [])
 prefix_comes_first = refl
 
 pub deleted_section_can_be_made_again : outcome eight_of_eight (create (codes "c") (codes "q")) (pos 0) without_b_and_c ≡ Ok with_c_again
@@ -293,16 +293,16 @@ pub last_section_is_made_behind : outcome eight_of_eight (create (codes "e") [])
 last_section_is_made_behind = refl
 
 -- the section that was made again before its turn is given
-pub iteration_skips_a_deleted_section : given (codes "b" ∷ codes "c" ∷ codes "d" ∷ []) (pos 0) with_e_too ≡ Some (record { section = section (codes "c") (codes "q"); rest = codes "d" ∷ [] })
+pub iteration_skips_a_deleted_section : given (codes "b" ∷ codes "c" ∷ codes "d" ∷ []) (pos 0) with_e_too ≡ Some (record { section = plain_section (codes "c") (codes "q"); rest = codes "d" ∷ [] })
 iteration_skips_a_deleted_section = refl
 
-pub iteration_gives_the_last : given (codes "d" ∷ []) (pos 0) with_e_too ≡ Some (record { section = section (codes "d") []; rest = [] })
+pub iteration_gives_the_last : given (codes "d" ∷ []) (pos 0) with_e_too ≡ Some (record { section = plain_section (codes "d") []; rest = [] })
 iteration_gives_the_last = refl
 
 pub identifier_that_was_not_kept_is_not_given : given [] (pos 0) with_e_too ≡ None
 identifier_that_was_not_kept_is_not_given = refl
 
-pub description_tells_the_size : description (section (codes "c") (codes "q")) ≡ record { id = codes "c"; expiration = end_of_time; size = 1; state = states.Valid; last_update = pos 0 }
+pub description_tells_the_size : description (plain_section (codes "c") (codes "q")) ≡ record { id = codes "c"; expiration = end_of_time; size = 1; state = states.Valid; last_update = pos 0 }
 description_tells_the_size = refl
 
 pub status_counts_present_sections : status two_of_eight (pos 19) expiring_and_y ≡ record { attributes = two_of_eight; number_of_sections = 2; memory_used = 2 }
@@ -323,10 +323,10 @@ geq_leaves_out_what_expires_before_the_time = refl
 -- ---- corrupted sections
 
 abbrev both_corrupted : List Section
-both_corrupted = corrupted (section (codes "a") (codes "XXaa")) ∷ corrupted (section (codes "b") (codes "bbbb")) ∷ []
+both_corrupted = as_corrupted (plain_section (codes "a") (codes "XXaa")) ∷ as_corrupted (plain_section (codes "b") (codes "bbbb")) ∷ []
 
 abbrev one_valid_again : List Section
-one_valid_again = section (codes "a") (codes "cc") ∷ corrupted (section (codes "b") (codes "bbbb")) ∷ []
+one_valid_again = plain_section (codes "a") (codes "cc") ∷ as_corrupted (plain_section (codes "b") (codes "bbbb")) ∷ []
 
 abbrev corrupted_ones : Choice
 corrupted_ones = choice sections_corrupted 0
@@ -338,7 +338,7 @@ pub a_corrupted_section_can_be_read : read (from (codes "a") 0 4 ∷ from (codes
 a_corrupted_section_can_be_read = refl
 
 pub a_corrupted_section_stays_corrupted_by_a_write : outcome four_of_sixteen (write (codes "b") 0 (codes "Y")) (pos 0) both_corrupted
-    ≡ Ok (corrupted (section (codes "a") (codes "XXaa")) ∷ corrupted (section (codes "b") (codes "Ybbb")) ∷ [])
+    ≡ Ok (as_corrupted (plain_section (codes "a") (codes "XXaa")) ∷ as_corrupted (plain_section (codes "b") (codes "Ybbb")) ∷ [])
 a_corrupted_section_stays_corrupted_by_a_write = refl
 
 pub a_corrupted_section_is_valid_after_an_overwrite : outcome four_of_sixteen (updates.Overwrite (codes "a") (codes "cc")) (pos 0) both_corrupted ≡ Ok one_valid_again

@@ -1,12 +1,16 @@
 pub mod AisError
+pub mod Asks
 pub mod Attributes
 pub mod Buffer
 pub mod Bytes
 pub mod Elements
 pub mod Ends
+pub mod FirstWord
 pub mod Limits
+pub mod OpWord
 pub mod ReadBuf
 pub mod Reads
 pub mod SectionId
 pub mod Sections
+pub mod Spelling
 pub mod Updates

@@ -1,5 +1,5 @@
 -- The numbers of the standard and of this profile, each once: flags, choices, the end of time, and the limits of the
--- service and of its scripts.
+-- service, of its scripts and of its runs.
 use Rattle.std.specs.Prelude.{ℕ, ◌-◌, ◌^◌, ℤ, pos}
 
 -- ---- creation flags, of the standard
@@ -126,6 +126,10 @@ nodes_max = 8
 abbrev pub client_numbers : ℕ
 client_numbers = 100
 
+-- one more than the last checkpoint that a word says, K1 to K9999
+abbrev pub ckpt_numbers : ℕ
+ckpt_numbers = 10000
+
 -- live clients
 abbrev pub clients_max : ℕ
 clients_max = 64
@@ -175,3 +179,21 @@ line_elements_max = 256
 -- the most steps that a line can ask for
 abbrev pub line_steps_max : ℕ
 line_steps_max = 1000000
+
+-- the most lines of a script that can be played
+abbrev pub played_lines_max : ℕ
+played_lines_max = 2000000
+
+-- ---- limits of this profile: what a run says
+
+-- the most labels that a line of a script gives
+abbrev pub line_labels_max : ℕ
+line_labels_max = 1000
+
+-- the most labels that a line gives, of the lines that are built
+abbrev pub built_line_labels : ℕ
+built_line_labels = 40
+
+-- the most bytes that a show lists of a section, its first ones
+abbrev pub listed_bytes_max : ℕ
+listed_bytes_max = 16

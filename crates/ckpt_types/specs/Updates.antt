@@ -72,8 +72,8 @@ is_bad_id a Generated = nat_lt a.max_section_id_size generated_id_bytes
 -- ---- the updates, each over the sections that are present
 
 -- a new section, which is valid
-abbrev pub created : CreationAttributes → NewId → ℤ → List ℕ → ℤ → List Section → Result (List Section) Refusal
-created a new expiration bytes t sections =
+abbrev pub section_created : CreationAttributes → NewId → ℤ → List ℕ → ℤ → List Section → Result (List Section) Refusal
+section_created a new expiration bytes t sections =
     let after = with_section (record { id = new_id new sections; bytes = bytes; expiration = expiration; state = Valid; last_update = t }) sections in
     if a.max_sections == 1 then refuse Exist
     else if is_bad_id a new || int_le expiration t || nat_lt a.max_section_size (length bytes) then refuse InvalidParam
@@ -82,8 +82,8 @@ created a new expiration bytes t sections =
     else Ok after
 
 -- the section goes
-abbrev pub deleted : CreationAttributes → List ℕ → List Section → Result (List Section) Refusal
-deleted a id sections =
+abbrev pub section_deleted : CreationAttributes → List ℕ → List Section → Result (List Section) Refusal
+section_deleted a id sections =
     if a.max_sections == 1 then refuse InvalidParam
     else on_section 0 (section_at id sections) (λ s. Ok (without_section id sections))
 
@@ -132,7 +132,7 @@ elements_written a t place (e ∷ elements) sections = and_then (element_written
 abbrev pub outcome : CreationAttributes → Update → ℤ → List Section → Result (List Section) Refusal
 outcome a (updates.Write elements) t sections = elements_written a t 0 elements (present t sections)
 outcome a (updates.Overwrite id bytes) t sections = overwritten a id bytes t (present t sections)
-outcome a (updates.Create new expiration bytes) t sections = created a new expiration bytes t (present t sections)
-outcome a (updates.Delete id) t sections = deleted a id (present t sections)
+outcome a (updates.Create new expiration bytes) t sections = section_created a new expiration bytes t (present t sections)
+outcome a (updates.Delete id) t sections = section_deleted a id (present t sections)
 outcome a (updates.SetExpiration id expiration) t sections = expiration_set a id expiration t (present t sections)
 outcome a updates.Nothing t sections = Ok (present t sections)

@@ -1,6 +1,6 @@
 //! The codes that calls answer, with the standard's numbers and the words of result lines.
 ghost use Rattle.std.specs.Prelude.{◌≡◌};
-ghost use Rattle.ckpt_types.specs.AisError.{code_of, word_of};
+ghost use Rattle.ckpt_types.specs.AisError.{code_of, error_text};
 
 /// A code of the Application Interface Specification, as a call answers it. No other code of the
 /// standard is answered.
@@ -67,7 +67,7 @@ impl AisError {
 
     /// The standard's word, without its prefix `SA_AIS_` or `SA_AIS_ERR_`.
     pub fn word(self) -> &'static str
-        ensures { result.now ≡ word_of self }
+        ensures { result.now ≡ error_text self }
     {
         match self {
             AisError::Ok => "OK",

@@ -87,6 +87,9 @@ pub const NODES_MAX: usize = 8;
 /// The numbers of clients, c0 to c99.
 pub const CLIENT_NUMBERS: usize = 100;
 
+/// One more than the last checkpoint that a word says, K1 to K9999.
+pub const CKPT_NUMBERS: u64 = 10_000;
+
 /// The most live clients.
 pub const CLIENTS_MAX: usize = 64;
 
@@ -122,3 +125,6 @@ pub const LINE_ELEMENTS_MAX: usize = 256;
 
 /// The most steps that a line of a script asks for.
 pub const LINE_STEPS_MAX: u64 = 1_000_000;
+
+/// The most bytes that a show lists of a section, its first ones.
+pub const LISTED_BYTES_MAX: usize = 16;

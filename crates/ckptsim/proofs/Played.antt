@@ -4,7 +4,7 @@ use Rattle.std.specs.Prelude.{Option, Some, None, IfSome, IsOk, is_ok, if◌then
 use Rattle.ckpt_types.specs.Limits.{script_bytes_max}
 use Rattle.run_labels.specs.declared.labels.Label.{Label}
 use Rattle.script_words.specs.declared.reason.Reason.TheVariants.{Length}
-use Rattle.script_lang.specs.Grammar.{script_of, text_lines, start, steps, finished, fault, and_then}
+use Rattle.script_lang.specs.Grammar.{script_of, text_lines, start, take_lines, whole_script, fault, if_no_fault}
 use Rattle.ckpt_machine.specs.Acknowledged.{AcknowledgedStay}
 use Rattle.ckpt_machine.specs.AllOrNone.{IsAllOrNoneThroughout}
 use Rattle.ckpt_machine.specs.Refusals.{EachRefusalLeaves}
@@ -14,8 +14,8 @@ use Rattle.ckpt_machine.proofs.AllOrNone.{on_all_or_none}
 use Rattle.ckpt_machine.proofs.RefusedRuns.{run_leaves}
 use Rattle.world_core.specs.declared.world.World.{World}
 use Rattle.world_core.specs.Runs.{IsNew, IsRunTo}
-use Rattle.world_core.proofs.Running.{new_run}
-use Rattle.ckptsim.specs.Reading.{Reads}
+use Rattle.world_core.proofs.New.{new_run}
+use Rattle.ckptsim.specs.Reading.{HasRead}
 use Rattle.ckptsim.specs.declared.reading.Ended.TheVariants.{TooLong}
 
 -- where no label came, a new world shows the state after it
@@ -27,10 +27,10 @@ too_long : (bytes : List ℕ) → script_bytes_max < length bytes → is_ok (scr
 unfolding script_of
 too_long bytes more =
     let is_more : nat_lt script_bytes_max (length bytes) ≡ true = grind (arith, more) in
-    ap (λ (b : Bool). is_ok (if b then fault 0 Length else and_then (steps start (text_lines bytes)) finished)) is_more
+    ap (λ (b : Bool). is_ok (if b then fault 0 Length else if_no_fault (take_lines start (text_lines bytes)) whole_script)) is_more
 
 -- where a source had more bytes than a script may have, they are no script
-pub read_too_long : (Q : Type 0) (old new : Option (List ℕ)) (bytes : List ℕ) → Reads old new bytes TooLong → IfSome old (λ input. IsOk (script_of input) → Q)
+pub read_too_long : (Q : Type 0) (old new : Option (List ℕ)) (bytes : List ℕ) → HasRead old new bytes TooLong → IfSome old (λ input. IsOk (script_of input) → Q)
 read_too_long Q None new bytes read = tt
 read_too_long Q (Some input) None bytes read = absurd read.0
 read_too_long Q (Some input) (Some rest) bytes read = λ is_script.

@@ -11,7 +11,7 @@ use Rattle.script_lang.specs.declared.faults.ScriptFault.{ScriptFault}
 use Rattle.script_lang.specs.declared.lines.Line.{Line}
 use Rattle.script_lang.specs.Grammar.{script_of}
 use Rattle.session_run.specs.Follows.{Follows, FollowsFront}
-use Rattle.ckptsim.specs.Reading.{Reads, TakesFew}
+use Rattle.ckptsim.specs.Reading.{HasRead, TakesFew}
 use Rattle.ckptsim.specs.declared.reading.Ended.TheVariants.{AtEnd, TooLong}
 use Rattle.ckptsim.specs.declared.running.Status.{Status}
 use Rattle.ckptsim.specs.declared.running.Status.TheVariants.{Ran, Usage, Script, ReadFault, WriteFault, NoMemory}
@@ -37,13 +37,13 @@ WritesPart old new bytes = (front : List ℕ) × (back : List ℕ) × (front ++ 
 
 -- the source was read to its end, and its bytes are this script
 abbrev pub ReadsScript : Option (List ℕ) → Option (List ℕ) → List Line → Type 0
-ReadsScript old new script = (bytes : List ℕ) × Reads old new bytes AtEnd × (script_of bytes ≡ Ok script)
+ReadsScript old new script = (bytes : List ℕ) × HasRead old new bytes AtEnd × (script_of bytes ≡ Ok script)
 
 -- the bytes of the source have just this fault; or it is `length`, and one byte more was taken than a script may have
 abbrev pub HasFault : Option (List ℕ) → Option (List ℕ) → ScriptFault → Type 0
 HasFault old new fault =
-    ((bytes : List ℕ) × Reads old new bytes AtEnd × (script_of bytes ≡ Err fault))
-    ⊎ ((bytes : List ℕ) × Reads old new bytes TooLong × (fault ≡ record { line = 0; reason = Length }))
+    ((bytes : List ℕ) × HasRead old new bytes AtEnd × (script_of bytes ≡ Err fault))
+    ⊎ ((bytes : List ℕ) × HasRead old new bytes TooLong × (fault ≡ record { line = 0; reason = Length }))
 
 -- WHAT WAS READ AND PLAYED, by how the run ends: the script was read whole, and the log follows it, or a front of it
 -- where memory was refused; or nothing was played

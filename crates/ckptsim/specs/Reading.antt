@@ -6,9 +6,9 @@ use Rattle.ckptsim.specs.declared.reading.Ended.{Ended}
 use Rattle.ckptsim.specs.declared.reading.Ended.TheVariants.{AtEnd, TooLong}
 
 -- the bytes were taken from the source: all of them, at most as many as a script may have, or one more
-abbrev pub Reads : Option (List ℕ) → Option (List ℕ) → List ℕ → Ended → Type 0
-Reads old new bytes AtEnd = Consumes old new bytes × IsAtEnd new × (length bytes ≤ script_bytes_max)
-Reads old new bytes TooLong = Consumes old new bytes × (length bytes ≡ script_bytes_max + 1)
+abbrev pub HasRead : Option (List ℕ) → Option (List ℕ) → List ℕ → Ended → Type 0
+HasRead old new bytes AtEnd = Consumes old new bytes × IsAtEnd new × (length bytes ≤ script_bytes_max)
+HasRead old new bytes TooLong = Consumes old new bytes × (length bytes ≡ script_bytes_max + 1)
 
 -- at most as many bytes were taken from the source as a script may have
 abbrev pub TakesFew : Option (List ℕ) → Option (List ℕ) → Type 0

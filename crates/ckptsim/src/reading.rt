@@ -1,7 +1,7 @@
 //! The script is read from its source.
 ghost use Rattle.std.specs.Prelude.{◌≡◌, ◌+◌, ◌≤◌, ◌++◌, length, IfOk, OnErr, Err, vec_len, vec_capacity};
 ghost use Rattle.outside_io.specs.Causes.{Rose};
-ghost use Rattle.ckptsim.specs.Reading.{Reads, TakesFew};
+ghost use Rattle.ckptsim.specs.Reading.{HasRead, TakesFew};
 
 use crate::running::Trouble;
 use ckpt_types::SCRIPT_BYTES_MAX;
@@ -24,7 +24,7 @@ const PIECE: usize = 4096;
 /// The bytes of the source, up to one more than a script may have.
 pub fn read_all<S: Source>(alloc: Global, source: &mut S) -> Result<(Vec<u8>, Ended), Trouble>
     ensures later { S.faults source.old ≤ S.faults source.new }
-    ensures read { IfOk result (λ r. Reads (S.left source.old) (S.left source.new) r.0.items r.1) }
+    ensures read { IfOk result (λ r. HasRead (S.left source.old) (S.left source.new) r.0.items r.1) }
     ensures few { OnErr result (TakesFew (S.left source.old) (S.left source.new)) }
     ensures failed { result ≡ Err Trouble.Failed → Rose (S.faults source.old) (S.faults source.new) }
 {

@@ -7,12 +7,12 @@ use Rattle.client_handles.specs.ClientState.{ClientState, handle_number, handle_
 use Rattle.client_handles.specs.declared.handle_view.HandleView.{HandleView}
 use Rattle.client_handles.proofs.NumberedLaws.{numbered-is, stands_for-set_same, stands_for-set_other, stands_for-without_same, stands_for-without_other}
 
-same_Ok : (x y : HandleView) → ◌≡◌ {A = Result HandleView AisError} (Ok x) (Ok y) → x ≡ y
-same_Ok x y e = cc e
+same_open_handle : (x y : HandleView) → ◌≡◌ {A = Result HandleView AisError} (Ok x) (Ok y) → x ≡ y
+same_open_handle x y e = cc e
 
 named_case : (h : HandleView) (o : Option HandleView) → Ok h ≡ ok_or o BadHandle → o ≡ Some h
 named_case h None e = absurd cc
-named_case h (Some x) e = ap Some (sym (same_Ok h x e))
+named_case h (Some x) e = ap Some (sym (same_open_handle h x e))
 
 -- the handle that is named has the number to which the place was set
 pub named_handle-number : (place : ℕ) (s : ClientState) (h : HandleView) → Ok h ≡ named_handle place s → h.handle ≡ slice_index s.places place

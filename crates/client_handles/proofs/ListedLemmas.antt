@@ -103,9 +103,9 @@ not_found_one number m slots differs (Some h) e = ap (λ b. cond b (Some h) None
 find_both : (number last : ℕ) (slots : List (Option HandleView)) → handle_numbered number (handles_up_to (suc last) slots) ≡ option_or (handle_numbered number (handles_up_to last slots)) (handle_numbered number (listed (kept_numbered (suc last) slots)))
 find_both number last slots = find-append (λ h. h.handle == number) (handles_up_to last slots) (listed (kept_numbered (suc last) slots))
 
-or_none : (o : Option HandleView) → option_or o None ≡ o
-or_none None = refl
-or_none (Some h) = refl
+listed_or_none : (o : Option HandleView) → option_or o None ≡ o
+listed_or_none None = refl
+listed_or_none (Some h) = refl
 
 -- none of a later number is listed
 pub handle_numbered-past : (number last : ℕ) (slots : List (Option HandleView)) → last < number → handle_numbered number (handles_up_to last slots) ≡ None
@@ -132,7 +132,7 @@ found_case number last slots within rest (inl is) =
 found_case number last slots within rest (inr differs) =
     let low : number ≤ last = omega arith in
     let behind : handle_numbered number (listed (kept_numbered (suc last) slots)) ≡ None = not_found_one number (suc last) slots differs (kept_numbered (suc last) slots) refl in
-    find_both number last slots ∙ ap (λ o. option_or (handle_numbered number (handles_up_to last slots)) o) behind ∙ or_none (handle_numbered number (handles_up_to last slots)) ∙ rest low
+    find_both number last slots ∙ ap (λ o. option_or (handle_numbered number (handles_up_to last slots)) o) behind ∙ listed_or_none (handle_numbered number (handles_up_to last slots)) ∙ rest low
 
 -- what is found of a number in the list is what is kept of it
 pub handle_numbered-kept : (number last : ℕ) (slots : List (Option HandleView)) → 1 ≤ number → number ≤ last → handle_numbered number (handles_up_to last slots) ≡ kept_numbered number slots

@@ -10,9 +10,9 @@ use Rattle.std.proofs.lemmas.Option.{none-some, same_Some}
 use Rattle.ckpt_types.specs.Limits.{places_max}
 use Rattle.client_handles.specs.Numbered.{numbered, without, stands_for}
 
-or_none : {A : Type 0} (o : Option A) → option_or o None ≡ o
-or_none None = refl
-or_none (Some x) = refl
+found_or_none : {A : Type 0} (o : Option A) → option_or o None ≡ o
+found_or_none None = refl
+found_or_none (Some x) = refl
 
 no_number : (n place : ℕ) → slice_index (replicate n 0) place ≡ 0
 no_number zero place = refl
@@ -76,7 +76,7 @@ module _ {A : Type 0} (number_of : A → ℕ) where
   numbered-push_other number xs x differs =
       find-append (λ h. number_of h == number) xs (x ∷ [])
       ∙ ap (λ b. option_or (numbered number_of number xs) (cond b (Some x) None)) (ne_eqb (number_of x) number (λ e. differs (sym e)))
-      ∙ or_none (numbered number_of number xs)
+      ∙ found_or_none (numbered number_of number xs)
 
   -- where the one more is left out again, all is as before
   pub without-push : (number : ℕ) (xs : List A) (x : A) → number_of x ≡ number → numbered number_of number xs ≡ None → without number_of number (xs ++ x ∷ []) ≡ xs

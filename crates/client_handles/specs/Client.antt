@@ -9,17 +9,17 @@ use Rattle.client_handles.specs.declared.kept.Bound.{Bound}
 use Rattle.client_handles.specs.declared.client.Client.TheInside.{Inside}
 
 -- the number to which a place was set, or 0
-abbrev pub number_of : Option Bound → ℕ
-number_of None = 0
-number_of (Some set) = set.number
+abbrev pub bound_number : Option Bound → ℕ
+bound_number None = 0
+bound_number (Some set) = set.number
 
 -- the client as contracts see it
-abbrev pub client_of : Inside → ClientState
-client_of c = record {
+abbrev pub client_shown : Inside → ClientState
+client_shown c = record {
   callbacks = c.callbacks;
   last_number = c.last_number;
   handles = handles_up_to c.last_number c.handles.slots;
-  places = map number_of c.places;
+  places = map bound_number c.places;
   last_iteration = c.last_iteration;
   iterations = c.iterations.items;
   iteration_places = c.iteration_places;
@@ -34,4 +34,4 @@ pub record IsSound (c : Inside) : Type 0 where
   pub keys : HaveKeys c.last_number c.handles c.places
   pub places : length c.places ≡ places_max
   pub iteration_room : iterations_max ≤ vec_capacity c.iterations
-  pub iterations : HasIterations (client_of c)
+  pub iterations : HasIterations (client_shown c)

@@ -85,13 +85,21 @@ taken_number s = if has_handle_room s then Ok (s.last_number + 1) else Err (reco
 abbrev pub iteration_at : ℕ → ClientState → Option BegunIteration
 iteration_at place s = stands_for iteration_number s.iteration_places s.iterations place
 
--- the handle over which that iteration goes, else BAD_HANDLE
-abbrev pub iterated_handle : ℕ → ClientState → Result HandleView AisError
-iterated_handle place s = ok_or (option_and_then (λ (it : BegunIteration). handle_numbered (goes_over it) s.handles) (iteration_at place s)) BadHandle
+-- the handle over which that iteration goes
+abbrev pub iterated_at : ℕ → ClientState → Option HandleView
+iterated_at place s = option_and_then (λ (it : BegunIteration). handle_numbered (goes_over it) s.handles) (iteration_at place s)
 
--- what is kept of that iteration, else BAD_HANDLE
+-- that handle, else BAD_HANDLE
+abbrev pub iterated_handle : ℕ → ClientState → Result HandleView AisError
+iterated_handle place s = ok_or (iterated_at place s) BadHandle
+
+-- what is kept of that iteration
+abbrev pub kept_at : ℕ → ClientState → Option KeptIds
+kept_at place s = option_and_then (λ (it : BegunIteration). it.kept) (iteration_at place s)
+
+-- that, else BAD_HANDLE
 abbrev pub kept_iteration : ℕ → ClientState → Result KeptIds AisError
-kept_iteration place s = ok_or (option_and_then (λ (it : BegunIteration). it.kept) (iteration_at place s)) BadHandle
+kept_iteration place s = ok_or (kept_at place s) BadHandle
 
 -- it is there, and nothing of it is kept: it is lent
 abbrev pub is_out : Option BegunIteration → Bool

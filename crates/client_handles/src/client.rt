@@ -40,9 +40,9 @@ impl Model for Client {
 
     ghost Value = { ClientState };
 
-    ghost use Rattle.client_handles.specs.Client.{client_of, IsSound};
+    ghost use Rattle.client_handles.specs.Client.{client_shown, IsSound};
 
-    ghost view = { client_of };
+    ghost view = { client_shown };
 
     ghost invariant = { IsSound };
 }

@@ -11,7 +11,7 @@ use Rattle.ckpt_types.specs.Limits.{nodes_max, client_numbers}
 use Rattle.cluster_record.specs.declared.entries.Entry.{Entry}
 use Rattle.cluster_record.specs.Calls.{IsClient}
 use Rattle.cluster_record.specs.Kept.{IsName, IsMakingBy, IsComplete, IsKeptEntry}
-use Rattle.cluster_record.specs.RecordState.{RecordState, first_complete, has_references, referred, made_with, idle_from, released, released_all, unnamed, retaining, new_entry}
+use Rattle.cluster_record.specs.RecordState.{RecordState, first_complete, has_references, referred, made_with, idle_from, unreferred, released_all, unnamed, retaining, new_entry}
 
 -- ---- what is in the making, or not
 
@@ -92,7 +92,7 @@ module _ (t : ℤ) (e : Entry) (kept : IsKeptEntry t e) where
     by None is = elim (slice_index e.references c == 0) as (λ b. IsKeptEntry t (cond b e f)) [ true ↦ kept | false ↦ go is ]
     by (Some call) is = subst (λ n. IsKeptEntry t (cond (n == 0) e f)) (sym (unopened e c call is kept.making)) kept
 
-  pub released-kept : (c : ℕ) → IsKeptEntry t (released c t e)
+  pub released-kept : (c : ℕ) → IsKeptEntry t (unreferred c t e)
   released-kept c = when_open c _ (idle_from-kept c (slice_index e.references c - 1))
 
   pub released_all-kept : (c : ℕ) → IsKeptEntry t (released_all c t e)

@@ -6,7 +6,7 @@ use Rattle.std.proofs.lemmas.List.Elements.{All-cons, All-head, All-tail, All-fi
 use Rattle.std.proofs.lemmas.List.Kept.{AllPairs-filter}
 use Rattle.ckpt_types.specs.declared.identities.CallId.{CallId}
 use Rattle.ckpt_types.specs.Limits.{clients_max, checkpoints_max}
-use Rattle.name_table.specs.Table.{EachOnce, unlinked}
+use Rattle.name_table.specs.Table.{EachOnce, name_taken_away}
 use Rattle.name_table.proofs.TableLemmas.{EachOnce-filter}
 use Rattle.cluster_record.specs.declared.entries.Entry.{Entry}
 use Rattle.cluster_record.specs.declared.clients.LiveClient.{LiveClient}
@@ -15,7 +15,7 @@ use Rattle.cluster_record.specs.Kept.{IsKeptEntry, IsKeptClient, AreKeptClients}
 use Rattle.cluster_record.specs.NamesOf.{names_of, without_gone}
 use Rattle.cluster_record.specs.Places.{find_key, change_key}
 use Rattle.cluster_record.specs.LookUps.{identity_in}
-use Rattle.cluster_record.specs.RecordState.{identity_of, entry_of, named, unnamed, has_references, idle_from, released, released_all}
+use Rattle.cluster_record.specs.RecordState.{identity_of, entry_of, named, unnamed, has_references, idle_from, unreferred, released_all}
 use Rattle.cluster_record.specs.RecordView.{AreKeptEntries, IsKept}
 use Rattle.cluster_record.specs.Makings.{making_call}
 use Rattle.cluster_record.specs.RecordReady.{CanRefer}
@@ -172,7 +172,7 @@ kept-each old new f kept name identity go items capacity same = subst IsKept (sy
 
 -- where the one of a name has it no more
 pub kept-unnamed : (old new : Inside) (name : List ℕ) (k : ℕ) → IsKept old → identity_in (named name old.entries.items) ≡ Some k → ((e : Entry) → entry_of k old.entries.items ≡ Some e → IsKeptEntry old.moment e → IsKeptEntry old.moment (unnamed e)) →
-    new.entries.items ≡ change_key identity_of k unnamed old.entries.items → vec_capacity new.entries ≡ vec_capacity old.entries → new.names ≡ unlinked name old.names →
+    new.entries.items ≡ change_key identity_of k unnamed old.entries.items → vec_capacity new.entries ≡ vec_capacity old.entries → new.names ≡ name_taken_away name old.names →
     new ≡ record old { entries = new.entries; names = new.names } → IsKept new
 kept-unnamed old new name k kept is go items capacity names same = subst IsKept (sym same) (record {
   clients_room = kept.clients_room;
@@ -181,7 +181,7 @@ kept-unnamed old new name k kept is go items capacity names same = subst IsKept 
   clients = kept.clients;
   few_clients = kept.few_clients;
   entries = subst (AreKeptEntries old.moment old.last_identity) (sym items) (entries-unnamed old.moment old.last_identity old.entries.items kept.entries name k is go);
-  names = names ∙ ap (unlinked name) kept.names ∙ unnamed-is name k old.entries.items kept.entries.order kept.entries.each_once is ∙ sym (ap names_of items);
+  names = names ∙ ap (name_taken_away name) kept.names ∙ unnamed-is name k old.entries.items kept.entries.order kept.entries.each_once is ∙ sym (ap names_of items);
 })
 
 -- where some clients go
@@ -215,7 +215,7 @@ unless-keeps g f keeps = (
   λ e. elim (g e) as (λ b. (cond b e (f e)).identity ≡ e.identity) [ true ↦ refl | false ↦ keeps.1 e ],
 )
 
-pub released-keeps : (c : ℕ) (t : ℤ) → Keeps (released c t)
+pub released-keeps : (c : ℕ) (t : ℤ) → Keeps (unreferred c t)
 released-keeps c t =
     let less : Entry → Entry = λ e. record e { references = slice_set e.references c (slice_index e.references c - 1) } in
     unless-keeps (λ e. slice_index e.references c == 0) (λ e. idle_from t (less e)) (λ e. (idle_from-keeps t (less e)).0, λ e. (idle_from-keeps t (less e)).1)

@@ -3,7 +3,7 @@ use Rattle.std.proofs.Common.{◌≡◌, ℕ, ◌≤◌, List, [], ◌∷◌, �
 use Rattle.std.specs.Cmp.Lexicographic.{pointwise, bytes_decides}
 use Rattle.std.proofs.lemmas.List.Elements.{filter-append}
 use Rattle.std.proofs.lemmas.Option.{none-some}
-use Rattle.name_table.specs.Table.{NamedCkpt, is_called, found, linked, unlinked, EachOnce}
+use Rattle.name_table.specs.Table.{NamedCkpt, is_called, found, linked, name_taken_away, EachOnce}
 use Rattle.name_table.proofs.TableLemmas.{is_called-own, found-cons, unlinked-absent, EachOnce-filter, EachOnce-linked, absent-before}
 use Rattle.cluster_record.specs.declared.entries.Entry.{Entry}
 use Rattle.cluster_record.specs.Identities.{IdentitiesRise}
@@ -44,13 +44,13 @@ length-names_of (x ∷ xs) = omega (arith, length-append (linked_name x.name x.i
 -- ---- entries that go
 
 -- a name in the midst of a table is taken out
-taken_out : (name : List ℕ) (k : ℕ) (front back : List NamedCkpt) → EachOnce (front ++ record { name = name; identity = k } ∷ back) → unlinked name (front ++ record { name = name; identity = k } ∷ back) ≡ front ++ back
+taken_out : (name : List ℕ) (k : ℕ) (front back : List NamedCkpt) → EachOnce (front ++ record { name = name; identity = k } ∷ back) → name_taken_away name (front ++ record { name = name; identity = k } ∷ back) ≡ front ++ back
 taken_out name k front back once =
     let ckpt : NamedCkpt = record { name = name; identity = k } in
-    let before : unlinked name front ≡ front = unlinked-absent name front (absent-before front ckpt back once) in
-    let own : unlinked name (ckpt ∷ back) ≡ unlinked name back = ap (λ b. cond (not b) (ckpt ∷ unlinked name back) (unlinked name back)) (is_called-own name k) in
-    let behind : unlinked name back ≡ back = unlinked-absent name back (later front once) in
-    filter-append (λ c. not (is_called name c)) front (ckpt ∷ back) ∙ ap (λ t. t ++ unlinked name (ckpt ∷ back)) before ∙ ap (λ t. front ++ t) (own ∙ behind)
+    let before : name_taken_away name front ≡ front = unlinked-absent name front (absent-before front ckpt back once) in
+    let own : name_taken_away name (ckpt ∷ back) ≡ name_taken_away name back = ap (λ b. cond (not b) (ckpt ∷ name_taken_away name back) (name_taken_away name back)) (is_called-own name k) in
+    let behind : name_taken_away name back ≡ back = unlinked-absent name back (later front once) in
+    filter-append (λ c. not (is_called name c)) front (ckpt ∷ back) ∙ ap (λ t. t ++ name_taken_away name (ckpt ∷ back)) before ∙ ap (λ t. front ++ t) (own ∙ behind)
   where
     later : (front : List NamedCkpt) → EachOnce (front ++ record { name = name; identity = k } ∷ back) → found name back ≡ None
     later [] once = once.0
@@ -161,20 +161,20 @@ once-behind : (name : Option (List ℕ)) (k : ℕ) (table : List NamedCkpt) → 
 once-behind None k table once = once
 once-behind (Some name) k table once = once.1
 
-unlinked-other : (name : List ℕ) (own : Option (List ℕ)) (k : ℕ) (table : List NamedCkpt) → is_name name own ≡ false → unlinked name (linked_name own k ++ table) ≡ linked_name own k ++ unlinked name table
+unlinked-other : (name : List ℕ) (own : Option (List ℕ)) (k : ℕ) (table : List NamedCkpt) → is_name name own ≡ false → name_taken_away name (linked_name own k ++ table) ≡ linked_name own k ++ name_taken_away name table
 unlinked-other name None k table apart = refl
 unlinked-other name (Some own) k table apart = rw (same_name name own ∙ apart) refl
 
-unlinked-own : (name : List ℕ) (own : Option (List ℕ)) (k : ℕ) (table : List NamedCkpt) → is_name name own ≡ true → EachOnce (linked_name own k ++ table) → unlinked name (linked_name own k ++ table) ≡ table
+unlinked-own : (name : List ℕ) (own : Option (List ℕ)) (k : ℕ) (table : List NamedCkpt) → is_name name own ≡ true → EachOnce (linked_name own k ++ table) → name_taken_away name (linked_name own k ++ table) ≡ table
 unlinked-own name None k table same once = absurd cc
 unlinked-own name (Some own) k table same once =
     let is : own ≡ name = (bytes_decides own name).0 same in
     rw (same_name name own ∙ same) (unlinked-absent name table (subst (λ (n : List ℕ). found n table ≡ None) is once.0))
 
-pub unnamed-is : (name : List ℕ) (k : ℕ) (es : List Entry) → IdentitiesRise es → EachOnce (names_of es) → identity_in (named name es) ≡ Some k → unlinked name (names_of es) ≡ names_of (change_key identity_of k unnamed es)
+pub unnamed-is : (name : List ℕ) (k : ℕ) (es : List Entry) → IdentitiesRise es → EachOnce (names_of es) → identity_in (named name es) ≡ Some k → name_taken_away name (names_of es) ≡ names_of (change_key identity_of k unnamed es)
 unnamed-is name k [] rises once is = absurd cc
 unnamed-is name k (x ∷ xs) rises once is = by (unnamed-is name k xs rises.1 (once-behind x.name x.identity (names_of xs) once)) (is_name name x.name) refl is where
-  by : (identity_in (named name xs) ≡ Some k → unlinked name (names_of xs) ≡ names_of (change_key identity_of k unnamed xs)) → (b : Bool) → is_name name x.name ≡ b → identity_in (cond b (Some x) (named name xs)) ≡ Some k → unlinked name (names_of (x ∷ xs)) ≡ names_of (change_key identity_of k unnamed (x ∷ xs))
+  by : (identity_in (named name xs) ≡ Some k → name_taken_away name (names_of xs) ≡ names_of (change_key identity_of k unnamed xs)) → (b : Bool) → is_name name x.name ≡ b → identity_in (cond b (Some x) (named name xs)) ≡ Some k → name_taken_away name (names_of (x ∷ xs)) ≡ names_of (change_key identity_of k unnamed (x ∷ xs))
   by rest true own is =
       let same : x.identity ≡ k = some-same x.identity k is in
       unlinked-own name x.name x.identity (names_of xs) own once

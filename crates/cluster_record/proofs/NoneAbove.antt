@@ -10,8 +10,8 @@ use Rattle.cluster_record.specs.StepDone.{has, last_having, or_here, HasNoneAbov
 -- ---- what is looked up
 
 -- a node is not had with no incarnation
-has-none : (c o : ℕ) → o ≡ 0 → has c o ≡ false
-has-none c o none = ap (λ (n : ℕ). not (c == 0) && (c == n)) none ∙ neither (c == 0) where
+has-unowned : (c o : ℕ) → o ≡ 0 → has c o ≡ false
+has-unowned c o none = ap (λ (n : ℕ). not (c == 0) && (c == n)) none ∙ neither (c == 0) where
   neither : (b : Bool) → (not b && b) ≡ false
   neither true = refl
   neither false = refl
@@ -26,7 +26,7 @@ last_having-behind zero n [] os none = refl
 last_having-behind zero n (c ∷ cs) [] none = refl
 last_having-behind zero n (c ∷ cs) (o ∷ os) none =
     let rest : last_having (n + 1) cs os ≡ None = last_having-behind zero (n + 1) cs os (λ r from. none (suc r) (omega arith)) in
-    let here : has c o ≡ false = has-none c o (none 0 (omega arith)) in
+    let here : has c o ≡ false = has-unowned c o (none 0 (omega arith)) in
     (λ i. or_here (rest i) (here i) n)
 last_having-behind (suc k) n [] os none = refl
 last_having-behind (suc k) n (c ∷ cs) [] none = last_having-nothing n (drop k cs)
@@ -35,7 +35,7 @@ last_having-behind (suc k) n (c ∷ cs) (o ∷ os) none = last_having-behind k n
 -- it has a node, and none behind it: that is the highest
 pub last_having-highest : (r m n p : ℕ) (cs os : List ℕ) → p ≡ m + r → n ≡ p + 1 → last_having n (drop (suc r) cs) (drop (suc r) os) ≡ None → has (slice_index cs r) (slice_index os r) ≡ true → last_having m cs os ≡ Some p
 last_having-highest r m n p [] os at next none had = absurd (cc had)
-last_having-highest r m n p (c ∷ cs) [] at next none had = absurd (let not_had : has (slice_index (c ∷ cs) r) 0 ≡ false = has-none (slice_index (c ∷ cs) r) 0 refl in cc (had, not_had))
+last_having-highest r m n p (c ∷ cs) [] at next none had = absurd (let not_had : has (slice_index (c ∷ cs) r) 0 ≡ false = has-unowned (slice_index (c ∷ cs) r) 0 refl in cc (had, not_had))
 last_having-highest zero m n p (c ∷ cs) (o ∷ os) at next none had =
     let behind : n ≡ m + 1 = omega (arith, at, next) in
     let rest : last_having (m + 1) cs os ≡ None = subst (λ (k : ℕ). last_having k cs os ≡ None) behind none in
@@ -74,14 +74,14 @@ last_having-had nodes own r is =
 
 -- ---- which is the highest after a change
 
-nothing_at : (n r : ℕ) → slice_index (replicate n 0) r ≡ 0
-nothing_at zero r = refl
-nothing_at (suc n) zero = refl
-nothing_at (suc n) (suc r) = nothing_at n r
+no_node_at : (n r : ℕ) → slice_index (replicate n 0) r ≡ 0
+no_node_at zero r = refl
+no_node_at (suc n) zero = refl
+no_node_at (suc n) (suc r) = no_node_at n r
 
 -- a call that has no node has none above any
 pub HasNoneAbove-none : (top : ℕ) → HasNoneAbove top no_nodes
-HasNoneAbove-none top r above = nothing_at 8 r
+HasNoneAbove-none top r above = no_node_at 8 r
 
 -- it comes to have a higher node: that is the highest then
 pub HasNoneAbove-set_higher : (top r n : ℕ) (own : List ℕ) → top < r → HasNoneAbove top own → HasNoneAbove r (slice_set own r n)

@@ -19,46 +19,46 @@ use Rattle.cluster_record.specs.Refusals.{enter_answer, all_taken, plainly, held
 -- ---- the words of the examples
 
 -- one section of up to so many bytes, kept so long after the last close
-abbrev sized : ℕ → ℤ → CreationAttributes
-sized bytes retention = record { creation_flags = wr_all_replicas; checkpoint_size = bytes; retention_duration = retention; max_sections = 1; max_section_size = 16; max_section_id_size = 8 }
+abbrev example_sized : ℕ → ℤ → CreationAttributes
+example_sized bytes retention = record { creation_flags = wr_all_replicas; checkpoint_size = bytes; retention_duration = retention; max_sections = 1; max_section_size = 16; max_section_id_size = 8 }
 
--- a call of a client, with its number
-abbrev call : ℕ → ℕ → CallId
-call c n = record { actor = Client c; number = n }
+-- a example_call of a client, with its number
+abbrev example_call : ℕ → ℕ → CallId
+example_call c n = record { actor = Client c; number = n }
 
 -- an open of a client on n0
-abbrev asks : ℕ → List ℕ → Option CreationAttributes → OpenAsk
-asks c name a = record { name = name; attrs = a; client = c; node = 0 }
+abbrev example_ask : ℕ → List ℕ → Option CreationAttributes → OpenAsk
+example_ask c name a = record { name = name; attrs = a; client = c; node = 0 }
 
 abbrev ck : List ℕ
 ck = codes "ck"
 
--- the identities of the checkpoints that are there
-abbrev there : RecordState → List ℕ
-there R = map identity_of R.entries
+-- the identities of the checkpoints that are example_there
+abbrev example_there : RecordState → List ℕ
+example_there R = map identity_of R.entries
 
 -- how often a client has a checkpoint open, and the moment of its last close
-abbrev opens : ℕ → ℕ → RecordState → Option ℕ
-opens c k R = option_map (λ e. slice_index e.references c) (entry_of k R.entries)
+abbrev example_open : ℕ → ℕ → RecordState → Option ℕ
+example_open c k R = option_map (λ e. slice_index e.references c) (entry_of k R.entries)
 
 abbrev closed_last : ℕ → RecordState → Option ℤ
 closed_last k R = option_map (λ e. e.idle) (entry_of k R.entries)
 
--- ---- clients: c0 by its call 1 and c1 by its call 7, both on n0
+-- ---- clients: c0 by its example_call 1 and c1 by its example_call 7, both on n0
 
 abbrev two_clients : RecordState
 two_clients = entered 1 0 7 (entered 0 0 1 (brought_up 1 empty_record))
 
-pub call_of_this_life_is_live : is_live two_clients (call 1 7) ≡ true
+pub call_of_this_life_is_live : is_live two_clients (example_call 1 7) ≡ true
 call_of_this_life_is_live = refl
 
-pub call_of_an_earlier_life_is_not_live : is_live two_clients (call 1 6) ≡ false
+pub call_of_an_earlier_life_is_not_live : is_live two_clients (example_call 1 6) ≡ false
 call_of_an_earlier_life_is_not_live = refl
 
-pub call_of_a_client_that_is_not_live : is_live two_clients (call 2 9) ≡ false
+pub call_of_a_client_that_is_not_live : is_live two_clients (example_call 2 9) ≡ false
 call_of_a_client_that_is_not_live = refl
 
--- a copying is a node's call: n0 is up, n1 is not
+-- a copying is a node's example_call: n0 is up, n1 is not
 pub copying_of_a_node_that_is_up : is_live two_clients (record { actor = Node 0; number = 1 }) ≡ true
 copying_of_a_node_that_is_up = refl
 
@@ -74,77 +74,77 @@ client_65_is_refused = refl
 
 -- ---- a making
 
--- what is not there is opened by nobody, and made where attributes are given
-pub open_of_what_is_not_there : open_answer two_clients (asks 0 (codes "no") None) ≡ Refused (plainly NotExist)
+-- what is not example_there is opened by nobody, and example_made where attributes are given
+pub open_of_what_is_not_there : open_answer two_clients (example_ask 0 (codes "no") None) ≡ Refused (plainly NotExist)
 open_of_what_is_not_there = refl
 
-pub first_checkpoint_is_made : open_answer two_clients (asks 0 ck (Some (sized 16 (pos 0)))) ≡ Made 1
+pub first_checkpoint_is_made : open_answer two_clients (example_ask 0 ck (Some (example_sized 16 (pos 0)))) ≡ Made 1
 first_checkpoint_is_made = refl
 
-abbrev in_the_making : RecordState
-in_the_making = after_open (call 0 2) (asks 0 ck (Some (sized 16 (pos 0)))) two_clients
+abbrev example_making : RecordState
+example_making = after_open (example_call 0 2) (example_ask 0 ck (Some (example_sized 16 (pos 0)))) two_clients
 
 -- another client is told to try again, whatever attributes it gives, and so is who unlinks it
-pub open_of_what_another_is_making : open_answer in_the_making (asks 1 ck None) ≡ Refused (held_by (call 0 2))
+pub open_of_what_another_is_making : open_answer example_making (example_ask 1 ck None) ≡ Refused (held_by (example_call 0 2))
 open_of_what_another_is_making = refl
 
-pub try_again_comes_before_exist : open_answer in_the_making (asks 1 ck (Some (sized 15 (pos 0)))) ≡ Refused (held_by (call 0 2))
+pub try_again_comes_before_exist : open_answer example_making (example_ask 1 ck (Some (example_sized 15 (pos 0)))) ≡ Refused (held_by (example_call 0 2))
 try_again_comes_before_exist = refl
 
-pub unlink_of_what_another_is_making : unlink_answer (named ck in_the_making.entries) ≡ Err (held_by (call 0 2))
+pub unlink_of_what_another_is_making : unlink_answer (named ck example_making.entries) ≡ Err (held_by (example_call 0 2))
 unlink_of_what_another_is_making = refl
 
 -- no sweep takes it, though nobody has it open
-pub sweep_leaves_what_is_in_the_making : there (swept in_the_making) ≡ 1 ∷ []
+pub sweep_leaves_what_is_in_the_making : example_there (swept example_making) ≡ 1 ∷ []
 sweep_leaves_what_is_in_the_making = refl
 
--- with its maker it goes, and then it is not there
-pub maker_leaves_with_its_making : open_answer (departed 0 in_the_making) (asks 1 ck None) ≡ Refused (plainly NotExist)
+-- with its maker it goes, and then it is not example_there
+pub maker_leaves_with_its_making : open_answer (departed 0 example_making) (example_ask 1 ck None) ≡ Refused (plainly NotExist)
 maker_leaves_with_its_making = refl
 
-abbrev made : RecordState
-made = making_finished 1 in_the_making
+abbrev example_made : RecordState
+example_made = making_finished 1 example_making
 
-pub maker_has_it_open : opens 0 1 made ≡ Some 1
+pub maker_has_it_open : example_open 0 1 example_made ≡ Some 1
 maker_has_it_open = refl
 
 -- ---- attributes
 
 -- the retention that is asked for may be another, and nothing else
-pub same_but_for_the_retention : open_answer made (asks 0 ck (Some (sized 16 (pos 5)))) ≡ Opened 1 false
+pub same_but_for_the_retention : open_answer example_made (example_ask 0 ck (Some (example_sized 16 (pos 5)))) ≡ Opened 1 false
 same_but_for_the_retention = refl
 
-pub another_size_is_another_checkpoint : open_answer made (asks 0 ck (Some (sized 15 (pos 0)))) ≡ Refused (plainly Exist)
+pub another_size_is_another_checkpoint : open_answer example_made (example_ask 0 ck (Some (example_sized 15 (pos 0)))) ≡ Refused (plainly Exist)
 another_size_is_another_checkpoint = refl
 
--- the 16th checkpoint is made, a 17th is not
+-- the 16th checkpoint is example_made, a 17th is not
 abbrev with_so_many : ℕ → RecordState
-with_so_many n = record two_clients { entries = replicate n (new_entry (call 0 2) ck (sized 16 (pos 0)) two_clients) }
+with_so_many n = record two_clients { entries = replicate n (new_entry (example_call 0 2) ck (example_sized 16 (pos 0)) two_clients) }
 
-pub checkpoint_16_is_made : open_answer (with_so_many 15) (asks 0 (codes "no") (Some (sized 16 (pos 0)))) ≡ Made 1
+pub checkpoint_16_is_made : open_answer (with_so_many 15) (example_ask 0 (codes "no") (Some (example_sized 16 (pos 0)))) ≡ Made 1
 checkpoint_16_is_made = refl
 
-pub checkpoint_17_is_refused : open_answer (with_so_many 16) (asks 0 (codes "no") (Some (sized 16 (pos 0)))) ≡ Refused (all_taken 16)
+pub checkpoint_17_is_refused : open_answer (with_so_many 16) (example_ask 0 (codes "no") (Some (example_sized 16 (pos 0)))) ≡ Refused (all_taken 16)
 checkpoint_17_is_refused = refl
 
 -- ---- an unlink
 
 -- the name goes at once, the checkpoint with its last close
-abbrev without_name : RecordState
-without_name = unlinked 1 made
+abbrev example_unlinked : RecordState
+example_unlinked = unlinked 1 example_made
 
-pub unlinked_stays_while_it_is_open : there (swept without_name) ≡ 1 ∷ []
+pub unlinked_stays_while_it_is_open : example_there (swept example_unlinked) ≡ 1 ∷ []
 unlinked_stays_while_it_is_open = refl
 
-pub second_unlink_finds_none : unlink_answer (named ck without_name.entries) ≡ Err (plainly NotExist)
+pub second_unlink_finds_none : unlink_answer (named ck example_unlinked.entries) ≡ Err (plainly NotExist)
 second_unlink_finds_none = refl
 
 -- another takes the name, under the next identity
-pub new_one_takes_the_name : open_answer without_name (asks 0 ck (Some (sized 16 (pos 0)))) ≡ Made 2
+pub new_one_takes_the_name : open_answer example_unlinked (example_ask 0 ck (Some (example_sized 16 (pos 0)))) ≡ Made 2
 new_one_takes_the_name = refl
 
 abbrev old_and_new : RecordState
-old_and_new = making_finished 2 (after_open (call 0 5) (asks 0 ck (Some (sized 16 (pos 0)))) without_name)
+old_and_new = making_finished 2 (after_open (example_call 0 5) (example_ask 0 ck (Some (example_sized 16 (pos 0)))) example_unlinked)
 
 pub name_is_of_the_new_one : identity_in (named ck old_and_new.entries) ≡ Some 2
 name_is_of_the_new_one = refl
@@ -152,27 +152,27 @@ name_is_of_the_new_one = refl
 pub unlinked_keeps_no_retention : retain_answer (entry_of 1 old_and_new.entries) ≡ Err (plainly BadOperation)
 unlinked_keeps_no_retention = refl
 
-pub last_close_deletes_the_unlinked : there (swept (closed 1 0 old_and_new)) ≡ 2 ∷ []
+pub last_close_deletes_the_unlinked : example_there (swept (closed 1 0 old_and_new)) ≡ 2 ∷ []
 last_close_deletes_the_unlinked = refl
 
 -- ---- a retention of 10
 
 abbrev kept_10 : RecordState
-kept_10 = making_finished 1 (after_open (call 0 2) (asks 0 ck (Some (sized 16 (pos 10)))) two_clients)
+kept_10 = making_finished 1 (after_open (example_call 0 2) (example_ask 0 ck (Some (example_sized 16 (pos 10)))) two_clients)
 
--- closed at 5, it is there at 14 and not at 15
+-- closed at 5, it is example_there at 14 and not at 15
 abbrev closed_at_5 : RecordState
 closed_at_5 = closed 1 0 (moved (pos 5) kept_10)
 
-pub kept_before_its_end : there (moved (pos 14) closed_at_5) ≡ 1 ∷ []
+pub kept_before_its_end : example_there (moved (pos 14) closed_at_5) ≡ 1 ∷ []
 kept_before_its_end = refl
 
-pub gone_at_its_end : there (moved (pos 15) closed_at_5) ≡ []
+pub gone_at_its_end : example_there (moved (pos 15) closed_at_5) ≡ []
 gone_at_its_end = refl
 
--- opened by two at 14 and closed by both, at 14 and at 16, it is there at 25 and not at 26
+-- opened by two at 14 and closed by both, at 14 and at 16, it is example_there at 25 and not at 26
 abbrev open_again : RecordState
-open_again = after_open (call 1 8) (asks 1 ck None) (after_open (call 0 4) (asks 0 ck None) (moved (pos 14) closed_at_5))
+open_again = after_open (example_call 1 8) (example_ask 1 ck None) (after_open (example_call 0 4) (example_ask 0 ck None) (moved (pos 14) closed_at_5))
 
 pub first_close_leaves_the_moment : closed_last 1 (closed 1 0 open_again) ≡ Some (pos 5)
 first_close_leaves_the_moment = refl
@@ -183,10 +183,10 @@ closed_at_16 = closed 1 1 (moved (pos 16) (closed 1 0 open_again))
 pub last_close_sets_the_moment : closed_last 1 closed_at_16 ≡ Some (pos 16)
 last_close_sets_the_moment = refl
 
-pub kept_from_the_last_close : there (moved (pos 25) closed_at_16) ≡ 1 ∷ []
+pub kept_from_the_last_close : example_there (moved (pos 25) closed_at_16) ≡ 1 ∷ []
 kept_from_the_last_close = refl
 
-pub gone_after_the_last_close : open_answer (moved (pos 26) closed_at_16) (asks 0 ck None) ≡ Refused (plainly NotExist)
+pub gone_after_the_last_close : open_answer (moved (pos 26) closed_at_16) (example_ask 0 ck None) ≡ Refused (plainly NotExist)
 gone_after_the_last_close = refl
 
 -- a client that leaves closes all that it has open
@@ -202,5 +202,5 @@ kept_for_ever = retained 1 end_of_time closed_at_5
 pub sum_stops_at_the_end_of_time : option_map retained_until (entry_of 1 kept_for_ever.entries) ≡ Some end_of_time
 sum_stops_at_the_end_of_time = refl
 
-pub kept_at_the_last_moment : there (moved (pos (2 ^ 63 - 2)) kept_for_ever) ≡ 1 ∷ []
+pub kept_at_the_last_moment : example_there (moved (pos (2 ^ 63 - 2)) kept_for_ever) ≡ 1 ∷ []
 kept_at_the_last_moment = refl

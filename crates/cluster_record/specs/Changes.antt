@@ -4,13 +4,13 @@ use Rattle.cluster_record.specs.declared.entries.Entry.{Entry}
 use Rattle.cluster_record.specs.declared.entries.Change.{Change}
 use Rattle.cluster_record.specs.declared.entries.Change.TheVariants.{Made, Referred, Released, Unnamed, Retaining}
 use Rattle.cluster_record.specs.RecordReady.{CanRefer}
-use Rattle.cluster_record.specs.RecordState.{made_with, referred, released, unnamed, retaining}
+use Rattle.cluster_record.specs.RecordState.{made_with, referred, unreferred, unnamed, retaining}
 
 -- what each change makes of an entry
 abbrev pub changed_by : Change → Entry → Entry
 changed_by (Made up c) = made_with up c
 changed_by (Referred c) = referred c
-changed_by (Released c t) = released c t
+changed_by (Released c t) = unreferred c t
 changed_by Unnamed = unnamed
 changed_by (Retaining duration) = retaining duration
 

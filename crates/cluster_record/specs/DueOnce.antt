@@ -1,15 +1,28 @@
--- What a call of one step of the record does next, by the record: a close, an unlink, a setting of the retention.
-use Rattle.std.specs.Prelude.{ℕ, List, Option, Some, None, is_some, if◌then◌else◌}
-use Rattle.ckpt_types.specs.declared.ais_error.AisError.TheVariants.{NotExist, BadOperation, TryAgain}
+-- What a call of one step of the record does next, by the record: an Initialize, a Finalize, a close, an unlink, a setting of the retention.
+use Rattle.std.specs.Prelude.{ℕ, List, length, Option, Some, None, is_some, nat_le, if◌then◌else◌, ℤ}
+use Rattle.ckpt_types.specs.declared.ais_error.AisError.TheVariants.{NotExist, BadOperation, TryAgain, NoResources}
 use Rattle.ckpt_types.specs.declared.answers.Answer.TheVariants as answers
-use Rattle.ckpt_types.specs.declared.answers.Cause.TheVariants.{Plain, Holder}
+use Rattle.ckpt_types.specs.declared.answers.Cause.TheVariants.{Plain, Holder, Count}
 use Rattle.ckpt_types.specs.declared.answers.Outcome.TheVariants.{Done, Refused}
 use Rattle.ckpt_types.specs.declared.identities.CallId.{CallId}
+use Rattle.ckpt_types.specs.Limits.{clients_max}
 use Rattle.node_msgs.specs.declared.next.Next.{Next}
 use Rattle.node_msgs.specs.declared.next.Next.TheVariants.{Event, End}
 use Rattle.node_msgs.specs.declared.next.RecordStep.TheVariants as events
 use Rattle.cluster_record.specs.declared.entries.Entry.{Entry}
 use Rattle.cluster_record.specs.RecordState.{RecordState, entry_of, named}
+
+-- an Initialize on a node, a Finalize, a close of a checkpoint, an unlink of a name, and a setting of a checkpoint's retention
+pub data OneStep : Type 0 where
+  Enter : ℕ → OneStep
+  Leave : OneStep
+  Close : ℕ → OneStep
+  Unlink : List ℕ → OneStep
+  Retain : ℕ → ℤ → OneStep
+
+-- no more clients become live than may be
+abbrev pub enter_next : RecordState → Next
+enter_next R = if nat_le clients_max (length R.clients) then End (Refused NoResources (Count clients_max)) else Event events.Enter
 
 -- a close of a checkpoint that is gone has nothing left to do
 abbrev pub close_of : Option Entry → Next
@@ -42,3 +55,11 @@ retain_of (Some e) = if is_some e.name then Event events.Retain else End (Refuse
 -- what is next of a setting of this checkpoint's retention
 abbrev pub retain_next : RecordState → ℕ → Next
 retain_next R k = retain_of (entry_of k R.entries)
+
+-- what is next of a call of one step
+abbrev pub once_next : RecordState → OneStep → Next
+once_next R (Enter r) = enter_next R
+once_next R Leave = Event events.Leave
+once_next R (Close k) = close_next R k
+once_next R (Unlink name) = unlink_next R name
+once_next R (Retain k duration) = retain_next R k

@@ -20,7 +20,7 @@ use Rattle.cluster_record.specs.declared.calls.Making.{Making}
 use Rattle.ckpt_types.specs.Attributes.{same_but_retention}
 use Rattle.ckpt_types.specs.Limits.{handles_max, checkpoints_max}
 use Rattle.cluster_record.specs.LookUps.{at_ckpt}
-use Rattle.cluster_record.specs.RecordState.{RecordState, named, no_nodes, created, opened, finished, undone}
+use Rattle.cluster_record.specs.RecordState.{RecordState, named, no_nodes, created_by_ask, opened, finished, undone}
 use Rattle.ckpt_types.specs.declared.calls.OpenAsk.{OpenAsk}
 use Rattle.cluster_record.specs.StepDone.{StepDone, first_lacking, set_node, incarnation_of}
 
@@ -137,7 +137,7 @@ making_ckpt (Some m) = Some m.ckpt
 
 -- what the record becomes by a step of a call
 abbrev pub open_event : CallId → OpenState → Option ℕ → RecordStep → RecordState → RecordState
-open_event call o k events.Create R = created call o.ask R
+open_event call o k events.Create R = created_by_ask call o.ask R
 open_event call o k events.Open R = at_ckpt k R (λ k. opened k o.ask.client R)
 open_event call o k events.Finish R = at_ckpt k R (λ k. finished k o.ask.client R)
 open_event call o k events.Undo R = at_ckpt k R (λ k. undone k R)

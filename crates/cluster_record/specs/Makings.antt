@@ -1,8 +1,9 @@
 -- The end of a making, by the call whose it is.
-use Rattle.std.specs.Prelude.{◌≡◌, ℕ, Option, Some, None}
+use Rattle.std.specs.Prelude.{◌≡◌, ℕ, Option, Some, None, Bool, false, find}
 use Rattle.ckpt_types.specs.declared.identities.CallId.{CallId}
 use Rattle.cluster_record.specs.declared.entries.Entry.{Entry}
-use Rattle.cluster_record.specs.Calls.{client_of}
+use Rattle.cluster_record.specs.Calls.{same_call, client_of}
+use Rattle.cluster_record.specs.LookUps.{identity_in}
 use Rattle.cluster_record.specs.RecordState.{RecordState, entry_of, finished, undone}
 
 -- the call that is making a checkpoint, where one is
@@ -37,3 +38,12 @@ IsOf c (Some call) = client_of call ≡ c
 abbrev pub IsMakingOf : RecordState → ℕ → Option ℕ → Type 0
 IsMakingOf R c None = Unit {0}
 IsMakingOf R c (Some k) = IsOf c (making_call (entry_of k R.entries))
+
+-- the call that is making a checkpoint, where one is, is this one
+abbrev pub is_by : CallId → Option CallId → Bool
+is_by call None = false
+is_by call (Some maker) = same_call maker call
+
+-- the checkpoint that a call is making
+abbrev pub making_of : CallId → RecordState → Option ℕ
+making_of call R = identity_in (find (λ e. is_by call e.making) R.entries)

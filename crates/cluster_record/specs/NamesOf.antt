@@ -1,6 +1,6 @@
 -- The names of a record's checkpoints, as its table of names has them.
 use Rattle.std.specs.Prelude.{ℕ, List, [], ◌∷◌, ◌++◌, Option, Some, None, Bool, not, ◌==◌, if◌then◌else◌}
-use Rattle.name_table.specs.Table.{NamedCkpt, unlinked}
+use Rattle.name_table.specs.Table.{NamedCkpt, name_taken_away}
 use Rattle.cluster_record.specs.declared.entries.Entry.{Entry}
 use Rattle.cluster_record.specs.declared.entries.Staying.{Staying}
 use Rattle.cluster_record.specs.declared.entries.Staying.TheVariants.{Swept, AllBut, NotMadeBy}
@@ -25,7 +25,7 @@ stays_by (NotMadeBy c) = λ e. not (is_call_of c e.making)
 -- a table without this name, where there is one
 abbrev pub without_name : Option (List ℕ) → List NamedCkpt → List NamedCkpt
 without_name None table = table
-without_name (Some name) table = unlinked name table
+without_name (Some name) table = name_taken_away name table
 
 -- a table without the names of the entries that go
 abbrev pub without_gone : (Entry → Bool) → List Entry → List NamedCkpt → List NamedCkpt

@@ -10,7 +10,7 @@ use Rattle.cluster_record.specs.declared.opening.OpenAnswer.{OpenAnswer}
 use Rattle.cluster_record.specs.declared.opening.OpenAnswer.TheVariants.{Opened, Made, Refused}
 use Rattle.cluster_record.specs.DueOpen.{accepts}
 use Rattle.cluster_record.specs.Refusals.{plainly, held_by, all_taken}
-use Rattle.cluster_record.specs.RecordState.{RecordState, named, created, opened}
+use Rattle.cluster_record.specs.RecordState.{RecordState, named, created_by_ask, opened}
 
 -- what is in the making is not opened by another call, and what is there only with the attributes that it has
 abbrev pub answer_unless : Option CallId → Option CreationAttributes → Entry → OpenAnswer
@@ -38,7 +38,7 @@ open_answer R ask = answer_named R ask.attrs (named ask.name R.entries)
 -- what the record becomes by the answer of an open; a refusal leaves it as it was
 abbrev pub after_answer : CallId → OpenAsk → RecordState → OpenAnswer → RecordState
 after_answer call ask R (Opened k added) = opened k ask.client R
-after_answer call ask R (Made k) = created call ask R
+after_answer call ask R (Made k) = created_by_ask call ask R
 after_answer call ask R (Refused refused) = R
 
 -- what the record becomes by an open

@@ -162,8 +162,8 @@ created_as call name None R = R
 created_as call name (Some a) R = record R { last_identity = R.last_identity + 1; entries = R.entries ++ new_entry call name a R ∷ [] }
 
 -- a checkpoint gets the next identity and is in the making, with the name and the attributes that an open asks for
-abbrev pub created : CallId → OpenAsk → RecordState → RecordState
-created call ask R = created_as call ask.name ask.attrs R
+abbrev pub created_by_ask : CallId → OpenAsk → RecordState → RecordState
+created_by_ask call ask R = created_as call ask.name ask.attrs R
 
 -- one reference of a client more
 abbrev pub referred : ℕ → Entry → Entry
@@ -192,12 +192,12 @@ abbrev pub idle_from : ℤ → Entry → Entry
 idle_from t e = if has_references e then e else record e { idle = t }
 
 -- one reference of a client fewer; nothing changes where it has none
-abbrev pub released : ℕ → ℤ → Entry → Entry
-released c t e = if slice_index e.references c == 0 then e else idle_from t (record e { references = slice_set e.references c (slice_index e.references c - 1) })
+abbrev pub unreferred : ℕ → ℤ → Entry → Entry
+unreferred c t e = if slice_index e.references c == 0 then e else idle_from t (record e { references = slice_set e.references c (slice_index e.references c - 1) })
 
 -- a client closes a checkpoint once
 abbrev pub closed : ℕ → ℕ → RecordState → RecordState
-closed k c R = record R { entries = change_key identity_of k (released c R.moment) R.entries }
+closed k c R = record R { entries = change_key identity_of k (unreferred c R.moment) R.entries }
 
 -- no name, so that another checkpoint may take it
 abbrev pub unnamed : Entry → Entry

@@ -3,6 +3,7 @@ use Rattle.std.specs.Prelude.{ℕ, ◌+◌, List, [], ◌∷◌, Option, Some, N
 use Rattle.node_msgs.specs.declared.steps.Verb.{Verb}
 use Rattle.node_msgs.specs.declared.steps.StepReply.{StepReply}
 use Rattle.node_msgs.specs.declared.steps.StepReply.TheVariants as words
+use Rattle.cluster_record.specs.declared.entries.Entry.{Entry}
 use Rattle.cluster_record.specs.RecordState.{RecordState, entry_of, complete_of, is_live, no_nodes}
 
 -- a step that was made, as its driver is told of it
@@ -11,7 +12,11 @@ pub record StepDone : Type 0 where
   pub ckpt : Option ℕ
   pub node : Option ℕ
   pub reply : StepReply
+  -- how many updates the replica has of which a slot was claimed; 0 at any other step
+  pub count : ℕ
   pub moment : ℤ
+  -- the generation of the checkpoint, or 0
+  pub generation : ℕ
   -- by node, the incarnation with which it was up, and with which it was complete, or 0
   pub up : List ℕ
   pub complete : List ℕ
@@ -23,6 +28,16 @@ abbrev pub complete_at : RecordState → Option ℕ → List ℕ
 complete_at R None = no_nodes
 complete_at R (Some k) = complete_of (entry_of k R.entries)
 
+-- the generation of a checkpoint; 0 where it is gone
+abbrev pub generation_in : Option Entry → ℕ
+generation_in None = 0
+generation_in (Some e) = e.generation
+
+-- the generation of the step's checkpoint; 0 where it names none
+abbrev pub generation_at : RecordState → Option ℕ → ℕ
+generation_at R None = 0
+generation_at R (Some k) = generation_in (entry_of k R.entries)
+
 -- the reply names a call as holder, which is live
 abbrev pub names_live : RecordState → StepReply → Bool
 names_live R (words.Held by) = is_live R by
@@ -30,7 +45,22 @@ names_live R _ = false
 
 -- a step of which the record tells the rest
 abbrev pub done_of : RecordState → Verb → Option ℕ → Option ℕ → StepReply → StepDone
-done_of R verb k r reply = record { verb = verb; ckpt = k; node = r; reply = reply; moment = R.moment; up = R.up; complete = complete_at R k; live = names_live R reply }
+done_of R verb k r reply = record {
+  verb = verb;
+  ckpt = k;
+  node = r;
+  reply = reply;
+  count = 0;
+  moment = R.moment;
+  generation = generation_at R k;
+  up = R.up;
+  complete = complete_at R k;
+  live = names_live R reply;
+}
+
+-- the same, of a claim that told so many updates
+abbrev pub counting : ℕ → StepDone → StepDone
+counting n d = record d { count = n }
 
 -- the node is among the first, with an incarnation that the second does not have there
 abbrev pub lacks : ℕ → ℕ → Bool

@@ -7,7 +7,7 @@ ghost use Rattle.cluster_record.specs.Numbers.{may_rise, entry_may_rise};
 ghost use Rattle.cluster_record.specs.Changes.{changed_by, CanChange};
 ghost use Rattle.cluster_record.specs.NamesOf.{stays_by, without_name, without_gone};
 ghost use Rattle.cluster_record.specs.Places.{change_key, place_key};
-ghost use Rattle.cluster_record.specs.RecordState.{no_nodes, no_references, identity_of, entry_of, first_complete, stays, has_references, referred, made_with, idle_from, released, released_all, is_call_of};
+ghost use Rattle.cluster_record.specs.RecordState.{no_nodes, no_references, identity_of, entry_of, first_complete, stays, has_references, referred, made_with, idle_from, unreferred, released_all, is_call_of};
 
 use ckpt_types::{
     ActorName, Bytes, CHECKPOINTS_MAX, CLIENT_NUMBERS, CallId, CkptId, CreationAttributes, Moment,
@@ -81,7 +81,7 @@ impl Entry {
 
     // One reference of the client fewer.
     fn release(&mut self, client: u8, now: Moment)
-        ensures { self.new ≡ released client now self.old }
+        ensures { self.new ≡ unreferred client now self.old }
     {
         if count_at(&self.references, client) != 0 {
             take_one(&mut self.references, client);

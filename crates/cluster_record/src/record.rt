@@ -12,7 +12,7 @@ ghost use Rattle.cluster_record.specs.Refusals.{enter_answer, all_taken, plainly
 ghost use Rattle.ckpt_types.specs.Limits.{nodes_max, client_numbers, clients_max, checkpoints_max};
 ghost use Rattle.cluster_record.specs.Places.{find_key};
 ghost use Rattle.cluster_record.specs.RecordReady.{CanBecomeLive, CanOpen, CanCreate, CanRefer, CanReferAt};
-ghost use Rattle.cluster_record.specs.RecordState.{empty_record, entry_of, named, complete_of, client_key, is_live_client, is_up, is_live, is_live_from, swept, first_nodes, brought_up, entered, created, IsMomentFrom, moved, opened, closed, unlinked, retained, departed};
+ghost use Rattle.cluster_record.specs.RecordState.{empty_record, entry_of, named, complete_of, client_key, is_live_client, is_up, is_live, is_live_from, swept, first_nodes, brought_up, entered, created_by_ask, IsMomentFrom, moved, opened, closed, unlinked, retained, departed};
 
 use crate::clients::{LiveClient, copy_clients, find_client, number_of, take_out};
 use crate::entries::{
@@ -348,7 +348,7 @@ impl Record {
         requires can { CanOpen ask self.old }
         requires room { CanCreate self.old }
         requires absent { named ask.name self.old.entries ≡ None }
-        ensures { self.new ≡ created call ask self.old }
+        ensures { self.new ≡ created_by_ask call ask self.old }
     {
         let Some(attributes) = ask.attrs else {
             return;

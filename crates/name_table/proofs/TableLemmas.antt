@@ -3,8 +3,8 @@ use Rattle.std.proofs.Common.{◌≡◌, ◌≢◌, ℕ, List, [], ◌∷◌, �
 use Rattle.std.specs.Cmp.Lexicographic.{pointwise, bytes_decides}
 use Rattle.std.specs.Map.{lookup}
 use Rattle.std.proofs.lemmas.Option.{none-some}
-use Rattle.name_table.specs.Table.{NamedCkpt, is_called, found, linked, unlinked, EachOnce, OthersStay}
-use Rattle.name_table.specs.Kept.{named, table_of}
+use Rattle.name_table.specs.Table.{NamedCkpt, is_called, found, linked, name_taken_away, EachOnce, OthersStay}
+use Rattle.name_table.specs.Kept.{named_ckpt, table_of}
 
 -- a checkpoint is called by its name and no other
 pub is_called_decides : (name : List ℕ) (ckpt : NamedCkpt) → Decides (is_called name ckpt) (name ≡ ckpt.name)
@@ -23,17 +23,17 @@ is_called-other other ckpt apart = by (is_called other ckpt) refl
     by false e = e
 
 -- what is found at the first checkpoint and at those after it
-found_at : (b : Bool) (ckpt : NamedCkpt) (rest : Option NamedCkpt) → option_map (λ c. c.identity) (cond b (Some ckpt) rest) ≡ cond b (Some ckpt.identity) (option_map (λ c. c.identity) rest)
-found_at true ckpt rest = refl
-found_at false ckpt rest = refl
+identity_found : (b : Bool) (ckpt : NamedCkpt) (rest : Option NamedCkpt) → option_map (λ c. c.identity) (cond b (Some ckpt) rest) ≡ cond b (Some ckpt.identity) (option_map (λ c. c.identity) rest)
+identity_found true ckpt rest = refl
+identity_found false ckpt rest = refl
 
 pub found-cons : (name : List ℕ) (ckpt : NamedCkpt) (table : List NamedCkpt) → found name (ckpt ∷ table) ≡ cond (is_called name ckpt) (Some ckpt.identity) (found name table)
-found-cons name ckpt table = found_at (is_called name ckpt) ckpt (find (is_called name) table)
+found-cons name ckpt table = identity_found (is_called name ckpt) ckpt (find (is_called name) table)
 
 -- what a map finds is found in its table
 pub found_in_entries : (name : List ℕ) (entries : List (List ℕ × ℕ)) → found name (table_of entries) ≡ lookup (pointwise nat_eq name) entries
 found_in_entries name [] = refl
-found_in_entries name (e ∷ entries) = found-cons name (named e) (table_of entries) ∙ ap (cond (is_called name (named e)) (Some e.1)) (found_in_entries name entries)
+found_in_entries name (e ∷ entries) = found-cons name (named_ckpt e) (table_of entries) ∙ ap (cond (is_called name (named_ckpt e)) (Some e.1)) (found_in_entries name entries)
 
 -- a name that is absent is not that of the first checkpoint, and absent from the others
 absent_at : (b : Bool) (identity : ℕ) (rest : Option ℕ) → cond b (Some identity) rest ≡ None → (b ≡ false) × (rest ≡ None)
@@ -57,29 +57,29 @@ found-linked-other name identity (ckpt ∷ table) other apart =
     found-cons other ckpt _ ∙ ap (cond (is_called other ckpt) (Some ckpt.identity)) (found-linked-other name identity table other apart) ∙ sym (found-cons other ckpt table)
 
 -- a name that was taken out is not found
-pub found-unlinked : (name : List ℕ) (table : List NamedCkpt) → found name (unlinked name table) ≡ None
+pub found-unlinked : (name : List ℕ) (table : List NamedCkpt) → found name (name_taken_away name table) ≡ None
 found-unlinked name [] = refl
 found-unlinked name (ckpt ∷ table) =
-    let rest : found name (unlinked name table) ≡ None = found-unlinked name table in
-    elim (is_called name ckpt) as (λ b. is_called name ckpt ≡ b → found name (cond (not b) (ckpt ∷ unlinked name table) (unlinked name table)) ≡ None) [
+    let rest : found name (name_taken_away name table) ≡ None = found-unlinked name table in
+    elim (is_called name ckpt) as (λ b. is_called name ckpt ≡ b → found name (cond (not b) (ckpt ∷ name_taken_away name table) (name_taken_away name table)) ≡ None) [
       | true ↦ λ e. rest
-      | false ↦ λ e. found-cons name ckpt (unlinked name table) ∙ rw e rest
+      | false ↦ λ e. found-cons name ckpt (name_taken_away name table) ∙ rw e rest
     ] refl
 
 -- and each other name is found as before
-pub found-unlinked-other : (name : List ℕ) (table : List NamedCkpt) → OthersStay name table (unlinked name table)
+pub found-unlinked-other : (name : List ℕ) (table : List NamedCkpt) → OthersStay name table (name_taken_away name table)
 found-unlinked-other name [] other apart = refl
 found-unlinked-other name (ckpt ∷ table) other apart =
-    let rest : found other (unlinked name table) ≡ found other table = found-unlinked-other name table other apart in
-    elim (is_called name ckpt) as (λ b. is_called name ckpt ≡ b → found other (cond (not b) (ckpt ∷ unlinked name table) (unlinked name table)) ≡ found other (ckpt ∷ table)) [
+    let rest : found other (name_taken_away name table) ≡ found other table = found-unlinked-other name table other apart in
+    elim (is_called name ckpt) as (λ b. is_called name ckpt ≡ b → found other (cond (not b) (ckpt ∷ name_taken_away name table) (name_taken_away name table)) ≡ found other (ckpt ∷ table)) [
       | true ↦ λ e.
           let differs : other ≢ ckpt.name = λ same. apart (same ∙ sym ((is_called_decides name ckpt).0 e)) in
           rest ∙ sym (found-cons other ckpt table ∙ rw (is_called-other other ckpt differs) refl)
-      | false ↦ λ e. found-cons other ckpt (unlinked name table) ∙ ap (cond (is_called other ckpt) (Some ckpt.identity)) rest ∙ sym (found-cons other ckpt table)
+      | false ↦ λ e. found-cons other ckpt (name_taken_away name table) ∙ ap (cond (is_called other ckpt) (Some ckpt.identity)) rest ∙ sym (found-cons other ckpt table)
     ] refl
 
 -- to take out a name that is absent changes nothing
-pub unlinked-absent : (name : List ℕ) (table : List NamedCkpt) → found name table ≡ None → unlinked name table ≡ table
+pub unlinked-absent : (name : List ℕ) (table : List NamedCkpt) → found name table ≡ None → name_taken_away name table ≡ table
 unlinked-absent name [] absent = refl
 unlinked-absent name (ckpt ∷ table) absent =
     let (first, rest) = absent-cons name ckpt table absent in

@@ -5,12 +5,12 @@ use Rattle.name_table.specs.Table.{NamedCkpt, EachOnce, places}
 use Rattle.name_table.specs.declared.names.Names.TheInside.{Inside}
 
 -- the entry, as callers see it
-abbrev pub named : List ℕ × ℕ → NamedCkpt
-named entry = record { name = entry.0; identity = entry.1 }
+abbrev pub named_ckpt : List ℕ × ℕ → NamedCkpt
+named_ckpt entry = record { name = entry.0; identity = entry.1 }
 
 -- the table that these entries make
 abbrev pub table_of : List (List ℕ × ℕ) → List NamedCkpt
-table_of entries = map named entries
+table_of entries = map named_ckpt entries
 
 -- each name stands once, in one of the places, and both maps have room for them all
 pub record HasItsPlaces (names : Inside) : Type 0 where

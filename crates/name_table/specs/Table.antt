@@ -27,8 +27,8 @@ abbrev pub linked : List ℕ → ℕ → List NamedCkpt → List NamedCkpt
 linked name identity table = table ++ record { name = name; identity = identity } ∷ []
 
 -- the table without that name
-abbrev pub unlinked : List ℕ → List NamedCkpt → List NamedCkpt
-unlinked name table = filter (λ ckpt. not (is_called name ckpt)) table
+abbrev pub name_taken_away : List ℕ → List NamedCkpt → List NamedCkpt
+name_taken_away name table = filter (λ ckpt. not (is_called name ckpt)) table
 
 -- each name stands once
 abbrev pub EachOnce : List NamedCkpt → Type 0

@@ -3,7 +3,7 @@ ghost use Rattle.std.specs.Prelude.{◌≡◌, ◌+◌, ◌≤◌, ◌<◌, ◌+
 ghost use Rattle.std.specs.Cmp.Lexicographic.{pointwise};
 ghost use Rattle.indexmap.specs.IndexMap.{index_map_len, get, spare, IsEmpty};
 ghost use Rattle.name_table.specs.Kept.{table_of};
-ghost use Rattle.name_table.specs.Table.{unlinked, EachOnce};
+ghost use Rattle.name_table.specs.Table.{name_taken_away, EachOnce};
 
 use ckpt_types::{Bytes, CkptId};
 use indexmap::IndexMap;
@@ -35,7 +35,7 @@ pub(crate) fn move_others(
     requires empty { IsEmpty to.old }
     requires each_once { EachOnce (table_of from.old.entries) }
     requires room { index_map_len from.old ≤ spare to.old }
-    ensures others { table_of to.new.entries ≡ unlinked name.now (table_of from.old.entries) }
+    ensures others { table_of to.new.entries ≡ name_taken_away name.now (table_of from.old.entries) }
     ensures room { spare to.old ≤ index_map_len to.new + spare to.new }
     ensures emptied { IsEmpty from.new }
     ensures given_back { index_map_len from.old + spare from.old ≤ spare from.new }

@@ -1,6 +1,6 @@
 //! The table of names, whose places are taken beforehand.
 ghost use Rattle.std.specs.Prelude.{◌≡◌, ◌<◌, ◌≤◌, [], length, Some, None, IfOk};
-ghost use Rattle.name_table.specs.Table.{found, linked, unlinked, EachOnce, OthersStay, places};
+ghost use Rattle.name_table.specs.Table.{found, linked, name_taken_away, EachOnce, OthersStay, places};
 
 use crate::moves::{move_others, put_last};
 use ckpt_types::{Bytes, CHECKPOINTS_MAX, CkptId};
@@ -72,7 +72,7 @@ impl Names {
     /// Takes a name out, and gives the checkpoint that it was linked to. It takes no memory.
     pub fn unlink(&mut self, name: &Bytes) -> Option<CkptId>
         ensures found { result ≡ found name.now self.old }
-        ensures unlinked { self.new ≡ unlinked name.now self.old }
+        ensures unlinked { self.new ≡ name_taken_away name.now self.old }
         ensures gone { found name.now self.new ≡ None }
         ensures others { OthersStay name.now self.old self.new }
     {
@@ -83,7 +83,7 @@ impl Names {
 
     /// Takes the name of these bytes out, where it is linked. It takes no memory.
     pub fn take_out(&mut self, name: &[u8])
-        ensures unlinked { self.new ≡ unlinked name.now self.old }
+        ensures unlinked { self.new ≡ name_taken_away name.now self.old }
         ensures gone { found name.now self.new ≡ None }
         ensures others { OthersStay name.now self.old self.new }
     {

@@ -15,8 +15,8 @@ abbrev pub fresh_sink : ℕ → List ℕ → SinkInMemory
 fresh_sink room fails = record { held = []; room = room; calls = 0; fails = fails; faults = 0 }
 
 -- the write is one of those that fail, or there are bytes to write and the room is full
-abbrev pub IsRefused : SinkInMemory → List ℕ → Type 0
-IsRefused s piece = Contains s.fails s.calls ⊎ ((0 < length piece) × (length s.held ≡ s.room))
+abbrev pub IsFailing : SinkInMemory → List ℕ → Type 0
+IsFailing s piece = Contains s.fails s.calls ⊎ ((0 < length piece) × (length s.held ≡ s.room))
 
 -- how many bytes of a piece fit
 abbrev pub fitting : SinkInMemory → List ℕ → ℕ

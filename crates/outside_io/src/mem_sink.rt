@@ -3,7 +3,7 @@ ghost use Rattle.std.specs.Prelude.{◌≡◌, ◌≤◌, ◌↔◌, length, Som
 ghost use Rattle.std.specs.Io.KnownBytes.{WriteAppends};
 ghost use Rattle.outside_io.specs.Causes.{HasCause};
 ghost use Rattle.outside_io.specs.Ends.{TakesSome};
-ghost use Rattle.outside_io.specs.MemSink.{fresh_sink, fitting, sink_after, IsRefused};
+ghost use Rattle.outside_io.specs.MemSink.{fresh_sink, fitting, sink_after, IsFailing};
 
 use crate::failed::Failed;
 use crate::front::append_front;
@@ -67,7 +67,7 @@ impl Sink for MemSink {
         ensures cause { HasCause self.old.faults self.new.faults result }
 
         // Which writes fail, and all that a write does.
-        ensures refused { IsErr result ↔ IsRefused self.old bytes.now }
+        ensures refused { IsErr result ↔ IsFailing self.old bytes.now }
         ensures fits { IfOk result (λ count. count ≡ fitting self.old bytes.now) }
         ensures after { self.new ≡ sink_after self.old bytes.now result }
     {

@@ -7,7 +7,9 @@ use Rattle.run_labels.specs.declared.labels.PutReply.{PutReply}
 use Rattle.run_labels.specs.declared.labels.PutReply.TheVariants as puts
 use Rattle.run_labels.specs.declared.words.LineWord.{LineWord}
 use Rattle.run_labels.specs.declared.words.Said.{Said}
-use Rattle.run_labels.specs.Texts.{node_text, ckpt_text, call_text, who_text}
+use Rattle.ckpt_types.specs.declared.words.FirstWord.TheVariants as first
+use Rattle.ckpt_types.specs.FirstWord.{first_word_text}
+use Rattle.ckpt_types.specs.Spelling.{node_text, ckpt_text, call_text, who_text}
 use Rattle.run_labels.specs.Words.{line_word_text, said_text}
 
 -- whether the node failed, or was not up
@@ -17,7 +19,7 @@ failed_text false = codes "DOWN"
 
 -- `n1 fail OK`
 abbrev pub fail_line : ℕ → Bool → List ℕ
-fail_line node failed = node_text node ++ codes " fail " ++ failed_text failed ++ codes "\n"
+fail_line node failed = node_text node ++ codes " " ++ first_word_text first.Fail ++ codes " " ++ failed_text failed ++ codes "\n"
 
 -- the incarnation in which the node came up, or that it was up
 abbrev pub joined_text : Option ℕ → List ℕ
@@ -26,7 +28,7 @@ joined_text (Some incarnation) = codes "OK " ++ decimal incarnation
 
 -- `n1 join OK 2`
 abbrev pub join_line : ℕ → Option ℕ → List ℕ
-join_line node incarnation = node_text node ++ codes " join " ++ joined_text incarnation ++ codes "\n"
+join_line node incarnation = node_text node ++ codes " " ++ first_word_text first.Join ++ codes " " ++ joined_text incarnation ++ codes "\n"
 
 -- how a pull was answered
 abbrev pub pulled_text : PullReply → List ℕ
@@ -36,7 +38,7 @@ pulled_text pulls.Nothing = codes "NONE"
 
 -- `K1 pull OK 1`
 abbrev pub pull_line : ℕ → PullReply → List ℕ
-pull_line ckpt reply = ckpt_text ckpt ++ codes " pull " ++ pulled_text reply ++ codes "\n"
+pull_line ckpt reply = ckpt_text ckpt ++ codes " " ++ first_word_text first.Pull ++ codes " " ++ pulled_text reply ++ codes "\n"
 
 -- how a put was answered
 abbrev pub put_text : PutReply → List ℕ
@@ -47,7 +49,7 @@ put_text (puts.Old generation count) = codes "OLD " ++ decimal generation ++ cod
 
 -- `K1 put n1 OK 1`
 abbrev pub put_line : ℕ → ℕ → PutReply → List ℕ
-put_line ckpt node reply = ckpt_text ckpt ++ codes " put " ++ node_text node ++ codes " " ++ put_text reply ++ codes "\n"
+put_line ckpt node reply = ckpt_text ckpt ++ codes " " ++ first_word_text first.Put ++ codes " " ++ node_text node ++ codes " " ++ put_text reply ++ codes "\n"
 
 -- `c0 write BUSY`
 abbrev pub word_line : Who → LineWord → Said → List ℕ

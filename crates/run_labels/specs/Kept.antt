@@ -3,6 +3,6 @@ use Rattle.std.specs.Prelude.{ℕ, List}
 use Rattle.run_labels.specs.declared.labels.Label.{Label}
 
 -- the labels that are there, and the room for more of them
-pub record Kept : Type 0 where
+pub record KeptLabels : Type 0 where
   pub labels : List Label
   pub spare : ℕ

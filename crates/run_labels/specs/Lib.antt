@@ -1,10 +1,8 @@
 pub mod Events
 pub mod Kept
 pub mod Lines
-pub mod OpWord
 pub mod Outcomes
 pub mod RunLog
 pub mod Shows
 pub mod Steps
-pub mod Texts
 pub mod Words

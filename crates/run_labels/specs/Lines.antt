@@ -5,7 +5,7 @@ use Rattle.run_labels.specs.declared.details.Details.TheVariants.{Nothing}
 use Rattle.run_labels.specs.declared.labels.Label.{Label}
 use Rattle.run_labels.specs.declared.labels.Label.TheVariants as labels
 use Rattle.run_labels.specs.Events.{fail_line, join_line, pull_line, put_line, word_line}
-use Rattle.run_labels.specs.OpWord.{word_of_op}
+use Rattle.ckpt_types.specs.OpWord.{word_of_op}
 use Rattle.run_labels.specs.Outcomes.{end_text, stepped_end_text}
 use Rattle.run_labels.specs.Shows.{shown_lines}
 use Rattle.run_labels.specs.Steps.{step_line, begin_line, moment_line, where_asked}

@@ -1,5 +1,5 @@
 -- How the end of a call is printed.
-use Rattle.std.specs.Prelude.{ℕ, List, [], ◌∷◌, ◌++◌, Option, Some, None, Bool, true, false, if◌then◌else◌, codes, decimal}
+use Rattle.std.specs.Prelude.{ℕ, List, [], ◌++◌, Option, Some, None, Bool, true, false, if◌then◌else◌, codes, decimal}
 use Rattle.std.specs.List.{flat_map}
 use Rattle.ckpt_types.specs.declared.ais_error.AisError.{AisError}
 use Rattle.ckpt_types.specs.declared.ais_error.AisError.TheVariants as errors
@@ -13,18 +13,19 @@ use Rattle.ckpt_types.specs.declared.attributes.CreationAttributes.{CreationAttr
 use Rattle.ckpt_types.specs.declared.identities.CallId.{CallId}
 use Rattle.ckpt_types.specs.declared.sections.CheckpointDescriptor.{CheckpointDescriptor}
 use Rattle.ckpt_types.specs.declared.sections.SectionDescriptor.{SectionDescriptor}
-use Rattle.ckpt_types.specs.AisError.{word_of}
+use Rattle.ckpt_types.specs.AisError.{error_text}
 use Rattle.ckpt_types.specs.Limits.{release, major_max, minor_answered}
 use Rattle.run_labels.specs.declared.details.Details.{Details}
 use Rattle.run_labels.specs.declared.details.Details.TheVariants as beside
-use Rattle.run_labels.specs.declared.words.OpWord.{OpWord}
-use Rattle.run_labels.specs.declared.words.OpWord.TheVariants as words
-use Rattle.run_labels.specs.OpWord.{op_text}
-use Rattle.run_labels.specs.Texts.{call_text, ckpt_text, time_text, bytes_text, state_text}
+use Rattle.ckpt_types.specs.declared.words.OpWord.{OpWord}
+use Rattle.ckpt_types.specs.declared.words.OpWord.TheVariants as words
+use Rattle.ckpt_types.specs.OpWord.{op_text}
+use Rattle.ckpt_types.specs.Spelling.{version_text, call_text, ckpt_text, time_text, bytes_text}
+use Rattle.run_labels.specs.Words.{state_text}
 
 -- the version that the service speaks
-unfoldable pub version_text : List ℕ
-version_text = codes " " ++ release ∷ codes "." ++ decimal major_max ++ codes "." ++ decimal minor_answered
+unfoldable pub spoken_text : List ℕ
+spoken_text = codes " " ++ version_text (record { release = release; major = major_max; minor = minor_answered })
 
 -- what shows that a refusal is right
 abbrev pub cause_text : Cause → List ℕ
@@ -37,7 +38,7 @@ cause_text (causes.Count count) = codes " " ++ decimal count
 
 -- a refusal of the version tells the one that the service speaks
 unfoldable pub told_version : AisError → List ℕ
-told_version errors.Version = version_text
+told_version errors.Version = spoken_text
 told_version _ = []
 
 -- one piece
@@ -83,7 +84,7 @@ details_text (beside.Status status) = status_text status
 -- the details of an answer, behind `OK`
 abbrev pub answer_text : Answer → Details → List ℕ
 answer_text answers.Nothing details = []
-answer_text answers.Version details = version_text
+answer_text answers.Version details = spoken_text
 answer_text (answers.Opened ckpt) details = codes " " ++ ckpt_text ckpt
 answer_text answers.Created details = details_text details
 answer_text answers.Pieces details = details_text details
@@ -106,7 +107,7 @@ done_line call op answer details = head_text call op ++ answered_text answer det
 
 -- the result line of a call that was refused
 abbrev pub refusal_line : CallId → OpWord → AisError → Cause → List ℕ
-refusal_line call op error cause = head_text call op ++ codes " " ++ word_of error ++ told_version error ++ cause_text cause ++ codes "\n"
+refusal_line call op error cause = head_text call op ++ codes " " ++ error_text error ++ told_version error ++ cause_text cause ++ codes "\n"
 
 -- the result line of a call that ended; one that was abandoned or not begun has none
 abbrev pub result_line : CallId → OpWord → Outcome → Details → List ℕ

@@ -5,7 +5,8 @@ use Rattle.run_labels.specs.declared.shown.ShownReplica.{ShownReplica}
 use Rattle.run_labels.specs.declared.shown.ShownSection.{ShownSection}
 use Rattle.run_labels.specs.declared.shown.ShownSlot.{ShownSlot}
 use Rattle.run_labels.specs.declared.shown.ShownSlot.TheVariants as slots
-use Rattle.run_labels.specs.Texts.{node_text, ckpt_text, call_text, time_text, bytes_text, state_text}
+use Rattle.ckpt_types.specs.Spelling.{node_text, ckpt_text, call_text, time_text, bytes_text}
+use Rattle.run_labels.specs.Words.{state_text}
 
 -- what stands on a replica for a call
 abbrev pub slot_text : ShownSlot → List ℕ

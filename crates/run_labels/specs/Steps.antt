@@ -3,10 +3,12 @@ use Rattle.std.specs.Prelude.{ℕ, ℤ, List, [], ◌++◌, Option, Some, None, 
 use Rattle.ckpt_types.specs.declared.identities.CallId.{CallId}
 use Rattle.node_msgs.specs.declared.steps.StepReply.{StepReply}
 use Rattle.node_msgs.specs.declared.steps.StepReply.TheVariants as replies
-use Rattle.run_labels.specs.declared.words.OpWord.{OpWord}
+use Rattle.ckpt_types.specs.declared.words.OpWord.{OpWord}
 use Rattle.node_msgs.specs.declared.steps.Verb.{Verb}
-use Rattle.run_labels.specs.OpWord.{op_text}
-use Rattle.run_labels.specs.Texts.{node_text, ckpt_text, call_text, time_text}
+use Rattle.ckpt_types.specs.declared.words.FirstWord.TheVariants as first
+use Rattle.ckpt_types.specs.FirstWord.{begin_text, first_word_text}
+use Rattle.ckpt_types.specs.OpWord.{op_text}
+use Rattle.ckpt_types.specs.Spelling.{node_text, ckpt_text, call_text, time_text}
 use Rattle.run_labels.specs.Words.{verb_text}
 
 -- how a step was answered
@@ -45,11 +47,11 @@ step_line call verb ckpt node reply =
 
 -- `+ c0.5 begin write`
 abbrev pub begin_line : CallId → OpWord → List ℕ
-begin_line call op = codes "+ " ++ call_text call ++ codes " begin " ++ op_text op ++ codes "\n"
+begin_line call op = codes "+ " ++ call_text call ++ codes " " ++ begin_text ++ codes " " ++ op_text op ++ codes "\n"
 
 -- `+ at 5`
 abbrev pub moment_line : ℤ → List ℕ
-moment_line moment = codes "+ at " ++ time_text moment ++ codes "\n"
+moment_line moment = codes "+ " ++ first_word_text first.At ++ codes " " ++ time_text moment ++ codes "\n"
 
 -- a line that is printed only where steps are asked for
 abbrev pub where_asked : Bool → List ℕ → List ℕ

@@ -1,4 +1,4 @@
--- The words of steps, and those that answer a line in place of a call.
+-- The words of steps and of states, and those that answer a line in place of a call.
 use Rattle.std.specs.Prelude.{ℕ, List, codes}
 use Rattle.run_labels.specs.declared.words.LineWord.{LineWord}
 use Rattle.run_labels.specs.declared.words.LineWord.TheVariants as lines
@@ -6,7 +6,16 @@ use Rattle.run_labels.specs.declared.words.Said.{Said}
 use Rattle.run_labels.specs.declared.words.Said.TheVariants as said
 use Rattle.node_msgs.specs.declared.steps.Verb.{Verb}
 use Rattle.node_msgs.specs.declared.steps.Verb.TheVariants as verbs
-use Rattle.run_labels.specs.OpWord.{op_text}
+use Rattle.ckpt_types.specs.declared.sections.SectionState.{SectionState}
+use Rattle.ckpt_types.specs.declared.sections.SectionState.TheVariants as states
+use Rattle.ckpt_types.specs.declared.words.FirstWord.TheVariants as first
+use Rattle.ckpt_types.specs.FirstWord.{first_word_text}
+use Rattle.ckpt_types.specs.OpWord.{op_text}
+
+-- whether a section has what was written
+abbrev pub state_text : SectionState → List ℕ
+state_text states.Valid = codes "VALID"
+state_text states.Corrupted = codes "CORRUPTED"
 
 -- what a step does
 abbrev pub verb_text : Verb → List ℕ
@@ -42,8 +51,8 @@ verb_text verbs.Look = codes "look"
 -- the line that a word answers
 abbrev pub line_word_text : LineWord → List ℕ
 line_word_text (lines.Op op) = op_text op
-line_word_text lines.Step = codes "step"
-line_word_text lines.Finish = codes "finish"
+line_word_text lines.Step = first_word_text first.Step
+line_word_text lines.Finish = first_word_text first.Finish
 
 -- the word that answers a line
 abbrev pub said_text : Said → List ℕ

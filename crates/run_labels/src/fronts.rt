@@ -1,11 +1,10 @@
 //! The front of a result line in one piece, where the call has a small number.
 ghost use Rattle.std.specs.Prelude.{◌≡◌, ◌<◌, ◌≤◌, ◌+◌, ◌++◌, codes, length, vec_len, vec_capacity};
-ghost use Rattle.run_labels.specs.OpWord.{op_text};
-ghost use Rattle.run_labels.specs.Texts.{actor_text, call_text};
+ghost use Rattle.ckpt_types.specs.OpWord.{op_text};
+ghost use Rattle.ckpt_types.specs.Spelling.{actor_text, call_text};
 
 use crate::digits::{push_hundreds, push_thousands};
-use crate::words::OpWord;
-use ckpt_types::{ActorName, CallId};
+use ckpt_types::{ActorName, CallId, OpWord};
 
 /// The least number of a call that has more than four digits.
 pub(crate) const LONG_NUMBER: u32 = 10_000;

@@ -1,8 +1,8 @@
 //! The labels of a run: one for each event.
 use crate::details::Details;
 use crate::shown::ShownReplicas;
-use crate::words::{LineWord, OpWord, Said};
-use ckpt_types::{CallId, CkptId, Incarnation, Moment, NodeId, Op, Outcome, Who};
+use crate::words::{LineWord, Said};
+use ckpt_types::{CallId, CkptId, Incarnation, Moment, NodeId, Op, OpWord, Outcome, Who};
 use node_msgs::{StepReply, Verb};
 
 /// How a `pull` line was answered.

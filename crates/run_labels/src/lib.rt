@@ -15,9 +15,10 @@ mod steps;
 mod texts;
 mod words;
 
+pub use ckpt_types::OpWord;
 pub use details::Details;
 pub use labels::{Label, PullReply, PutReply};
 pub use lines::{append_line, render_line};
 pub use log::RunLog;
 pub use shown::{ShownReplica, ShownReplicas, ShownSection, ShownSections, ShownSlot};
-pub use words::{LineWord, OpWord, Said, verb_word};
+pub use words::{LineWord, Said, verb_word};

@@ -1,7 +1,7 @@
 //! The lines that one label prints.
 ghost use Rattle.std.specs.Prelude.{◌≡◌, [], ◌++◌, true, false, IfOk, OnOk};
 ghost use Rattle.run_labels.specs.declared.details.Details.TheVariants.{Nothing};
-ghost use Rattle.run_labels.specs.OpWord.{word_of_op};
+ghost use Rattle.ckpt_types.specs.OpWord.{word_of_op};
 ghost use Rattle.run_labels.specs.Outcomes.{end_text};
 ghost use Rattle.run_labels.specs.Steps.{where_asked, begin_line, step_line, moment_line};
 ghost use Rattle.run_labels.specs.Lines.{line_of};
@@ -11,8 +11,7 @@ use crate::labels::Label;
 use crate::outcomes::{append_begun_end, append_stepped_end};
 use crate::shows::append_shown;
 use crate::steps::{append_begin, append_moment, append_step};
-use crate::words::OpWord;
-use ckpt_types::{Bytes, CallId, CkptId, Moment, NodeId, Op, Outcome};
+use ckpt_types::{Bytes, CallId, CkptId, Moment, NodeId, Op, OpWord, Outcome};
 use node_msgs::{StepReply, Verb};
 use std::alloc::{AllocError, Global};
 

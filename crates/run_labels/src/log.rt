@@ -12,13 +12,13 @@ pub struct RunLog {
 }
 
 impl Model for RunLog {
-    ghost use Rattle.run_labels.specs.Kept.{Kept};
+    ghost use Rattle.run_labels.specs.Kept.{KeptLabels};
 
-    ghost Value = { Kept };
+    ghost Value = { KeptLabels };
 
-    ghost use Rattle.run_labels.specs.RunLog.{kept_of};
+    ghost use Rattle.run_labels.specs.RunLog.{kept_labels};
 
-    ghost view = { kept_of };
+    ghost view = { kept_labels };
 }
 
 impl RunLog {

@@ -2,9 +2,9 @@
 ghost use Rattle.std.specs.Prelude.{◌≡◌, ◌+◌, ◌≤◌, ◌++◌, OnOk, Some, codes, decimal, vec_len, vec_capacity};
 ghost use Rattle.std.specs.List.{flat_map};
 ghost use Rattle.run_labels.specs.declared.details.Details.TheVariants as beside;
-ghost use Rattle.run_labels.specs.OpWord.{op_text};
-ghost use Rattle.run_labels.specs.Texts.{time_text};
-ghost use Rattle.run_labels.specs.Outcomes.{version_text, cause_text, told_version, piece_text, facts_text, section_text, attributes_text, status_text, details_text, answer_text, answered_text, head_text, done_line, refusal_line, result_line, end_text, stepped_end_text, is_async};
+ghost use Rattle.ckpt_types.specs.OpWord.{op_text};
+ghost use Rattle.ckpt_types.specs.Spelling.{time_text};
+ghost use Rattle.run_labels.specs.Outcomes.{spoken_text, cause_text, told_version, piece_text, facts_text, section_text, attributes_text, status_text, details_text, answer_text, answered_text, head_text, done_line, refusal_line, result_line, end_text, stepped_end_text, is_async};
 
 use crate::details::Details;
 use crate::fronts::{
@@ -14,10 +14,9 @@ use crate::texts::{
     append_call, append_ckpt, append_line_end, append_number, append_spaced, append_spaced_bytes,
     append_spaced_state, append_spaced_time, append_text,
 };
-use crate::words::OpWord;
 use ckpt_types::{
     AisError, Answer, CallId, Cause, CheckpointDescriptor, CreationAttributes, MAJOR_MAX,
-    MINOR_ANSWERED, Outcome, Pieces, RELEASE, SectionDescriptor,
+    MINOR_ANSWERED, OpWord, Outcome, Pieces, RELEASE, SectionDescriptor,
 };
 use std::alloc::AllocError;
 
@@ -299,9 +298,9 @@ fn append_told_version(out: &mut Vec<u8>, error: AisError) -> Result<(), AllocEr
 }
 
 /// The version that the service speaks.
-#[tactic(auto, unfolding(crate::specs::Outcomes::version_text))]
+#[tactic(auto, unfolding(crate::specs::Outcomes::spoken_text))]
 fn append_version(out: &mut Vec<u8>) -> Result<(), AllocError>
-    ensures { OnOk result (out.new.items ≡ out.old.items ++ version_text) }
+    ensures { OnOk result (out.new.items ≡ out.old.items ++ spoken_text) }
 {
     append_text(out, " ")?;
     out.push(RELEASE)?;

@@ -5,8 +5,8 @@ ghost use Rattle.run_labels.specs.Steps.{reply_text, step_ckpt_text, step_node_t
 use crate::texts::{
     append_call, append_ckpt, append_node, append_number, append_text, append_time,
 };
-use crate::words::{OpWord, verb_word};
-use ckpt_types::{CallId, CkptId, Moment, NodeId};
+use crate::words::verb_word;
+use ckpt_types::{CallId, CkptId, Moment, NodeId, OpWord};
 use node_msgs::{StepReply, Verb};
 use std::alloc::AllocError;
 

@@ -1,6 +1,7 @@
 //! The words of lines: numbers, times, bytes, names of calls, checkpoints and nodes.
 ghost use Rattle.std.specs.Prelude.{◌≡◌, ◌<◌, ◌++◌, OnOk, codes, decimal};
-ghost use Rattle.run_labels.specs.Texts.{node_text, ckpt_text, actor_text, call_text, who_text, time_text, bytes_text, state_text};
+ghost use Rattle.ckpt_types.specs.Spelling.{node_text, ckpt_text, actor_text, call_text, who_text, time_text, bytes_text};
+ghost use Rattle.run_labels.specs.Words.{state_text};
 
 use crate::digits::{append_digits, push_thousands};
 use ckpt_types::{ActorName, CallId, CkptId, Moment, NEVER, NodeId, SectionState, Who};

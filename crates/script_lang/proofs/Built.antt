@@ -5,55 +5,64 @@ use Rattle.std.proofs.lemmas.Int.{ints}
 use Rattle.std.proofs.lemmas.List.{length-map}
 use Rattle.std.proofs.lemmas.List.Elements.{All-nil, All-cons}
 use Rattle.std.proofs.lemmas.List.Sums.{sum_by-cons}
+use Rattle.ckpt_types.specs.declared.attributes.CreationAttributes.{CreationAttributes}
 use Rattle.ckpt_types.specs.declared.calls.CallbackSet.{CallbackSet}
 use Rattle.ckpt_types.specs.declared.update.ReadElement.{ReadElement}
 use Rattle.ckpt_types.specs.declared.update.Update.TheVariants as updates
+use Rattle.ckpt_types.specs.Asks.{RegistersNone, IsBuiltAttributes, AreBuilt}
 use Rattle.ckpt_types.specs.Limits.{script_lines_max, script_reads_max, line_elements_max}
 use Rattle.script_words.specs.declared.reason.Reason.{Reason}
 use Rattle.script_words.specs.declared.reason.Reason.TheVariants as reasons
 use Rattle.script_words.specs.Fitting.{IsMoment}
-use Rattle.script_lang.specs.declared.forms.LineWord.{LineWord}
-use Rattle.script_lang.specs.declared.forms.LineWord.TheVariants as word
+use Rattle.ckpt_types.specs.declared.words.FirstWord.{FirstWord}
+use Rattle.ckpt_types.specs.declared.words.FirstWord.TheVariants as words
+use Rattle.ckpt_types.specs.declared.words.OpWord.TheVariants as calls
 use Rattle.script_lang.specs.declared.lines.Line.{Line}
 use Rattle.script_lang.specs.declared.lines.Line.TheVariants as lines
-use Rattle.script_lang.specs.Table.{Values, Told, form, is_later, begun, attributes, attributes_of, io_group, io_element, read_group, read_element}
-use Rattle.script_lang.specs.Grammar.{marks_of, moment_of, moment_after, order_fault, is_nodes, goes_back, is_later_line, is_later_declared, is_later_attributes, asked_in}
-use Rattle.script_lang.specs.Scripts.{FitAll, FitMore, FitGroups, FitTold, IsLine, Orderly, IsScript}
-use Rattle.script_lang.specs.BuiltScripts.{no_callbacks, IsBuiltDeclared, AreBuiltAttributes, IsIoElement, IsReadElement, AreWrites, AreReads, IsBuiltLine, moment_behind, AreBuiltLines, AreFirstNodes, AreNodesFirst, IsBuiltScript}
+use Rattle.script_lang.specs.Table.{Values, LineValues, form, is_later, only_begun, attributes, attributes_of, io_group, io_element, read_group, read_element}
+use Rattle.script_lang.specs.Grammar.{marks_of, moment_behind_all, order_fault, is_nodes, goes_back, is_later_line, is_later_declared, is_later_attributes, asked_in}
+use Rattle.script_lang.specs.Scripts.{FitAll, FitMore, FitGroups, FitValues, IsLine, Orderly, IsScript}
+use Rattle.script_lang.specs.BuiltScripts.{HasNumbersInRange, HaveNumbersInRange, IsIoElement, IsReadElement, AreWrites, AreReads, IsBuiltLine, AreBuiltLines, AreFirstNodes, AreNodesFirst, IsBuiltScript}
 
 -- WHAT THE TESTS OF THE NARROWER FORMS TELL
 
-no_calls_back : (set : CallbackSet) → (set.opens || set.syncs) ≡ false → set ≡ no_callbacks
-no_calls_back set h = go set.opens set.syncs h
+none_registered : (set : CallbackSet) → (set.opens || set.syncs) ≡ false → RegistersNone set
+none_registered set h = go set.opens set.syncs h refl refl
   where
-    go : (opens syncs : Bool) → (opens || syncs) ≡ false → ◌≡◌ {A = CallbackSet} (record { opens = opens; syncs = syncs }) no_callbacks
-    go true syncs h = absurd (cc)
-    go false true h = absurd (cc)
-    go false false h = refl
+    go : (opens syncs : Bool) → (opens || syncs) ≡ false → set.opens ≡ opens → set.syncs ≡ syncs → RegistersNone set
+    go true syncs h opens_is syncs_is = absurd (cc)
+    go false true h opens_is syncs_is = absurd (cc)
+    go false false h opens_is syncs_is = record { opens = opens_is; syncs = syncs_is }
 
-declared : (v : Values attributes) → FitAll attributes v → is_later_declared (attributes_of v) ≡ false → IsBuiltDeclared (attributes_of v)
-declared v f h = record {
+built_attributes : (a : CreationAttributes) → is_later_declared a ≡ false → IsBuiltAttributes a
+built_attributes a h = record {
+  not_active = (grind (arith, h), grind (arith, h));
+  not_weak = (grind (arith, h), grind (arith, h));
+}
+
+all_built : (o : Option CreationAttributes) → is_later_attributes o ≡ false → AreBuilt o
+all_built None h = tt
+all_built (Some a) h = built_attributes a h
+
+numbers : (v : Values attributes) → FitAll attributes v → HasNumbersInRange (attributes_of v)
+numbers v f = record {
   flags = omega (arith, f.0.1);
-  not_active = grind (arith, h);
-  not_weak = grind (arith, h);
-  not_collocated_active = grind (arith, h);
-  not_collocated_weak = grind (arith, h);
-  sections = grind (arith, h);
+  sections = omega (arith, f.1.1.1.0.1);
   size = omega (arith, f.1.0.1);
   section_size = omega (arith, f.1.1.1.1.0.1);
   id_size = omega (arith, f.1.1.1.1.1.0.1);
 }
 
-all_declared : (o : Option (Values attributes)) → FitMore attributes o → is_later_attributes (option_map attributes_of o) ≡ false → AreBuiltAttributes (option_map attributes_of o)
-all_declared None f h = tt
-all_declared (Some v) f h = declared v f h
+all_numbers : (o : Option (Values attributes)) → FitMore attributes o → HaveNumbersInRange (option_map attributes_of o)
+all_numbers None f = tt
+all_numbers (Some v) f = numbers v f
 
 io_elements : (vs : List (Values io_group)) → FitGroups io_group vs → All IsIoElement (map io_element vs)
 io_elements [] f = All-nil IsIoElement
 io_elements (v ∷ vs) f = All-cons IsIoElement (io_element v) (map io_element vs) (omega (arith, f.0.1.0.1), f.0.0.1) (io_elements vs f.1)
 
-writes : (vs : List (Values io_group)) → FitGroups io_group vs → 0 < length vs → length vs ≤ line_elements_max → AreWrites (updates.Write (map io_element vs))
-writes vs f some most = let n = length-map vs io_element in (omega (arith, n, some), omega (arith, n, most), io_elements vs f)
+writes_built : (vs : List (Values io_group)) → FitGroups io_group vs → 0 < length vs → length vs ≤ line_elements_max → AreWrites (updates.Write (map io_element vs))
+writes_built vs f some most = let n = length-map vs io_element in (omega (arith, n, some), omega (arith, n, most), io_elements vs f)
 
 read_elements : (vs : List (Values read_group)) → FitGroups read_group vs → sum_by (λ e. e.len) (map read_element vs) ≤ script_reads_max → All IsReadElement (map read_element vs)
 read_elements [] f asked = All-nil IsReadElement
@@ -61,8 +70,8 @@ read_elements (v ∷ vs) f asked =
     let all = sum_by-cons (λ (e : ReadElement). e.len) (read_element v) (map read_element vs) in
     All-cons IsReadElement (read_element v) (map read_element vs) (omega (arith, f.0.1.0.1), omega (arith, all, asked), f.0.0.1) (read_elements vs f.1 (omega (arith, all, asked)))
 
-reads : (vs : List (Values read_group)) → FitGroups read_group vs → 0 < length vs → length vs ≤ line_elements_max → sum_by (λ e. e.len) (map read_element vs) ≤ script_reads_max → AreReads (map read_element vs)
-reads vs f some most asked = let n = length-map vs read_element in (omega (arith, n, some), omega (arith, n, most), read_elements vs f asked, asked)
+reads_built : (vs : List (Values read_group)) → FitGroups read_group vs → 0 < length vs → length vs ≤ line_elements_max → sum_by (λ e. e.len) (map read_element vs) ≤ script_reads_max → AreReads (map read_element vs)
+reads_built vs f some most asked = let n = length-map vs read_element in (omega (arith, n, some), omega (arith, n, most), read_elements vs f asked, asked)
 
 -- a moment that the one before allows
 later_moment : (t u : ℤ) → IsMoment u → int_lt u t ≡ false → (t ≤ℤ u) × (u ≤ℤ pos (2 ^ 63 - 2))
@@ -71,58 +80,61 @@ later_moment t (negsuc n) f h = absurd f
 
 -- ONE CASE FOR EACH WORD: a line of a form that is built asks for what is built, or brings the nodes up
 
-line_built : (t : ℤ) (k : LineWord) (v : Told (form k).shape) → FitTold (form k).shape v → is_later k ≡ false → is_nodes ((form k).line v) ≡ false → goes_back ((form k).line v) t ≡ false → is_later_line ((form k).line v) ≡ false → asked_in ((form k).line v) ≤ script_reads_max → IsBuiltLine t ((form k).line v)
-line_built t word.Nodes v f b n m h asked = absurd (cc n)
-line_built t word.Client v f b n m h asked = (omega (arith, f.0), (omega (arith, f.1.0), f.1.1.0, no_calls_back v.1.1.1.0 h))
-line_built t word.Open v f b n m h asked = (omega (arith, f.0.0), (omega (arith, f.0.1.0), omega (arith, f.0.1.1.1.0.1), all_declared v.1 f.1 h))
-line_built t word.Status v f b n m h asked = (omega (arith, f.0), omega (arith, f.1.0))
-line_built t word.Finalize v f b n m h asked = (omega (arith, f.0), tt)
-line_built t word.Close v f b n m h asked = (omega (arith, f.0), omega (arith, f.1.0))
-line_built t word.Unlink v f b n m h asked = (omega (arith, f.0), tt)
-line_built t word.Retain v f b n m h asked = (omega (arith, f.0), (omega (arith, f.1.0), f.1.1.0))
-line_built t word.Create v f b n m h asked = (omega (arith, f.0), (omega (arith, f.1.0), (f.1.1.0, f.1.1.1.0)))
-line_built t word.Delete v f b n m h asked = (omega (arith, f.0), (omega (arith, f.1.0), f.1.1.0.1))
-line_built t word.Expire v f b n m h asked = (omega (arith, f.0), (omega (arith, f.1.0), (f.1.1.0.1, f.1.1.1.0)))
-line_built t word.Iter v f b n m h asked = (omega (arith, f.0), (omega (arith, f.1.0), omega (arith, f.1.1.0), omega (arith, f.1.1.1.0.1)))
-line_built t word.Next v f b n m h asked = (omega (arith, f.0), omega (arith, f.1.0))
-line_built t word.EndIter v f b n m h asked = (omega (arith, f.0), omega (arith, f.1.0))
-line_built t word.Write v f b n m h asked = (omega (arith, f.0.0), (omega (arith, f.0.1.0), writes v.1 f.1 f.2 f.3))
-line_built t word.Over v f b n m h asked = (omega (arith, f.0), (omega (arith, f.1.0), f.1.1.0.1))
-line_built t word.Read v f b n m h asked = (omega (arith, f.0.0), (omega (arith, f.0.1.0), reads v.1 f.1 f.2 f.3 asked))
-line_built t word.Step v f b n m h asked = (f.0, omega (arith, f.1.0.0), f.1.0.1)
-line_built t word.Finish v f b n m h asked = f.0
-line_built t word.At v f b n m h asked = later_moment t v.0 f.0 m
-line_built t word.Show v f b n m h asked = tt
+line_built : (t : ℤ) (k : FirstWord) (v : LineValues (form k).shape) → FitValues (form k).shape v → is_later k ≡ false → is_nodes ((form k).line v) ≡ false → goes_back ((form k).line v) t ≡ false → is_later_line ((form k).line v) ≡ false → asked_in ((form k).line v) ≤ script_reads_max → IsBuiltLine t ((form k).line v)
+line_built t words.Nodes v f b n m h asked = absurd (cc n)
+line_built t (words.Op calls.Client) v f b n m h asked = (omega (arith, f.0), (omega (arith, f.1.0), none_registered v.1.1.1.0 h), f.1.1.0)
+line_built t (words.Op calls.Open) v f b n m h asked = (omega (arith, f.0.0), (omega (arith, f.0.1.0), all_built (option_map attributes_of v.1) h), (omega (arith, f.0.1.1.1.0.1), all_numbers v.1 f.1))
+line_built t (words.Op calls.Status) v f b n m h asked = (omega (arith, f.0), omega (arith, f.1.0), tt)
+line_built t (words.Op calls.Finalize) v f b n m h asked = (omega (arith, f.0), tt, tt)
+line_built t (words.Op calls.Close) v f b n m h asked = (omega (arith, f.0), omega (arith, f.1.0), tt)
+line_built t (words.Op calls.Unlink) v f b n m h asked = (omega (arith, f.0), tt, tt)
+line_built t (words.Op calls.Retain) v f b n m h asked = (omega (arith, f.0), omega (arith, f.1.0), f.1.1.0)
+line_built t (words.Op calls.Create) v f b n m h asked = (omega (arith, f.0), omega (arith, f.1.0), (f.1.1.0, f.1.1.1.0))
+line_built t (words.Op calls.Delete) v f b n m h asked = (omega (arith, f.0), omega (arith, f.1.0), f.1.1.0.1)
+line_built t (words.Op calls.Expire) v f b n m h asked = (omega (arith, f.0), omega (arith, f.1.0), (f.1.1.0.1, f.1.1.1.0))
+line_built t (words.Op calls.Iter) v f b n m h asked = (omega (arith, f.0), (omega (arith, f.1.0), omega (arith, f.1.1.0)), omega (arith, f.1.1.1.0.1))
+line_built t (words.Op calls.Next) v f b n m h asked = (omega (arith, f.0), omega (arith, f.1.0), tt)
+line_built t (words.Op calls.EndIter) v f b n m h asked = (omega (arith, f.0), omega (arith, f.1.0), tt)
+line_built t (words.Op calls.Write) v f b n m h asked = (omega (arith, f.0.0), omega (arith, f.0.1.0), writes_built v.1 f.1 f.2 f.3)
+line_built t (words.Op calls.Over) v f b n m h asked = (omega (arith, f.0), omega (arith, f.1.0), f.1.1.0.1)
+line_built t (words.Op calls.Read) v f b n m h asked = (omega (arith, f.0.0), omega (arith, f.0.1.0), reads_built v.1 f.1 f.2 f.3 asked)
+line_built t words.Step v f b n m h asked = (f.0, omega (arith, f.1.0.0), f.1.0.1)
+line_built t words.Finish v f b n m h asked = f.0
+line_built t words.At v f b n m h asked = later_moment t v.0 f.0 m
+line_built t words.Show v f b n m h asked = tt
+line_built t (words.Op _) v f b n m h asked = absurd (cc b)
 line_built t _ v f b n m h asked = absurd (cc b)
 
-node_built : (k : LineWord) (v : Told (form k).shape) → FitTold (form k).shape v → is_nodes ((form k).line v) ≡ true → AreFirstNodes ((form k).line v)
-node_built word.Nodes v f n = (omega (arith, f.0.0), f.0.1)
+node_built : (k : FirstWord) (v : LineValues (form k).shape) → FitValues (form k).shape v → is_nodes ((form k).line v) ≡ true → AreFirstNodes ((form k).line v)
+node_built words.Nodes v f n = (omega (arith, f.0.0), f.0.1)
+node_built (words.Op calls.Client) v f n = absurd (cc n)
+node_built (words.Op _) v f n = absurd (cc n)
 node_built _ v f n = absurd (cc n)
 
 -- THE SAME LINE, BEGUN: what is told of it stays
 
-begun_nodes : (x : Line) → is_nodes (begun x) ≡ is_nodes x
+begun_nodes : (x : Line) → is_nodes (only_begun x) ≡ is_nodes x
 begun_nodes (lines.Call c o) = refl
 begun_nodes _ = refl
 
-begun_back : (x : Line) (t : ℤ) → goes_back (begun x) t ≡ goes_back x t
+begun_back : (x : Line) (t : ℤ) → goes_back (only_begun x) t ≡ goes_back x t
 begun_back (lines.Call c o) t = refl
 begun_back _ t = refl
 
-begun_later : (x : Line) → is_later_line (begun x) ≡ is_later_line x
+begun_later : (x : Line) → is_later_line (only_begun x) ≡ is_later_line x
 begun_later (lines.Call c o) = refl
 begun_later _ = refl
 
-begun_asked : (x : Line) → asked_in (begun x) ≡ asked_in x
+begun_asked : (x : Line) → asked_in (only_begun x) ≡ asked_in x
 begun_asked (lines.Call c o) = refl
 begun_asked _ = refl
 
-begun_built : (t : ℤ) (x : Line) → IsBuiltLine t x → IsBuiltLine t (begun x)
+begun_built : (t : ℤ) (x : Line) → IsBuiltLine t x → IsBuiltLine t (only_begun x)
 begun_built t (lines.Call c o) h = h
 begun_built t (lines.Copy n) h = absurd h
 begun_built t _ h = h
 
-begun_first : (x : Line) → AreFirstNodes x → AreFirstNodes (begun x)
+begun_first : (x : Line) → AreFirstNodes x → AreFirstNodes (only_begun x)
 begun_first (lines.Call c o) h = absurd h
 begun_first (lines.Copy n) h = absurd h
 begun_first _ h = h
@@ -159,37 +171,32 @@ was_not : (b : Bool) → not b ≡ false → b ≡ true
 was_not true h = refl
 was_not false h = absurd (cc)
 
-first_nodes : (x : Line) → order_fault (marks_of []) x ≡ None → is_nodes x ≡ true
+first_brings_nodes : (x : Line) → order_fault (marks_of []) x ≡ None → is_nodes x ≡ true
 unfolding order_fault marks_of
-first_nodes x e = was_not (is_nodes x) (no_nodes_fault (not (is_nodes x)) _ e).0
+first_brings_nodes x e = was_not (is_nodes x) (no_nodes_fault (not (is_nodes x)) _ e).0
 
-later_nodes : (y : Line) (earlier : List Line) (x : Line) → order_fault (marks_of (y ∷ earlier)) x ≡ None → (is_nodes x ≡ false) × (goes_back x (moment_of (y ∷ earlier)) ≡ false)
+later_nodes : (y : Line) (earlier : List Line) (x : Line) → order_fault (marks_of (y ∷ earlier)) x ≡ None → (is_nodes x ≡ false) × (goes_back x (moment_behind_all (y ∷ earlier)) ≡ false)
 unfolding order_fault marks_of
 later_nodes y earlier x e =
     let p = no_nodes_fault (is_nodes x) _ e in
-    (p.0, no_moment_fault (goes_back x (moment_of (y ∷ earlier))) _ p.1)
-
--- the moment, as the grammar carries it along
-moment_behind-is : (t : ℤ) (x : Line) → moment_behind t x ≡ moment_after x t
-moment_behind-is t (lines.At u) = refl
-moment_behind-is t _ = refl
+    (p.0, no_moment_fault (goes_back x (moment_behind_all (y ∷ earlier))) _ p.1)
 
 -- no moment is set by the line of the nodes
-nodes_moment : (x : Line) → is_nodes x ≡ true → moment_of (x ∷ []) ≡ pos 0
+nodes_moment : (x : Line) → is_nodes x ≡ true → moment_behind_all (x ∷ []) ≡ pos 0
 nodes_moment (lines.At u) n = absurd (cc n)
 nodes_moment _ n = refl
 
-lines_built : (y : Line) (earlier xs : List Line) → Orderly (y ∷ earlier) xs → AreBuiltLines (moment_of (y ∷ earlier)) xs
+lines_built : (y : Line) (earlier xs : List Line) → Orderly (y ∷ earlier) xs → AreBuiltLines (moment_behind_all (y ∷ earlier)) xs
 lines_built y earlier [] o = tt
 lines_built y earlier (x ∷ xs) o =
-    let now = moment_of (y ∷ earlier) in
+    let now = moment_behind_all (y ∷ earlier) in
     let p = later_nodes y earlier x o.1 in
-    (as_line now x o.0 p.0 p.1 o.2 o.3, subst (λ t. AreBuiltLines t xs) (sym (moment_behind-is now x)) (lines_built x (y ∷ earlier) xs o.4))
+    (as_line now x o.0 p.0 p.1 o.2 o.3, lines_built x (y ∷ earlier) xs o.4)
 
 first_built : (xs : List Line) → IsScript xs → AreNodesFirst xs
 first_built [] o = tt
 first_built (x ∷ xs) o =
-    let n = first_nodes x o.1 in
+    let n = first_brings_nodes x o.1 in
     (as_node x o.0 n, subst (λ t. AreBuiltLines t xs) (nodes_moment x n) (lines_built x [] xs o.4))
 
 pub built_script : (xs : List Line) → IsScript xs → length xs ≤ script_lines_max → IsBuiltScript xs

@@ -3,21 +3,21 @@ use Rattle.std.proofs.Common.{◌≡◌, refl, ap, ℕ, List, [], ◌∷◌, ◌
 use Rattle.std.specs.List.{join_with_byte}
 use Rattle.std.proofs.lemmas.List.{append-nil}
 use Rattle.script_lang.specs.declared.lines.Line.{Line}
-use Rattle.script_lang.specs.Spelling.{tail_text, joined, text_of, line_text, line_words, spelling}
+use Rattle.script_lang.specs.Spelling.{tail_text, with_spaces, written_line, line_text, line_words, spelling}
 
 joined_is : (w : List ℕ) (ws : List (List ℕ)) → w ++ tail_text ws ≡ join_with_byte 32 (w ∷ ws)
 joined_is w [] = append-nil w
 joined_is w (v ∷ ws) = ap (λ t. w ++ 32 ∷ t) (joined_is v ws)
 
-same_text : (ws : List (List ℕ)) → joined ws ≡ join_with_byte 32 ws
+same_text : (ws : List (List ℕ)) → with_spaces ws ≡ join_with_byte 32 ws
 same_text [] = refl
 same_text (w ∷ ws) = joined_is w ws
 
-line_so : (x : Line) → text_of x ≡ line_text x
-unfolding text_of line_text
+line_so : (x : Line) → written_line x ≡ line_text x
+unfolding written_line line_text
 line_so x = same_text (line_words x)
 
-pub spelled_so : (xs : List Line) → flat_map (λ x. text_of x ++ 10 ∷ []) xs ≡ spelling xs
+pub spelled_so : (xs : List Line) → flat_map (λ x. written_line x ++ 10 ∷ []) xs ≡ spelling xs
 unfolding spelling
 spelled_so [] = refl
 spelled_so (x ∷ xs) = rw (line_so x) (ap (λ t. line_text x ++ 10 ∷ [] ++ t) (spelled_so xs))

@@ -12,17 +12,17 @@ use Rattle.script_lang.specs.Table.{Values, fields, groups, one_made, gather}
 abbrev pub with_front : {X : Type 0} → List X → Result (List X) Reason → Result (List X) Reason
 with_front front read = read >>= λ xs. Ok (front ++ xs)
 
-one_more : {X : Type 0} (ds : List Class) (f : Values ds → X) (front : List X) (v : Values ds) (rest : Result (List (Values ds)) Reason)
+one_group_more : {X : Type 0} (ds : List Class) (f : Values ds → X) (front : List X) (v : Values ds) (rest : Result (List (Values ds)) Reason)
     → with_front front (rest >>= (λ vs. Ok (v ∷ vs)) >>= λ vs. Ok (map f vs)) ≡ with_front (front ++ f v ∷ []) (rest >>= λ vs. Ok (map f vs))
-one_more ds f front v (Ok vs) = ap (λ xs. Ok xs) (simp append_assoc)
-one_more ds f front v (Err e) = refl
+one_group_more ds f front v (Ok vs) = ap (λ xs. Ok xs) (simp append_assoc)
+one_group_more ds f front v (Err e) = refl
 
 abbrev reread : {X : Type 0} (ds : List Class) (f : Values ds → X) → Result (Values ds × List (List ℕ)) Reason → Result (X × List (List ℕ)) Reason
 reread ds f r = r >>= λ v. Ok (f v.0, v.1)
 
-abbrev left : {X Y : Type 0} → Result (X × Y) Reason → X → X
-left (Ok p) x = p.0
-left (Err e) x = x
+abbrev left_over : {X Y : Type 0} → Result (X × Y) Reason → X → X
+left_over (Ok p) x = p.0
+left_over (Err e) x = x
 
 abbrev right : {X Y : Type 0} → Result (X × Y) Reason → Y → Y
 right (Ok p) y = p.1
@@ -32,15 +32,15 @@ front_of : {X : Type 0} (ds : List Class) (f : Values ds → X) (front : List X)
     → reread ds f r ≡ Ok (x, after)
     → with_front front ((r >>= λ v. (groups ds n v.1 >>= λ vs. Ok (v.0 ∷ vs))) >>= λ vs. Ok (map f vs)) ≡ with_front (front ++ x ∷ []) (gather ds f n after)
 front_of ds f front n ws x after (Ok v) e =
-    let fst : f v.0 ≡ x = ap (λ r. left r x) e in
+    let fst : f v.0 ≡ x = ap (λ r. left_over r x) e in
     let snd : v.1 ≡ after = ap (λ r. right r after) e in
-    rw (← fst, ← snd) (one_more ds f front v.0 (groups ds n v.1))
+    rw (← fst, ← snd) (one_group_more ds f front v.0 (groups ds n v.1))
 front_of ds f front n ws x after (Err d) e = absurd (cc)
 
-pub goes_on : {X : Type 0} (ds : List Class) (f : Values ds → X) (front : List X) (count i : ℕ) (ws : List (List ℕ)) (x : X) (after : List (List ℕ)) (total : Result (List X) Reason) → i < count → one_made ds f ws ≡ Ok (x, after)
+pub groups_go_on : {X : Type 0} (ds : List Class) (f : Values ds → X) (front : List X) (count i : ℕ) (ws : List (List ℕ)) (x : X) (after : List (List ℕ)) (total : Result (List X) Reason) → i < count → one_made ds f ws ≡ Ok (x, after)
     → with_front front (gather ds f (count - i) ws) ≡ total → with_front (front ++ x ∷ []) (gather ds f (count - (i + 1)) after) ≡ total
 unfolding groups
-goes_on ds f front count i ws x after total lt h so_far =
+groups_go_on ds f front count i ws x after total lt h so_far =
     let k : count - i ≡ suc (count - (i + 1)) = omega arith in
     let now : with_front front (gather ds f (suc (count - (i + 1))) ws) ≡ total = rw k at so_far in
     sym (front_of ds f front (count - (i + 1)) ws x after (fields ds ws) h) ∙ now
@@ -50,18 +50,18 @@ fails_at : {X : Type 0} (ds : List Class) (f : Values ds → X) (front : List X)
 fails_at ds f front n e (Ok v) h = absurd (cc)
 fails_at ds f front n e (Err d) h = let same : d ≡ e = cc in rw same refl
 
-pub ends : {X : Type 0} (ds : List Class) (f : Values ds → X) (e : LineError) (front : List X) (count i : ℕ) (ws : List (List ℕ)) (total : Result (List X) Reason) → i < count → Fails e (one_made ds f ws)
+pub groups_end : {X : Type 0} (ds : List Class) (f : Values ds → X) (e : LineError) (front : List X) (count i : ℕ) (ws : List (List ℕ)) (total : Result (List X) Reason) → i < count → Fails e (one_made ds f ws)
     → with_front front (gather ds f (count - i) ws) ≡ total → Fails e total
 unfolding groups
-ends ds f errors.NoMemory front count i ws total lt h so_far = tt
-ends ds f (errors.Fault r) front count i ws total lt h so_far =
+groups_end ds f errors.NoMemory front count i ws total lt h so_far = tt
+groups_end ds f (errors.Fault r) front count i ws total lt h so_far =
     let k : count - i ≡ suc (count - (i + 1)) = omega arith in
     let now : with_front front (gather ds f (suc (count - (i + 1))) ws) ≡ total = rw k at so_far in
     sym now ∙ fails_at ds f front (count - (i + 1)) r (fields ds ws) h
 
-pub is_done : {X : Type 0} (ds : List Class) (f : Values ds → X) (front : List X) (count i : ℕ) (ws : List (List ℕ)) (total : Result (List X) Reason) → count ≤ i → with_front front (gather ds f (count - i) ws) ≡ total → total ≡ Ok front
+pub groups_done : {X : Type 0} (ds : List Class) (f : Values ds → X) (front : List X) (count i : ℕ) (ws : List (List ℕ)) (total : Result (List X) Reason) → count ≤ i → with_front front (gather ds f (count - i) ws) ≡ total → total ≡ Ok front
 unfolding groups
-is_done ds f front count i ws total le so_far =
+groups_done ds f front count i ws total le so_far =
     let k : count - i ≡ 0 = omega arith in
     let now : with_front front (gather ds f 0 ws) ≡ total = rw k at so_far in
     sym now ∙ ap (λ xs. Ok xs) (append-nil front)
@@ -73,14 +73,14 @@ nothing_before (Err e) = refl
 -- one group alone is the one that the first words make
 pub is_one : {X : Type 0} (ds : List Class) (f : Values ds → X) (ws : List (List ℕ)) (x : X) (after : List (List ℕ)) → one_made ds f ws ≡ Ok (x, after) → gather ds f 1 ws ≡ Ok (x ∷ [])
 is_one ds f ws x after h =
-    let more = goes_on ds f [] 1 0 ws x after (gather ds f 1 ws) (omega arith) h (nothing_before (gather ds f 1 ws)) in
-    is_done ds f (x ∷ []) 1 1 after (gather ds f 1 ws) (omega arith) more
+    let more = groups_go_on ds f [] 1 0 ws x after (gather ds f 1 ws) (omega arith) h (nothing_before (gather ds f 1 ws)) in
+    groups_done ds f (x ∷ []) 1 1 after (gather ds f 1 ws) (omega arith) more
 
 pub one_fails : {X : Type 0} (ds : List Class) (f : Values ds → X) (e : LineError) (ws : List (List ℕ)) → Fails e (one_made ds f ws) → Fails e (gather ds f 1 ws)
-one_fails ds f e ws h = ends ds f e [] 1 0 ws (gather ds f 1 ws) (omega arith) h (nothing_before (gather ds f 1 ws))
+one_fails ds f e ws h = groups_end ds f e [] 1 0 ws (gather ds f 1 ws) (omega arith) h (nothing_before (gather ds f 1 ws))
 
-pub from_there : {X : Type 0} (ws : List X) (k : ℕ) → take (length ws - k) (drop k ws) ≡ drop k ws
-from_there ws k = take_all (length ws - k) (drop k ws) (simp length-drop (omega arith))
+pub rest_from : {X : Type 0} (ws : List X) (k : ℕ) → take (length ws - k) (drop k ws) ≡ drop k ws
+rest_from ws k = take_all (length ws - k) (drop k ws) (simp length-drop (omega arith))
 
 pub next_group : {X : Type 0} (ws : List X) (i : ℕ) → drop 3 (drop (3 * i) ws) ≡ drop (3 * (i + 1)) ws
 next_group ws i = let k : 3 * i + 3 ≡ 3 * (i + 1) = omega arith in drop-drop 3 (3 * i) ws ∙ ap (λ n. drop n ws) k

@@ -5,7 +5,7 @@ use Rattle.std.proofs.lemmas.List.Sums.{position_or_len_is}
 use Rattle.std.specs.List.{list_any, onto_first, position_or_len, before_first, after_first}
 use Rattle.script_words.specs.declared.reason.Reason.TheVariants as reasons
 use Rattle.script_lang.specs.Table.{texts}
-use Rattle.script_lang.specs.Grammar.{is_space, is_empty, words_of, text_lines, line_of}
+use Rattle.script_lang.specs.Grammar.{is_space, is_empty, words_of, text_lines, line_said}
 use Rattle.script_words.proofs.Places.{cut_there, nothing_cut}
 
 pub any_texts : (ws : List (Bor (List ℕ))) → list_any is_empty (texts ws) ≡ list_any (λ w. is_empty w.now) ws
@@ -13,8 +13,8 @@ any_texts [] = refl
 any_texts (w ∷ ws) = ap (λ b. is_empty w.now || b) (any_texts ws)
 
 -- without a word there is no line
-pub no_words : (ws : List (Bor (List ℕ))) → length ws < 1 → line_of (texts ws) ≡ Err reasons.Word
-unfolding line_of
+pub no_words : (ws : List (Bor (List ℕ))) → length ws < 1 → line_said (texts ws) ≡ Err reasons.Word
+unfolding line_said
 no_words [] none = refl
 no_words (w ∷ ws) none = absurd (omega (arith, none))
 
@@ -91,5 +91,5 @@ not_true true h = absurd (h refl)
 not_true false h = refl
 
 -- the first place of a byte, as it is searched for
-pub found_at : (byte : ℕ) (text : List ℕ) (i : ℕ) → i ≤ length text → ((k : ℕ) → k < i → (slice_index text k == byte) ≡ true → ⊥) → (i < length text → (slice_index text i == byte) ≡ true) → i ≡ position_or_len (λ b. b == byte) text
-found_at byte text i le before at = sym (position_or_len_is (λ (b : ℕ). b == byte) text i 0 le (λ k lt. not_true (slice_index text k == byte) (before k lt)) at)
+pub first_place : (byte : ℕ) (text : List ℕ) (i : ℕ) → i ≤ length text → ((k : ℕ) → k < i → (slice_index text k == byte) ≡ true → ⊥) → (i < length text → (slice_index text i == byte) ≡ true) → i ≡ position_or_len (λ b. b == byte) text
+first_place byte text i le before at = sym (position_or_len_is (λ (b : ℕ). b == byte) text i 0 le (λ k lt. not_true (slice_index text k == byte) (before k lt)) at)

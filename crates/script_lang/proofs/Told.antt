@@ -6,10 +6,10 @@ use Rattle.std.proofs.Math.Nat.{suc-mul, mul-div_cancel, mul-mod_left, mul-le-mu
 use Rattle.ckpt_types.specs.Limits.{line_elements_max}
 use Rattle.script_words.specs.declared.reason.Reason.{Reason}
 use Rattle.script_words.specs.Reasons.{◌>>=◌}
-use Rattle.script_words.specs.Words.{Class, read}
-use Rattle.script_lang.specs.Table.{Values, Shape, just, maybe, times, Told, fields, groups, rest_of, told, counts}
-use Rattle.script_lang.specs.Spelling.{spell_all, spell_more, spell_told}
-use Rattle.script_lang.specs.Scripts.{FitAll, FitMore, FitGroups, FitTold}
+use Rattle.script_words.specs.Words.{Class, read_word}
+use Rattle.script_lang.specs.Table.{Values, LineShape, just, maybe, times, LineValues, fields, groups, rest_of, values_told, counts}
+use Rattle.script_lang.specs.Spelling.{spell_all, spell_more, spell_values}
+use Rattle.script_lang.specs.Scripts.{FitAll, FitMore, FitGroups, FitValues}
 use Rattle.script_words.specs.Fitting.{Good}
 use Rattle.script_words.proofs.Fits.{again}
 use Rattle.script_words.proofs.Said.{said}
@@ -18,7 +18,7 @@ abbrev pub AllGood : List Class → Type 0
 AllGood [] = Unit {0}
 AllGood (c ∷ cs) = Good c × AllGood cs
 
-abbrev pub GoodShape : Shape → Type 0
+abbrev pub GoodShape : LineShape → Type 0
 GoodShape (just cs) = AllGood cs
 GoodShape (maybe cs ds) = AllGood cs × AllGood ds × (0 < length ds)
 GoodShape (times cs ds) = AllGood cs × AllGood ds × (0 < length ds)
@@ -51,15 +51,15 @@ more_again : (ds : List Class) → AllGood ds → 0 < length ds → (o : Option 
 more_again ds g some None f = refl
 more_again ds g some (Some v) f = rest_again ds g some v f
 
-pub told_again : (s : Shape) → GoodShape s → (v : Told s) → FitTold s v → told s (spell_told s v) ≡ Ok v
+pub told_again : (s : LineShape) → GoodShape s → (v : LineValues s) → FitValues s v → values_told s (spell_values s v) ≡ Ok v
 told_again (just cs) g v f = rw (alone_again cs g v f) refl
 told_again (maybe cs ds) g v f = rw (fields_again cs g.0 v.0 f.0 (spell_more ds v.1), more_again ds g.1 g.2 v.1 f.1) refl
 told_again (times cs ds) g v f =
     let n : length (flat_map (spell_all ds) v.1) / length ds ≡ length v.1 = ap (λ k. k / length ds) (length_groups ds v.1) ∙ mul-div_cancel (length v.1) g.2 in
     rw (fields_again cs g.0 v.0 f.0 (flat_map (spell_all ds) v.1), n, groups_again ds g.1 v.1 f.1) refl
 
-same_test : (m n : ℕ) → m ≡ n → (m == n) ≡ true
-same_test m n e = grind (arith, e)
+same_count : (m n : ℕ) → m ≡ n → (m == n) ≡ true
+same_count m n e = grind (arith, e)
 
 more_counts : (a : ℕ) (ds : List Class) (o : Option (Values ds)) (n : ℕ) → n ≡ a + length (spell_more ds o) → (n == a || n == a + length ds) ≡ true
 more_counts a ds None n e = let same : n ≡ a = omega (arith, e) in grind (arith, same)
@@ -74,8 +74,8 @@ times_counts a k (suc q) n some none most e =
     let lt : a < n = omega (arith, e, suc-mul q k, some) in
     rw (rest, zeros) (grind (arith, le, lt))
 
-pub counts_again : (s : Shape) → GoodShape s → (v : Told s) → FitTold s v → counts s (length (spell_told s v)) ≡ true
-counts_again (just cs) g v f = same_test (length (spell_all cs v)) (length cs) (length_all cs v)
+pub counts_again : (s : LineShape) → GoodShape s → (v : LineValues s) → FitValues s v → counts s (length (spell_values s v)) ≡ true
+counts_again (just cs) g v f = same_count (length (spell_all cs v)) (length cs) (length_all cs v)
 counts_again (maybe cs ds) g v f = more_counts (length cs) ds v.1 (length (spell_all cs v.0 ++ spell_more ds v.1)) (length-append (spell_all cs v.0) (spell_more ds v.1) ∙ ap (λ n. n + length (spell_more ds v.1)) (length_all cs v.0))
 counts_again (times cs ds) g v f = times_counts (length cs) (length ds) (length v.1) (length (spell_all cs v.0 ++ flat_map (spell_all ds) v.1)) g.2 f.2 f.3 (omega (arith, length-append (spell_all cs v.0) (flat_map (spell_all ds) v.1), length_all cs v.0, length_groups ds v.1))
 
@@ -92,7 +92,7 @@ fields_said : (cs : List Class) (ws : List (List ℕ)) (x : Values cs × List (L
 fields_said [] ws x e = tt
 fields_said (c ∷ cs) [] x e = absurd (cc)
 fields_said (c ∷ cs) (w ∷ ws) x e =
-    let p = bind_ok (read c w) _ x e in
+    let p = bind_ok (read_word c w) _ x e in
     let q = bind_ok (fields cs ws) _ x p.2 in
     let y : Values (c ∷ cs) × List (List ℕ) = ((p.0, q.0.0), q.0.1) in
     subst (λ (z : Values (c ∷ cs) × List (List ℕ)). FitAll (c ∷ cs) z.0) (ok_inj y x q.2) (said c w p.0 p.1, fields_said cs ws q.0 q.1)
@@ -103,7 +103,7 @@ fields_length [] ws x e =
     subst (λ (z : Values [] × List (List ℕ)). length ws ≡ 0 + length z.1) (ok_inj y x e) (omega arith)
 fields_length (c ∷ cs) [] x e = absurd (cc)
 fields_length (c ∷ cs) (w ∷ ws) x e =
-    let p = bind_ok (read c w) _ x e in
+    let p = bind_ok (read_word c w) _ x e in
     let q = bind_ok (fields cs ws) _ x p.2 in
     let y : Values (c ∷ cs) × List (List ℕ) = ((p.0, q.0.0), q.0.1) in
     let ih = fields_length cs ws q.0 q.1 in
@@ -137,19 +137,19 @@ few a k n m some counted e =
     let whole : m / k * k ≡ m = omega (arith, div-add-mod' m k, rw m_is at zeros) in
     (some_groups (m / k) k m whole (omega (arith, e, lt)), le_of_mul-le-mul_right (omega (arith, whole, m_is, le)) some)
 
-pub told_said : (s : Shape) → GoodShape s → (ws : List (List ℕ)) (v : Told s) → counts s (length ws) ≡ true → told s ws ≡ Ok v → FitTold s v
+pub told_said : (s : LineShape) → GoodShape s → (ws : List (List ℕ)) (v : LineValues s) → counts s (length ws) ≡ true → values_told s ws ≡ Ok v → FitValues s v
 told_said (just cs) g ws v counted e =
     let p = bind_ok (fields cs ws) _ v e in
     subst (λ (z : Values cs). FitAll cs z) (ok_inj p.0.0 v p.2) (fields_said cs ws p.0 p.1)
 told_said (maybe cs ds) g ws v counted e =
     let p = bind_ok (fields cs ws) _ v e in
     let q = bind_ok (rest_of ds p.0.1) _ v p.2 in
-    let y : Told (maybe cs ds) = (p.0.0, q.0) in
-    subst (λ (z : Told (maybe cs ds)). FitTold (maybe cs ds) z) (ok_inj y v q.2) (fields_said cs ws p.0 p.1, rest_said ds p.0.1 q.0 q.1)
+    let y : LineValues (maybe cs ds) = (p.0.0, q.0) in
+    subst (λ (z : LineValues (maybe cs ds)). FitValues (maybe cs ds) z) (ok_inj y v q.2) (fields_said cs ws p.0 p.1, rest_said ds p.0.1 q.0 q.1)
 told_said (times cs ds) g ws v counted e =
     let p = bind_ok (fields cs ws) _ v e in
     let q = bind_ok (groups ds (length p.0.1 / length ds) p.0.1) _ v p.2 in
-    let y : Told (times cs ds) = (p.0.0, q.0) in
+    let y : LineValues (times cs ds) = (p.0.0, q.0) in
     let h = groups_said ds (length p.0.1 / length ds) p.0.1 q.0 q.1 in
     let r = few (length cs) (length ds) (length ws) (length p.0.1) g.2 counted (fields_length cs ws p.0 p.1) in
-    subst (λ (z : Told (times cs ds)). FitTold (times cs ds) z) (ok_inj y v q.2) (fields_said cs ws p.0 p.1, h.0, omega (arith, h.1, r.0), omega (arith, h.1, r.1))
+    subst (λ (z : LineValues (times cs ds)). FitValues (times cs ds) z) (ok_inj y v q.2) (fields_said cs ws p.0 p.1, h.0, omega (arith, h.1, r.0), omega (arith, h.1, r.1))

@@ -1,8 +1,7 @@
 -- What is asked for in a script of the forms that are built.
-use Rattle.std.specs.Prelude.{◌≡◌, ◌≢◌, ◌+◌, ◌^◌, ◌-◌, ◌<◌, ◌≤◌, ⊤, false, List, [], ◌∷◌, length, ℤ, pos, nat_abs, ◌≤ℤ◌, Option, Some, None, sum_by}
+use Rattle.std.specs.Prelude.{ℕ, ◌^◌, ◌-◌, ◌<◌, ◌≤◌, ⊤, List, [], ◌∷◌, length, ℤ, pos, nat_abs, ◌≤ℤ◌, Option, Some, None, sum_by}
 use Rattle.std.specs.List.{All}
 use Rattle.ckpt_types.specs.declared.attributes.CreationAttributes.{CreationAttributes}
-use Rattle.ckpt_types.specs.declared.calls.CallbackSet.{CallbackSet}
 use Rattle.ckpt_types.specs.declared.identities.ActorName.TheVariants as actor
 use Rattle.ckpt_types.specs.declared.identities.Who.{Who}
 use Rattle.ckpt_types.specs.declared.operation.Op.{Op}
@@ -11,31 +10,25 @@ use Rattle.ckpt_types.specs.declared.update.IoElement.{IoElement}
 use Rattle.ckpt_types.specs.declared.update.ReadElement.{ReadElement}
 use Rattle.ckpt_types.specs.declared.update.Update.{Update}
 use Rattle.ckpt_types.specs.declared.update.Update.TheVariants as updates
-use Rattle.ckpt_types.specs.Limits.{nodes_max, places_max, client_numbers, section_id_max, line_elements_max, line_steps_max, script_reads_max, script_lines_max, end_of_time, wr_active_replica, wr_active_replica_weak, checkpoint_collocated}
+use Rattle.ckpt_types.specs.Asks.{IsBuilt}
+use Rattle.ckpt_types.specs.Limits.{nodes_max, client_numbers, section_id_max, line_elements_max, line_steps_max, script_reads_max, script_lines_max, end_of_time}
 use Rattle.script_words.specs.Fitting.{IsNewId, IsTime, IsVersion, IsWho}
 use Rattle.script_lang.specs.declared.lines.Line.{Line}
 use Rattle.script_lang.specs.declared.lines.Line.TheVariants as lines
+use Rattle.script_lang.specs.Grammar.{moment_behind}
 
--- no callback is registered
-abbrev pub no_callbacks : CallbackSet
-no_callbacks = record { opens = false; syncs = false }
-
--- no update option but that of all replicas, or malformed flags
-pub record IsBuiltDeclared (a : CreationAttributes) : Type 0 where
+-- flags and a number of sections of 32 bits, and sizes of 64 bits
+pub record HasNumbersInRange (a : CreationAttributes) : Type 0 where
   pub flags : a.creation_flags < 2 ^ 32
-  pub not_active : a.creation_flags ≢ wr_active_replica
-  pub not_weak : a.creation_flags ≢ wr_active_replica_weak
-  pub not_collocated_active : a.creation_flags ≢ wr_active_replica + checkpoint_collocated
-  pub not_collocated_weak : a.creation_flags ≢ wr_active_replica_weak + checkpoint_collocated
   pub sections : a.max_sections < 2 ^ 32
   pub size : a.checkpoint_size < 2 ^ 64
   pub section_size : a.max_section_size < 2 ^ 64
   pub id_size : a.max_section_id_size < 2 ^ 64
 
 -- no attributes, or such
-abbrev pub AreBuiltAttributes : Option CreationAttributes → Type 0
-AreBuiltAttributes None = ⊤
-AreBuiltAttributes (Some a) = IsBuiltDeclared a
+abbrev pub HaveNumbersInRange : Option CreationAttributes → Type 0
+HaveNumbersInRange None = ⊤
+HaveNumbersInRange (Some a) = HasNumbersInRange a
 
 -- an offset of 64 bits, and an identifier that is not too long
 abbrev pub IsIoElement : IoElement → Type 0
@@ -74,25 +67,23 @@ abbrev pub IsOverwriting : Update → Type 0
 IsOverwriting (updates.Overwrite id bytes) = length id ≤ section_id_max
 IsOverwriting _ = ⊥
 
--- a call that is built
-abbrev pub IsBuiltOp : Op → Type 0
-IsBuiltOp (ops.Client node version callbacks) = (node < nodes_max) × IsVersion version × (callbacks ≡ no_callbacks)
-IsBuiltOp (ops.Open place name flags timeout attributes) = (place < places_max) × (flags < 2 ^ 32) × AreBuiltAttributes attributes
-IsBuiltOp (ops.Status place) = place < places_max
-IsBuiltOp ops.Finalize = ⊤
-IsBuiltOp (ops.Close place) = place < places_max
-IsBuiltOp (ops.Unlink name) = ⊤
-IsBuiltOp (ops.Retain place duration) = (place < places_max) × IsTime duration
-IsBuiltOp (ops.Create place update) = (place < places_max) × IsCreation update
-IsBuiltOp (ops.Delete place update) = (place < places_max) × IsDeletion update
-IsBuiltOp (ops.Expire place update) = (place < places_max) × IsExpirationSetting update
-IsBuiltOp (ops.Iter iteration place chosen time) = (iteration < places_max) × (place < places_max) × (chosen < 2 ^ 64)
-IsBuiltOp (ops.Next iteration) = iteration < places_max
-IsBuiltOp (ops.EndIter iteration) = iteration < places_max
-IsBuiltOp (ops.Write place update) = (place < places_max) × AreWrites update
-IsBuiltOp (ops.Over place update) = (place < places_max) × IsOverwriting update
-IsBuiltOp (ops.Read place elements) = (place < places_max) × AreReads elements
-IsBuiltOp _ = ⊥
+-- the values of a call are in their ranges, and its update is of its own kind
+abbrev pub HasValuesInRange : Op → Type 0
+HasValuesInRange (ops.Client node version callbacks) = IsVersion version
+HasValuesInRange (ops.Open place name flags timeout attributes) = (flags < 2 ^ 32) × HaveNumbersInRange attributes
+HasValuesInRange (ops.Retain place duration) = IsTime duration
+HasValuesInRange (ops.Create place update) = IsCreation update
+HasValuesInRange (ops.Delete place update) = IsDeletion update
+HasValuesInRange (ops.Expire place update) = IsExpirationSetting update
+HasValuesInRange (ops.Iter iteration place chosen time) = chosen < 2 ^ 64
+HasValuesInRange (ops.Write place update) = AreWrites update
+HasValuesInRange (ops.Over place update) = IsOverwriting update
+HasValuesInRange (ops.Read place elements) = AreReads elements
+HasValuesInRange _ = ⊤
+
+-- a call of a client, of an operation that is built, with its values in their ranges
+abbrev pub IsBuiltCall : ℕ → Op → Type 0
+IsBuiltCall client op = (client < client_numbers) × IsBuilt op × HasValuesInRange op
 
 -- whose call may be stepped: a client's or a node's, for the one that it has in hand, or a call of a client by its number
 abbrev pub IsStepped : Who → Type 0
@@ -100,18 +91,13 @@ IsStepped who = IsWho who
 
 -- at this moment, a call of a client, stepped to its end or only begun; steps of a call, so many or to its end; a moment that is no earlier, before the end of time; or the replicas of a checkpoint
 abbrev pub IsBuiltLine : ℤ → Line → Type 0
-IsBuiltLine t (lines.Call client op) = (client < client_numbers) × IsBuiltOp op
-IsBuiltLine t (lines.Begin (actor.Client client) op) = (client < client_numbers) × IsBuiltOp op
+IsBuiltLine t (lines.Call client op) = IsBuiltCall client op
+IsBuiltLine t (lines.Begin (actor.Client client) op) = IsBuiltCall client op
 IsBuiltLine t (lines.Step who steps) = IsStepped who × (0 < steps) × (steps ≤ line_steps_max)
 IsBuiltLine t (lines.Finish who) = IsStepped who
 IsBuiltLine t (lines.At u) = (t ≤ℤ u) × (u ≤ℤ pos (nat_abs end_of_time - 1))
 IsBuiltLine t (lines.Show k) = ⊤
 IsBuiltLine t _ = ⊥
-
--- the moment behind a line
-abbrev pub moment_behind : ℤ → Line → ℤ
-moment_behind t (lines.At u) = u
-moment_behind t _ = t
 
 -- from this moment on, each line at the moment that those before it leave
 abbrev pub AreBuiltLines : ℤ → List Line → Type 0

@@ -1,5 +1,5 @@
 -- A script: its lines one after the other, and the first that is at fault.
-use Rattle.std.specs.Prelude.{ℕ, ◌+◌, ◌≤◌, Bool, true, false, not, cond, ◌&&◌, ◌||◌, List, [], ◌∷◌, length, reverse, ℤ, pos, Option, Some, None, is_some, option_map, Result, Ok, Err, nat_le, nat_lt, int_lt, ◌==◌, if◌then◌else◌, bytes_eq, codes, sum_by}
+use Rattle.std.specs.Prelude.{ℕ, ◌+◌, ◌≤◌, Bool, true, false, not, cond, ◌&&◌, ◌||◌, List, [], ◌∷◌, length, reverse, ℤ, pos, Option, Some, None, is_some, option_map, Result, Ok, Err, nat_le, nat_lt, int_lt, ◌==◌, if◌then◌else◌, bytes_eq, sum_by}
 use Rattle.std.specs.List.{slice_split, onto_first, list_any}
 use Rattle.ckpt_types.specs.declared.attributes.CreationAttributes.{CreationAttributes}
 use Rattle.ckpt_types.specs.declared.operation.Op.{Op}
@@ -8,12 +8,13 @@ use Rattle.ckpt_types.specs.Limits.{block_lines_max, script_reads_max, script_sh
 use Rattle.script_words.specs.declared.reason.Reason.{Reason}
 use Rattle.script_words.specs.declared.reason.Reason.TheVariants as reasons
 use Rattle.script_words.specs.Words.{or_else}
+use Rattle.ckpt_types.specs.FirstWord.{begin_text}
 use Rattle.script_lang.specs.declared.faults.ScriptFault.{ScriptFault}
-use Rattle.script_lang.specs.declared.forms.LineWord.{LineWord}
+use Rattle.ckpt_types.specs.declared.words.FirstWord.{FirstWord}
 use Rattle.script_lang.specs.declared.lines.Line.{Line}
 use Rattle.script_lang.specs.declared.lines.Line.TheVariants as lines
 use Rattle.script_lang.specs.declared.marks.Marks.{Marks}
-use Rattle.script_lang.specs.Table.{word_of, is_later, line_in}
+use Rattle.script_lang.specs.Table.{first_word_of, is_later, line_in}
 
 -- the lines, each ended by the byte 10; the last may lack it
 abbrev pub text_lines : List ℕ → List (List ℕ)
@@ -33,23 +34,23 @@ abbrev pub words_of : List ℕ → List (List ℕ)
 words_of line = slice_split is_space line
 
 -- a first word whose lines are not built yet
-abbrev pub is_later_word : Option LineWord → Bool
+abbrev pub is_later_word : Option FirstWord → Bool
 is_later_word None = false
 is_later_word (Some k) = is_later k
 
 -- the same of the word behind `begin`, where there is one
 abbrev pub begins_later : List (List ℕ) → Bool
 begins_later [] = false
-begins_later (w ∷ ws) = is_later_word (word_of w)
+begins_later (w ∷ ws) = is_later_word (first_word_of w)
 
 -- a line that is not built by its first word, or by the word behind `begin`
 abbrev pub not_built : List (List ℕ) → Bool
 not_built [] = false
-not_built (w ∷ ws) = if bytes_eq w (codes "begin") then begins_later ws else is_later_word (word_of w)
+not_built (w ∷ ws) = if bytes_eq w begin_text then begins_later ws else is_later_word (first_word_of w)
 
 -- the line that these words say
-unfoldable pub line_of : List (List ℕ) → Result Line Reason
-line_of ws = if not_built ws then Err reasons.NotBuilt else if list_any is_empty ws then Err reasons.Word else line_in ws
+unfoldable pub line_said : List (List ℕ) → Result Line Reason
+line_said ws = if not_built ws then Err reasons.NotBuilt else if list_any is_empty ws then Err reasons.Word else line_in ws
 
 -- a line that is there
 abbrev pub some_line : Result Line Reason → Result (Option Line) Reason
@@ -59,19 +60,19 @@ some_line (Err reason) = Err reason
 -- what a line says, and nothing where it is empty or a comment
 unfoldable pub reading : List ℕ → Result (Option Line) Reason
 reading [] = Ok None
-reading (b ∷ bs) = if b == 35 then Ok None else some_line (line_of (words_of (b ∷ bs)))
+reading (b ∷ bs) = if b == 35 then Ok None else some_line (line_said (words_of (b ∷ bs)))
 
 -- WHAT THE LINES BEFORE ALLOW. The lines before are given with the latest first.
 
 -- the moment behind a line
-abbrev pub moment_after : Line → ℤ → ℤ
-moment_after (lines.At t) now = t
-moment_after _ now = now
+abbrev pub moment_behind : ℤ → Line → ℤ
+moment_behind now (lines.At t) = t
+moment_behind now _ = now
 
 -- the moment behind these lines: 0 where none sets one
-abbrev pub moment_of : List Line → ℤ
-moment_of [] = pos 0
-moment_of (x ∷ earlier) = moment_after x (moment_of earlier)
+abbrev pub moment_behind_all : List Line → ℤ
+moment_behind_all [] = pos 0
+moment_behind_all (x ∷ earlier) = moment_behind (moment_behind_all earlier) x
 
 -- the number of lines so far of the block that a line stands in, behind that line
 abbrev pub block_after : Line → Option ℕ → Option ℕ
@@ -126,11 +127,11 @@ no_lines (x ∷ earlier) = false
 
 -- what the lines before tell of themselves
 unfoldable pub marks_of : List Line → Marks
-marks_of earlier = record { none = no_lines earlier; moment = moment_of earlier; block = block_of earlier; asked = asked_of earlier; shows = shows_of earlier }
+marks_of earlier = record { none = no_lines earlier; moment = moment_behind_all earlier; block = block_of earlier; asked = asked_of earlier; shows = shows_of earlier }
 
 -- the same with one line more
 unfoldable pub marks_after : Line → Marks → Marks
-marks_after x m = record { none = false; moment = moment_after x m.moment; block = block_after x m.block; asked = asked_in x + m.asked; shows = shows_after x m.shows }
+marks_after x m = record { none = false; moment = moment_behind m.moment x; block = block_after x m.block; asked = asked_in x + m.asked; shows = shows_after x m.shows }
 
 -- the line that brings the nodes up
 abbrev pub is_nodes : Line → Bool
@@ -258,23 +259,23 @@ after_reading p (Ok None) = Ok (record p { number = p.number + 1 })
 after_reading p (Ok (Some x)) = if_allowed p x (fault_of p.earlier x)
 
 -- one more line of the text, where it is not one too many
-unfoldable pub step : Progress → List ℕ → Result Progress ScriptFault
-step p text = if nat_le script_lines_max p.number then fault (p.number + 1) reasons.Lines else after_reading p (reading text)
+unfoldable pub take_line : Progress → List ℕ → Result Progress ScriptFault
+take_line p text = if nat_le script_lines_max p.number then fault (p.number + 1) reasons.Lines else after_reading p (reading text)
 
 -- the second step, if the first gave a value
-abbrev pub and_then : {A B : Type 0} → Result A ScriptFault → (A → Result B ScriptFault) → Result B ScriptFault
-and_then (Ok x) f = f x
-and_then (Err e) f = Err e
+abbrev pub if_no_fault : {A B : Type 0} → Result A ScriptFault → (A → Result B ScriptFault) → Result B ScriptFault
+if_no_fault (Ok x) f = f x
+if_no_fault (Err e) f = Err e
 
 -- the lines of the text in order, up to the first that is at fault
-unfoldable pub steps : Progress → List (List ℕ) → Result Progress ScriptFault
-steps p [] = Ok p
-steps p (text ∷ rest) = and_then (step p text) (λ q. steps q rest)
+unfoldable pub take_lines : Progress → List (List ℕ) → Result Progress ScriptFault
+take_lines p [] = Ok p
+take_lines p (text ∷ rest) = if_no_fault (take_line p text) (λ q. take_lines q rest)
 
 -- a block that is left open is the fault of its first line
-abbrev pub finished : Progress → Result (List Line) ScriptFault
-finished p = if is_some (block_of p.earlier) then fault p.race reasons.Race else Ok (reverse p.earlier)
+abbrev pub whole_script : Progress → Result (List Line) ScriptFault
+whole_script p = if is_some (block_of p.earlier) then fault p.race reasons.Race else Ok (reverse p.earlier)
 
 -- THE SCRIPT that the bytes spell, or the first line at fault
 unfoldable pub script_of : List ℕ → Result (List Line) ScriptFault
-script_of bytes = if nat_lt script_bytes_max (length bytes) then fault 0 reasons.Length else and_then (steps start (text_lines bytes)) finished
+script_of bytes = if nat_lt script_bytes_max (length bytes) then fault 0 reasons.Length else if_no_fault (take_lines start (text_lines bytes)) whole_script

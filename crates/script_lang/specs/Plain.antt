@@ -1,24 +1,25 @@
 -- A line that is read at once, word by word from the left.
-use Rattle.std.specs.Prelude.{◌≡◌, ℕ, false, List, Option, Some, None, IfSome, Ok, ◌∷◌, ◌+◌, ◌≤◌, sum_by, ⊤, codes}
+use Rattle.std.specs.Prelude.{◌≡◌, ℕ, false, List, Option, Some, None, IfSome, Ok, ◌∷◌, ◌+◌, ◌≤◌, sum_by, ⊤}
 use Rattle.std.specs.List.{list_any}
 use Rattle.ckpt_types.specs.declared.operation.Op.TheVariants as ops
 use Rattle.ckpt_types.specs.Limits.{script_reads_max}
-use Rattle.script_words.specs.Words.{Class, Meaning, read, a_client, a_place}
-use Rattle.script_lang.specs.declared.forms.LineWord.{LineWord}
+use Rattle.ckpt_types.specs.FirstWord.{begin_text}
+use Rattle.script_words.specs.Words.{Class, Meaning, read_word, a_client, a_place}
+use Rattle.ckpt_types.specs.declared.words.FirstWord.{FirstWord}
 use Rattle.script_lang.specs.declared.lines.Line.{Line}
 use Rattle.script_lang.specs.declared.lines.Line.TheVariants as lines
 use Rattle.script_lang.specs.declared.quick.Front.{Front}
 use Rattle.script_lang.specs.declared.quick.Quick.{Quick}
 use Rattle.script_lang.specs.declared.quick.Quick.TheVariants as quicks
-use Rattle.script_lang.specs.Table.{said_by, any_number, begun}
-use Rattle.script_lang.specs.Grammar.{is_empty, words_of, line_of, fault_after, marks_after}
+use Rattle.script_lang.specs.Table.{said_by, any_number, only_begun}
+use Rattle.script_lang.specs.Grammar.{is_empty, words_of, line_said, fault_after, marks_after}
 use Rattle.script_lang.specs.declared.marks.Marks.{Marks}
 
 -- the first word of the text says the value, and the others are those of the rest
 pub record SaysFirst (c : Class) (text : List ℕ) (value : Meaning c) (rest : List ℕ) : Type 0 where
   pub word : List ℕ
   pub words : words_of text ≡ word ∷ words_of rest
-  pub says : read c word ≡ Ok value
+  pub says : read_word c word ≡ Ok value
 
 -- the words of the text up to the last say what the front tells
 pub record SaysFront (text : List ℕ) (front : Front) : Type 0 where
@@ -43,12 +44,12 @@ AsksAll (quicks.Write client place update) = ⊤
 AsksAll quicks.Other = ⊤
 
 -- the text behind a first word says it, and no word is empty
-abbrev pub SaysBehind : LineWord → List ℕ → Quick → Type 0
+abbrev pub SaysBehind : FirstWord → List ℕ → Quick → Type 0
 SaysBehind k text quick = IfSome (line_in_quick quick) (λ x. (list_any is_empty (words_of text) ≡ false) × (said_by k (words_of text) ≡ Ok x)) × AsksAll quick
 
 -- the text says it, and behind `begin` that it is begun
 abbrev pub SaysLine : List ℕ → Quick → Type 0
-SaysLine text quick = IfSome (line_in_quick quick) (λ x. (line_of (words_of text) ≡ Ok x) × (line_of (codes "begin" ∷ words_of text) ≡ Ok (begun x))) × AsksAll quick
+SaysLine text quick = IfSome (line_in_quick quick) (λ x. (line_said (words_of text) ≡ Ok x) × (line_said (begin_text ∷ words_of text) ≡ Ok (only_begun x))) × AsksAll quick
 
 -- outside of a block the line leaves no mark but the bytes that it asks for, where they may be asked for
 abbrev pub OnlyAsks : Line → ℕ → Type 0

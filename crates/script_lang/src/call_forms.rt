@@ -2,10 +2,11 @@
 ghost use Rattle.std.specs.Prelude.{◌≡◌, ◌<◌, ◌≤◌, ◌*◌, ◌/◌, ◌%◌, ◌^◌, length, drop};
 ghost use Rattle.ckpt_types.specs.Limits.{line_elements_max};
 ghost use Rattle.script_words.specs.Reasons.{Reads};
-ghost use Rattle.script_words.specs.Words.{read, some_bytes};
-ghost use Rattle.script_lang.specs.declared.forms.LineWord.TheVariants as word;
+ghost use Rattle.script_words.specs.Words.{read_word, some_bytes};
+ghost use Rattle.ckpt_types.specs.declared.words.FirstWord.TheVariants as first;
+ghost use Rattle.ckpt_types.specs.declared.words.OpWord.TheVariants as calls;
 ghost use Rattle.script_lang.specs.Faults.{Gives};
-ghost use Rattle.script_lang.specs.Table.{texts, said_by, made, one_made, gather, attributes, attributes_of, io_group, io_element, read_group, read_element};
+ghost use Rattle.script_lang.specs.Table.{texts, said_by, value_made, one_made, gather, attributes, attributes_of, io_group, io_element, read_group, read_element};
 
 use crate::lines::Line;
 use ckpt_types::{
@@ -21,7 +22,7 @@ const FLAGS_MAX: u64 = 4_294_967_295;
 /// The line that the words behind `client` say.
 #[tactic(auto, unfolding(crate::specs::Table::said_by))]
 pub fn client_line(words: &[&[u8]]) -> Result<Line, LineError>
-    ensures { Reads result (said_by word.Client (texts words.now)) }
+    ensures { Reads result (said_by (first.Op calls.Client) (texts words.now)) }
 {
     let [client, node, version, callbacks] = words else {
         return Err(LineError::Fault(Reason::Count));
@@ -36,7 +37,7 @@ pub fn client_line(words: &[&[u8]]) -> Result<Line, LineError>
 /// The line that the words behind `finalize` say.
 #[tactic(auto, unfolding(crate::specs::Table::said_by))]
 pub fn finalize_line(words: &[&[u8]]) -> Result<Line, LineError>
-    ensures { Reads result (said_by word.Finalize (texts words.now)) }
+    ensures { Reads result (said_by (first.Op calls.Finalize) (texts words.now)) }
 {
     let [client] = words else {
         return Err(LineError::Fault(Reason::Count));
@@ -48,7 +49,7 @@ pub fn finalize_line(words: &[&[u8]]) -> Result<Line, LineError>
 /// The line that the words behind `close` say.
 #[tactic(auto, unfolding(crate::specs::Table::said_by))]
 pub fn close_line(words: &[&[u8]]) -> Result<Line, LineError>
-    ensures { Reads result (said_by word.Close (texts words.now)) }
+    ensures { Reads result (said_by (first.Op calls.Close) (texts words.now)) }
 {
     let [client, place] = words else {
         return Err(LineError::Fault(Reason::Count));
@@ -61,7 +62,7 @@ pub fn close_line(words: &[&[u8]]) -> Result<Line, LineError>
 /// The line that the words behind `unlink` say.
 #[tactic(auto, unfolding(crate::specs::Table::said_by))]
 pub fn unlink_line(alloc: Global, words: &[&[u8]]) -> Result<Line, LineError>
-    ensures { Reads result (said_by word.Unlink (texts words.now)) }
+    ensures { Reads result (said_by (first.Op calls.Unlink) (texts words.now)) }
 {
     let [client, name] = words else {
         return Err(LineError::Fault(Reason::Count));
@@ -74,7 +75,7 @@ pub fn unlink_line(alloc: Global, words: &[&[u8]]) -> Result<Line, LineError>
 /// The line that the words behind `retain` say.
 #[tactic(auto, unfolding(crate::specs::Table::said_by))]
 pub fn retain_line(words: &[&[u8]]) -> Result<Line, LineError>
-    ensures { Reads result (said_by word.Retain (texts words.now)) }
+    ensures { Reads result (said_by (first.Op calls.Retain) (texts words.now)) }
 {
     let [client, place, duration] = words else {
         return Err(LineError::Fault(Reason::Count));
@@ -88,7 +89,7 @@ pub fn retain_line(words: &[&[u8]]) -> Result<Line, LineError>
 /// The line that the words behind `active` say.
 #[tactic(auto, unfolding(crate::specs::Table::said_by))]
 pub fn active_line(words: &[&[u8]]) -> Result<Line, LineError>
-    ensures { Reads result (said_by word.Active (texts words.now)) }
+    ensures { Reads result (said_by (first.Op calls.Active) (texts words.now)) }
 {
     let [client, place] = words else {
         return Err(LineError::Fault(Reason::Count));
@@ -101,7 +102,7 @@ pub fn active_line(words: &[&[u8]]) -> Result<Line, LineError>
 /// The line that the words behind `status` say.
 #[tactic(auto, unfolding(crate::specs::Table::said_by))]
 pub fn status_line(words: &[&[u8]]) -> Result<Line, LineError>
-    ensures { Reads result (said_by word.Status (texts words.now)) }
+    ensures { Reads result (said_by (first.Op calls.Status) (texts words.now)) }
 {
     let [client, place] = words else {
         return Err(LineError::Fault(Reason::Count));
@@ -114,7 +115,7 @@ pub fn status_line(words: &[&[u8]]) -> Result<Line, LineError>
 /// The line that the words behind `create` say.
 #[tactic(auto, unfolding(crate::specs::Table::said_by))]
 pub fn create_line(alloc: Global, words: &[&[u8]]) -> Result<Line, LineError>
-    ensures { Reads result (said_by word.Create (texts words.now)) }
+    ensures { Reads result (said_by (first.Op calls.Create) (texts words.now)) }
 {
     let [client, place, id, expiration, data] = words else {
         return Err(LineError::Fault(Reason::Count));
@@ -131,7 +132,7 @@ pub fn create_line(alloc: Global, words: &[&[u8]]) -> Result<Line, LineError>
 /// The line that the words behind `delete` say.
 #[tactic(auto, unfolding(crate::specs::Table::said_by))]
 pub fn delete_line(alloc: Global, words: &[&[u8]]) -> Result<Line, LineError>
-    ensures { Reads result (said_by word.Delete (texts words.now)) }
+    ensures { Reads result (said_by (first.Op calls.Delete) (texts words.now)) }
 {
     let [client, place, id] = words else {
         return Err(LineError::Fault(Reason::Count));
@@ -146,7 +147,7 @@ pub fn delete_line(alloc: Global, words: &[&[u8]]) -> Result<Line, LineError>
 /// The line that the words behind `expire` say.
 #[tactic(auto, unfolding(crate::specs::Table::said_by))]
 pub fn expire_line(alloc: Global, words: &[&[u8]]) -> Result<Line, LineError>
-    ensures { Reads result (said_by word.Expire (texts words.now)) }
+    ensures { Reads result (said_by (first.Op calls.Expire) (texts words.now)) }
 {
     let [client, place, id, expiration] = words else {
         return Err(LineError::Fault(Reason::Count));
@@ -162,7 +163,7 @@ pub fn expire_line(alloc: Global, words: &[&[u8]]) -> Result<Line, LineError>
 /// The line that the words behind `iter` say.
 #[tactic(auto, unfolding(crate::specs::Table::said_by))]
 pub fn iter_line(words: &[&[u8]]) -> Result<Line, LineError>
-    ensures { Reads result (said_by word.Iter (texts words.now)) }
+    ensures { Reads result (said_by (first.Op calls.Iter) (texts words.now)) }
 {
     let [client, iteration, place, choice, time] = words else {
         return Err(LineError::Fault(Reason::Count));
@@ -178,7 +179,7 @@ pub fn iter_line(words: &[&[u8]]) -> Result<Line, LineError>
 /// The line that the words behind `next` say.
 #[tactic(auto, unfolding(crate::specs::Table::said_by))]
 pub fn next_line(words: &[&[u8]]) -> Result<Line, LineError>
-    ensures { Reads result (said_by word.Next (texts words.now)) }
+    ensures { Reads result (said_by (first.Op calls.Next) (texts words.now)) }
 {
     let [client, iteration] = words else {
         return Err(LineError::Fault(Reason::Count));
@@ -191,7 +192,7 @@ pub fn next_line(words: &[&[u8]]) -> Result<Line, LineError>
 /// The line that the words behind `enditer` say.
 #[tactic(auto, unfolding(crate::specs::Table::said_by))]
 pub fn end_iter_line(words: &[&[u8]]) -> Result<Line, LineError>
-    ensures { Reads result (said_by word.EndIter (texts words.now)) }
+    ensures { Reads result (said_by (first.Op calls.EndIter) (texts words.now)) }
 {
     let [client, iteration] = words else {
         return Err(LineError::Fault(Reason::Count));
@@ -204,7 +205,7 @@ pub fn end_iter_line(words: &[&[u8]]) -> Result<Line, LineError>
 /// The line that the words behind `over` say.
 #[tactic(auto, unfolding(crate::specs::Table::said_by))]
 pub fn over_line(alloc: Global, words: &[&[u8]]) -> Result<Line, LineError>
-    ensures { Reads result (said_by word.Over (texts words.now)) }
+    ensures { Reads result (said_by (first.Op calls.Over) (texts words.now)) }
 {
     let [client, place, id, data] = words else {
         return Err(LineError::Fault(Reason::Count));
@@ -220,7 +221,7 @@ pub fn over_line(alloc: Global, words: &[&[u8]]) -> Result<Line, LineError>
 /// The line that the words behind `sync` say.
 #[tactic(auto, unfolding(crate::specs::Table::said_by))]
 pub fn sync_line(words: &[&[u8]]) -> Result<Line, LineError>
-    ensures { Reads result (said_by word.Sync (texts words.now)) }
+    ensures { Reads result (said_by (first.Op calls.Sync) (texts words.now)) }
 {
     let [client, place, timeout] = words else {
         return Err(LineError::Fault(Reason::Count));
@@ -234,7 +235,7 @@ pub fn sync_line(words: &[&[u8]]) -> Result<Line, LineError>
 /// The line that the words behind `syncasync` say.
 #[tactic(auto, unfolding(crate::specs::Table::said_by))]
 pub fn sync_async_line(words: &[&[u8]]) -> Result<Line, LineError>
-    ensures { Reads result (said_by word.SyncAsync (texts words.now)) }
+    ensures { Reads result (said_by (first.Op calls.SyncAsync) (texts words.now)) }
 {
     let [client, place, invocation] = words else {
         return Err(LineError::Fault(Reason::Count));
@@ -248,7 +249,7 @@ pub fn sync_async_line(words: &[&[u8]]) -> Result<Line, LineError>
 /// The line that the words behind `dispatch` say.
 #[tactic(auto, unfolding(crate::specs::Table::said_by))]
 pub fn dispatch_line(words: &[&[u8]]) -> Result<Line, LineError>
-    ensures { Reads result (said_by word.Dispatch (texts words.now)) }
+    ensures { Reads result (said_by (first.Op calls.Dispatch) (texts words.now)) }
 {
     let [client, flags] = words else {
         return Err(LineError::Fault(Reason::Count));
@@ -261,7 +262,7 @@ pub fn dispatch_line(words: &[&[u8]]) -> Result<Line, LineError>
 /// The line that the words behind `open` say.
 #[tactic(auto, unfolding(crate::specs::Table::said_by))]
 pub fn open_line(alloc: Global, words: &[&[u8]]) -> Result<Line, LineError>
-    ensures { Reads result (said_by word.Open (texts words.now)) }
+    ensures { Reads result (said_by (first.Op calls.Open) (texts words.now)) }
 {
     let [client, place, name, flags, timeout, rest @ ..] = words else {
         return Err(LineError::Fault(Reason::Count));
@@ -287,7 +288,7 @@ pub fn open_line(alloc: Global, words: &[&[u8]]) -> Result<Line, LineError>
 /// The line that the words behind `openasync` say.
 #[tactic(auto, unfolding(crate::specs::Table::said_by))]
 pub fn open_async_line(alloc: Global, words: &[&[u8]]) -> Result<Line, LineError>
-    ensures { Reads result (said_by word.OpenAsync (texts words.now)) }
+    ensures { Reads result (said_by (first.Op calls.OpenAsync) (texts words.now)) }
 {
     let [client, place, invocation, name, flags, rest @ ..] = words else {
         return Err(LineError::Fault(Reason::Count));
@@ -312,7 +313,7 @@ pub fn open_async_line(alloc: Global, words: &[&[u8]]) -> Result<Line, LineError
 
 // The name that a word says.
 fn shared_name(alloc: Global, word: &[u8]) -> Result<SharedName, LineError>
-    ensures { Reads result (read some_bytes word.now) }
+    ensures { Reads result (read_word some_bytes word.now) }
 {
     let name = script_words::bytes(alloc, word)?;
     Ok(Shared::new(alloc, name)?)
@@ -321,7 +322,7 @@ fn shared_name(alloc: Global, word: &[u8]) -> Result<SharedName, LineError>
 // The creation attributes that six words say.
 fn attributes_in(words: &[&[u8]]) -> Result<CreationAttributes, LineError>
     requires { length words.now ≡ 6 }
-    ensures { Reads result (made attributes attributes_of (texts words.now)) }
+    ensures { Reads result (value_made attributes attributes_of (texts words.now)) }
 {
     let [flags, size, retention, sections, section_size, id_size] = words else {
         unreachable!()
@@ -345,7 +346,7 @@ fn attributes_in(words: &[&[u8]]) -> Result<CreationAttributes, LineError>
 /// The line that the words behind `write` say.
 #[tactic(auto, unfolding(crate::specs::Table::said_by))]
 pub fn write_line(alloc: Global, words: &[&[u8]]) -> Result<Line, LineError>
-    ensures { Reads result (said_by word.Write (texts words.now)) }
+    ensures { Reads result (said_by (first.Op calls.Write) (texts words.now)) }
 {
     let [client, place, rest @ ..] = words else {
         return Err(LineError::Fault(Reason::Count));
@@ -405,7 +406,7 @@ fn io_element_at(alloc: Global, words: &[&[u8]]) -> Result<IoElement, LineError>
 /// The line that the words behind `read` say.
 #[tactic(auto, unfolding(crate::specs::Table::said_by))]
 pub fn read_line(alloc: Global, words: &[&[u8]]) -> Result<Line, LineError>
-    ensures { Reads result (said_by word.Read (texts words.now)) }
+    ensures { Reads result (said_by (first.Op calls.Read) (texts words.now)) }
 {
     let [client, place, rest @ ..] = words else {
         return Err(LineError::Fault(Reason::Count));

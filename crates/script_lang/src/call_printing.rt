@@ -1,7 +1,10 @@
 //! How each call line is spelled.
 ghost use Rattle.std.specs.Prelude.{◌≡◌, ◌++◌, ◌∷◌, [], OnOk, codes, decimal, map, option_map, flat_map};
-ghost use Rattle.script_lang.specs.Spelling.{spell_all, spell_more, tail_text, update_text, call_text, attributes_values, io_values, read_values};
-ghost use Rattle.script_words.specs.Spelling.{bytes_text, spell};
+ghost use Rattle.script_lang.specs.Spelling.{spell_all, spell_more, tail_text, written_update, written_call, attributes_values, io_values, read_values};
+ghost use Rattle.ckpt_types.specs.declared.words.OpWord.TheVariants as calls;
+ghost use Rattle.ckpt_types.specs.OpWord.{op_text};
+ghost use Rattle.ckpt_types.specs.Spelling.{bytes_text};
+ghost use Rattle.script_words.specs.Spelling.{spell};
 ghost use Rattle.script_words.specs.Words.{a_client, a_place};
 ghost use Rattle.script_lang.specs.Table.{attributes, io_group, read_group};
 ghost use Rattle.ckpt_types.specs.declared.operation.Op.TheVariants as ops;
@@ -19,7 +22,7 @@ use std::alloc::{AllocError, Global};
 
 /// Writes the words of a client's call.
 pub fn write_call(alloc: Global, out: &mut Vec<u8>, client: u8, op: &Op) -> Result<(), AllocError>
-    ensures { OnOk result (out.new.items ≡ out.old.items ++ call_text client op.now) }
+    ensures { OnOk result (out.new.items ≡ out.old.items ++ written_call client op.now) }
 {
     match op {
         Op::Client(node, version, callbacks) => client_call(
@@ -73,7 +76,7 @@ pub fn write_call(alloc: Global, out: &mut Vec<u8>, client: u8, op: &Op) -> Resu
     }
 }
 
-#[tactic(auto, unfolding(crate::specs::Spelling::call_text))]
+#[tactic(auto, unfolding(crate::specs::Spelling::written_call))]
 fn client_call(
     out: &mut Vec<u8>,
     client: u8,
@@ -81,7 +84,7 @@ fn client_call(
     version: Version,
     callbacks: CallbackSet,
 ) -> Result<(), AllocError>
-    ensures { OnOk result (out.new.items ≡ out.old.items ++ call_text client (ops.Client node version callbacks)) }
+    ensures { OnOk result (out.new.items ≡ out.old.items ++ written_call client (ops.Client node version callbacks)) }
 {
     out.extend_from_slice(b"client")?;
     write_client(out, client)?;
@@ -90,15 +93,15 @@ fn client_call(
     write_callbacks(out, callbacks)
 }
 
-#[tactic(auto, unfolding(crate::specs::Spelling::call_text))]
+#[tactic(auto, unfolding(crate::specs::Spelling::written_call))]
 fn finalize_call(out: &mut Vec<u8>, client: u8) -> Result<(), AllocError>
-    ensures { OnOk result (out.new.items ≡ out.old.items ++ call_text client (ops.Finalize)) }
+    ensures { OnOk result (out.new.items ≡ out.old.items ++ written_call client (ops.Finalize)) }
 {
     out.extend_from_slice(b"finalize")?;
     write_client(out, client)
 }
 
-#[tactic(auto, unfolding(crate::specs::Spelling::call_text))]
+#[tactic(auto, unfolding(crate::specs::Spelling::written_call))]
 fn open_call(
     alloc: Global,
     out: &mut Vec<u8>,
@@ -109,7 +112,7 @@ fn open_call(
     timeout: Moment,
     attributes: Option<CreationAttributes>,
 ) -> Result<(), AllocError>
-    ensures { OnOk result (out.new.items ≡ out.old.items ++ call_text client (ops.Open place name.now flags timeout attributes)) }
+    ensures { OnOk result (out.new.items ≡ out.old.items ++ written_call client (ops.Open place name.now flags timeout attributes)) }
 {
     out.extend_from_slice(b"open")?;
     write_client(out, client)?;
@@ -119,7 +122,7 @@ fn open_call(
     write_more(out, attributes)
 }
 
-#[tactic(auto, unfolding(crate::specs::Spelling::call_text))]
+#[tactic(auto, using(crate::proofs::Writing::open_async_text))]
 fn open_async_call(
     alloc: Global,
     out: &mut Vec<u8>,
@@ -130,11 +133,10 @@ fn open_async_call(
     flags: u32,
     attributes: Option<CreationAttributes>,
 ) -> Result<(), AllocError>
-    ensures { OnOk result (out.new.items ≡ out.old.items ++ call_text client (ops.OpenAsync place invocation name.now flags attributes)) }
+    ensures { OnOk result (out.new.items ≡ out.old.items ++ written_call client (ops.OpenAsync place invocation name.now flags attributes)) }
 {
     write_async_front(out, client, place, invocation)?;
-    write_name_and_flags(alloc, out, name, flags)?;
-    write_more(out, attributes)
+    write_opening(alloc, out, name, flags, attributes)
 }
 
 // The words of an asynchronous open in front of the name.
@@ -144,12 +146,26 @@ fn write_async_front(
     place: u8,
     invocation: u64,
 ) -> Result<(), AllocError>
-    ensures { OnOk result (out.new.items ≡ out.old.items ++ codes "openasync" ++ tail_text (spell a_client client ∷ spell a_place place ∷ decimal invocation ∷ [])) }
+    ensures { OnOk result (out.new.items ≡ out.old.items ++ op_text calls.OpenAsync ++ tail_text (spell a_client client ∷ spell a_place place ∷ decimal invocation ∷ [])) }
 {
     out.extend_from_slice(b"openasync")?;
     write_client(out, client)?;
     write_place(out, place)?;
     write_number(out, invocation)
+}
+
+// A name, open flags, and the words of creation attributes, where there are any.
+fn write_opening(
+    alloc: Global,
+    out: &mut Vec<u8>,
+    name: &Bytes,
+    flags: u32,
+    declared: Option<CreationAttributes>,
+) -> Result<(), AllocError>
+    ensures { OnOk result (out.new.items ≡ out.old.items ++ tail_text (bytes_text name.now ∷ decimal flags ∷ spell_more attributes (option_map attributes_values declared))) }
+{
+    write_name_and_flags(alloc, out, name, flags)?;
+    write_more(out, declared)
 }
 
 // A name and open flags.
@@ -187,27 +203,27 @@ fn write_attributes(out: &mut Vec<u8>, declared: CreationAttributes) -> Result<(
     write_number(out, declared.max_section_id_size)
 }
 
-#[tactic(auto, unfolding(crate::specs::Spelling::call_text))]
+#[tactic(auto, unfolding(crate::specs::Spelling::written_call))]
 fn close_call(out: &mut Vec<u8>, client: u8, place: u8) -> Result<(), AllocError>
-    ensures { OnOk result (out.new.items ≡ out.old.items ++ call_text client (ops.Close place)) }
+    ensures { OnOk result (out.new.items ≡ out.old.items ++ written_call client (ops.Close place)) }
 {
     out.extend_from_slice(b"close")?;
     write_client(out, client)?;
     write_place(out, place)
 }
 
-#[tactic(auto, unfolding(crate::specs::Spelling::call_text))]
+#[tactic(auto, unfolding(crate::specs::Spelling::written_call))]
 fn unlink_call(alloc: Global, out: &mut Vec<u8>, client: u8, name: &Bytes) -> Result<(), AllocError>
-    ensures { OnOk result (out.new.items ≡ out.old.items ++ call_text client (ops.Unlink name.now)) }
+    ensures { OnOk result (out.new.items ≡ out.old.items ++ written_call client (ops.Unlink name.now)) }
 {
     out.extend_from_slice(b"unlink")?;
     write_client(out, client)?;
     write_bytes(alloc, out, name.as_slice())
 }
 
-#[tactic(auto, unfolding(crate::specs::Spelling::call_text))]
+#[tactic(auto, unfolding(crate::specs::Spelling::written_call))]
 fn retain_call(out: &mut Vec<u8>, client: u8, place: u8, duration: Moment) -> Result<(), AllocError>
-    ensures { OnOk result (out.new.items ≡ out.old.items ++ call_text client (ops.Retain place duration)) }
+    ensures { OnOk result (out.new.items ≡ out.old.items ++ written_call client (ops.Retain place duration)) }
 {
     out.extend_from_slice(b"retain")?;
     write_client(out, client)?;
@@ -215,25 +231,25 @@ fn retain_call(out: &mut Vec<u8>, client: u8, place: u8, duration: Moment) -> Re
     write_time(out, duration)
 }
 
-#[tactic(auto, unfolding(crate::specs::Spelling::call_text))]
+#[tactic(auto, unfolding(crate::specs::Spelling::written_call))]
 fn active_call(out: &mut Vec<u8>, client: u8, place: u8) -> Result<(), AllocError>
-    ensures { OnOk result (out.new.items ≡ out.old.items ++ call_text client (ops.Active place)) }
+    ensures { OnOk result (out.new.items ≡ out.old.items ++ written_call client (ops.Active place)) }
 {
     out.extend_from_slice(b"active")?;
     write_client(out, client)?;
     write_place(out, place)
 }
 
-#[tactic(auto, unfolding(crate::specs::Spelling::call_text))]
+#[tactic(auto, unfolding(crate::specs::Spelling::written_call))]
 fn status_call(out: &mut Vec<u8>, client: u8, place: u8) -> Result<(), AllocError>
-    ensures { OnOk result (out.new.items ≡ out.old.items ++ call_text client (ops.Status place)) }
+    ensures { OnOk result (out.new.items ≡ out.old.items ++ written_call client (ops.Status place)) }
 {
     out.extend_from_slice(b"status")?;
     write_client(out, client)?;
     write_place(out, place)
 }
 
-#[tactic(auto, unfolding(crate::specs::Spelling::call_text))]
+#[tactic(auto, unfolding(crate::specs::Spelling::written_call))]
 fn iter_call(
     out: &mut Vec<u8>,
     client: u8,
@@ -242,7 +258,7 @@ fn iter_call(
     choice: u64,
     time: Moment,
 ) -> Result<(), AllocError>
-    ensures { OnOk result (out.new.items ≡ out.old.items ++ call_text client (ops.Iter iteration place choice time)) }
+    ensures { OnOk result (out.new.items ≡ out.old.items ++ written_call client (ops.Iter iteration place choice time)) }
 {
     out.extend_from_slice(b"iter")?;
     write_client(out, client)?;
@@ -252,27 +268,27 @@ fn iter_call(
     write_time(out, time)
 }
 
-#[tactic(auto, unfolding(crate::specs::Spelling::call_text))]
+#[tactic(auto, unfolding(crate::specs::Spelling::written_call))]
 fn next_call(out: &mut Vec<u8>, client: u8, iteration: u8) -> Result<(), AllocError>
-    ensures { OnOk result (out.new.items ≡ out.old.items ++ call_text client (ops.Next iteration)) }
+    ensures { OnOk result (out.new.items ≡ out.old.items ++ written_call client (ops.Next iteration)) }
 {
     out.extend_from_slice(b"next")?;
     write_client(out, client)?;
     write_iteration(out, iteration)
 }
 
-#[tactic(auto, unfolding(crate::specs::Spelling::call_text))]
+#[tactic(auto, unfolding(crate::specs::Spelling::written_call))]
 fn end_iter_call(out: &mut Vec<u8>, client: u8, iteration: u8) -> Result<(), AllocError>
-    ensures { OnOk result (out.new.items ≡ out.old.items ++ call_text client (ops.EndIter iteration)) }
+    ensures { OnOk result (out.new.items ≡ out.old.items ++ written_call client (ops.EndIter iteration)) }
 {
     out.extend_from_slice(b"enditer")?;
     write_client(out, client)?;
     write_iteration(out, iteration)
 }
 
-#[tactic(auto, unfolding(crate::specs::Spelling::call_text))]
+#[tactic(auto, unfolding(crate::specs::Spelling::written_call))]
 fn sync_call(out: &mut Vec<u8>, client: u8, place: u8, timeout: Moment) -> Result<(), AllocError>
-    ensures { OnOk result (out.new.items ≡ out.old.items ++ call_text client (ops.Sync place timeout)) }
+    ensures { OnOk result (out.new.items ≡ out.old.items ++ written_call client (ops.Sync place timeout)) }
 {
     out.extend_from_slice(b"sync")?;
     write_client(out, client)?;
@@ -280,14 +296,14 @@ fn sync_call(out: &mut Vec<u8>, client: u8, place: u8, timeout: Moment) -> Resul
     write_time(out, timeout)
 }
 
-#[tactic(auto, unfolding(crate::specs::Spelling::call_text))]
+#[tactic(auto, unfolding(crate::specs::Spelling::written_call))]
 fn sync_async_call(
     out: &mut Vec<u8>,
     client: u8,
     place: u8,
     invocation: u64,
 ) -> Result<(), AllocError>
-    ensures { OnOk result (out.new.items ≡ out.old.items ++ call_text client (ops.SyncAsync place invocation)) }
+    ensures { OnOk result (out.new.items ≡ out.old.items ++ written_call client (ops.SyncAsync place invocation)) }
 {
     out.extend_from_slice(b"syncasync")?;
     write_client(out, client)?;
@@ -295,24 +311,24 @@ fn sync_async_call(
     write_number(out, invocation)
 }
 
-#[tactic(auto, unfolding(crate::specs::Spelling::call_text))]
+#[tactic(auto, unfolding(crate::specs::Spelling::written_call))]
 fn dispatch_call(out: &mut Vec<u8>, client: u8, flags: u32) -> Result<(), AllocError>
-    ensures { OnOk result (out.new.items ≡ out.old.items ++ call_text client (ops.Dispatch flags)) }
+    ensures { OnOk result (out.new.items ≡ out.old.items ++ written_call client (ops.Dispatch flags)) }
 {
     out.extend_from_slice(b"dispatch")?;
     write_client(out, client)?;
     write_number(out, flags as u64)
 }
 
-#[tactic(auto, unfolding(crate::specs::Spelling::call_text))]
+#[tactic(auto, unfolding(crate::specs::Spelling::written_call))]
 fn copy_call(out: &mut Vec<u8>, client: u8) -> Result<(), AllocError>
-    ensures { OnOk result (out.new.items ≡ out.old.items ++ call_text client (ops.Copy)) }
+    ensures { OnOk result (out.new.items ≡ out.old.items ++ written_call client (ops.Copy)) }
 {
     out.extend_from_slice(b"copy")?;
     write_node(out, client)
 }
 
-#[tactic(auto, unfolding(crate::specs::Spelling::call_text))]
+#[tactic(auto, unfolding(crate::specs::Spelling::written_call))]
 fn read_call(
     alloc: Global,
     out: &mut Vec<u8>,
@@ -320,7 +336,7 @@ fn read_call(
     place: u8,
     elements: &[ReadElement],
 ) -> Result<(), AllocError>
-    ensures { OnOk result (out.new.items ≡ out.old.items ++ call_text client (ops.Read place elements.now)) }
+    ensures { OnOk result (out.new.items ≡ out.old.items ++ written_call client (ops.Read place elements.now)) }
 {
     out.extend_from_slice(b"read")?;
     write_client(out, client)?;
@@ -328,7 +344,7 @@ fn read_call(
     read_elements(alloc, out, elements)
 }
 
-#[tactic(auto, unfolding(crate::specs::Spelling::call_text, crate::specs::Spelling::update_text))]
+#[tactic(auto, unfolding(crate::specs::Spelling::written_call, crate::specs::Spelling::written_update))]
 fn create_call(
     alloc: Global,
     out: &mut Vec<u8>,
@@ -336,12 +352,12 @@ fn create_call(
     place: u8,
     update: &Update,
 ) -> Result<(), AllocError>
-    ensures { OnOk result (out.new.items ≡ out.old.items ++ call_text client (ops.Create place update.now)) }
+    ensures { OnOk result (out.new.items ≡ out.old.items ++ written_call client (ops.Create place update.now)) }
 {
     write_update(alloc, out, client, place, update)
 }
 
-#[tactic(auto, unfolding(crate::specs::Spelling::call_text, crate::specs::Spelling::update_text))]
+#[tactic(auto, unfolding(crate::specs::Spelling::written_call, crate::specs::Spelling::written_update))]
 fn delete_call(
     alloc: Global,
     out: &mut Vec<u8>,
@@ -349,12 +365,12 @@ fn delete_call(
     place: u8,
     update: &Update,
 ) -> Result<(), AllocError>
-    ensures { OnOk result (out.new.items ≡ out.old.items ++ call_text client (ops.Delete place update.now)) }
+    ensures { OnOk result (out.new.items ≡ out.old.items ++ written_call client (ops.Delete place update.now)) }
 {
     write_update(alloc, out, client, place, update)
 }
 
-#[tactic(auto, unfolding(crate::specs::Spelling::call_text, crate::specs::Spelling::update_text))]
+#[tactic(auto, unfolding(crate::specs::Spelling::written_call, crate::specs::Spelling::written_update))]
 fn expire_call(
     alloc: Global,
     out: &mut Vec<u8>,
@@ -362,12 +378,12 @@ fn expire_call(
     place: u8,
     update: &Update,
 ) -> Result<(), AllocError>
-    ensures { OnOk result (out.new.items ≡ out.old.items ++ call_text client (ops.Expire place update.now)) }
+    ensures { OnOk result (out.new.items ≡ out.old.items ++ written_call client (ops.Expire place update.now)) }
 {
     write_update(alloc, out, client, place, update)
 }
 
-#[tactic(auto, unfolding(crate::specs::Spelling::call_text, crate::specs::Spelling::update_text))]
+#[tactic(auto, unfolding(crate::specs::Spelling::written_call, crate::specs::Spelling::written_update))]
 fn write_update_call(
     alloc: Global,
     out: &mut Vec<u8>,
@@ -375,12 +391,12 @@ fn write_update_call(
     place: u8,
     update: &Update,
 ) -> Result<(), AllocError>
-    ensures { OnOk result (out.new.items ≡ out.old.items ++ call_text client (ops.Write place update.now)) }
+    ensures { OnOk result (out.new.items ≡ out.old.items ++ written_call client (ops.Write place update.now)) }
 {
     write_update(alloc, out, client, place, update)
 }
 
-#[tactic(auto, unfolding(crate::specs::Spelling::call_text, crate::specs::Spelling::update_text))]
+#[tactic(auto, unfolding(crate::specs::Spelling::written_call, crate::specs::Spelling::written_update))]
 fn over_call(
     alloc: Global,
     out: &mut Vec<u8>,
@@ -388,7 +404,7 @@ fn over_call(
     place: u8,
     update: &Update,
 ) -> Result<(), AllocError>
-    ensures { OnOk result (out.new.items ≡ out.old.items ++ call_text client (ops.Over place update.now)) }
+    ensures { OnOk result (out.new.items ≡ out.old.items ++ written_call client (ops.Over place update.now)) }
 {
     write_update(alloc, out, client, place, update)
 }
@@ -401,7 +417,7 @@ fn write_update(
     place: u8,
     update: &Update,
 ) -> Result<(), AllocError>
-    ensures { OnOk result (out.new.items ≡ out.old.items ++ update_text client place update.now) }
+    ensures { OnOk result (out.new.items ≡ out.old.items ++ written_update client place update.now) }
 {
     match update {
         Update::Write(elements) => elements_update(alloc, out, client, place, elements.as_slice()),
@@ -417,7 +433,7 @@ fn write_update(
     }
 }
 
-#[tactic(auto, unfolding(crate::specs::Spelling::update_text))]
+#[tactic(auto, unfolding(crate::specs::Spelling::written_update))]
 fn elements_update(
     alloc: Global,
     out: &mut Vec<u8>,
@@ -425,7 +441,7 @@ fn elements_update(
     place: u8,
     elements: &[IoElement],
 ) -> Result<(), AllocError>
-    ensures { OnOk result (out.new.items ≡ out.old.items ++ update_text client place (updates.Write elements.now)) }
+    ensures { OnOk result (out.new.items ≡ out.old.items ++ written_update client place (updates.Write elements.now)) }
 {
     out.extend_from_slice(b"write")?;
     write_client(out, client)?;
@@ -433,7 +449,7 @@ fn elements_update(
     io_elements(alloc, out, elements)
 }
 
-#[tactic(auto, unfolding(crate::specs::Spelling::update_text))]
+#[tactic(auto, unfolding(crate::specs::Spelling::written_update))]
 fn overwrite_update(
     alloc: Global,
     out: &mut Vec<u8>,
@@ -442,7 +458,7 @@ fn overwrite_update(
     id: &Bytes,
     text: &Bytes,
 ) -> Result<(), AllocError>
-    ensures { OnOk result (out.new.items ≡ out.old.items ++ update_text client place (updates.Overwrite id.now text.now)) }
+    ensures { OnOk result (out.new.items ≡ out.old.items ++ written_update client place (updates.Overwrite id.now text.now)) }
 {
     out.extend_from_slice(b"over")?;
     write_client(out, client)?;
@@ -451,7 +467,7 @@ fn overwrite_update(
     write_bytes(alloc, out, text.as_slice())
 }
 
-#[tactic(auto, unfolding(crate::specs::Spelling::update_text))]
+#[tactic(auto, unfolding(crate::specs::Spelling::written_update))]
 fn create_update(
     alloc: Global,
     out: &mut Vec<u8>,
@@ -461,7 +477,7 @@ fn create_update(
     expiration: Moment,
     text: &Bytes,
 ) -> Result<(), AllocError>
-    ensures { OnOk result (out.new.items ≡ out.old.items ++ update_text client place (updates.Create id.now expiration text.now)) }
+    ensures { OnOk result (out.new.items ≡ out.old.items ++ written_update client place (updates.Create id.now expiration text.now)) }
 {
     out.extend_from_slice(b"create")?;
     write_client(out, client)?;
@@ -471,7 +487,7 @@ fn create_update(
     write_bytes(alloc, out, text.as_slice())
 }
 
-#[tactic(auto, unfolding(crate::specs::Spelling::update_text))]
+#[tactic(auto, unfolding(crate::specs::Spelling::written_update))]
 fn delete_update(
     alloc: Global,
     out: &mut Vec<u8>,
@@ -479,7 +495,7 @@ fn delete_update(
     place: u8,
     id: &Bytes,
 ) -> Result<(), AllocError>
-    ensures { OnOk result (out.new.items ≡ out.old.items ++ update_text client place (updates.Delete id.now)) }
+    ensures { OnOk result (out.new.items ≡ out.old.items ++ written_update client place (updates.Delete id.now)) }
 {
     out.extend_from_slice(b"delete")?;
     write_client(out, client)?;
@@ -487,7 +503,7 @@ fn delete_update(
     write_id(alloc, out, id)
 }
 
-#[tactic(auto, unfolding(crate::specs::Spelling::update_text))]
+#[tactic(auto, unfolding(crate::specs::Spelling::written_update))]
 fn expiration_update(
     alloc: Global,
     out: &mut Vec<u8>,
@@ -496,7 +512,7 @@ fn expiration_update(
     id: &Bytes,
     expiration: Moment,
 ) -> Result<(), AllocError>
-    ensures { OnOk result (out.new.items ≡ out.old.items ++ update_text client place (updates.SetExpiration id.now expiration)) }
+    ensures { OnOk result (out.new.items ≡ out.old.items ++ written_update client place (updates.SetExpiration id.now expiration)) }
 {
     out.extend_from_slice(b"expire")?;
     write_client(out, client)?;
@@ -505,9 +521,9 @@ fn expiration_update(
     write_time(out, expiration)
 }
 
-#[tactic(auto, unfolding(crate::specs::Spelling::update_text))]
+#[tactic(auto, unfolding(crate::specs::Spelling::written_update))]
 fn nothing_update(out: &mut Vec<u8>, client: u8, place: u8) -> Result<(), AllocError>
-    ensures { OnOk result (out.new.items ≡ out.old.items ++ update_text client place (updates.Nothing)) }
+    ensures { OnOk result (out.new.items ≡ out.old.items ++ written_update client place (updates.Nothing)) }
 {
     out.extend_from_slice(b"write")?;
     write_client(out, client)?;

@@ -1,56 +1,22 @@
 //! The form of a line by its first word, and which forms are not built yet.
 ghost use Rattle.std.specs.Prelude.{◌≡◌, bytes_eq};
+ghost use Rattle.ckpt_types.specs.declared.words.FirstWord.TheVariants as first;
 ghost use Rattle.script_words.specs.Reasons.{Reads};
-ghost use Rattle.script_lang.specs.Table.{texts, word_of, word_of_first, word_of_second, word_of_third, is_later as spec_is_later, may_begin as spec_may_begin, begun as spec_begun, said_by, plain, begun_by, begin};
+ghost use Rattle.script_lang.specs.Table.{texts, first_word_of, word_of_first, word_of_second, word_of_third, is_later as spec_is_later, is_later_call as spec_is_later_call, may_begin as spec_may_begin, only_begun as spec_begun, said_by, plain_by, begun_by, begin};
 
 use crate::lines::Line;
 use crate::{call_forms, line_forms};
-use ckpt_types::{ActorName, Op};
+use ckpt_types::{ActorName, FirstWord, Op, OpWord};
 use script_words::{LineError, Reason};
 use std::alloc::Global;
 
-/// The first word of a line.
-#[derive(Clone, Copy, Debug)]
-pub(crate) enum LineWord {
-    Nodes,
-    Client,
-    Finalize,
-    Open,
-    OpenAsync,
-    Close,
-    Unlink,
-    Retain,
-    Active,
-    Status,
-    Create,
-    Delete,
-    Expire,
-    Iter,
-    Next,
-    EndIter,
-    Write,
-    Over,
-    Read,
-    Sync,
-    SyncAsync,
-    Dispatch,
-    Step,
-    Finish,
-    Copy,
-    Fail,
-    Join,
-    At,
-    Pull,
-    Put,
-    Propagate,
-    Show,
-    Race,
-    End,
-}
-
 /// The line that a first word and the words behind it say.
-pub fn plain_line(alloc: Global, word: Option<LineWord>, words: &[&[u8]]) -> Result<Line, LineError>
-    ensures { Reads result (plain word (texts words.now)) }
+pub fn plain_line(
+    alloc: Global,
+    word: Option<FirstWord>,
+    words: &[&[u8]],
+) -> Result<Line, LineError>
+    ensures { Reads result (plain_by word (texts words.now)) }
 {
     match word {
         Some(word) => line_named(alloc, word, words),
@@ -68,7 +34,7 @@ pub fn begin_line(alloc: Global, words: &[&[u8]]) -> Result<Line, LineError>
     begun_line(alloc, word_named(first), rest)
 }
 
-fn begun_line(alloc: Global, word: Option<LineWord>, words: &[&[u8]]) -> Result<Line, LineError>
+fn begun_line(alloc: Global, word: Option<FirstWord>, words: &[&[u8]]) -> Result<Line, LineError>
     ensures { Reads result (begun_by word (texts words.now)) }
 {
     let Some(word) = word else {
@@ -82,34 +48,10 @@ fn begun_line(alloc: Global, word: Option<LineWord>, words: &[&[u8]]) -> Result<
 }
 
 // What may stand behind `begin`: a call or a copying.
-fn may_begin(word: LineWord) -> bool
+fn may_begin(word: FirstWord) -> bool
     ensures { result ≡ spec_may_begin word }
 {
-    matches!(
-        word,
-        LineWord::Client
-            | LineWord::Finalize
-            | LineWord::Open
-            | LineWord::OpenAsync
-            | LineWord::Close
-            | LineWord::Unlink
-            | LineWord::Retain
-            | LineWord::Active
-            | LineWord::Status
-            | LineWord::Create
-            | LineWord::Delete
-            | LineWord::Expire
-            | LineWord::Iter
-            | LineWord::Next
-            | LineWord::EndIter
-            | LineWord::Write
-            | LineWord::Over
-            | LineWord::Read
-            | LineWord::Sync
-            | LineWord::SyncAsync
-            | LineWord::Dispatch
-            | LineWord::Copy
-    )
+    matches!(word, FirstWord::Op(_))
 }
 
 // The same line, begun and not stepped.
@@ -124,73 +66,94 @@ fn begun(line: Line) -> Line
 }
 
 // The line of this form that the words behind its first say.
-fn line_named(alloc: Global, word: LineWord, words: &[&[u8]]) -> Result<Line, LineError>
+fn line_named(alloc: Global, word: FirstWord, words: &[&[u8]]) -> Result<Line, LineError>
     ensures { Reads result (said_by word (texts words.now)) }
 {
     match word {
-        LineWord::Nodes => line_forms::nodes_line(words),
-        LineWord::Client => call_forms::client_line(words),
-        LineWord::Finalize => call_forms::finalize_line(words),
-        LineWord::Open => call_forms::open_line(alloc, words),
-        LineWord::OpenAsync => call_forms::open_async_line(alloc, words),
-        LineWord::Close => call_forms::close_line(words),
-        LineWord::Unlink => call_forms::unlink_line(alloc, words),
-        LineWord::Retain => call_forms::retain_line(words),
-        LineWord::Active => call_forms::active_line(words),
-        LineWord::Status => call_forms::status_line(words),
-        LineWord::Create => call_forms::create_line(alloc, words),
-        LineWord::Delete => call_forms::delete_line(alloc, words),
-        LineWord::Expire => call_forms::expire_line(alloc, words),
-        LineWord::Iter => call_forms::iter_line(words),
-        LineWord::Next => call_forms::next_line(words),
-        LineWord::EndIter => call_forms::end_iter_line(words),
-        LineWord::Write => call_forms::write_line(alloc, words),
-        LineWord::Over => call_forms::over_line(alloc, words),
-        LineWord::Read => call_forms::read_line(alloc, words),
-        LineWord::Sync => call_forms::sync_line(words),
-        LineWord::SyncAsync => call_forms::sync_async_line(words),
-        LineWord::Dispatch => call_forms::dispatch_line(words),
-        LineWord::Step => line_forms::step_line(words),
-        LineWord::Finish => line_forms::finish_line(words),
-        LineWord::Copy => line_forms::copy_line(words),
-        LineWord::Fail => line_forms::fail_line(words),
-        LineWord::Join => line_forms::join_line(words),
-        LineWord::At => line_forms::at_line(words),
-        LineWord::Pull => line_forms::pull_line(words),
-        LineWord::Put => line_forms::put_line(words),
-        LineWord::Propagate => line_forms::propagate_line(words),
-        LineWord::Show => line_forms::show_line(words),
-        LineWord::Race => line_forms::race_line(words),
-        LineWord::End => line_forms::end_line(words),
+        FirstWord::Op(call) => call_named(alloc, call, words),
+        FirstWord::Nodes => line_forms::nodes_line(words),
+        FirstWord::Step => line_forms::step_line(words),
+        FirstWord::Finish => line_forms::finish_line(words),
+        FirstWord::Fail => line_forms::fail_line(words),
+        FirstWord::Join => line_forms::join_line(words),
+        FirstWord::At => line_forms::at_line(words),
+        FirstWord::Pull => line_forms::pull_line(words),
+        FirstWord::Put => line_forms::put_line(words),
+        FirstWord::Propagate => line_forms::propagate_line(words),
+        FirstWord::Show => line_forms::show_line(words),
+        FirstWord::Race => line_forms::race_line(words),
+        FirstWord::End => line_forms::end_line(words),
+    }
+}
+
+// The same of a call or a copying.
+fn call_named(alloc: Global, call: OpWord, words: &[&[u8]]) -> Result<Line, LineError>
+    ensures { Reads result (said_by (first.Op call) (texts words.now)) }
+{
+    match call {
+        OpWord::Client => call_forms::client_line(words),
+        OpWord::Finalize => call_forms::finalize_line(words),
+        OpWord::Open => call_forms::open_line(alloc, words),
+        OpWord::OpenAsync => call_forms::open_async_line(alloc, words),
+        OpWord::Close => call_forms::close_line(words),
+        OpWord::Unlink => call_forms::unlink_line(alloc, words),
+        OpWord::Retain => call_forms::retain_line(words),
+        OpWord::Active => call_forms::active_line(words),
+        OpWord::Status => call_forms::status_line(words),
+        OpWord::Create => call_forms::create_line(alloc, words),
+        OpWord::Delete => call_forms::delete_line(alloc, words),
+        OpWord::Expire => call_forms::expire_line(alloc, words),
+        OpWord::Iter => call_forms::iter_line(words),
+        OpWord::Next => call_forms::next_line(words),
+        OpWord::EndIter => call_forms::end_iter_line(words),
+        OpWord::Write => call_forms::write_line(alloc, words),
+        OpWord::Over => call_forms::over_line(alloc, words),
+        OpWord::Read => call_forms::read_line(alloc, words),
+        OpWord::Sync => call_forms::sync_line(words),
+        OpWord::SyncAsync => call_forms::sync_async_line(words),
+        OpWord::Dispatch => call_forms::dispatch_line(words),
+        OpWord::Copy => line_forms::copy_line(words),
     }
 }
 
 /// Whether the lines of this first word are not built yet.
-pub fn is_later(word: LineWord) -> bool
+pub fn is_later(word: FirstWord) -> bool
     ensures { result ≡ spec_is_later word }
 {
+    match word {
+        FirstWord::Op(call) => is_later_call(call),
+        _ => matches!(
+            word,
+            FirstWord::Fail
+                | FirstWord::Join
+                | FirstWord::Pull
+                | FirstWord::Put
+                | FirstWord::Propagate
+                | FirstWord::Race
+                | FirstWord::End
+        ),
+    }
+}
+
+// Whether the call is not built yet.
+fn is_later_call(call: OpWord) -> bool
+    ensures { result ≡ spec_is_later_call call }
+{
     matches!(
-        word,
-        LineWord::OpenAsync
-            | LineWord::Active
-            | LineWord::Sync
-            | LineWord::SyncAsync
-            | LineWord::Dispatch
-            | LineWord::Copy
-            | LineWord::Fail
-            | LineWord::Join
-            | LineWord::Pull
-            | LineWord::Put
-            | LineWord::Propagate
-            | LineWord::Race
-            | LineWord::End
+        call,
+        OpWord::OpenAsync
+            | OpWord::Active
+            | OpWord::Sync
+            | OpWord::SyncAsync
+            | OpWord::Dispatch
+            | OpWord::Copy
     )
 }
 
 /// The first word that is spelled so.
-#[tactic(auto, unfolding(crate::specs::Table::word_of))]
-pub fn word_named(text: &[u8]) -> Option<LineWord>
-    ensures { result ≡ word_of text.now }
+#[tactic(auto, unfolding(crate::specs::Table::first_word_of))]
+pub fn word_named(text: &[u8]) -> Option<FirstWord>
+    ensures { result ≡ first_word_of text.now }
 {
     if let Some(word) = word_in_first(text) {
         return Some(word);
@@ -219,33 +182,33 @@ pub fn says(text: &[u8], word: &[u8]) -> bool
 
 // A first word of the calls that are most used.
 #[tactic(auto, unfolding(crate::specs::Table::word_of_first))]
-fn word_in_first(text: &[u8]) -> Option<LineWord>
+fn word_in_first(text: &[u8]) -> Option<FirstWord>
     ensures { result ≡ word_of_first text.now }
 {
     if says(text, b"write") {
-        Some(LineWord::Write)
+        Some(FirstWord::Op(OpWord::Write))
     } else if says(text, b"read") {
-        Some(LineWord::Read)
+        Some(FirstWord::Op(OpWord::Read))
     } else if says(text, b"open") {
-        Some(LineWord::Open)
+        Some(FirstWord::Op(OpWord::Open))
     } else if says(text, b"client") {
-        Some(LineWord::Client)
+        Some(FirstWord::Op(OpWord::Client))
     } else if says(text, b"close") {
-        Some(LineWord::Close)
+        Some(FirstWord::Op(OpWord::Close))
     } else if says(text, b"unlink") {
-        Some(LineWord::Unlink)
+        Some(FirstWord::Op(OpWord::Unlink))
     } else if says(text, b"retain") {
-        Some(LineWord::Retain)
+        Some(FirstWord::Op(OpWord::Retain))
     } else if says(text, b"status") {
-        Some(LineWord::Status)
+        Some(FirstWord::Op(OpWord::Status))
     } else if says(text, b"create") {
-        Some(LineWord::Create)
+        Some(FirstWord::Op(OpWord::Create))
     } else if says(text, b"delete") {
-        Some(LineWord::Delete)
+        Some(FirstWord::Op(OpWord::Delete))
     } else if says(text, b"expire") {
-        Some(LineWord::Expire)
+        Some(FirstWord::Op(OpWord::Expire))
     } else if says(text, b"over") {
-        Some(LineWord::Over)
+        Some(FirstWord::Op(OpWord::Over))
     } else {
         None
     }
@@ -253,33 +216,33 @@ fn word_in_first(text: &[u8]) -> Option<LineWord>
 
 // A first word of other calls, or of the lines `nodes`, `copy` and `at`.
 #[tactic(auto, unfolding(crate::specs::Table::word_of_second))]
-fn word_in_second(text: &[u8]) -> Option<LineWord>
+fn word_in_second(text: &[u8]) -> Option<FirstWord>
     ensures { result ≡ word_of_second text.now }
 {
     if says(text, b"finalize") {
-        Some(LineWord::Finalize)
+        Some(FirstWord::Op(OpWord::Finalize))
     } else if says(text, b"openasync") {
-        Some(LineWord::OpenAsync)
+        Some(FirstWord::Op(OpWord::OpenAsync))
     } else if says(text, b"active") {
-        Some(LineWord::Active)
+        Some(FirstWord::Op(OpWord::Active))
     } else if says(text, b"iter") {
-        Some(LineWord::Iter)
+        Some(FirstWord::Op(OpWord::Iter))
     } else if says(text, b"next") {
-        Some(LineWord::Next)
+        Some(FirstWord::Op(OpWord::Next))
     } else if says(text, b"enditer") {
-        Some(LineWord::EndIter)
+        Some(FirstWord::Op(OpWord::EndIter))
     } else if says(text, b"sync") {
-        Some(LineWord::Sync)
+        Some(FirstWord::Op(OpWord::Sync))
     } else if says(text, b"syncasync") {
-        Some(LineWord::SyncAsync)
+        Some(FirstWord::Op(OpWord::SyncAsync))
     } else if says(text, b"dispatch") {
-        Some(LineWord::Dispatch)
+        Some(FirstWord::Op(OpWord::Dispatch))
     } else if says(text, b"copy") {
-        Some(LineWord::Copy)
+        Some(FirstWord::Op(OpWord::Copy))
     } else if says(text, b"nodes") {
-        Some(LineWord::Nodes)
+        Some(FirstWord::Nodes)
     } else if says(text, b"at") {
-        Some(LineWord::At)
+        Some(FirstWord::At)
     } else {
         None
     }
@@ -287,29 +250,29 @@ fn word_in_second(text: &[u8]) -> Option<LineWord>
 
 // A first word of the other lines.
 #[tactic(auto, unfolding(crate::specs::Table::word_of_third))]
-fn word_in_third(text: &[u8]) -> Option<LineWord>
+fn word_in_third(text: &[u8]) -> Option<FirstWord>
     ensures { result ≡ word_of_third text.now }
 {
     if says(text, b"step") {
-        Some(LineWord::Step)
+        Some(FirstWord::Step)
     } else if says(text, b"finish") {
-        Some(LineWord::Finish)
+        Some(FirstWord::Finish)
     } else if says(text, b"fail") {
-        Some(LineWord::Fail)
+        Some(FirstWord::Fail)
     } else if says(text, b"join") {
-        Some(LineWord::Join)
+        Some(FirstWord::Join)
     } else if says(text, b"pull") {
-        Some(LineWord::Pull)
+        Some(FirstWord::Pull)
     } else if says(text, b"put") {
-        Some(LineWord::Put)
+        Some(FirstWord::Put)
     } else if says(text, b"propagate") {
-        Some(LineWord::Propagate)
+        Some(FirstWord::Propagate)
     } else if says(text, b"show") {
-        Some(LineWord::Show)
+        Some(FirstWord::Show)
     } else if says(text, b"race") {
-        Some(LineWord::Race)
+        Some(FirstWord::Race)
     } else if says(text, b"end") {
-        Some(LineWord::End)
+        Some(FirstWord::End)
     } else {
         None
     }

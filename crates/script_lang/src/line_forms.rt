@@ -1,7 +1,8 @@
 //! The form of each line that is no call.
 ghost use Rattle.std.specs.Prelude.{◌≡◌};
 ghost use Rattle.script_words.specs.Reasons.{Reads};
-ghost use Rattle.script_lang.specs.declared.forms.LineWord.TheVariants as word;
+ghost use Rattle.ckpt_types.specs.declared.words.FirstWord.TheVariants as first;
+ghost use Rattle.ckpt_types.specs.declared.words.OpWord.TheVariants as calls;
 ghost use Rattle.script_lang.specs.Table.{texts, said_by};
 
 use crate::lines::Line;
@@ -11,7 +12,7 @@ use script_words::{LineError, Reason};
 /// The line that the words behind `nodes` say.
 #[tactic(auto, unfolding(crate::specs::Table::said_by))]
 pub fn nodes_line(words: &[&[u8]]) -> Result<Line, LineError>
-    ensures { Reads result (said_by word.Nodes (texts words.now)) }
+    ensures { Reads result (said_by first.Nodes (texts words.now)) }
 {
     let [count] = words else {
         return Err(LineError::Fault(Reason::Count));
@@ -23,7 +24,7 @@ pub fn nodes_line(words: &[&[u8]]) -> Result<Line, LineError>
 /// The line that the words behind `step` say.
 #[tactic(auto, unfolding(crate::specs::Table::said_by))]
 pub fn step_line(words: &[&[u8]]) -> Result<Line, LineError>
-    ensures { Reads result (said_by word.Step (texts words.now)) }
+    ensures { Reads result (said_by first.Step (texts words.now)) }
 {
     let [who, steps] = words else {
         return Err(LineError::Fault(Reason::Count));
@@ -36,7 +37,7 @@ pub fn step_line(words: &[&[u8]]) -> Result<Line, LineError>
 /// The line that the words behind `finish` say.
 #[tactic(auto, unfolding(crate::specs::Table::said_by))]
 pub fn finish_line(words: &[&[u8]]) -> Result<Line, LineError>
-    ensures { Reads result (said_by word.Finish (texts words.now)) }
+    ensures { Reads result (said_by first.Finish (texts words.now)) }
 {
     let [who] = words else {
         return Err(LineError::Fault(Reason::Count));
@@ -48,7 +49,7 @@ pub fn finish_line(words: &[&[u8]]) -> Result<Line, LineError>
 /// The line that the words behind `copy` say.
 #[tactic(auto, unfolding(crate::specs::Table::said_by))]
 pub fn copy_line(words: &[&[u8]]) -> Result<Line, LineError>
-    ensures { Reads result (said_by word.Copy (texts words.now)) }
+    ensures { Reads result (said_by (first.Op calls.Copy) (texts words.now)) }
 {
     let [node] = words else {
         return Err(LineError::Fault(Reason::Count));
@@ -60,7 +61,7 @@ pub fn copy_line(words: &[&[u8]]) -> Result<Line, LineError>
 /// The line that the words behind `fail` say.
 #[tactic(auto, unfolding(crate::specs::Table::said_by))]
 pub fn fail_line(words: &[&[u8]]) -> Result<Line, LineError>
-    ensures { Reads result (said_by word.Fail (texts words.now)) }
+    ensures { Reads result (said_by first.Fail (texts words.now)) }
 {
     let [node] = words else {
         return Err(LineError::Fault(Reason::Count));
@@ -72,7 +73,7 @@ pub fn fail_line(words: &[&[u8]]) -> Result<Line, LineError>
 /// The line that the words behind `join` say.
 #[tactic(auto, unfolding(crate::specs::Table::said_by))]
 pub fn join_line(words: &[&[u8]]) -> Result<Line, LineError>
-    ensures { Reads result (said_by word.Join (texts words.now)) }
+    ensures { Reads result (said_by first.Join (texts words.now)) }
 {
     let [node] = words else {
         return Err(LineError::Fault(Reason::Count));
@@ -84,7 +85,7 @@ pub fn join_line(words: &[&[u8]]) -> Result<Line, LineError>
 /// The line that the words behind `at` say.
 #[tactic(auto, unfolding(crate::specs::Table::said_by))]
 pub fn at_line(words: &[&[u8]]) -> Result<Line, LineError>
-    ensures { Reads result (said_by word.At (texts words.now)) }
+    ensures { Reads result (said_by first.At (texts words.now)) }
 {
     let [moment] = words else {
         return Err(LineError::Fault(Reason::Count));
@@ -96,7 +97,7 @@ pub fn at_line(words: &[&[u8]]) -> Result<Line, LineError>
 /// The line that the words behind `pull` say.
 #[tactic(auto, unfolding(crate::specs::Table::said_by))]
 pub fn pull_line(words: &[&[u8]]) -> Result<Line, LineError>
-    ensures { Reads result (said_by word.Pull (texts words.now)) }
+    ensures { Reads result (said_by first.Pull (texts words.now)) }
 {
     let [ckpt] = words else {
         return Err(LineError::Fault(Reason::Count));
@@ -108,7 +109,7 @@ pub fn pull_line(words: &[&[u8]]) -> Result<Line, LineError>
 /// The line that the words behind `put` say.
 #[tactic(auto, unfolding(crate::specs::Table::said_by))]
 pub fn put_line(words: &[&[u8]]) -> Result<Line, LineError>
-    ensures { Reads result (said_by word.Put (texts words.now)) }
+    ensures { Reads result (said_by first.Put (texts words.now)) }
 {
     let [ckpt, node] = words else {
         return Err(LineError::Fault(Reason::Count));
@@ -121,7 +122,7 @@ pub fn put_line(words: &[&[u8]]) -> Result<Line, LineError>
 /// The line that the words behind `propagate` say.
 #[tactic(auto, unfolding(crate::specs::Table::said_by))]
 pub fn propagate_line(words: &[&[u8]]) -> Result<Line, LineError>
-    ensures { Reads result (said_by word.Propagate (texts words.now)) }
+    ensures { Reads result (said_by first.Propagate (texts words.now)) }
 {
     let [ckpt] = words else {
         return Err(LineError::Fault(Reason::Count));
@@ -133,7 +134,7 @@ pub fn propagate_line(words: &[&[u8]]) -> Result<Line, LineError>
 /// The line that the words behind `show` say.
 #[tactic(auto, unfolding(crate::specs::Table::said_by))]
 pub fn show_line(words: &[&[u8]]) -> Result<Line, LineError>
-    ensures { Reads result (said_by word.Show (texts words.now)) }
+    ensures { Reads result (said_by first.Show (texts words.now)) }
 {
     let [ckpt] = words else {
         return Err(LineError::Fault(Reason::Count));
@@ -145,7 +146,7 @@ pub fn show_line(words: &[&[u8]]) -> Result<Line, LineError>
 /// The line that the words behind `race` say.
 #[tactic(auto, unfolding(crate::specs::Table::said_by))]
 pub fn race_line(words: &[&[u8]]) -> Result<Line, LineError>
-    ensures { Reads result (said_by word.Race (texts words.now)) }
+    ensures { Reads result (said_by first.Race (texts words.now)) }
 {
     if !words.is_empty() {
         return Err(LineError::Fault(Reason::Count));
@@ -156,7 +157,7 @@ pub fn race_line(words: &[&[u8]]) -> Result<Line, LineError>
 /// The line that the words behind `end` say.
 #[tactic(auto, unfolding(crate::specs::Table::said_by))]
 pub fn end_line(words: &[&[u8]]) -> Result<Line, LineError>
-    ensures { Reads result (said_by word.End (texts words.now)) }
+    ensures { Reads result (said_by first.End (texts words.now)) }
 {
     if !words.is_empty() {
         return Err(LineError::Fault(Reason::Count));

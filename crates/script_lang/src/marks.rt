@@ -1,7 +1,7 @@
 //! What the lines so far tell of the next: which may come, and how much is left of each limit.
 ghost use Rattle.std.specs.Prelude.{◌≡◌, ◌<◌, ◌≤◌, ◌+◌, OnOk, IfErr, IfSome, IfNone, IfOk, Some, None, false, sum_by};
 ghost use Rattle.ckpt_types.specs.Limits.{block_lines_max, script_shows_max};
-ghost use Rattle.script_lang.specs.Grammar.{fault_after, marks_after, IsSmall, is_nodes, is_end, is_show, is_race as spec_is_race, goes_back, may_race_op as spec_may_race_op, may_race as spec_may_race, breaks_block, asked_in, moment_after, block_after, block_size, shows_after, is_later_declared as spec_is_later_declared, is_later_attributes as spec_is_later_attributes, is_later_op as spec_is_later_op, is_later_line as spec_is_later_line};
+ghost use Rattle.script_lang.specs.Grammar.{fault_after, marks_after, IsSmall, is_nodes, is_end, is_show, is_race as spec_is_race, goes_back, may_race_op as spec_may_race_op, may_race as spec_may_race, breaks_block, asked_in, moment_behind, block_after, block_size, shows_after, is_later_declared as spec_is_later_declared, is_later_attributes as spec_is_later_attributes, is_later_op as spec_is_later_op, is_later_line as spec_is_later_line};
 
 use crate::lines::Line;
 use ckpt_types::{
@@ -164,7 +164,7 @@ fn room_behind(elements: &[ReadElement], room: u64) -> Option<u64>
 }
 
 fn now_after(line: &Line, now: Moment) -> Moment
-    ensures { result ≡ moment_after line.now now }
+    ensures { result ≡ moment_behind now line.now }
 {
     match line {
         Line::At(moment) => *moment,

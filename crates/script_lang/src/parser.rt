@@ -6,7 +6,7 @@ ghost use Rattle.script_lang.specs.declared.faults.ParseError.TheVariants as par
 ghost use Rattle.script_lang.specs.Faults.{Parses, Misses};
 ghost use Rattle.script_lang.specs.BuiltScripts.{IsBuiltScript};
 ghost use Rattle.script_lang.specs.Scripts.{IsScript};
-ghost use Rattle.script_lang.specs.Grammar.{start, step, steps, script_of, finished, if_allowed, fault_of, text_lines, after_reading, some_line, line_of, words_of, is_race as spec_is_race, IsSmall};
+ghost use Rattle.script_lang.specs.Grammar.{start, take_line, take_lines, script_of, whole_script, if_allowed, fault_of, text_lines, after_reading, some_line, line_said, words_of, is_race as spec_is_race, IsSmall};
 ghost use Rattle.script_lang.specs.Plain.{OnlyAsks};
 
 use crate::faults::{ParseError, ScriptFault};
@@ -54,8 +54,8 @@ fn room_for(bytes: usize) -> usize {
 
 // The lines one after the other.
 fn read_all(alloc: Global, reader: &mut Reader, bytes: &[u8]) -> Result<(), ParseError>
-    ensures ok { OnOk result (steps reader.old (text_lines bytes.now) ≡ Ok reader.new) }
-    ensures err { IfErr result (λ e. Misses e (steps reader.old (text_lines bytes.now))) }
+    ensures ok { OnOk result (take_lines reader.old (text_lines bytes.now) ≡ Ok reader.new) }
+    ensures err { IfErr result (λ e. Misses e (take_lines reader.old (text_lines bytes.now))) }
 {
     let mut rest = bytes;
     while !rest.is_empty() {
@@ -108,10 +108,10 @@ impl Reader {
     }
 
     // One more line of the text.
-    #[tactic(auto, unfolding(crate::specs::Grammar::step))]
+    #[tactic(auto, unfolding(crate::specs::Grammar::take_line))]
     fn take(&mut self, alloc: Global, text: &[u8]) -> Result<(), ParseError>
-        ensures ok { OnOk result (step self.old text.now ≡ Ok self.new) }
-        ensures err { IfErr result (λ e. Misses e (step self.old text.now)) }
+        ensures ok { OnOk result (take_line self.old text.now ≡ Ok self.new) }
+        ensures err { IfErr result (λ e. Misses e (take_line self.old text.now)) }
     {
         if self.number >= SCRIPT_LINES_MAX {
             return Err(self.fault(Reason::Lines));
@@ -135,8 +135,8 @@ impl Reader {
     #[inline(never)]
     fn take_other(&mut self, alloc: Global, text: &[u8]) -> Result<(), ParseError>
         requires { self.old.number < script_lines_max }
-        ensures ok { OnOk result (after_reading self.old (some_line (line_of (words_of text.now))) ≡ Ok self.new) }
-        ensures err { IfErr result (λ e. Misses e (after_reading self.old (some_line (line_of (words_of text.now))))) }
+        ensures ok { OnOk result (after_reading self.old (some_line (line_said (words_of text.now))) ≡ Ok self.new) }
+        ensures err { IfErr result (λ e. Misses e (after_reading self.old (some_line (line_said (words_of text.now))))) }
     {
         let Some(rest) = behind_begin(text) else {
             return self.take_any(alloc, text);
@@ -158,8 +158,8 @@ impl Reader {
     #[inline(always)]
     fn take_any(&mut self, alloc: Global, text: &[u8]) -> Result<(), ParseError>
         requires { self.old.number < script_lines_max }
-        ensures ok { OnOk result (after_reading self.old (some_line (line_of (words_of text.now))) ≡ Ok self.new) }
-        ensures err { IfErr result (λ e. Misses e (after_reading self.old (some_line (line_of (words_of text.now))))) }
+        ensures ok { OnOk result (after_reading self.old (some_line (line_said (words_of text.now))) ≡ Ok self.new) }
+        ensures err { IfErr result (λ e. Misses e (after_reading self.old (some_line (line_said (words_of text.now))))) }
     {
         match read_line(alloc, text) {
             Ok(line) => self.add(line),
@@ -253,7 +253,7 @@ impl Reader {
     // The script, where no block is left open.
     #[tactic(auto, unfolding(crate::specs::Grammar::marks_of))]
     fn finish(self) -> Result<Script, ParseError>
-        ensures { Parses result (finished self) }
+        ensures { Parses result (whole_script self) }
     {
         if self.marks.block.is_some() {
             return Err(ParseError::Fault(ScriptFault {

@@ -5,7 +5,7 @@ ghost use Rattle.script_lang.specs.declared.lines.Line.{Line};
 ghost use Rattle.script_lang.specs.declared.lines.Line.TheVariants as said;
 ghost use Rattle.ckpt_types.specs.declared.identities.ActorName.TheVariants as actors;
 ghost use Rattle.script_lang.specs.Grammar.{script_of};
-ghost use Rattle.script_lang.specs.Spelling.{spelling, text_of};
+ghost use Rattle.script_lang.specs.Spelling.{spelling, written_line};
 
 use crate::call_printing::write_call;
 use crate::lines::{Line, Script};
@@ -38,7 +38,7 @@ fn spell(alloc: Global, script: &Script) -> Result<Bytes, AllocError>
 }
 
 fn write_lines(alloc: Global, out: &mut Vec<u8>, lines: &[Line]) -> Result<(), AllocError>
-    ensures { OnOk result (out.new.items ≡ out.old.items ++ flat_map (λ x. text_of x ++ 10 ∷ []) lines.now) }
+    ensures { OnOk result (out.new.items ≡ out.old.items ++ flat_map (λ x. written_line x ++ 10 ∷ []) lines.now) }
 {
     for line in lines {
         write_line(alloc, out, line)?;
@@ -48,7 +48,7 @@ fn write_lines(alloc: Global, out: &mut Vec<u8>, lines: &[Line]) -> Result<(), A
 }
 
 fn write_line(alloc: Global, out: &mut Vec<u8>, line: &Line) -> Result<(), AllocError>
-    ensures { OnOk result (out.new.items ≡ out.old.items ++ text_of line.now) }
+    ensures { OnOk result (out.new.items ≡ out.old.items ++ written_line line.now) }
 {
     match line {
         Line::Nodes(count) => nodes_line(out, *count),
@@ -69,15 +69,15 @@ fn write_line(alloc: Global, out: &mut Vec<u8>, line: &Line) -> Result<(), Alloc
     }
 }
 
-#[tactic(auto, unfolding(crate::specs::Spelling::text_of, crate::specs::Spelling::call_text))]
+#[tactic(auto, unfolding(crate::specs::Spelling::written_line, crate::specs::Spelling::written_call))]
 fn call_line(alloc: Global, out: &mut Vec<u8>, client: u8, op: &Op) -> Result<(), AllocError>
-    ensures { OnOk result (out.new.items ≡ out.old.items ++ text_of (said.Call client op.now)) }
+    ensures { OnOk result (out.new.items ≡ out.old.items ++ written_line (said.Call client op.now)) }
 {
     write_call(alloc, out, client, op)
 }
 
 fn begin_line(alloc: Global, out: &mut Vec<u8>, actor: ActorName, op: &Op) -> Result<(), AllocError>
-    ensures { OnOk result (out.new.items ≡ out.old.items ++ text_of (said.Begin actor op.now)) }
+    ensures { OnOk result (out.new.items ≡ out.old.items ++ written_line (said.Begin actor op.now)) }
 {
     match actor {
         ActorName::Client(client) => begin_call_line(alloc, out, client, op),
@@ -85,123 +85,123 @@ fn begin_line(alloc: Global, out: &mut Vec<u8>, actor: ActorName, op: &Op) -> Re
     }
 }
 
-#[tactic(auto, unfolding(crate::specs::Spelling::text_of, crate::specs::Spelling::call_text))]
+#[tactic(auto, unfolding(crate::specs::Spelling::written_line, crate::specs::Spelling::written_call))]
 fn begin_call_line(alloc: Global, out: &mut Vec<u8>, client: u8, op: &Op) -> Result<(), AllocError>
-    ensures { OnOk result (out.new.items ≡ out.old.items ++ text_of (said.Begin (actors.Client client) op.now)) }
+    ensures { OnOk result (out.new.items ≡ out.old.items ++ written_line (said.Begin (actors.Client client) op.now)) }
 {
     out.extend_from_slice(b"begin ")?;
     write_call(alloc, out, client, op)
 }
 
-#[tactic(auto, unfolding(crate::specs::Spelling::text_of))]
+#[tactic(auto, unfolding(crate::specs::Spelling::written_line))]
 fn begin_copy_line(out: &mut Vec<u8>, node: NodeId, op: &Op) -> Result<(), AllocError>
-    ensures { OnOk result (out.new.items ≡ out.old.items ++ text_of (said.Begin (actors.Node node) op.now)) }
+    ensures { OnOk result (out.new.items ≡ out.old.items ++ written_line (said.Begin (actors.Node node) op.now)) }
 {
     let _ = op;
     out.extend_from_slice(b"begin copy")?;
     write_node(out, node)
 }
 
-#[tactic(auto, unfolding(crate::specs::Spelling::text_of))]
+#[tactic(auto, unfolding(crate::specs::Spelling::written_line))]
 fn nodes_line(out: &mut Vec<u8>, count: u8) -> Result<(), AllocError>
-    ensures { OnOk result (out.new.items ≡ out.old.items ++ text_of (said.Nodes count)) }
+    ensures { OnOk result (out.new.items ≡ out.old.items ++ written_line (said.Nodes count)) }
 {
     out.extend_from_slice(b"nodes")?;
     write_number(out, count as u64)
 }
 
-#[tactic(auto, unfolding(crate::specs::Spelling::text_of))]
+#[tactic(auto, unfolding(crate::specs::Spelling::written_line))]
 fn step_line(out: &mut Vec<u8>, who: Who, steps: u32) -> Result<(), AllocError>
-    ensures { OnOk result (out.new.items ≡ out.old.items ++ text_of (said.Step who steps)) }
+    ensures { OnOk result (out.new.items ≡ out.old.items ++ written_line (said.Step who steps)) }
 {
     out.extend_from_slice(b"step")?;
     write_who(out, who)?;
     write_number(out, steps as u64)
 }
 
-#[tactic(auto, unfolding(crate::specs::Spelling::text_of))]
+#[tactic(auto, unfolding(crate::specs::Spelling::written_line))]
 fn finish_line(out: &mut Vec<u8>, who: Who) -> Result<(), AllocError>
-    ensures { OnOk result (out.new.items ≡ out.old.items ++ text_of (said.Finish who)) }
+    ensures { OnOk result (out.new.items ≡ out.old.items ++ written_line (said.Finish who)) }
 {
     out.extend_from_slice(b"finish")?;
     write_who(out, who)
 }
 
-#[tactic(auto, unfolding(crate::specs::Spelling::text_of))]
+#[tactic(auto, unfolding(crate::specs::Spelling::written_line))]
 fn copy_line(out: &mut Vec<u8>, node: NodeId) -> Result<(), AllocError>
-    ensures { OnOk result (out.new.items ≡ out.old.items ++ text_of (said.Copy node)) }
+    ensures { OnOk result (out.new.items ≡ out.old.items ++ written_line (said.Copy node)) }
 {
     out.extend_from_slice(b"copy")?;
     write_node(out, node)
 }
 
-#[tactic(auto, unfolding(crate::specs::Spelling::text_of))]
+#[tactic(auto, unfolding(crate::specs::Spelling::written_line))]
 fn fail_line(out: &mut Vec<u8>, node: NodeId) -> Result<(), AllocError>
-    ensures { OnOk result (out.new.items ≡ out.old.items ++ text_of (said.Fail node)) }
+    ensures { OnOk result (out.new.items ≡ out.old.items ++ written_line (said.Fail node)) }
 {
     out.extend_from_slice(b"fail")?;
     write_node(out, node)
 }
 
-#[tactic(auto, unfolding(crate::specs::Spelling::text_of))]
+#[tactic(auto, unfolding(crate::specs::Spelling::written_line))]
 fn join_line(out: &mut Vec<u8>, node: NodeId) -> Result<(), AllocError>
-    ensures { OnOk result (out.new.items ≡ out.old.items ++ text_of (said.Join node)) }
+    ensures { OnOk result (out.new.items ≡ out.old.items ++ written_line (said.Join node)) }
 {
     out.extend_from_slice(b"join")?;
     write_node(out, node)
 }
 
-#[tactic(auto, unfolding(crate::specs::Spelling::text_of))]
+#[tactic(auto, unfolding(crate::specs::Spelling::written_line))]
 fn at_line(out: &mut Vec<u8>, moment: Moment) -> Result<(), AllocError>
-    ensures { OnOk result (out.new.items ≡ out.old.items ++ text_of (said.At moment)) }
+    ensures { OnOk result (out.new.items ≡ out.old.items ++ written_line (said.At moment)) }
 {
     out.extend_from_slice(b"at")?;
     write_time(out, moment)
 }
 
-#[tactic(auto, unfolding(crate::specs::Spelling::text_of))]
+#[tactic(auto, unfolding(crate::specs::Spelling::written_line))]
 fn pull_line(out: &mut Vec<u8>, ckpt: CkptId) -> Result<(), AllocError>
-    ensures { OnOk result (out.new.items ≡ out.old.items ++ text_of (said.Pull ckpt)) }
+    ensures { OnOk result (out.new.items ≡ out.old.items ++ written_line (said.Pull ckpt)) }
 {
     out.extend_from_slice(b"pull")?;
     write_ckpt(out, ckpt)
 }
 
-#[tactic(auto, unfolding(crate::specs::Spelling::text_of))]
+#[tactic(auto, unfolding(crate::specs::Spelling::written_line))]
 fn put_line(out: &mut Vec<u8>, ckpt: CkptId, node: NodeId) -> Result<(), AllocError>
-    ensures { OnOk result (out.new.items ≡ out.old.items ++ text_of (said.Put ckpt node)) }
+    ensures { OnOk result (out.new.items ≡ out.old.items ++ written_line (said.Put ckpt node)) }
 {
     out.extend_from_slice(b"put")?;
     write_ckpt(out, ckpt)?;
     write_node(out, node)
 }
 
-#[tactic(auto, unfolding(crate::specs::Spelling::text_of))]
+#[tactic(auto, unfolding(crate::specs::Spelling::written_line))]
 fn propagate_line(out: &mut Vec<u8>, ckpt: CkptId) -> Result<(), AllocError>
-    ensures { OnOk result (out.new.items ≡ out.old.items ++ text_of (said.Propagate ckpt)) }
+    ensures { OnOk result (out.new.items ≡ out.old.items ++ written_line (said.Propagate ckpt)) }
 {
     out.extend_from_slice(b"propagate")?;
     write_ckpt(out, ckpt)
 }
 
-#[tactic(auto, unfolding(crate::specs::Spelling::text_of))]
+#[tactic(auto, unfolding(crate::specs::Spelling::written_line))]
 fn show_line(out: &mut Vec<u8>, ckpt: CkptId) -> Result<(), AllocError>
-    ensures { OnOk result (out.new.items ≡ out.old.items ++ text_of (said.Show ckpt)) }
+    ensures { OnOk result (out.new.items ≡ out.old.items ++ written_line (said.Show ckpt)) }
 {
     out.extend_from_slice(b"show")?;
     write_ckpt(out, ckpt)
 }
 
-#[tactic(auto, unfolding(crate::specs::Spelling::text_of))]
+#[tactic(auto, unfolding(crate::specs::Spelling::written_line))]
 fn race_line(out: &mut Vec<u8>) -> Result<(), AllocError>
-    ensures { OnOk result (out.new.items ≡ out.old.items ++ text_of (said.Race)) }
+    ensures { OnOk result (out.new.items ≡ out.old.items ++ written_line (said.Race)) }
 {
     out.extend_from_slice(b"race")
 }
 
-#[tactic(auto, unfolding(crate::specs::Spelling::text_of))]
+#[tactic(auto, unfolding(crate::specs::Spelling::written_line))]
 fn end_line(out: &mut Vec<u8>) -> Result<(), AllocError>
-    ensures { OnOk result (out.new.items ≡ out.old.items ++ text_of (said.End)) }
+    ensures { OnOk result (out.new.items ≡ out.old.items ++ written_line (said.End)) }
 {
     out.extend_from_slice(b"end")
 }

@@ -1,8 +1,10 @@
 //! A write or a read of one element, word by word: the lines that are most used.
 ghost use Rattle.std.specs.Prelude.{◌≡◌, ◌-◌, ◌++◌, ◌∷◌, IfOk, IfSome, true, codes};
 ghost use Rattle.std.specs.Char.{is_ascii_digit};
+ghost use Rattle.ckpt_types.specs.FirstWord.{begin_text};
 ghost use Rattle.script_words.specs.Words.{a_client, a_place};
-ghost use Rattle.script_lang.specs.declared.forms.LineWord.TheVariants as word;
+ghost use Rattle.ckpt_types.specs.declared.words.FirstWord.TheVariants as first;
+ghost use Rattle.ckpt_types.specs.declared.words.OpWord.TheVariants as calls;
 ghost use Rattle.script_lang.specs.declared.quick.Quick.TheVariants as quicks;
 ghost use Rattle.script_lang.specs.Plain.{SaysFirst, SaysFront, SaysBehind, SaysLine};
 
@@ -52,7 +54,7 @@ pub fn quick_line(alloc: Global, text: &[u8]) -> Result<Quick, AllocError>
 /// What lies behind `begin` and a space, where they stand in front.
 #[inline(always)]
 pub fn behind_begin(text: &[u8]) -> Option<&[u8]>
-    ensures { IfSome result (λ rest. text.now ≡ codes "begin" ++ 32 ∷ rest.now) }
+    ensures { IfSome result (λ rest. text.now ≡ begin_text ++ 32 ∷ rest.now) }
 {
     match text {
         [b'b', b'e', b'g', b'i', b'n', b' ', rest @ ..] => Some(rest),
@@ -85,7 +87,7 @@ fn behind_read(text: &[u8]) -> Option<&[u8]>
 // The write that the text behind its first word says.
 #[inline(never)]
 fn quick_write(alloc: Global, text: &[u8]) -> Result<Quick, AllocError>
-    ensures { IfOk result (λ quick. SaysBehind word.Write text.now quick) }
+    ensures { IfOk result (λ quick. SaysBehind (first.Op calls.Write) text.now quick) }
 {
     let Some(front) = front_of(text) else {
         return Ok(Quick::Other);
@@ -113,7 +115,7 @@ fn quick_write(alloc: Global, text: &[u8]) -> Result<Quick, AllocError>
 // The read that the text behind its first word says.
 #[inline(never)]
 fn quick_read(alloc: Global, text: &[u8]) -> Result<Quick, AllocError>
-    ensures { IfOk result (λ quick. SaysBehind word.Read text.now quick) }
+    ensures { IfOk result (λ quick. SaysBehind (first.Op calls.Read) text.now quick) }
 {
     let Some(front) = front_of(text) else {
         return Ok(Quick::Other);

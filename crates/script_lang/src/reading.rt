@@ -5,10 +5,11 @@ ghost use Rattle.std.specs.Bool.{OnTrue, OnFalse};
 ghost use Rattle.std.specs.List.{list_any, position_or_len};
 ghost use Rattle.script_words.specs.Reasons.{Reads};
 ghost use Rattle.script_lang.specs.Table.{texts};
-ghost use Rattle.script_lang.specs.Grammar.{text_lines, words_of, reading, some_line, is_empty, is_later_word as spec_is_later_word, begins_later as spec_begins_later, line_of as spec_line_of};
+ghost use Rattle.script_lang.specs.Grammar.{text_lines, words_of, reading, some_line, is_empty, is_later_word as spec_is_later_word, begins_later as spec_begins_later, line_said as spec_line_of};
 
-use crate::forms::{LineWord, begin_line, is_later, plain_line, says, word_named};
+use crate::forms::{begin_line, is_later, plain_line, says, word_named};
 use crate::lines::Line;
+use ckpt_types::FirstWord;
 use memchr::memchr;
 use script_words::{LineError, Reason};
 use std::alloc::{AllocError, Global};
@@ -58,7 +59,7 @@ fn line_of(alloc: Global, words: &[&[u8]]) -> Result<Line, LineError>
 }
 
 // The line that the first word and those behind it say.
-#[tactic(auto, unfolding(crate::specs::Grammar::line_of))]
+#[tactic(auto, unfolding(crate::specs::Grammar::line_said))]
 fn line_from(alloc: Global, first: &[u8], rest: &[&[u8]]) -> Result<Line, LineError>
     ensures { Reads result (spec_line_of (first.now ∷ texts rest.now)) }
 {
@@ -82,7 +83,7 @@ fn line_from(alloc: Global, first: &[u8], rest: &[&[u8]]) -> Result<Line, LineEr
 }
 
 // Whether the lines of this first word are not built yet.
-fn is_later_word(word: Option<LineWord>) -> bool
+fn is_later_word(word: Option<FirstWord>) -> bool
     ensures { result ≡ spec_is_later_word word }
 {
     match word {

@@ -14,15 +14,17 @@ use Rattle.ckpt_types.specs.declared.identities.Who.{Who}
 use Rattle.ckpt_types.specs.declared.identities.Who.TheVariants as whose
 use Rattle.ckpt_types.specs.declared.update.NewId.{NewId}
 use Rattle.ckpt_types.specs.declared.update.NewId.TheVariants as new_ids
-use Rattle.ckpt_types.specs.Limits.{client_numbers, nodes_max, places_max, section_id_max}
-use Rattle.script_words.specs.Words.{Class, a_client, a_node, a_place, an_iteration, a_ckpt, a_number, a_time, a_moment, some_bytes, an_id, a_new_id, a_version, the_callbacks, a_who, Meaning, read, numeral, number, lettered, starts_well, time_of, bytes_of, id_of, new_id_of, version_of, callbacks_of, call_of, who_of, is_dot, ckpt_numbers}
-use Rattle.script_words.specs.Spelling.{spell, time_text, new_id_text, callbacks_text, who_text}
-use Rattle.script_words.specs.Fitting.{Fits, Good, IsTime, IsMoment, IsVersion, IsNewId, IsCaller, IsWho}
+use Rattle.ckpt_types.specs.Limits.{client_numbers, ckpt_numbers, nodes_max, places_max, section_id_max}
+use Rattle.script_words.specs.Words.{Class, a_client, a_node, a_place, an_iteration, a_ckpt, a_number, a_time, a_moment, some_bytes, an_id, a_new_id, a_version, the_callbacks, a_who, Meaning, read_word, numeral, number_within, lettered, starts_well, time_of, bytes_of, id_of, new_id_of, version_of, callbacks_of, named_call, who_of, is_dot}
+use Rattle.ckpt_types.specs.Spelling.{time_text, who_text}
+use Rattle.script_words.specs.Spelling.{spell, new_id_text, callbacks_text}
+use Rattle.script_words.specs.Fitting.{CanSay, Good, IsTime, IsMoment, IsVersion, IsNewId, IsCaller, IsWho}
 use Rattle.script_words.proofs.Numbers.{own}
+use Rattle.script_words.proofs.Spelled.{call_spelled, time_spelled, version_spelled}
 
-begins : (w : List ℕ) → 0 < length w → (get_or w 0 0 ≡ 48 → length w ≤ 1) → starts_well w ≡ true
-begins [] some zeros = absurd (omega (arith, some))
-begins (d ∷ ds) some zeros = grind (arith, zeros)
+well_begun : (w : List ℕ) → 0 < length w → (get_or w 0 0 ≡ 48 → length w ≤ 1) → starts_well w ≡ true
+well_begun [] some zeros = absurd (omega (arith, some))
+well_begun (d ∷ ds) some zeros = grind (arith, zeros)
 
 no_zero : (n : ℕ) → n < 2 ^ 64 → get_or (decimal n) 0 0 ≡ 48 → length (decimal n) ≤ 1
 no_zero zero small h = rw (decimal_digit 0 (omega arith)) (omega arith)
@@ -32,11 +34,11 @@ no_zero (suc n) small h = let first = first_decimal (suc n) (omega arith) small 
 pub numeral_again : (n : ℕ) → n < 2 ^ 64 → numeral (decimal n) ≡ Some n
 unfolding numeral
 numeral_again n small =
-    let well : starts_well (decimal n) ≡ true = begins (decimal n) (decimal_nonempty n small) (no_zero n small) in
+    let well : starts_well (decimal n) ≡ true = well_begun (decimal n) (decimal_nonempty n small) (no_zero n small) in
     rw (well, digits_decimal own n small, digits_value-decimal own n small) refl
 
-pub number_again : (low high n : ℕ) → low ≤ n → n ≤ high → n < 2 ^ 64 → number low high (decimal n) ≡ Some n
-unfolding number
+pub number_again : (low high n : ℕ) → low ≤ n → n ≤ high → n < 2 ^ 64 → number_within low high (decimal n) ≡ Some n
+unfolding number_within
 number_again low high n above below small =
     let inside : (nat_le low n && nat_le n high) ≡ true = grind (arith, above, below) in
     rw (numeral_again n small, inside) refl
@@ -53,7 +55,7 @@ unfolding lettered
 other_letter letter low end c w h = rw h refl
 
 -- digits are a time as they are a number
-digits_time : (w : List ℕ) → all_ascii_digits w ≡ true → 0 < length w → time_of w ≡ option_map pos (number 0 (2 ^ 63 - 1) w)
+digits_time : (w : List ℕ) → all_ascii_digits w ≡ true → 0 < length w → time_of w ≡ option_map pos (number_within 0 (2 ^ 63 - 1) w)
 unfolding time_of
 digits_time [] digits some = absurd (omega (arith, some))
 digits_time (c ∷ w) digits some =
@@ -63,14 +65,12 @@ digits_time (c ∷ w) digits some =
 
 pub time_again : (t : ℤ) → IsTime t → time_of (time_text t) ≡ Some t
 unfolding time_of
-time_again (pos n) fits = go (n == 2 ^ 63 - 1) refl
+time_again (pos n) fits = rw (time_spelled n) (go (n == 2 ^ 63 - 1) refl)
   where
     go : (b : Bool) → (n == 2 ^ 63 - 1) ≡ b → time_of (if b then codes "end" else decimal n) ≡ Some (pos n)
     go true h = let e : n ≡ 2 ^ 63 - 1 = grind (arith, h) in rw e refl
     go false h = digits_time (decimal n) (digits_decimal own n (omega (arith, fits))) (decimal_nonempty n (omega (arith, fits))) ∙ ap (λ o. option_map pos o) (number_again 0 (2 ^ 63 - 1) n (omega arith) (omega (arith, fits)) (omega (arith, fits)))
-time_again (negsuc n) fits =
-    let e : n + 1 ≡ suc n = omega arith in
-    rw (number_again 1 (2 ^ 63) (n + 1) (omega arith) (omega (arith, fits)) (omega (arith, fits)), e) refl
+time_again (negsuc n) fits = rw (number_again 1 (2 ^ 63) (suc n) (omega arith) (omega (arith, fits)) (omega (arith, fits))) refl
 
 upto_dot : (xs ys : List ℕ) → all_ascii_digits xs ≡ true → (before_first is_dot (xs ++ 46 ∷ ys) ≡ xs) × (after_first is_dot (xs ++ 46 ∷ ys) ≡ ys)
 upto_dot [] ys digits = (refl, refl)
@@ -83,10 +83,10 @@ upto_dot (x ∷ xs) ys digits =
     let m : (1 + p) + 1 ≡ suc (p + 1) = omega arith in
     rw other (rw m (rw k (ap (λ w. x ∷ w) ih.0, ih.1)))
 
-moment_again : (t : ℤ) → IsMoment t → option_map pos (number 0 (2 ^ 63 - 2) (time_text t)) ≡ Some t
+moment_again : (t : ℤ) → IsMoment t → option_map pos (number_within 0 (2 ^ 63 - 2) (time_text t)) ≡ Some t
 moment_again (pos n) fits =
     let other : (n == 2 ^ 63 - 1) ≡ false = grind (arith, fits) in
-    rw (other, number_again 0 (2 ^ 63 - 2) n (omega arith) (omega (arith, fits)) (omega (arith, fits))) refl
+    rw (time_spelled n, other, number_again 0 (2 ^ 63 - 2) n (omega arith) (omega (arith, fits)) (omega (arith, fits))) refl
 moment_again (negsuc n) fits = absurd fits
 
 version_again : (v : Version) → IsVersion v → version_of (spell a_version v) ≡ Some v
@@ -94,7 +94,7 @@ unfolding version_of
 version_again v f =
     let range : (nat_le 65 v.release && nat_le v.release 90) ≡ true = grind (arith, f.0, f.1) in
     let dot = upto_dot (decimal v.major) (decimal v.minor) (digits_decimal own v.major (omega (arith, f.2))) in
-    rw (range, dot.0, dot.1, number_again 0 255 v.major (omega arith) f.2 (omega (arith, f.2)), number_again 0 255 v.minor (omega arith) f.3 (omega (arith, f.3))) refl
+    ap version_of (version_spelled v) ∙ rw (range, dot.0, dot.1, number_again 0 255 v.major (omega arith) f.2 (omega (arith, f.2)), number_again 0 255 v.minor (omega arith) f.3 (omega (arith, f.3))) refl
 
 id_again : (id : List ℕ) → IsBytes id → length id ≤ section_id_max → id_of (120 ∷ encode_lower id) ≡ Some id
 unfolding id_of bytes_of
@@ -120,8 +120,8 @@ dotted : (xs ys : List ℕ) → all_ascii_digits (xs ++ 46 ∷ ys) ≡ false
 dotted [] ys = refl
 dotted (x ∷ xs) ys = let ih = dotted xs ys in grind (arith, ih)
 
-not_number : (low high : ℕ) (xs ys : List ℕ) → number low high (xs ++ 46 ∷ ys) ≡ None
-unfolding number numeral
+not_number : (low high : ℕ) (xs ys : List ℕ) → number_within low high (xs ++ 46 ∷ ys) ≡ None
+unfolding number_within numeral
 not_number low high xs ys =
     go (starts_well (xs ++ 46 ∷ ys))
   where
@@ -144,8 +144,8 @@ behind_letter xs ys digits =
     let m : (1 + p) + 1 ≡ suc (p + 1) = omega arith in
     rw m (rw k (ap (λ w. 99 ∷ w) ih.0, ih.1))
 
-call_again : (c n : ℕ) → c < client_numbers → 1 ≤ n → n < 2 ^ 32 → call_of ((99 ∷ decimal c) ++ 46 ∷ decimal n) ≡ Some (record { actor = actor.Client c; number = n })
-unfolding call_of
+call_again : (c n : ℕ) → c < client_numbers → 1 ≤ n → n < 2 ^ 32 → named_call ((99 ∷ decimal c) ++ 46 ∷ decimal n) ≡ Some (record { actor = actor.Client c; number = n })
+unfolding named_call
 call_again c n few some small =
     let cut = behind_letter (decimal c) (decimal n) (digits_decimal own c (omega (arith, few))) in
     rw (cut.0, cut.1, lettered_again 99 0 client_numbers c (omega arith) few (omega (arith, few)), number_again 1 (2 ^ 32 - 1) n some (omega (arith, small)) (omega (arith, small))) refl
@@ -157,12 +157,12 @@ who_again (whose.Actor (actor.Node n)) f = rw (other_letter 99 0 client_numbers 
 who_again (whose.Call call) f = go call.actor call.number f.0 f.1 f.2
   where
     go : (a : ActorName) (n : ℕ) → IsCaller a → 1 ≤ n → n < 2 ^ 32 → who_of (who_text (whose.Call (record { actor = a; number = n }))) ≡ Some (whose.Call (record { actor = a; number = n }))
-    go (actor.Client c) n few some small = rw (dotted_letter 99 0 client_numbers (decimal c) (decimal n), other_letter 110 0 nodes_max 99 (decimal c ++ 46 ∷ decimal n) refl, call_again c n few some small) refl
+    go (actor.Client c) n few some small = rw (call_spelled (record { actor = actor.Client c; number = n }), dotted_letter 99 0 client_numbers (decimal c) (decimal n), other_letter 110 0 nodes_max 99 (decimal c ++ 46 ∷ decimal n) refl, call_again c n few some small) refl
     go (actor.Node k) n few some small = absurd few
 
 -- WHAT IS SPELLED is read again
-pub again : (c : Class) → Good c → (v : Meaning c) → Fits c v → read c (spell c v) ≡ Ok v
-unfolding read bytes_of
+pub again : (c : Class) → Good c → (v : Meaning c) → CanSay c v → read_word c (spell c v) ≡ Ok v
+unfolding read_word bytes_of
 again a_client g v f = rw (lettered_again 99 0 client_numbers v (omega arith) f (omega (arith, f))) refl
 again a_node g v f = rw (lettered_again 110 0 nodes_max v (omega arith) f (omega (arith, f))) refl
 again a_place g v f = rw (lettered_again 104 0 places_max v (omega arith) f (omega (arith, f))) refl
@@ -179,6 +179,6 @@ again the_callbacks g v f = rw (callbacks_again v) refl
 again a_who g v f = rw (who_again v f) refl
 
 -- the identifier of the default section is spelled `x`
-pub default_id : read an_id (codes "x") ≡ Ok []
+pub default_id : read_word an_id (codes "x") ≡ Ok []
 unfolding encode_with
 default_id = again an_id tt [] (λ i. omega arith, omega arith)

@@ -5,3 +5,4 @@ mod Pairs
 pub mod Places
 pub mod Plain
 pub mod Said
+mod Spelled

@@ -6,7 +6,7 @@ use Rattle.std.specs.Str.Parse.{AllDigits, digits_value}
 use Rattle.std.specs.Int.{IsInRange}
 use Rattle.std.proofs.lemmas.Int.Digits.{digits_value_more, digits_more}
 use Rattle.std.proofs.lemmas.Str.Parse.{IsNumeralModel, numerals_by_value, tells_all_ascii_digits, digit_at, digits_value-take-le, digits_value_short}
-use Rattle.script_words.specs.Words.{starts_well, numeral, number}
+use Rattle.script_words.specs.Words.{starts_well, numeral, number_within}
 
 pub own : IsNumeralModel (λ ds. all_ascii_digits ds ≡ true) (digits_value 10)
 own = numerals_by_value (λ ds. all_ascii_digits ds ≡ true) tells_all_ascii_digits
@@ -25,19 +25,19 @@ too_large ds i value within digit is large =
     let le = digits_value-take-le 10 ds (i + 1) (omega arith) in
     omega (arith, d.0, more, le, is, large)
 
-pub one_more : (ds : List ℕ) (i value next : ℕ) → i < length ds → is_ascii_digit (get_or ds i 0) ≡ true → AllDigits 10 (take i ds) → value ≡ digits_value 10 (take i ds) → next ≡ value * 10 + (get_or ds i 0 - 48)
+pub one_digit_more : (ds : List ℕ) (i value next : ℕ) → i < length ds → is_ascii_digit (get_or ds i 0) ≡ true → AllDigits 10 (take i ds) → value ≡ digits_value 10 (take i ds) → next ≡ value * 10 + (get_or ds i 0 - 48)
     → record { digits : AllDigits 10 (take (i + 1) ds); value : next ≡ digits_value 10 (take (i + 1) ds) }
-one_more ds i value next within digit all is e =
+one_digit_more ds i value next within digit all is e =
     let d = value_digit (get_or ds i 0) digit in
     let more = digits_value_more 10 ds i within in
     record { digits = digits_more 10 ds i within all d.1; value = omega (arith, d.0, more, is, e) }
 
-pub badly_begun : (low high : ℕ) (w : List ℕ) → starts_well w ≡ false → None ≡ number low high w
-unfolding number numeral
+pub badly_begun : (low high : ℕ) (w : List ℕ) → starts_well w ≡ false → None ≡ number_within low high w
+unfolding number_within numeral
 badly_begun low high w h = rw h refl
 
-pub past_all : (low high : ℕ) (w : List ℕ) → high < 2 ^ 64 → starts_well w ≡ true → (AllDigits 10 w → 2 ^ 64 ≤ digits_value 10 w) → None ≡ number low high w
-unfolding number numeral
+pub past_all : (low high : ℕ) (w : List ℕ) → high < 2 ^ 64 → starts_well w ≡ true → (AllDigits 10 w → 2 ^ 64 ≤ digits_value 10 w) → None ≡ number_within low high w
+unfolding number_within numeral
 past_all low high w fits h large = rw h (go (all_ascii_digits w) refl)
   where
     go : (b : Bool) → all_ascii_digits w ≡ b → None ≡ option_and_then (λ n. if nat_le low n && nat_le n high then Some n else None) (if b then Some (digits_value 10 w) else None)
@@ -47,8 +47,8 @@ past_all low high w fits h large = rw h (go (all_ascii_digits w) refl)
         rw outside refl
     go false all = refl
 
-pub number_is : (low high n : ℕ) (w : List ℕ) → starts_well w ≡ true → AllDigits 10 w → n ≡ digits_value 10 w → number low high w ≡ (if nat_le low n && nat_le n high then Some n else None)
-unfolding number numeral
+pub number_is : (low high n : ℕ) (w : List ℕ) → starts_well w ≡ true → AllDigits 10 w → n ≡ digits_value 10 w → number_within low high w ≡ (if nat_le low n && nat_le n high then Some n else None)
+unfolding number_within numeral
 number_is low high n w h all is = rw (h, own.from w all, is) refl
 
 -- fewer than 19 digits say a number to which one digit more can be added
@@ -62,11 +62,11 @@ well_alone : (d : ℕ) → starts_well (d ∷ []) ≡ true
 well_alone d = grind arith
 
 -- a single byte that is no digit is no number
-pub no_digit_alone : (low high d : ℕ) → high < 2 ^ 64 → is_ascii_digit d ≡ false → None ≡ number low high (d ∷ [])
+pub no_digit_alone : (low high d : ℕ) → high < 2 ^ 64 → is_ascii_digit d ≡ false → None ≡ number_within low high (d ∷ [])
 no_digit_alone low high d fits other = past_all low high (d ∷ []) fits (well_alone d) (no_digit (d ∷ []) 0 (omega arith) other)
 
 -- a single digit is the number that it says
-pub digit_alone : (low high d : ℕ) → is_ascii_digit d ≡ true → number low high (d ∷ []) ≡ (if nat_le low (d - 48) && nat_le (d - 48) high then Some (d - 48) else None)
+pub digit_alone : (low high d : ℕ) → is_ascii_digit d ≡ true → number_within low high (d ∷ []) ≡ (if nat_le low (d - 48) && nat_le (d - 48) high then Some (d - 48) else None)
 digit_alone low high d digit =
-    let more = one_more (d ∷ []) 0 0 (d - 48) (omega arith) digit tt refl (omega arith) in
+    let more = one_digit_more (d ∷ []) 0 0 (d - 48) (omega arith) digit tt refl (omega arith) in
     number_is low high (d - 48) (d ∷ []) (well_alone d) more.digits more.value

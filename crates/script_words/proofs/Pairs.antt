@@ -43,13 +43,13 @@ pair_first a b i e = rw e (_, refl)
 pub pair_second : (a b i h : ℕ) → hex_digit_value a ≡ Some h → hex_digit_value b ≡ None → Refused (pair_value a b i)
 pair_second a b i h e k = rw (e, k) (_, refl)
 
-refused_at : (s out : List ℕ) (i : ℕ) → 2 * i + 1 < length s → Refused (pair_value (slice_index s (2 * i)) (slice_index s (2 * i + 1)) (2 * i))
+pair_refused_at : (s out : List ℕ) (i : ℕ) → 2 * i + 1 < length s → Refused (pair_value (slice_index s (2 * i)) (slice_index s (2 * i + 1)) (2 * i))
     → decode_pairs 0 s ≡ prepend (take i out) (decode_pairs (2 * i) (drop (2 * i) s)) → result_ok (decode_pairs 0 s) ≡ None
-refused_at s out i fits bad inv = ap (λ r. result_ok r) (decode_err s out i bad.0 fits bad.1 inv)
+pair_refused_at s out i fits bad inv = ap (λ r. result_ok r) (decode_err s out i bad.0 fits bad.1 inv)
 
 -- where one of a pair is no digit, the digits say nothing
-pub refused : (s out : List ℕ) (i high low : ℕ) → 2 * i + 1 < length s → (15 < high) ⊎ ((high ≤ 15) × (15 < low))
+pub pair_refused : (s out : List ℕ) (i high low : ℕ) → 2 * i + 1 < length s → (15 < high) ⊎ ((high ≤ 15) × (15 < low))
     → (high ≤ 15 → hex_digit_value (slice_index s (2 * i)) ≡ Some high) → (15 < high → hex_digit_value (slice_index s (2 * i)) ≡ None) → (15 < low → hex_digit_value (slice_index s (2 * i + 1)) ≡ None)
     → decode_pairs 0 s ≡ prepend (take i out) (decode_pairs (2 * i) (drop (2 * i) s)) → result_ok (decode_pairs 0 s) ≡ None
-refused s out i high low fits (inl bad) digit none other inv = refused_at s out i fits (pair_first (slice_index s (2 * i)) (slice_index s (2 * i + 1)) (2 * i) (none bad)) inv
-refused s out i high low fits (inr bad) digit none other inv = refused_at s out i fits (pair_second (slice_index s (2 * i)) (slice_index s (2 * i + 1)) (2 * i) high (digit bad.0) (other bad.1)) inv
+pair_refused s out i high low fits (inl bad) digit none other inv = pair_refused_at s out i fits (pair_first (slice_index s (2 * i)) (slice_index s (2 * i + 1)) (2 * i) (none bad)) inv
+pair_refused s out i high low fits (inr bad) digit none other inv = pair_refused_at s out i fits (pair_second (slice_index s (2 * i)) (slice_index s (2 * i + 1)) (2 * i) high (digit bad.0) (other bad.1)) inv

@@ -8,8 +8,8 @@ use Rattle.ckpt_types.specs.declared.identities.Who.{Who}
 use Rattle.ckpt_types.specs.declared.identities.Who.TheVariants as whose
 use Rattle.ckpt_types.specs.declared.update.NewId.{NewId}
 use Rattle.ckpt_types.specs.declared.update.NewId.TheVariants as new_ids
-use Rattle.ckpt_types.specs.Limits.{client_numbers, end_of_time, nodes_max, places_max, section_id_max}
-use Rattle.script_words.specs.Words.{Class, a_client, a_node, a_place, an_iteration, a_ckpt, a_number, a_time, a_moment, some_bytes, an_id, a_new_id, a_version, the_callbacks, a_who, Meaning, ckpt_numbers}
+use Rattle.ckpt_types.specs.Limits.{client_numbers, ckpt_numbers, end_of_time, nodes_max, places_max, section_id_max}
+use Rattle.script_words.specs.Words.{Class, a_client, a_node, a_place, an_iteration, a_ckpt, a_number, a_time, a_moment, some_bytes, an_id, a_new_id, a_version, the_callbacks, a_who, Meaning}
 
 -- from -2^63 to 2^63-1
 abbrev pub IsTime : ℤ → Type 0
@@ -46,21 +46,21 @@ IsWho (whose.Actor name) = IsActor name
 IsWho (whose.Call call) = IsCaller call.actor × (1 ≤ call.number) × (call.number < 2 ^ 32)
 
 -- what a word of the class can say
-abbrev pub Fits : (c : Class) → Meaning c → Type 0
-Fits a_client n = n < client_numbers
-Fits a_node n = n < nodes_max
-Fits a_place n = n < places_max
-Fits an_iteration n = n < places_max
-Fits a_ckpt n = (1 ≤ n) × (n < ckpt_numbers)
-Fits (a_number low high) n = (low ≤ n) × (n ≤ high)
-Fits a_time t = IsTime t
-Fits a_moment t = IsMoment t
-Fits some_bytes bytes = IsBytes bytes
-Fits an_id bytes = IsBytes bytes × (length bytes ≤ section_id_max)
-Fits a_new_id id = IsNewId id
-Fits a_version v = IsVersion v
-Fits the_callbacks set = ⊤
-Fits a_who who = IsWho who
+abbrev pub CanSay : (c : Class) → Meaning c → Type 0
+CanSay a_client n = n < client_numbers
+CanSay a_node n = n < nodes_max
+CanSay a_place n = n < places_max
+CanSay an_iteration n = n < places_max
+CanSay a_ckpt n = (1 ≤ n) × (n < ckpt_numbers)
+CanSay (a_number low high) n = (low ≤ n) × (n ≤ high)
+CanSay a_time t = IsTime t
+CanSay a_moment t = IsMoment t
+CanSay some_bytes bytes = IsBytes bytes
+CanSay an_id bytes = IsBytes bytes × (length bytes ≤ section_id_max)
+CanSay a_new_id id = IsNewId id
+CanSay a_version v = IsVersion v
+CanSay the_callbacks set = ⊤
+CanSay a_who who = IsWho who
 
 -- the numbers of the class have 64 bits
 abbrev pub Good : Class → Type 0

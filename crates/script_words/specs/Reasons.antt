@@ -6,22 +6,22 @@ use Rattle.script_words.specs.declared.reason.LineError.{LineError}
 use Rattle.script_words.specs.declared.reason.LineError.TheVariants as line_errors
 
 -- the reason as a message prints it
-abbrev pub text_of : Reason → List ℕ
-text_of reasons.Length = codes "length"
-text_of reasons.Lines = codes "lines"
-text_of reasons.Word = codes "word"
-text_of reasons.Count = codes "count"
-text_of reasons.Number = codes "number"
-text_of reasons.Bytes = codes "bytes"
-text_of reasons.Nodes = codes "nodes"
-text_of reasons.Moment = codes "moment"
-text_of reasons.Race = codes "race"
-text_of reasons.Reads = codes "reads"
-text_of reasons.Shows = codes "shows"
-text_of reasons.NotBuilt = codes "not built"
+abbrev pub reason_text : Reason → List ℕ
+reason_text reasons.Length = codes "length"
+reason_text reasons.Lines = codes "lines"
+reason_text reasons.Word = codes "word"
+reason_text reasons.Count = codes "count"
+reason_text reasons.Number = codes "number"
+reason_text reasons.Bytes = codes "bytes"
+reason_text reasons.Nodes = codes "nodes"
+reason_text reasons.Moment = codes "moment"
+reason_text reasons.Race = codes "race"
+reason_text reasons.Reads = codes "reads"
+reason_text reasons.Shows = codes "shows"
+reason_text reasons.NotBuilt = codes "not built"
 
--- the second step, if the first gave a value
 infixl 10 ◌>>=◌
+-- the second step, if the first gave a value
 abbrev pub ◌>>=◌ : {A B : Type 0} → Result A Reason → (A → Result B Reason) → Result B Reason
 (Ok x) >>= f = f x
 (Err reason) >>= f = Err reason

@@ -13,7 +13,7 @@ use Rattle.ckpt_types.specs.declared.identities.Who.{Who}
 use Rattle.ckpt_types.specs.declared.identities.Who.TheVariants as whose
 use Rattle.ckpt_types.specs.declared.update.NewId.{NewId}
 use Rattle.ckpt_types.specs.declared.update.NewId.TheVariants as new_ids
-use Rattle.ckpt_types.specs.Limits.{client_numbers, end_of_time, nodes_max, places_max, section_id_max}
+use Rattle.ckpt_types.specs.Limits.{client_numbers, ckpt_numbers, end_of_time, nodes_max, places_max, section_id_max}
 use Rattle.script_words.specs.declared.reason.Reason.{Reason}
 use Rattle.script_words.specs.declared.reason.Reason.TheVariants as reasons
 use Rattle.script_words.specs.Reasons.{or_reason}
@@ -28,25 +28,21 @@ unfoldable pub numeral : List ℕ → Option ℕ
 numeral w = if starts_well w && all_ascii_digits w then Some (digits_value 10 w) else None
 
 -- the number that the word says, where it is one from low to high
-unfoldable pub number : ℕ → ℕ → List ℕ → Option ℕ
-number low high w = option_and_then (λ n. if nat_le low n && nat_le n high then Some n else None) (numeral w)
+unfoldable pub number_within : ℕ → ℕ → List ℕ → Option ℕ
+number_within low high w = option_and_then (λ n. if nat_le low n && nat_le n high then Some n else None) (numeral w)
 
 -- a letter and a number from low on, below an end
 unfoldable pub lettered : ℕ → ℕ → ℕ → List ℕ → Option ℕ
 lettered letter low end [] = None
-lettered letter low end (c ∷ w) = if c == letter then number low (end - 1) w else None
-
--- numbers of checkpoints that words say, K1 to K9999
-abbrev pub ckpt_numbers : ℕ
-ckpt_numbers = 10000
+lettered letter low end (c ∷ w) = if c == letter then number_within low (end - 1) w else None
 
 -- `end`, which is the end of time; a number from 0 to it; or a minus and a number from 1
 unfoldable pub time_of : List ℕ → Option ℤ
 time_of [] = None
 time_of (c ∷ w) =
     if bytes_eq (c ∷ w) (codes "end") then Some end_of_time
-    else if c == 45 then option_map (λ n. neg_ℤ (pos n)) (number 1 (2 ^ 63) w)
-    else option_map pos (number 0 (nat_abs end_of_time) (c ∷ w))
+    else if c == 45 then option_map (λ n. neg_ℤ (pos n)) (number_within 1 (2 ^ 63) w)
+    else option_map pos (number_within 0 (nat_abs end_of_time) (c ∷ w))
 
 -- a byte from `!` to `~`
 abbrev pub is_graphic : ℕ → Bool
@@ -78,7 +74,7 @@ version_of [] = None
 version_of (c ∷ []) = None
 version_of (c ∷ d ∷ w) =
     if nat_le 65 c && nat_le c 90 && d == 46
-    then option_and_then (λ major. option_map (λ minor. record { release = c; major = major; minor = minor }) (number 0 255 (after_first is_dot w))) (number 0 255 (before_first is_dot w))
+    then option_and_then (λ major. option_map (λ minor. record { release = c; major = major; minor = minor }) (number_within 0 255 (after_first is_dot w))) (number_within 0 255 (before_first is_dot w))
     else None
 
 -- which callbacks are registered
@@ -91,8 +87,8 @@ callbacks_of w =
     else None
 
 -- a client, a dot and a number: a call of the client
-unfoldable pub call_of : List ℕ → Option CallId
-call_of w = option_and_then (λ c. option_map (λ n. record { actor = actor.Client c; number = n }) (number 1 (2 ^ 32 - 1) (after_first is_dot w))) (lettered 99 0 client_numbers (before_first is_dot w))
+unfoldable pub named_call : List ℕ → Option CallId
+named_call w = option_and_then (λ c. option_map (λ n. record { actor = actor.Client c; number = n }) (number_within 1 (2 ^ 32 - 1) (after_first is_dot w))) (lettered 99 0 client_numbers (before_first is_dot w))
 
 -- the first value, where there is one, else the second
 abbrev pub or_else : {A : Type 0} → Option A → Option A → Option A
@@ -104,7 +100,7 @@ unfoldable pub who_of : List ℕ → Option Who
 who_of w =
     or_else (option_map (λ c. whose.Actor (actor.Client c)) (lettered 99 0 client_numbers w))
     (or_else (option_map (λ n. whose.Actor (actor.Node n)) (lettered 110 0 nodes_max w))
-    (option_map whose.Call (call_of w)))
+    (option_map whose.Call (named_call w)))
 
 -- THE CLASSES
 pub data Class : Type 0 where
@@ -152,18 +148,18 @@ Meaning the_callbacks = CallbackSet
 Meaning a_who = Who
 
 -- what a word says, or why it is not of the class
-unfoldable pub read : (c : Class) → List ℕ → Result (Meaning c) Reason
-read a_client w = or_reason reasons.Word (lettered 99 0 client_numbers w)
-read a_node w = or_reason reasons.Word (lettered 110 0 nodes_max w)
-read a_place w = or_reason reasons.Word (lettered 104 0 places_max w)
-read an_iteration w = or_reason reasons.Word (lettered 105 0 places_max w)
-read a_ckpt w = or_reason reasons.Word (lettered 75 1 ckpt_numbers w)
-read (a_number low high) w = or_reason reasons.Number (number low high w)
-read a_time w = or_reason reasons.Number (time_of w)
-read a_moment w = or_reason reasons.Number (option_map pos (number 0 (nat_abs end_of_time - 1) w))
-read some_bytes w = or_reason reasons.Bytes (bytes_of w)
-read an_id w = or_reason reasons.Bytes (id_of w)
-read a_new_id w = or_reason reasons.Bytes (new_id_of w)
-read a_version w = or_reason reasons.Word (version_of w)
-read the_callbacks w = or_reason reasons.Word (callbacks_of w)
-read a_who w = or_reason reasons.Word (who_of w)
+unfoldable pub read_word : (c : Class) → List ℕ → Result (Meaning c) Reason
+read_word a_client w = or_reason reasons.Word (lettered 99 0 client_numbers w)
+read_word a_node w = or_reason reasons.Word (lettered 110 0 nodes_max w)
+read_word a_place w = or_reason reasons.Word (lettered 104 0 places_max w)
+read_word an_iteration w = or_reason reasons.Word (lettered 105 0 places_max w)
+read_word a_ckpt w = or_reason reasons.Word (lettered 75 1 ckpt_numbers w)
+read_word (a_number low high) w = or_reason reasons.Number (number_within low high w)
+read_word a_time w = or_reason reasons.Number (time_of w)
+read_word a_moment w = or_reason reasons.Number (option_map pos (number_within 0 (nat_abs end_of_time - 1) w))
+read_word some_bytes w = or_reason reasons.Bytes (bytes_of w)
+read_word an_id w = or_reason reasons.Bytes (id_of w)
+read_word a_new_id w = or_reason reasons.Bytes (new_id_of w)
+read_word a_version w = or_reason reasons.Word (version_of w)
+read_word the_callbacks w = or_reason reasons.Word (callbacks_of w)
+read_word a_who w = or_reason reasons.Word (who_of w)

@@ -3,18 +3,15 @@ ghost use Rattle.std.specs.Prelude.{◌≡◌, ◌<◌, ◌≤◌, ◌^◌, [], 
 ghost use Rattle.std.specs.List.{list_all, position_or_len, before_first, after_first};
 ghost use Rattle.std.specs.Str.Parse.{AllDigits, digits_value};
 ghost use Rattle.script_words.specs.Reasons.{Reads};
-ghost use Rattle.script_words.specs.Words.{starts_well, is_graphic, is_dot, number as spec_number, lettered, call_of, read, a_client, a_node, a_place, an_iteration, a_ckpt, a_number, a_time, a_moment, some_bytes, an_id, a_new_id, a_version, the_callbacks, a_who};
+ghost use Rattle.script_words.specs.Words.{starts_well, is_graphic, is_dot, number_within as spec_number, lettered, named_call, read_word, a_client, a_node, a_place, an_iteration, a_ckpt, a_number, a_time, a_moment, some_bytes, an_id, a_new_id, a_version, the_callbacks, a_who};
 
 use crate::digits::decode_digits;
 use crate::reason::{LineError, Reason};
 use ckpt_types::{
-    ActorName, Bytes, CLIENT_NUMBERS, CallId, CallbackSet, CkptId, Moment, NEVER, NODES_MAX, NewId,
-    NodeId, PLACES_MAX, SECTION_ID_MAX, Version, Who,
+    ActorName, Bytes, CKPT_NUMBERS, CLIENT_NUMBERS, CallId, CallbackSet, CkptId, Moment, NEVER,
+    NODES_MAX, NewId, NodeId, PLACES_MAX, SECTION_ID_MAX, Version, Who,
 };
 use std::alloc::Global;
-
-// The numbers of checkpoints that words say, K1 to K9999.
-const CKPT_NUMBERS: u64 = 10_000;
 
 // So many digits say a number below 2^64, whatever they are.
 const ALWAYS_FIT: usize = 19;
@@ -24,9 +21,9 @@ const BLOCK: usize = 16;
 
 /// A client, `c` and its number.
 #[inline(always)]
-#[tactic(auto, unfolding(crate::specs::Words::read))]
+#[tactic(auto, unfolding(crate::specs::Words::read_word))]
 pub fn client(word: &[u8]) -> Result<u8, LineError>
-    ensures { Reads result (read a_client word.now) }
+    ensures { Reads result (read_word a_client word.now) }
 {
     match lettered_of(b'c', 0, CLIENT_NUMBERS as u64, word) {
         Some(n) => Ok(n as u8),
@@ -35,9 +32,9 @@ pub fn client(word: &[u8]) -> Result<u8, LineError>
 }
 
 /// A node, `n` and its number.
-#[tactic(auto, unfolding(crate::specs::Words::read))]
+#[tactic(auto, unfolding(crate::specs::Words::read_word))]
 pub fn node(word: &[u8]) -> Result<NodeId, LineError>
-    ensures { Reads result (read a_node word.now) }
+    ensures { Reads result (read_word a_node word.now) }
 {
     match lettered_of(b'n', 0, NODES_MAX as u64, word) {
         Some(n) => Ok(n as NodeId),
@@ -47,9 +44,9 @@ pub fn node(word: &[u8]) -> Result<NodeId, LineError>
 
 /// The place of a handle, `h` and a number.
 #[inline(always)]
-#[tactic(auto, unfolding(crate::specs::Words::read))]
+#[tactic(auto, unfolding(crate::specs::Words::read_word))]
 pub fn place(word: &[u8]) -> Result<u8, LineError>
-    ensures { Reads result (read a_place word.now) }
+    ensures { Reads result (read_word a_place word.now) }
 {
     match lettered_of(b'h', 0, PLACES_MAX as u64, word) {
         Some(n) => Ok(n as u8),
@@ -58,9 +55,9 @@ pub fn place(word: &[u8]) -> Result<u8, LineError>
 }
 
 /// The place of an iteration, `i` and a number.
-#[tactic(auto, unfolding(crate::specs::Words::read))]
+#[tactic(auto, unfolding(crate::specs::Words::read_word))]
 pub fn iteration(word: &[u8]) -> Result<u8, LineError>
-    ensures { Reads result (read an_iteration word.now) }
+    ensures { Reads result (read_word an_iteration word.now) }
 {
     match lettered_of(b'i', 0, PLACES_MAX as u64, word) {
         Some(n) => Ok(n as u8),
@@ -69,9 +66,9 @@ pub fn iteration(word: &[u8]) -> Result<u8, LineError>
 }
 
 /// A checkpoint, `K` and its number, from 1 on.
-#[tactic(auto, unfolding(crate::specs::Words::read))]
+#[tactic(auto, unfolding(crate::specs::Words::read_word))]
 pub fn ckpt(word: &[u8]) -> Result<CkptId, LineError>
-    ensures { Reads result (read a_ckpt word.now) }
+    ensures { Reads result (read_word a_ckpt word.now) }
 {
     match lettered_of(b'K', 1, CKPT_NUMBERS, word) {
         Some(n) => Ok(n as CkptId),
@@ -81,9 +78,9 @@ pub fn ckpt(word: &[u8]) -> Result<CkptId, LineError>
 
 /// A number from `low` to `high`.
 #[inline(always)]
-#[tactic(auto, unfolding(crate::specs::Words::read))]
+#[tactic(auto, unfolding(crate::specs::Words::read_word))]
 pub fn number(low: u64, high: u64, word: &[u8]) -> Result<u64, LineError>
-    ensures exact { Reads result (read (a_number low high) word.now) }
+    ensures exact { Reads result (read_word (a_number low high) word.now) }
     ensures within { IfOk result (λ n. (low ≤ n) × (n ≤ high)) }
 {
     match number_of(low, high, word) {
@@ -93,9 +90,9 @@ pub fn number(low: u64, high: u64, word: &[u8]) -> Result<u64, LineError>
 }
 
 /// A time: decimal digits, behind a minus where it is below 0, or `end`.
-#[tactic(auto, unfolding(crate::specs::Words::read, crate::specs::Words::time_of))]
+#[tactic(auto, unfolding(crate::specs::Words::read_word, crate::specs::Words::time_of))]
 pub fn time(word: &[u8]) -> Result<Moment, LineError>
-    ensures { Reads result (read a_time word.now) }
+    ensures { Reads result (read_word a_time word.now) }
 {
     match word {
         [] => Err(LineError::Fault(Reason::Number)),
@@ -112,9 +109,9 @@ pub fn time(word: &[u8]) -> Result<Moment, LineError>
 }
 
 /// A moment, from 0 on and before the end of time.
-#[tactic(auto, unfolding(crate::specs::Words::read))]
+#[tactic(auto, unfolding(crate::specs::Words::read_word))]
 pub fn moment(word: &[u8]) -> Result<Moment, LineError>
-    ensures { Reads result (read a_moment word.now) }
+    ensures { Reads result (read_word a_moment word.now) }
 {
     match number_of(0, NEVER as u64 - 1, word) {
         Some(n) => Ok(n as i64),
@@ -123,9 +120,9 @@ pub fn moment(word: &[u8]) -> Result<Moment, LineError>
 }
 
 /// Bytes: in hexadecimal digits behind an `x`, or as they stand behind a quote.
-#[tactic(auto, unfolding(crate::specs::Words::read, crate::specs::Words::bytes_of))]
+#[tactic(auto, unfolding(crate::specs::Words::read_word, crate::specs::Words::bytes_of))]
 pub fn bytes(alloc: Global, word: &[u8]) -> Result<Bytes, LineError>
-    ensures { Reads result (read some_bytes word.now) }
+    ensures { Reads result (read_word some_bytes word.now) }
 {
     match word {
         [b'x', digits @ ..] => match decode_digits(alloc, digits)? {
@@ -139,9 +136,9 @@ pub fn bytes(alloc: Global, word: &[u8]) -> Result<Bytes, LineError>
 
 /// The bytes of a word, from what stands behind its quote.
 #[inline(always)]
-#[tactic(auto, unfolding(crate::specs::Words::read, crate::specs::Words::bytes_of))]
+#[tactic(auto, unfolding(crate::specs::Words::read_word, crate::specs::Words::bytes_of))]
 pub fn quoted(alloc: Global, text: &[u8]) -> Result<Bytes, LineError>
-    ensures { Reads result (read some_bytes (39 ∷ text.now)) }
+    ensures { Reads result (read_word some_bytes (39 ∷ text.now)) }
 {
     if !may_be_quoted(text) {
         return Err(LineError::Fault(Reason::Bytes));
@@ -183,9 +180,9 @@ fn each_graphic(text: &[u8]) -> bool
 
 /// The identifier of a section: a bytes word of no more than `SECTION_ID_MAX` bytes.
 #[inline(always)]
-#[tactic(auto, unfolding(crate::specs::Words::read, crate::specs::Words::id_of, crate::specs::Words::bytes_of))]
+#[tactic(auto, unfolding(crate::specs::Words::read_word, crate::specs::Words::id_of, crate::specs::Words::bytes_of))]
 pub fn id(alloc: Global, word: &[u8]) -> Result<Bytes, LineError>
-    ensures { Reads result (read an_id word.now) }
+    ensures { Reads result (read_word an_id word.now) }
 {
     if is_x(word) {
         return Ok(Bytes::default());
@@ -209,9 +206,9 @@ fn is_x(word: &[u8]) -> bool
 }
 
 /// The identifier of a new section; or `gen`, where the service is to make one.
-#[tactic(auto, unfolding(crate::specs::Words::read, crate::specs::Words::new_id_of))]
+#[tactic(auto, unfolding(crate::specs::Words::read_word, crate::specs::Words::new_id_of))]
 pub fn new_id(alloc: Global, word: &[u8]) -> Result<NewId, LineError>
-    ensures { Reads result (read a_new_id word.now) }
+    ensures { Reads result (read_word a_new_id word.now) }
 {
     if word == b"gen".as_slice() {
         return Ok(NewId::Generated);
@@ -223,9 +220,9 @@ pub fn new_id(alloc: Global, word: &[u8]) -> Result<NewId, LineError>
 }
 
 /// A version, as `B.2.2`.
-#[tactic(auto, unfolding(crate::specs::Words::read, crate::specs::Words::version_of))]
+#[tactic(auto, unfolding(crate::specs::Words::read_word, crate::specs::Words::version_of))]
 pub fn version(word: &[u8]) -> Result<Version, LineError>
-    ensures { Reads result (read a_version word.now) }
+    ensures { Reads result (read_word a_version word.now) }
 {
     let [release, b'.', rest @ ..] = word else {
         return Err(LineError::Fault(Reason::Word));
@@ -248,9 +245,9 @@ pub fn version(word: &[u8]) -> Result<Version, LineError>
 }
 
 /// Which callbacks a client registers: `none`, `open`, `sync` or `both`.
-#[tactic(auto, unfolding(crate::specs::Words::read, crate::specs::Words::callbacks_of))]
+#[tactic(auto, unfolding(crate::specs::Words::read_word, crate::specs::Words::callbacks_of))]
 pub fn callbacks(word: &[u8]) -> Result<CallbackSet, LineError>
-    ensures { Reads result (read the_callbacks word.now) }
+    ensures { Reads result (read_word the_callbacks word.now) }
 {
     if word == b"none".as_slice() {
         Ok(callback_set(false, false))
@@ -272,9 +269,9 @@ fn callback_set(opens: bool, syncs: bool) -> CallbackSet
 }
 
 /// Whose call is stepped: a client, a node, or a call of a client as `c0.5`.
-#[tactic(auto, unfolding(crate::specs::Words::read, crate::specs::Words::who_of))]
+#[tactic(auto, unfolding(crate::specs::Words::read_word, crate::specs::Words::who_of))]
 pub fn who(word: &[u8]) -> Result<Who, LineError>
-    ensures { Reads result (read a_who word.now) }
+    ensures { Reads result (read_word a_who word.now) }
 {
     if let Some(client) = lettered_of(b'c', 0, CLIENT_NUMBERS as u64, word) {
         return Ok(Who::Actor(ActorName::Client(client as u8)));
@@ -289,9 +286,9 @@ pub fn who(word: &[u8]) -> Result<Who, LineError>
 }
 
 // A client, a dot and a number from 1.
-#[tactic(auto, unfolding(crate::specs::Words::call_of))]
+#[tactic(auto, unfolding(crate::specs::Words::named_call))]
 fn call_named(word: &[u8]) -> Option<CallId>
-    ensures { result ≡ call_of word.now }
+    ensures { result ≡ named_call word.now }
 {
     let (front, back) = at_dot(word);
     let client = lettered_of(b'c', 0, CLIENT_NUMBERS as u64, front)?;

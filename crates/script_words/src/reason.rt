@@ -34,11 +34,11 @@ pub enum Reason {
 }
 
 impl Reason {
-    ghost use Rattle.script_words.specs.Reasons.{text_of};
+    ghost use Rattle.script_words.specs.Reasons.{reason_text};
 
     /// The reason as a message prints it.
     pub fn word(self) -> &'static str
-        ensures { result.now ≡ text_of self }
+        ensures { result.now ≡ reason_text self }
     {
         match self {
             Reason::Length => "length",

@@ -1,6 +1,7 @@
 //! The writer of each class of words.
 ghost use Rattle.std.specs.Prelude.{◌≡◌, ◌++◌, ◌∷◌, [], OnOk, decimal};
-ghost use Rattle.script_words.specs.Spelling.{spell, bytes_text, time_text, actor_text};
+ghost use Rattle.ckpt_types.specs.Spelling.{bytes_text, time_text, actor_text};
+ghost use Rattle.script_words.specs.Spelling.{spell};
 ghost use Rattle.script_words.specs.Words.{a_client, a_node, a_place, an_iteration, a_ckpt, a_time, some_bytes, an_id, a_new_id, a_version, the_callbacks, a_who};
 
 use ckpt_types::{

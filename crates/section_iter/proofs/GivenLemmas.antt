@@ -7,7 +7,7 @@ use Rattle.ckpt_types.specs.declared.sections.SectionDescriptor.{SectionDescript
 use Rattle.ckpt_types.specs.Reads.{NextGiven, given, given_first, description}
 use Rattle.ckpt_types.specs.Sections.{Section, section_at, place_of, Rises, is_present, present, where_present}
 use Rattle.section_iter.specs.KeptIds.{KeptIds}
-use Rattle.section_iter.specs.Next.{answer_of, kept_after}
+use Rattle.section_iter.specs.Next.{given_answer, kept_after}
 use Rattle.ckpt_types.proofs.Presence.{section_at-present, section_at-place_of, section_at-no_place}
 
 -- what has no place is not present
@@ -27,8 +27,8 @@ pub section_at-present_gone : (t : ℤ) (id : List ℕ) (sections : List Section
 section_at-present_gone t id sections i s rises place there gone = section_at-present_place t id sections i s rises place there ∙ rw gone refl
 
 -- the identifiers from a place on
-drop_more : (ids : List (List ℕ)) (i : ℕ) (id : List ℕ) → slice_get ids i ≡ Some id → drop i ids ≡ id ∷ drop (i + 1) ids
-drop_more ids i id there =
+drop_given : (ids : List (List ℕ)) (i : ℕ) (id : List ℕ) → slice_get ids i ≡ Some id → drop i ids ≡ id ∷ drop (i + 1) ids
+drop_given ids i id there =
     drop-cons ids i id (slice_get_within ids i id there)
     ∙ ap (λ x. x ∷ drop (suc i) ids) (get_or_from_slice_get ids i id id there) ∙ ap (λ n. id ∷ drop n ids) (sym (add-one i))
 
@@ -49,7 +49,7 @@ module _ (kept ids : List (List ℕ)) (i : ℕ) (id : List ℕ) (t : ℤ) (secti
   given_here told here =
       let (s, found, same) = described (section_at id (present t sections)) told here in (
         record { section = s; rest = drop (i + 1) ids },
-        before ∙ ap (λ left. given left t sections) (drop_more ids i id there) ∙ ap (λ o. given_first (drop (i + 1) ids) o (given (drop (i + 1) ids) t sections)) found,
+        before ∙ ap (λ left. given left t sections) (drop_given ids i id there) ∙ ap (λ o. given_first (drop (i + 1) ids) o (given (drop (i + 1) ids) t sections)) found,
         same,
         refl,
       )
@@ -57,7 +57,7 @@ module _ (kept ids : List (List ℕ)) (i : ℕ) (id : List ℕ) (t : ℤ) (secti
   -- an identifier whose section is not present is passed over
   pub given_later : None ≡ option_map description (section_at id (present t sections)) → given kept t sections ≡ given (drop (i + 1) ids) t sections
   given_later here =
-      before ∙ ap (λ left. given left t sections) (drop_more ids i id there)
+      before ∙ ap (λ left. given left t sections) (drop_given ids i id there)
       ∙ ap (λ o. given_first (drop (i + 1) ids) o (given (drop (i + 1) ids) t sections)) (not_described (section_at id (present t sections)) here)
 
 -- nothing is given where all were passed over
@@ -67,7 +67,7 @@ none_given kept ids i t sections all before = before ∙ ap (λ left. given left
 -- ---- the answer
 
 -- a section told is the answer
-pub answer_of-told : (next : Option NextGiven) (told : SectionDescriptor) → Some told ≡ option_map (λ n. description n.section) next → Ok told ≡ answer_of next
+pub answer_of-told : (next : Option NextGiven) (told : SectionDescriptor) → Some told ≡ option_map (λ n. description n.section) next → Ok told ≡ given_answer next
 answer_of-told None told is = absurd (none-some told (sym is))
 answer_of-told (Some n) told is = ap Ok (same_Some told (description n.section) is)
 

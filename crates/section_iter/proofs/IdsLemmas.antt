@@ -35,20 +35,20 @@ module _ (ends bytes id more_ends more_bytes : List ℕ) (are : AreIds ends byte
 -- ---- the room
 
 -- one section more
-one_more : (size place : ℕ) → (place + 1) * size ≡ place * size + size
-one_more size place = ap (λ n. n * size) (add-one place) ∙ suc-mul place size
+next_place : (size place : ℕ) → (place + 1) * size ≡ place * size + size
+next_place size place = ap (λ n. n * size) (add-one place) ∙ suc-mul place size
 
 -- the room for as many sections as come is the room for those before and one more
 pub room_for_one : (size place count : ℕ) → place < count → place * size + size ≤ count * size
-room_for_one size place count more = subst (λ n. n ≤ count * size) (one_more size place) (mul-le-mul_right size (omega arith))
+room_for_one size place count more = subst (λ n. n ≤ count * size) (next_place size place) (mul-le-mul_right size (omega arith))
 
 -- with one identifier more no more bytes are there than of one section more
-pub bytes_after : (size place used len : ℕ) → used ≤ place * size → len ≤ size → used + len ≤ (place + 1) * size
-bytes_after size place used len within short = omega (arith, one_more size place)
+pub bytes_within : (size place used len : ℕ) → used ≤ place * size → len ≤ size → used + len ≤ (place + 1) * size
+bytes_within size place used len within short = omega (arith, next_place size place)
 
 -- as many are there as before
 pub bytes_before : (size place used : ℕ) → used ≤ place * size → used ≤ (place + 1) * size
-bytes_before size place used within = omega (arith, one_more size place)
+bytes_before size place used within = omega (arith, next_place size place)
 
 -- a section among those whose identifiers are short has a short one
 pub short_at : (size : ℕ) (sections : List Section) (place : ℕ) (s : Section) → All (λ (s : Section). length s.id ≤ size) sections → slice_get sections place ≡ Some s → length s.id ≤ size

@@ -5,7 +5,7 @@ use Rattle.section_iter.specs.KeptIds.{KeptIds}
 use Rattle.section_iter.specs.declared.iteration.Iteration.TheInside.{Inside}
 
 -- the identifiers stand in room that was taken for all that it may keep
-pub record IsRoomy (it : Inside) : Type 0 where
+pub record HasIdRoom (it : Inside) : Type 0 where
   pub begun : it.first ≤ length it.ends.items
   pub kept : AreIds it.ends.items it.bytes.items
   pub ends_taken : it.room.ids ≤ vec_capacity it.ends

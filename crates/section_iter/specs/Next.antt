@@ -6,9 +6,9 @@ use Rattle.section_iter.specs.KeptIds.{KeptIds}
 use Rattle.section_iter.specs.declared.iteration.NoSections.{NoSections}
 
 -- what is told of the section that is given, or that there is none
-abbrev pub answer_of : Option NextGiven → Result SectionDescriptor NoSections
-answer_of None = Err (record {})
-answer_of (Some next) = Ok (description next.section)
+abbrev pub given_answer : Option NextGiven → Result SectionDescriptor NoSections
+given_answer None = Err (record {})
+given_answer (Some next) = Ok (description next.section)
 
 -- the identifiers behind the one that is given; all of them where nothing is given
 abbrev pub kept_after : KeptIds → Option NextGiven → KeptIds

@@ -32,15 +32,15 @@ impl Model for Iteration {
 
     ghost Value = { KeptIds };
 
-    ghost use Rattle.section_iter.specs.Iteration.{kept_ids, IsRoomy};
+    ghost use Rattle.section_iter.specs.Iteration.{kept_ids, HasIdRoom};
 
     ghost view = { kept_ids };
 
-    ghost invariant = { IsRoomy };
+    ghost invariant = { HasIdRoom };
 }
 
 impl Iteration {
-    ghost use Rattle.section_iter.specs.Next.{answer_of, kept_after};
+    ghost use Rattle.section_iter.specs.Next.{given_answer, kept_after};
 
     /// An iteration that gives nothing, with room for the identifiers of as many sections, and as long ones,
     /// as were declared.
@@ -87,7 +87,7 @@ impl Iteration {
         sections: &S,
         now: Moment,
     ) -> Result<SectionDescriptor, NoSections>
-        ensures answer { result ≡ answer_of (given self.old.ids now (S.sections sections.now)) }
+        ensures answer { result ≡ given_answer (given self.old.ids now (S.sections sections.now)) }
         ensures kept { self.new ≡ kept_after self.old (given self.old.ids now (S.sections sections.now)) }
     {
         let (bytes, ends) = (self.bytes.as_slice(), self.ends.as_slice());

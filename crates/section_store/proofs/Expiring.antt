@@ -7,7 +7,7 @@ use Rattle.std.proofs.lemmas.List.{map-append, take-set, take_more_set, take-set
 use Rattle.std.proofs.lemmas.List.Elements.{All-append, All-take, All-drop, All-cons, All-head, All-tail, All-nil, All-weaker, filter-append}
 use Rattle.ckpt_types.specs.Sections.{Section, is_present, present}
 use Rattle.section_store.specs.Places.{changed_at}
-use Rattle.section_store.specs.Stored.{section_of, sections_of, ExpireFrom}
+use Rattle.section_store.specs.Stored.{kept_section, kept_sections, ExpireFrom}
 use Rattle.section_store.specs.declared.stored.Stored.{Stored}
 use Rattle.section_store.proofs.Reading.{take-more, drop-more}
 
@@ -82,47 +82,47 @@ swap-forward (d ∷ ys) i j x le there is =
     (first, drop-set-lt (suc j) one j other (omega arith) ∙ drop-set-lt (suc j) xs i (get_or xs j d) (omega arith))
 
 -- one that is present stands behind the first ones then, and what was behind it stays
-front-moved : (t : ℤ) (old now moved : List (Box Stored)) (front place : ℕ) (s : Box Stored) → place < length now → s ≡ get_or now place s → is_present t (section_of s.value) ≡ true
-    → drop place now ≡ drop place old → sections_of (take front now) ≡ present t (sections_of (take place old))
+front-moved : (t : ℤ) (old now moved : List (Box Stored)) (front place : ℕ) (s : Box Stored) → place < length now → s ≡ get_or now place s → is_present t (kept_section s.value) ≡ true
+    → drop place now ≡ drop place old → kept_sections (take front now) ≡ present t (kept_sections (take place old))
     → take (suc front) moved ≡ take front now ++ s ∷ [] → drop (suc place) moved ≡ drop (suc place) now
-    → (sections_of (take (suc front) moved) ≡ present t (sections_of (take (suc place) old))) × (drop (suc place) moved ≡ drop (suc place) old)
+    → (kept_sections (take (suc front) moved) ≡ present t (kept_sections (take (suc place) old))) × (drop (suc place) moved ≡ drop (suc place) old)
 front-moved t old now moved front place s there is here behind before first rest =
     let next : drop place now ≡ s ∷ drop (suc place) now = drop-cons now place s there ∙ ap (λ x. x ∷ drop (suc place) now) (sym is) in
     let more : take (suc place) old ≡ take place old ++ s ∷ [] = take-more old place s (drop (suc place) now) (sym behind ∙ next) in
     let same : drop (suc place) old ≡ drop (suc place) now = drop-more old place s (drop (suc place) now) (sym behind ∙ next) in
-    let shown : present t (section_of s.value ∷ []) ≡ section_of s.value ∷ [] = rw here refl in
-    let was : present t (sections_of (take (suc place) old)) ≡ present t (sections_of (take place old)) ++ section_of s.value ∷ [] =
-    ap (λ xs. present t (sections_of xs)) more ∙ ap (present t) (map-append (λ b. section_of b.value) (take place old) (s ∷ [])) ∙ filter-append (is_present t) (sections_of (take place old)) (section_of s.value ∷ []) ∙ ap (λ xs. present t (sections_of (take place old)) ++ xs) shown in
-    let gathered : sections_of (take (suc front) moved) ≡ sections_of (take front now) ++ section_of s.value ∷ [] =
-    ap sections_of first ∙ map-append (λ b. section_of b.value) (take front now) (s ∷ []) in
-    (gathered ∙ ap (λ xs. xs ++ section_of s.value ∷ []) before ∙ sym was, rest ∙ sym same)
+    let shown : present t (kept_section s.value ∷ []) ≡ kept_section s.value ∷ [] = rw here refl in
+    let was : present t (kept_sections (take (suc place) old)) ≡ present t (kept_sections (take place old)) ++ kept_section s.value ∷ [] =
+    ap (λ xs. present t (kept_sections xs)) more ∙ ap (present t) (map-append (λ b. kept_section b.value) (take place old) (s ∷ [])) ∙ filter-append (is_present t) (kept_sections (take place old)) (kept_section s.value ∷ []) ∙ ap (λ xs. present t (kept_sections (take place old)) ++ xs) shown in
+    let gathered : kept_sections (take (suc front) moved) ≡ kept_sections (take front now) ++ kept_section s.value ∷ [] =
+    ap kept_sections first ∙ map-append (λ b. kept_section b.value) (take front now) (s ∷ []) in
+    (gathered ∙ ap (λ xs. xs ++ kept_section s.value ∷ []) before ∙ sym was, rest ∙ sym same)
 
 -- one that is present comes to the front
-pub front-present : (t : ℤ) (old now : List (Box Stored)) (front place : ℕ) (s : Box Stored) → front ≤ place → place < length now → s ≡ get_or now place s → is_present t (section_of s.value) ≡ true
-    → drop place now ≡ drop place old → sections_of (take front now) ≡ present t (sections_of (take place old))
-    → (sections_of (take (suc front) (swap now front place)) ≡ present t (sections_of (take (suc place) old))) × (drop (suc place) (swap now front place) ≡ drop (suc place) old)
+pub front-present : (t : ℤ) (old now : List (Box Stored)) (front place : ℕ) (s : Box Stored) → front ≤ place → place < length now → s ≡ get_or now place s → is_present t (kept_section s.value) ≡ true
+    → drop place now ≡ drop place old → kept_sections (take front now) ≡ present t (kept_sections (take place old))
+    → (kept_sections (take (suc front) (swap now front place)) ≡ present t (kept_sections (take (suc place) old))) × (drop (suc place) (swap now front place) ≡ drop (suc place) old)
 front-present t old now front place s le there is here behind before =
     let (first, rest) = swap-forward now front place s le there is in
     front-moved t old now (swap now front place) front place s there is here behind before first rest
 
 -- one that is present stays where all before it are
-pub front-stays : (t : ℤ) (old now : List (Box Stored)) (front place : ℕ) (s : Box Stored) → front ≡ place → place < length now → s ≡ get_or now place s → is_present t (section_of s.value) ≡ true
-    → drop place now ≡ drop place old → sections_of (take front now) ≡ present t (sections_of (take place old))
-    → (sections_of (take (suc front) now) ≡ present t (sections_of (take (suc place) old))) × (drop (suc place) now ≡ drop (suc place) old)
+pub front-stays : (t : ℤ) (old now : List (Box Stored)) (front place : ℕ) (s : Box Stored) → front ≡ place → place < length now → s ≡ get_or now place s → is_present t (kept_section s.value) ≡ true
+    → drop place now ≡ drop place old → kept_sections (take front now) ≡ present t (kept_sections (take place old))
+    → (kept_sections (take (suc front) now) ≡ present t (kept_sections (take (suc place) old))) × (drop (suc place) now ≡ drop (suc place) old)
 front-stays t old now front place s same there is here behind before =
     let next : drop place now ≡ s ∷ drop (suc place) now = drop-cons now place s there ∙ ap (λ x. x ∷ drop (suc place) now) (sym is) in
     let first : take (suc front) now ≡ take front now ++ s ∷ [] = subst (λ n. take (suc n) now ≡ take n now ++ s ∷ []) (sym same) (take-more now place s (drop (suc place) now) next) in
     front-moved t old now now front place s there is here behind before first refl
 
 -- one that is absent stays where it is
-pub front-absent : (t : ℤ) (old now : List (Box Stored)) (front place : ℕ) (s : Box Stored) → place < length now → s ≡ get_or now place s → is_present t (section_of s.value) ≡ false
-    → drop place now ≡ drop place old → sections_of (take front now) ≡ present t (sections_of (take place old))
-    → (sections_of (take front now) ≡ present t (sections_of (take (suc place) old))) × (drop (suc place) now ≡ drop (suc place) old)
+pub front-absent : (t : ℤ) (old now : List (Box Stored)) (front place : ℕ) (s : Box Stored) → place < length now → s ≡ get_or now place s → is_present t (kept_section s.value) ≡ false
+    → drop place now ≡ drop place old → kept_sections (take front now) ≡ present t (kept_sections (take place old))
+    → (kept_sections (take front now) ≡ present t (kept_sections (take (suc place) old))) × (drop (suc place) now ≡ drop (suc place) old)
 front-absent t old now front place s there is gone behind before =
     let next : drop place now ≡ s ∷ drop (suc place) now = drop-cons now place s there ∙ ap (λ x. x ∷ drop (suc place) now) (sym is) in
     let more : take (suc place) old ≡ take place old ++ s ∷ [] = take-more old place s (drop (suc place) now) (sym behind ∙ next) in
     let same : drop (suc place) old ≡ drop (suc place) now = drop-more old place s (drop (suc place) now) (sym behind ∙ next) in
-    let shown : present t (section_of s.value ∷ []) ≡ [] = rw gone refl in
-    let was : present t (sections_of (take (suc place) old)) ≡ present t (sections_of (take place old)) =
-    ap (λ xs. present t (sections_of xs)) more ∙ ap (present t) (map-append (λ b. section_of b.value) (take place old) (s ∷ [])) ∙ filter-append (is_present t) (sections_of (take place old)) (section_of s.value ∷ []) ∙ ap (λ xs. present t (sections_of (take place old)) ++ xs) shown ∙ append-nil _ in
+    let shown : present t (kept_section s.value ∷ []) ≡ [] = rw gone refl in
+    let was : present t (kept_sections (take (suc place) old)) ≡ present t (kept_sections (take place old)) =
+    ap (λ xs. present t (kept_sections xs)) more ∙ ap (present t) (map-append (λ b. kept_section b.value) (take place old) (s ∷ [])) ∙ filter-append (is_present t) (kept_sections (take place old)) (kept_section s.value ∷ []) ∙ ap (λ xs. present t (kept_sections (take place old)) ++ xs) shown ∙ append-nil _ in
     (before ∙ sym was, sym same)

@@ -1,7 +1,9 @@
 -- Where an identifier stands among sections that rise, and what a change there makes of them.
-use Rattle.std.proofs.Common.{◌≡◌, ◌≢◌, ℕ, zero, suc, ◌<◌, ◌≤◌, List, [], ◌∷◌, length, take, Option, Some, None, option_map, slice_get, true, false, cond, not, Less, Equal, Greater, sym, ap, ◌∙◌, subst, refl, inl, inr, arith}
+use Rattle.std.proofs.Common.{◌≡◌, ◌≢◌, ℕ, zero, suc, ◌<◌, ◌≤◌, List, [], ◌∷◌, length, take, Option, Some, None, Ok, Err, option_map, slice_get, true, false, cond, not, Less, Equal, Greater, sym, ap, ◌∙◌, subst, refl, inl, inr, arith}
 use Rattle.std.specs.Prelude.{insert, remove, MatchOption}
+use Rattle.std.specs.Option.{ok_or}
 use Rattle.std.specs.Ordering.{match_ordering}
+use Rattle.std.specs.Result.{result_ok}
 use Rattle.std.proofs.lemmas.Bool.{cases_eq}
 use Rattle.std.proofs.lemmas.Cmp.{nat_list_cmp_total, tied_itself}
 use Rattle.std.proofs.lemmas.Option.{none-some, same_Some}
@@ -91,9 +93,26 @@ count_below-place_of id (x ∷ sections) i rises is =
           rw here (ap suc (count_below-place_of id sections j rises.1 at_j) ∙ next)
     ] refl is
 
--- an identifier behind that of the section at a place has its own place behind it
-pub place_of-above : (id : List ℕ) (sections : List Section) (m i : ℕ) (s : Section) → Rises sections → slice_get sections m ≡ Some s → id_cmp id s.id ≡ Greater → place_of id sections ≡ Some i → m < i
-place_of-above id sections m i s rises is above at = omega (arith, count_below-above id sections m s rises is above, count_below-place_of id sections i rises at)
+-- what is found, or else another place, gives what is found
+pub result_ok-ok_or : (found : Option ℕ) (other : ℕ) → result_ok (ok_or found other) ≡ found
+result_ok-ok_or None other = refl
+result_ok-ok_or (Some i) other = refl
+
+-- the place that is found is behind those that are counted
+pub count_below-found : (id : List ℕ) (sections : List Section) (i : ℕ) → Rises sections → Ok i ≡ ok_or (place_of id sections) (count_below id sections) → i ≡ count_below id sections
+count_below-found id sections i rises is =
+    elim (place_of id sections) as (λ o. place_of id sections ≡ o → Ok i ≡ ok_or o (count_below id sections) → i ≡ count_below id sections) [
+      | None ↦ λ nowhere found. absurd (cc found)
+      | Some j ↦ λ at found. let same : i ≡ j = cc found in same ∙ sym (count_below-place_of id sections j rises at)
+    ] refl is
+
+-- where none is found, the place to put it is behind those that are counted
+pub count_below-not_found : (id : List ℕ) (sections : List Section) (i : ℕ) → Err i ≡ ok_or (place_of id sections) (count_below id sections) → i ≡ count_below id sections
+count_below-not_found id sections i is =
+    elim (place_of id sections) as (λ o. Err i ≡ ok_or o (count_below id sections) → i ≡ count_below id sections) [
+      | None ↦ λ missed. cc missed
+      | Some j ↦ λ missed. absurd (cc missed)
+    ] is
 
 -- an identifier before that of the section at a place has its own place before it
 pub place_of-below : (id : List ℕ) (sections : List Section) (m i : ℕ) (s : Section) → Rises sections → slice_get sections m ≡ Some s → id_cmp id s.id ≡ Less → place_of id sections ≡ Some i → i < m

@@ -9,14 +9,14 @@ use Rattle.ckpt_types.specs.declared.update.NewId.{NewId}
 use Rattle.ckpt_types.specs.Attributes.{is_malformed}
 use Rattle.ckpt_types.specs.Limits.{section_id_max}
 use Rattle.ckpt_types.specs.Sections.{Section, Rises, Fits, section_at, place_of, with_section, is_present, present, size_of}
-use Rattle.ckpt_types.specs.Updates.{Refusal, new_id, created, deleted, expiration_set, overwritten, written, element_written, elements_written}
-use Rattle.ckpt_types.proofs.Accepted.{and_then-Ok, element_written-Ok, overwritten-Ok, expiration_set-Ok, deleted-Ok, created-Ok}
+use Rattle.ckpt_types.specs.Updates.{Refusal, new_id, section_created, section_deleted, expiration_set, overwritten, written, element_written, elements_written}
+use Rattle.ckpt_types.proofs.Accepted.{and_then-Ok, element_written-Ok, overwritten-Ok, expiration_set-Ok, section_deleted-Ok, section_created-Ok}
 use Rattle.ckpt_types.proofs.Presence.{section_at-named, section_at-no_place, section_at-place_of, place_of-lt, All-section_at}
 use Rattle.ckpt_types.proofs.Placing.{Rises-with_section, Rises-without_section, memory_used-with_section_over}
 use Rattle.ckpt_types.proofs.AttributeLaws.{IsWellFormed-from_check}
-use Rattle.ckpt_types.proofs.Fitting.{length-new_id-le, Fits-element_written, Fits-overwritten, Fits-expiration_set, Fits-without_section, Fits-created, Fits-with_section_over}
+use Rattle.ckpt_types.proofs.Fitting.{length-new_id-le, Fits-element_written, Fits-overwritten, Fits-expiration_set, Fits-without_section, Fits-section_created, Fits-with_section_over}
 use Rattle.section_store.specs.Places.{count_below, changed_at}
-use Rattle.section_store.specs.StoreState.{corrupted, corrupted_where}
+use Rattle.section_store.specs.StoreState.{with_corrupted, corrupted_where}
 use Rattle.section_store.proofs.PlaceLemmas.{slice_get-within, with_section-changed_at, with_section-insert, without_section-remove}
 
 -- an update is not refused and leaves these sections, which rise and keep to what was declared
@@ -90,18 +90,18 @@ expiration_set-no_place a id expiration t sections nowhere accepted =
     none-some done.was (sym (section_at-no_place id sections nowhere) ∙ done.there)
 
 -- the section goes from its place
-pub deleted-remove : (a : CreationAttributes) (id : List ℕ) (sections : List Section) (i : ℕ) → Rises sections → Fits a sections → place_of id sections ≡ Some i → IsOk (deleted a id sections) → Leaves a (deleted a id sections) (remove sections i)
-deleted-remove a id sections i rises fits place accepted =
-    let (after, is) = Ok_from_IsOk (deleted a id sections) accepted in
-    let done = deleted-Ok a id sections after is in
+pub section_deleted-remove : (a : CreationAttributes) (id : List ℕ) (sections : List Section) (i : ℕ) → Rises sections → Fits a sections → place_of id sections ≡ Some i → IsOk (section_deleted a id sections) → Leaves a (section_deleted a id sections) (remove sections i)
+section_deleted-remove a id sections i rises fits place accepted =
+    let (after, is) = Ok_from_IsOk (section_deleted a id sections) accepted in
+    let done = section_deleted-Ok a id sections after is in
     Leaves-same a _ after _ (sym done.left ∙ without_section-remove id sections i rises place) is
     (subst Rises done.left (Rises-without_section id sections rises)) (subst (Fits a) done.left (Fits-without_section a id sections fits))
 
 -- a section that has no place can't be deleted
-pub deleted-no_place : (a : CreationAttributes) (id : List ℕ) (sections : List Section) → place_of id sections ≡ None → IsOk (deleted a id sections) → ⊥
-deleted-no_place a id sections nowhere accepted =
-    let (after, is) = Ok_from_IsOk (deleted a id sections) accepted in
-    let done = deleted-Ok a id sections after is in
+pub section_deleted-no_place : (a : CreationAttributes) (id : List ℕ) (sections : List Section) → place_of id sections ≡ None → IsOk (section_deleted a id sections) → ⊥
+section_deleted-no_place a id sections nowhere accepted =
+    let (after, is) = Ok_from_IsOk (section_deleted a id sections) accepted in
+    let done = section_deleted-Ok a id sections after is in
     none-some done.gone (sym (section_at-no_place id sections nowhere) ∙ done.there)
 
 -- an identifier that is not taken is that of no section
@@ -110,14 +110,14 @@ not_taken None free = refl
 not_taken (Some s) free = absurd (cc free)
 
 -- a new section is put in at its place
-pub created-insert : (a : CreationAttributes) (new : NewId) (expiration : ℤ) (bytes : List ℕ) (t : ℤ) (sections : List Section) → Rises sections → Fits a sections → IsOk (created a new expiration bytes t sections)
-    → Leaves a (created a new expiration bytes t sections) (insert sections (count_below (new_id new sections) sections) (record { id = new_id new sections; bytes = bytes; expiration = expiration; state = Valid; last_update = t }))
-created-insert a new expiration bytes t sections rises fits accepted =
-    let (after, is) = Ok_from_IsOk (created a new expiration bytes t sections) accepted in
-    let done = created-Ok a new expiration bytes t sections after is in
+pub section_created-insert : (a : CreationAttributes) (new : NewId) (expiration : ℤ) (bytes : List ℕ) (t : ℤ) (sections : List Section) → Rises sections → Fits a sections → IsOk (section_created a new expiration bytes t sections)
+    → Leaves a (section_created a new expiration bytes t sections) (insert sections (count_below (new_id new sections) sections) (record { id = new_id new sections; bytes = bytes; expiration = expiration; state = Valid; last_update = t }))
+section_created-insert a new expiration bytes t sections rises fits accepted =
+    let (after, is) = Ok_from_IsOk (section_created a new expiration bytes t sections) accepted in
+    let done = section_created-Ok a new expiration bytes t sections after is in
     let section : Section = record { id = new_id new sections; bytes = bytes; expiration = expiration; state = Valid; last_update = t } in
     Leaves-same a _ after _ (sym done.left ∙ with_section-insert section sections (not_taken (section_at section.id sections) done.free)) is
-    (subst Rises done.left (Rises-with_section section sections rises)) (Fits-created a new expiration bytes t sections after rises fits done)
+    (subst Rises done.left (Rises-with_section section sections rises)) (Fits-section_created a new expiration bytes t sections after rises fits done)
 
 -- an element that is not refused at one place of a vector is not refused at another
 pub element_written-any_place : (a : CreationAttributes) (t : ℤ) (place other : ℕ) (e : IoElement) (sections after : List Section) → element_written a t place e sections ≡ Ok after → element_written a t other e sections ≡ Ok after
@@ -131,17 +131,17 @@ element_written-IsOk a t place e elements sections accepted =
     ap is_ok (element_written-any_place a t place 0 e sections next first)
 
 -- where a creation is not refused, there is room for one more section, and in a buffer for its bytes
-pub created-room : (a : CreationAttributes) (new : NewId) (expiration : ℤ) (bytes : List ℕ) (t : ℤ) (sections : List Section) → IsOk (created a new expiration bytes t sections) → (length sections < a.max_sections) × (length bytes ≤ a.max_section_size)
-created-room a new expiration bytes t sections accepted =
-    let (after, is) = Ok_from_IsOk (created a new expiration bytes t sections) accepted in
-    let done = created-Ok a new expiration bytes t sections after is in
+pub section_created-room : (a : CreationAttributes) (new : NewId) (expiration : ℤ) (bytes : List ℕ) (t : ℤ) (sections : List Section) → IsOk (section_created a new expiration bytes t sections) → (length sections < a.max_sections) × (length bytes ≤ a.max_section_size)
+section_created-room a new expiration bytes t sections accepted =
+    let (after, is) = Ok_from_IsOk (section_created a new expiration bytes t sections) accepted in
+    let done = section_created-Ok a new expiration bytes t sections after is in
     (done.room, done.small)
 
 -- where a creation is not refused, its identifier is as short as any may be
-pub created-short : (a : CreationAttributes) (new : NewId) (expiration : ℤ) (bytes : List ℕ) (t : ℤ) (sections : List Section) → is_malformed a ≡ false → IsOk (created a new expiration bytes t sections) → length (new_id new sections) ≤ section_id_max
-created-short a new expiration bytes t sections checked accepted =
-    let (after, is) = Ok_from_IsOk (created a new expiration bytes t sections) accepted in
-    let done = created-Ok a new expiration bytes t sections after is in
+pub section_created-short : (a : CreationAttributes) (new : NewId) (expiration : ℤ) (bytes : List ℕ) (t : ℤ) (sections : List Section) → is_malformed a ≡ false → IsOk (section_created a new expiration bytes t sections) → length (new_id new sections) ≤ section_id_max
+section_created-short a new expiration bytes t sections checked accepted =
+    let (after, is) = Ok_from_IsOk (section_created a new expiration bytes t sections) accepted in
+    let done = section_created-Ok a new expiration bytes t sections after is in
     let declared = IsWellFormed-from_check a checked in
     omega (arith, length-new_id-le a new sections done.good_id, declared.few_id_bytes)
 
@@ -156,9 +156,9 @@ present-present t (s ∷ sections) =
     ] refl
 
 -- the section of an identifier is corrupted at its place
-pub corrupted-changed_at : (a : CreationAttributes) (id : List ℕ) (sections : List Section) (i : ℕ) → Rises sections → Fits a sections → place_of id sections ≡ Some i
-    → (corrupted id sections ≡ changed_at (λ s. record s { state = Corrupted }) i sections) × Rises (corrupted id sections) × Fits a (corrupted id sections)
-corrupted-changed_at a id sections i rises fits place =
+pub with_corrupted-changed_at : (a : CreationAttributes) (id : List ℕ) (sections : List Section) (i : ℕ) → Rises sections → Fits a sections → place_of id sections ≡ Some i
+    → (with_corrupted id sections ≡ changed_at (λ s. record s { state = Corrupted }) i sections) × Rises (with_corrupted id sections) × Fits a (with_corrupted id sections)
+with_corrupted-changed_at a id sections i rises fits place =
     let (was, at) = slice_get-within sections i (place_of-lt id sections i place) in
     let found : section_at id sections ≡ Some was = section_at-place_of id sections i place ∙ at in
     let named : was.id ≡ id = section_at-named id sections was found in
@@ -167,9 +167,9 @@ corrupted-changed_at a id sections i rises fits place =
     let same = memory_used-with_section_over (change was) was sections rises found_again in
     let small : size_of was ≤ a.max_section_size = All-section_at (λ s. size_of s ≤ a.max_section_size) id sections was fits.small found in
     let left : Fits a (with_section (change was) sections) = Fits-with_section_over a (change was) was sections rises fits found_again small (omega (arith, same, fits.within)) in
-    let is : corrupted id sections ≡ with_section (change was) sections = ap (λ o. corrupted_where o sections) found in
+    let is : with_corrupted id sections ≡ with_section (change was) sections = ap (λ o. corrupted_where o sections) found in
     (is ∙ with_section-changed_at change id sections i was rises place found named, subst Rises (sym is) (Rises-with_section (change was) sections rises), subst (Fits a) (sym is) left)
 
 -- nothing is corrupted where the identifier has no place
-pub corrupted-no_place : (id : List ℕ) (sections : List Section) → place_of id sections ≡ None → corrupted id sections ≡ sections
-corrupted-no_place id sections nowhere = ap (λ o. corrupted_where o sections) (section_at-no_place id sections nowhere)
+pub with_corrupted-no_place : (id : List ℕ) (sections : List Section) → place_of id sections ≡ None → with_corrupted id sections ≡ sections
+with_corrupted-no_place id sections nowhere = ap (λ o. corrupted_where o sections) (section_at-no_place id sections nowhere)

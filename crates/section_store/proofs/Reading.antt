@@ -12,11 +12,11 @@ use Rattle.ckpt_types.specs.Buffer.{Buffer, with_piece}
 use Rattle.ckpt_types.specs.Reads.{piece_read, pieces_read, read}
 use Rattle.ckpt_types.specs.Sections.{Section, Rises, section_at, present, is_present, size_of, memory_used}
 use Rattle.ckpt_types.specs.Updates.{Refusal, and_then}
-use Rattle.ckpt_types.proofs.Accepted.{on_section-Ok, and_then-Ok, if-Ok_last, same_Ok}
+use Rattle.ckpt_types.proofs.Accepted.{on_section-Ok, and_then-Ok, if-Ok_last, accepted_same}
 use Rattle.ckpt_types.proofs.Presence.{section_at-present, where_present-Some}
 use Rattle.section_store.proofs.Placed.{Ok_from_IsOk}
 use Rattle.section_store.specs.StoreState.{with_pieces}
-use Rattle.section_store.specs.Stored.{section_of, sections_of}
+use Rattle.section_store.specs.Stored.{kept_section, kept_sections}
 use Rattle.section_store.specs.declared.stored.Stored.{Stored}
 
 -- ---- one element
@@ -58,11 +58,11 @@ pub pieces_read-cons : (place : ℕ) (e : ReadElement) (elements : List ReadElem
 pieces_read-cons place e elements sections pieces is =
     let (piece, first, e1) = and_then-Ok (piece_read place e sections) (λ piece. and_then (pieces_read (place + 1) elements sections) (λ others. Ok (piece ∷ others))) pieces is in
     let (others, rest, e2) = and_then-Ok (pieces_read (place + 1) elements sections) (λ others. Ok (piece ∷ others)) pieces e1 in
-    record { piece = piece; others = others; first = first; rest = rest; is = same_Ok _ pieces e2 }
+    record { piece = piece; others = others; first = first; rest = rest; is = accepted_same _ pieces e2 }
 
 -- an element gives a piece
 pub length-pieces_read : (place : ℕ) (elements : List ReadElement) (sections : List Section) (pieces : List (List ℕ)) → pieces_read place elements sections ≡ Ok pieces → length pieces ≡ length elements
-length-pieces_read place [] sections pieces is = ap length (sym (same_Ok [] pieces is))
+length-pieces_read place [] sections pieces is = ap length (sym (accepted_same [] pieces is))
 length-pieces_read place (e ∷ elements) sections pieces is =
     let reads = pieces_read-cons place e elements sections pieces is in
     ap length (sym reads.is) ∙ ap suc (length-pieces_read (place + 1) elements sections reads.others reads.rest)
@@ -128,7 +128,7 @@ pub pieces_read-drop : (elements : List ReadElement) (sections : List Section) (
 pieces_read-drop elements sections all i e piece there is going here =
     let first : drop i elements ≡ e ∷ drop (suc i) elements = drop-cons elements i e there ∙ ap (λ x. x ∷ drop (suc i) elements) (sym is) in
     let reads = pieces_read-cons i e (drop (suc i) elements) sections (drop i all) (ap (λ xs. pieces_read i xs sections) (sym first) ∙ going) in
-    let same : reads.piece ≡ piece = same_Ok _ piece (sym (piece_read-any_place i 0 e sections reads.piece reads.first) ∙ here) in
+    let same : reads.piece ≡ piece = accepted_same _ piece (sym (piece_read-any_place i 0 e sections reads.piece reads.first) ∙ here) in
     let now : drop i all ≡ piece ∷ reads.others = sym reads.is ∙ ap (λ p. p ∷ reads.others) same in
     let behind : drop (suc i) all ≡ reads.others = drop-more all i piece reads.others now in
     record {
@@ -147,37 +147,37 @@ piece-fits all i piece spare next room =
 -- ---- those present
 
 -- the sections of the first records, and one more
-pub sections_of-take : (kept : List (Box Stored)) (i : ℕ) (s : Box Stored) → i < length kept → s ≡ get_or kept i s → sections_of (take (suc i) kept) ≡ sections_of (take i kept) ++ section_of s.value ∷ []
-sections_of-take [] i s there is = absurd (omega arith)
-sections_of-take (k ∷ kept) zero s there is = ap (λ x. section_of x.value ∷ []) (sym is)
-sections_of-take (k ∷ kept) (suc i) s there is = ap (λ xs. section_of k.value ∷ xs) (sections_of-take kept i s (omega arith) is)
+pub kept_sections-take : (kept : List (Box Stored)) (i : ℕ) (s : Box Stored) → i < length kept → s ≡ get_or kept i s → kept_sections (take (suc i) kept) ≡ kept_sections (take i kept) ++ kept_section s.value ∷ []
+kept_sections-take [] i s there is = absurd (omega arith)
+kept_sections-take (k ∷ kept) zero s there is = ap (λ x. kept_section x.value ∷ []) (sym is)
+kept_sections-take (k ∷ kept) (suc i) s there is = ap (λ xs. kept_section k.value ∷ xs) (kept_sections-take kept i s (omega arith) is)
 
 -- those present among the first, and one more
-pub present-take : (t : ℤ) (kept : List (Box Stored)) (i : ℕ) (s : Box Stored) → i < length kept → s ≡ get_or kept i s → present t (sections_of (take (suc i) kept)) ≡ present t (sections_of (take i kept)) ++ (if is_present t (section_of s.value) then section_of s.value ∷ [] else [])
-present-take t kept i s there is = ap (present t) (sections_of-take kept i s there is) ∙ filter-append (is_present t) (sections_of (take i kept)) (section_of s.value ∷ [])
+pub present-take : (t : ℤ) (kept : List (Box Stored)) (i : ℕ) (s : Box Stored) → i < length kept → s ≡ get_or kept i s → present t (kept_sections (take (suc i) kept)) ≡ present t (kept_sections (take i kept)) ++ (if is_present t (kept_section s.value) then kept_section s.value ∷ [] else [])
+present-take t kept i s there is = ap (present t) (kept_sections-take kept i s there is) ∙ filter-append (is_present t) (kept_sections (take i kept)) (kept_section s.value ∷ [])
 
 -- the first sections have at most the bytes of all
-pub memory_used-take-le : (kept : List (Box Stored)) (i : ℕ) → memory_used (sections_of (take i kept)) ≤ memory_used (sections_of kept)
+pub memory_used-take-le : (kept : List (Box Stored)) (i : ℕ) → memory_used (kept_sections (take i kept)) ≤ memory_used (kept_sections kept)
 memory_used-take-le kept i =
-    let whole : sections_of kept ≡ sections_of (take i kept) ++ sections_of (drop i kept) = ap sections_of (sym (take-append-drop i kept)) ∙ map-append (λ b. section_of b.value) (take i kept) (drop i kept) in
-    omega (arith, ap memory_used whole, sum_by-append size_of (sections_of (take i kept)) (sections_of (drop i kept)))
+    let whole : kept_sections kept ≡ kept_sections (take i kept) ++ kept_sections (drop i kept) = ap kept_sections (sym (take-append-drop i kept)) ∙ map-append (λ b. kept_section b.value) (take i kept) (drop i kept) in
+    omega (arith, ap memory_used whole, sum_by-append size_of (kept_sections (take i kept)) (kept_sections (drop i kept)))
 
 -- what is counted of the first records and one more that is present
-pub totals-present : (t : ℤ) (kept : List (Box Stored)) (i : ℕ) (s : Box Stored) → i < length kept → s ≡ get_or kept i s → is_present t (section_of s.value) ≡ true
-    → (length (present t (sections_of (take (i + 1) kept))) ≡ length (present t (sections_of (take i kept))) + 1) × (memory_used (present t (sections_of (take (i + 1) kept))) ≡ memory_used (present t (sections_of (take i kept))) + length s.value.bytes.items)
+pub totals-present : (t : ℤ) (kept : List (Box Stored)) (i : ℕ) (s : Box Stored) → i < length kept → s ≡ get_or kept i s → is_present t (kept_section s.value) ≡ true
+    → (length (present t (kept_sections (take (i + 1) kept))) ≡ length (present t (kept_sections (take i kept))) + 1) × (memory_used (present t (kept_sections (take (i + 1) kept))) ≡ memory_used (present t (kept_sections (take i kept))) + length s.value.bytes.items)
 totals-present t kept i s there is here =
-    let before = present t (sections_of (take i kept)) in
+    let before = present t (kept_sections (take i kept)) in
     let next : i + 1 ≡ suc i = omega arith in
-    let more : present t (sections_of (take (i + 1) kept)) ≡ before ++ section_of s.value ∷ [] =
-    ap (λ m. present t (sections_of (take m kept))) next ∙ present-take t kept i s there is ∙ ap (λ b. before ++ (if b then section_of s.value ∷ [] else [])) here in
-    (ap length more ∙ length-append before (section_of s.value ∷ []), omega (arith, ap memory_used more, sum_by-append size_of before (section_of s.value ∷ [])))
+    let more : present t (kept_sections (take (i + 1) kept)) ≡ before ++ kept_section s.value ∷ [] =
+    ap (λ m. present t (kept_sections (take m kept))) next ∙ present-take t kept i s there is ∙ ap (λ b. before ++ (if b then kept_section s.value ∷ [] else [])) here in
+    (ap length more ∙ length-append before (kept_section s.value ∷ []), omega (arith, ap memory_used more, sum_by-append size_of before (kept_section s.value ∷ [])))
 
 -- what is counted stays where one more is not present
-pub totals-absent : (t : ℤ) (kept : List (Box Stored)) (i : ℕ) (s : Box Stored) → i < length kept → s ≡ get_or kept i s → is_present t (section_of s.value) ≡ false → present t (sections_of (take (i + 1) kept)) ≡ present t (sections_of (take i kept))
+pub totals-absent : (t : ℤ) (kept : List (Box Stored)) (i : ℕ) (s : Box Stored) → i < length kept → s ≡ get_or kept i s → is_present t (kept_section s.value) ≡ false → present t (kept_sections (take (i + 1) kept)) ≡ present t (kept_sections (take i kept))
 totals-absent t kept i s there is gone =
-    let before = present t (sections_of (take i kept)) in
+    let before = present t (kept_sections (take i kept)) in
     let next : i + 1 ≡ suc i = omega arith in
-    ap (λ m. present t (sections_of (take m kept))) next ∙ present-take t kept i s there is ∙ ap (λ b. before ++ (if b then section_of s.value ∷ [] else [])) gone ∙ append-nil before
+    ap (λ m. present t (kept_sections (take m kept))) next ∙ present-take t kept i s there is ∙ ap (λ b. before ++ (if b then kept_section s.value ∷ [] else [])) gone ∙ append-nil before
 
 -- where a read is not refused, it reads of those present what it reads of all
 pub read-all : (t : ℤ) (elements : List ReadElement) (sections : List Section) → Rises sections → IsOk (read elements t sections) → read elements t sections ≡ pieces_read 0 elements sections

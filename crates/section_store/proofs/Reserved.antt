@@ -6,15 +6,15 @@ use Rattle.ckpt_types.specs.Sections.{Section, Rises, Fits, memory_used}
 use Rattle.ckpt_types.specs.declared.attributes.CreationAttributes.{CreationAttributes}
 use Rattle.ckpt_types.proofs.AttributeLaws.{IsWellFormed-from_check}
 use Rattle.section_store.specs.Store.{IsReserved}
-use Rattle.section_store.specs.Stored.{sections_of, HaveRoom}
+use Rattle.section_store.specs.Stored.{kept_sections, HaveRoom}
 use Rattle.section_store.specs.Summary.{IsSummary}
 use Rattle.section_store.specs.declared.store.Store.TheInside.{Inside}
 
 -- what is asked of the records in the place of those that were kept
 pub record Replaces (s new : Inside) : Type 0 where
-  pub rises : Rises (sections_of new.kept.items)
-  pub fits : Fits s.attributes (sections_of new.kept.items)
-  pub summary : IsSummary new.summary (sections_of new.kept.items)
+  pub rises : Rises (kept_sections new.kept.items)
+  pub fits : Fits s.attributes (kept_sections new.kept.items)
+  pub summary : IsSummary new.summary (kept_sections new.kept.items)
   pub all : length new.kept.items + length new.spare.items ≡ length s.kept.items + length s.spare.items
   pub kept_room : (size : ℕ) → HaveRoom size s.kept.items → HaveRoom size s.spare.items → HaveRoom size new.kept.items
   pub spare_room : (size : ℕ) → HaveRoom size s.kept.items → HaveRoom size s.spare.items → HaveRoom size new.spare.items
@@ -30,7 +30,7 @@ IsReserved-Replaces s new same was is =
     record {
       checked = subst (λ a. is_malformed a ≡ false) (sym same) was.checked;
       rises = is.rises;
-      fits = subst (λ a. Fits a (sections_of new.kept.items)) (sym same) is.fits;
+      fits = subst (λ a. Fits a (kept_sections new.kept.items)) (sym same) is.fits;
       summary = is.summary;
       all = subst (λ a. length new.kept.items + length new.spare.items ≡ a.max_sections) (sym same) (omega (arith, is.all, was.all));
       kept_places = subst (λ a. a.max_sections ≤ vec_capacity new.kept) (sym same) (omega (arith, is.kept_capacity));
@@ -40,7 +40,7 @@ IsReserved-Replaces s new same was is =
     }
 
 -- the storage is still taken where a section was changed in its place
-pub IsReserved-changed : (s new : Inside) → new.attributes ≡ s.attributes → new.spare ≡ s.spare → Rises (sections_of new.kept.items) → Fits s.attributes (sections_of new.kept.items) → IsSummary new.summary (sections_of new.kept.items)
+pub IsReserved-changed : (s new : Inside) → new.attributes ≡ s.attributes → new.spare ≡ s.spare → Rises (kept_sections new.kept.items) → Fits s.attributes (kept_sections new.kept.items) → IsSummary new.summary (kept_sections new.kept.items)
     → ((size : ℕ) → HaveRoom size s.kept.items → HaveRoom size new.kept.items) → length new.kept.items ≡ length s.kept.items → vec_capacity new.kept ≡ vec_capacity s.kept → IsReserved s → IsReserved new
 IsReserved-changed s new same spare rises fits summary room len capacity was =
     IsReserved-Replaces s new same was (record {

@@ -16,8 +16,8 @@ corrupted_where None sections = sections
 corrupted_where (Some s) sections = with_section (record s { state = Corrupted }) sections
 
 -- the sections, of which the one of that identifier is corrupted, where one stands; all else stays
-abbrev pub corrupted : List ℕ → List Section → List Section
-corrupted id sections = corrupted_where (section_at id sections) sections
+abbrev pub with_corrupted : List ℕ → List Section → List Section
+with_corrupted id sections = corrupted_where (section_at id sections) sections
 
 -- the buffer with these pieces behind the others
 abbrev pub with_pieces : List (List ℕ) → Buffer → Buffer

@@ -5,12 +5,12 @@ use Rattle.ckpt_types.specs.Sections.{Section}
 use Rattle.section_store.specs.declared.stored.Stored.{Stored}
 
 -- the section that is kept
-abbrev pub section_of : Stored → Section
-section_of s = record { id = s.id; bytes = s.bytes.items; expiration = s.expiration; state = s.state; last_update = s.last_update }
+abbrev pub kept_section : Stored → Section
+kept_section s = record { id = s.id; bytes = s.bytes.items; expiration = s.expiration; state = s.state; last_update = s.last_update }
 
 -- the sections that are kept, in their order
-abbrev pub sections_of : List (Box Stored) → List Section
-sections_of kept = map (λ b. section_of b.value) kept
+abbrev pub kept_sections : List (Box Stored) → List Section
+kept_sections kept = map (λ b. kept_section b.value) kept
 
 -- none of the sections expires before that moment
 abbrev pub ExpireFrom : ℤ → List Section → Type 0

@@ -3,7 +3,7 @@ ghost use Rattle.std.specs.Prelude.{◌≡◌, ◌<◌, ◌≤◌, ℕ, length, 
 ghost use Rattle.ckpt_types.specs.Limits.{section_id_max};
 ghost use Rattle.ckpt_types.specs.Sections.{Section, Rises, is_taken, place_of, present};
 ghost use Rattle.ckpt_types.specs.Updates.{free_number, new_id, numbered_id};
-ghost use Rattle.section_store.specs.Stored.{sections_of};
+ghost use Rattle.section_store.specs.Stored.{kept_sections};
 ghost use Rattle.section_store.specs.Summary.{AreTaken};
 
 use crate::order::find;
@@ -19,11 +19,11 @@ pub(crate) struct Made {
 
 /// The identifier of a new section, where all numbers below the first one are taken.
 pub(crate) fn new_id(new: &NewId, kept: &[Box<Stored>], first: u64, now: Moment) -> Made
-    requires rises { Rises (sections_of kept.now) }
-    requires taken { AreTaken first (present now (sections_of kept.now)) }
-    requires short { length (new_id new.now (present now (sections_of kept.now))) ≤ section_id_max }
-    ensures id { result.id ≡ new_id new.now (present now (sections_of kept.now)) }
-    ensures first { (place : ℕ) → (s : Section) → s.id ≡ result.id → AreTaken result.first (insert (present now (sections_of kept.now)) place s) }
+    requires rises { Rises (kept_sections kept.now) }
+    requires taken { AreTaken first (present now (kept_sections kept.now)) }
+    requires short { length (new_id new.now (present now (kept_sections kept.now))) ≤ section_id_max }
+    ensures id { result.id ≡ new_id new.now (present now (kept_sections kept.now)) }
+    ensures first { (place : ℕ) → (s : Section) → s.id ≡ result.id → AreTaken result.first (insert (present now (kept_sections kept.now)) place s) }
 {
     match new {
         NewId::Given(id) => {
@@ -44,9 +44,9 @@ pub(crate) fn new_id(new: &NewId, kept: &[Box<Stored>], first: u64, now: Moment)
 
 /// The least number that is free, where all below the first one that is tried are taken.
 pub(crate) fn free_number(kept: &[Box<Stored>], first: u64, now: Moment) -> u64
-    requires rises { Rises (sections_of kept.now) }
-    requires taken { AreTaken first (present now (sections_of kept.now)) }
-    ensures { result ≡ free_number (present now (sections_of kept.now)) }
+    requires rises { Rises (kept_sections kept.now) }
+    requires taken { AreTaken first (present now (kept_sections kept.now)) }
+    ensures { result ≡ free_number (present now (kept_sections kept.now)) }
 {
     let mut number = first;
     let mut near = 0;
@@ -60,8 +60,8 @@ pub(crate) fn free_number(kept: &[Box<Stored>], first: u64, now: Moment) -> u64
 /// A number up to which all are taken still when the section at a place is gone.
 pub(crate) fn first_without(kept: &[Box<Stored>], first: u64, place: usize) -> u64
     requires there { place < length kept.now }
-    requires taken { AreTaken first (sections_of kept.now) }
-    ensures { AreTaken result (remove (sections_of kept.now) place) }
+    requires taken { AreTaken first (kept_sections kept.now) }
+    ensures { AreTaken result (remove (kept_sections kept.now) place) }
 {
     first.min(kept[place].id.key().max(1))
 }
@@ -78,8 +78,8 @@ pub(crate) fn numbered(number: u64) -> SectionId
 
 /// The place of the section of that number, which is looked for at `near` first.
 fn find_number(kept: &[Box<Stored>], number: u64, near: usize) -> Option<usize>
-    requires { Rises (sections_of kept.now) }
-    ensures place { result ≡ place_of (numbered_id number) (sections_of kept.now) }
+    requires { Rises (kept_sections kept.now) }
+    ensures place { result ≡ place_of (numbered_id number) (kept_sections kept.now) }
     ensures within { IfSome result (λ place. place < length kept.now) }
 {
     if near < kept.len() && kept[near].id.is_number(number) {
@@ -91,8 +91,8 @@ fn find_number(kept: &[Box<Stored>], number: u64, near: usize) -> Option<usize>
 
 /// The place of the section of that number, where it is present. It is looked for at `near` first.
 fn place_taken(kept: &[Box<Stored>], number: u64, near: usize, now: Moment) -> Option<usize>
-    requires { Rises (sections_of kept.now) }
-    ensures taken { is_some result ≡ is_taken (numbered_id number) (present now (sections_of kept.now)) }
+    requires { Rises (kept_sections kept.now) }
+    ensures taken { is_some result ≡ is_taken (numbered_id number) (present now (kept_sections kept.now)) }
     ensures within { IfSome result (λ place. place < length kept.now) }
 {
     match find_number(kept, number, near) {

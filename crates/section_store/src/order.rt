@@ -1,10 +1,10 @@
 //! The list of sections in the order of their identifiers, and each change of it within its buffers.
-ghost use Rattle.std.specs.Prelude.{◌≡◌, ◌+◌, ◌≤◌, ◌<◌, ℕ, List, [], length, take, vec_capacity, insert, remove, All, IfOk, IfSome};
+ghost use Rattle.std.specs.Prelude.{◌≡◌, ◌+◌, ◌≤◌, ◌<◌, ℕ, List, [], length, take, vec_capacity, insert, remove, ok_or, All, IfOk, IfSome};
 ghost use Rattle.ckpt_types.specs.Sections.{Rises, place_of, size_of, memory_used, section_of as lent_section};
 ghost use Rattle.ckpt_types.specs.Updates.{written};
 ghost use Rattle.ckpt_types.specs.declared.sections.SectionState.TheVariants.{Valid, Corrupted};
 ghost use Rattle.section_store.specs.Places.{count_below, changed_at};
-ghost use Rattle.section_store.specs.Stored.{section_of, sections_of, HaveRoom};
+ghost use Rattle.section_store.specs.Stored.{kept_section, kept_sections, HaveRoom};
 
 use crate::keyed::{Keyed, compare, key_of};
 use crate::stored::{Stored, put_all, write_at};
@@ -12,31 +12,32 @@ use ckpt_types::{Moment, SectionId, SectionRef, SectionState, Sections};
 use std::alloc::{AllocError, Global};
 use std::cmp::Ordering;
 
-/// Where the section of that identifier stands, or would stand.
+/// Where the section of that identifier would stand.
 pub(crate) fn place_for(kept: &[Box<Stored>], id: &[u8]) -> usize
-    requires { Rises (sections_of kept.now) }
-    ensures place { result ≡ count_below id.now (sections_of kept.now) }
+    requires { Rises (kept_sections kept.now) }
+    ensures place { result ≡ count_below id.now (kept_sections kept.now) }
     ensures within { result ≤ length kept.now }
 {
-    let key = key_of(id);
-    let mut low = 0;
-    let mut high = kept.len();
-    while low < high {
-        let middle = low + (high - low) / 2;
-        match compare(id, key, &kept[middle].id) {
-            Ordering::Greater => low = middle + 1,
-            Ordering::Less => high = middle,
-            Ordering::Equal => return middle,
-        }
+    match search(kept, id) {
+        Ok(place) => place,
+        Err(place) => place,
     }
-    low
 }
 
 /// The place of the section of that identifier.
 pub(crate) fn find(kept: &[Box<Stored>], id: &[u8]) -> Option<usize>
-    requires { Rises (sections_of kept.now) }
-    ensures place { result ≡ place_of id.now (sections_of kept.now) }
+    requires { Rises (kept_sections kept.now) }
+    ensures place { result ≡ place_of id.now (kept_sections kept.now) }
     ensures within { IfSome result (λ place. place < length kept.now) }
+{
+    search(kept, id).ok()
+}
+
+/// The place of the section of that identifier, or else where it would stand.
+#[inline(always)]
+fn search(kept: &[Box<Stored>], id: &[u8]) -> Result<usize, usize>
+    requires { Rises (kept_sections kept.now) }
+    ensures { result ≡ ok_or (place_of id.now (kept_sections kept.now)) (count_below id.now (kept_sections kept.now)) }
 {
     let key = key_of(id);
     let mut low = 0;
@@ -46,10 +47,10 @@ pub(crate) fn find(kept: &[Box<Stored>], id: &[u8]) -> Option<usize>
         match compare(id, key, &kept[middle].id) {
             Ordering::Greater => low = middle + 1,
             Ordering::Less => high = middle,
-            Ordering::Equal => return Some(middle),
+            Ordering::Equal => return Ok(middle),
         }
     }
-    None
+    Err(low)
 }
 
 /// Writes into the section at a place, and says how many bytes more it has.
@@ -62,9 +63,9 @@ pub(crate) fn write_into(
 ) -> usize
     requires there { place < length kept.old.items }
     requires room { HaveRoom (offset + length bytes.now) kept.old.items }
-    ensures sections { sections_of kept.new.items ≡ changed_at (λ s. record s { bytes = written s.bytes offset bytes.now; last_update = now }) place (sections_of kept.old.items) }
+    ensures sections { kept_sections kept.new.items ≡ changed_at (λ s. record s { bytes = written s.bytes offset bytes.now; last_update = now }) place (kept_sections kept.old.items) }
     ensures room { (size : ℕ) → HaveRoom size kept.old.items → HaveRoom size kept.new.items }
-    ensures grown { memory_used (sections_of kept.new.items) ≡ memory_used (sections_of kept.old.items) + result }
+    ensures grown { memory_used (kept_sections kept.new.items) ≡ memory_used (kept_sections kept.old.items) + result }
     ensures len { length kept.new.items ≡ length kept.old.items }
     ensures capacity { vec_capacity kept.new ≡ vec_capacity kept.old }
 {
@@ -84,9 +85,9 @@ pub(crate) fn overwrite_at(
 ) -> usize
     requires there { place < length kept.old.items }
     requires room { HaveRoom (length bytes.now) kept.old.items }
-    ensures sections { sections_of kept.new.items ≡ changed_at (λ s. record s { bytes = bytes.now; state = Valid; last_update = now }) place (sections_of kept.old.items) }
+    ensures sections { kept_sections kept.new.items ≡ changed_at (λ s. record s { bytes = bytes.now; state = Valid; last_update = now }) place (kept_sections kept.old.items) }
     ensures room { (size : ℕ) → HaveRoom size kept.old.items → HaveRoom size kept.new.items }
-    ensures before { memory_used (sections_of kept.new.items) + result ≡ memory_used (sections_of kept.old.items) + length bytes.now }
+    ensures before { memory_used (kept_sections kept.new.items) + result ≡ memory_used (kept_sections kept.old.items) + length bytes.now }
     ensures len { length kept.new.items ≡ length kept.old.items }
     ensures capacity { vec_capacity kept.new ≡ vec_capacity kept.old }
 {
@@ -101,7 +102,7 @@ pub(crate) fn overwrite_at(
 /// Gives the section at a place another expiration.
 pub(crate) fn expire_at(kept: &mut Vec<Box<Stored>>, place: usize, expiration: Moment)
     requires { place < length kept.old.items }
-    ensures sections { sections_of kept.new.items ≡ changed_at (λ s. record s { expiration = expiration }) place (sections_of kept.old.items) }
+    ensures sections { kept_sections kept.new.items ≡ changed_at (λ s. record s { expiration = expiration }) place (kept_sections kept.old.items) }
     ensures room { (size : ℕ) → HaveRoom size kept.old.items → HaveRoom size kept.new.items }
     ensures len { length kept.new.items ≡ length kept.old.items }
     ensures capacity { vec_capacity kept.new ≡ vec_capacity kept.old }
@@ -113,7 +114,7 @@ pub(crate) fn expire_at(kept: &mut Vec<Box<Stored>>, place: usize, expiration: M
 /// Makes the section at a place a corrupted one.
 pub(crate) fn corrupt_at(kept: &mut Vec<Box<Stored>>, place: usize)
     requires { place < length kept.old.items }
-    ensures sections { sections_of kept.new.items ≡ changed_at (λ s. record s { state = Corrupted }) place (sections_of kept.old.items) }
+    ensures sections { kept_sections kept.new.items ≡ changed_at (λ s. record s { state = Corrupted }) place (kept_sections kept.old.items) }
     ensures room { (size : ℕ) → HaveRoom size kept.old.items → HaveRoom size kept.new.items }
     ensures len { length kept.new.items ≡ length kept.old.items }
     ensures capacity { vec_capacity kept.new ≡ vec_capacity kept.old }
@@ -130,8 +131,8 @@ pub(crate) fn take_out(
 ) -> usize
     requires there { place < length kept.old.items }
     requires room { length spare.old.items < vec_capacity spare.old }
-    ensures sections { sections_of kept.new.items ≡ remove (sections_of kept.old.items) place }
-    ensures before { memory_used (sections_of kept.new.items) + result ≡ memory_used (sections_of kept.old.items) }
+    ensures sections { kept_sections kept.new.items ≡ remove (kept_sections kept.old.items) place }
+    ensures before { memory_used (kept_sections kept.new.items) + result ≡ memory_used (kept_sections kept.old.items) }
     ensures all { length kept.new.items + length spare.new.items ≡ length kept.old.items + length spare.old.items }
     ensures kept_room { (size : ℕ) → HaveRoom size kept.old.items → HaveRoom size kept.new.items }
     ensures spare_room { (size : ℕ) → HaveRoom size kept.old.items → HaveRoom size spare.old.items → HaveRoom size spare.new.items }
@@ -155,7 +156,7 @@ pub(crate) fn put_in(
     requires buffer { 1 ≤ length spare.old.items }
     requires room { HaveRoom (length section.now.bytes.now) spare.old.items }
     requires kept_room { length kept.old.items < vec_capacity kept.old }
-    ensures sections { sections_of kept.new.items ≡ insert (sections_of kept.old.items) place (lent_section section.now) }
+    ensures sections { kept_sections kept.new.items ≡ insert (kept_sections kept.old.items) place (lent_section section.now) }
     ensures all { length kept.new.items + length spare.new.items ≡ length kept.old.items + length spare.old.items }
     ensures kept_room { (size : ℕ) → HaveRoom size kept.old.items → HaveRoom size spare.old.items → HaveRoom size kept.new.items }
     ensures spare_room { (size : ℕ) → HaveRoom size spare.old.items → HaveRoom size spare.new.items }
@@ -174,7 +175,7 @@ pub(crate) fn put_in(
 /// Makes a record that of a section, in its buffer.
 fn fill(stored: &mut Stored, section: &SectionRef<'_>)
     requires { length section.now.bytes.now ≤ vec_capacity stored.old.bytes }
-    ensures section { section_of stored.new ≡ lent_section section.now }
+    ensures section { kept_section stored.new ≡ lent_section section.now }
     ensures room { vec_capacity stored.old.bytes ≤ vec_capacity stored.new.bytes }
 {
     put_all(&mut stored.bytes, section.bytes);
@@ -240,7 +241,7 @@ pub(crate) fn copy_in<S: Sections>(
     requires buffers { length (S.sections other.now) ≤ length spare.old.items }
     requires room { All (λ s. HaveRoom (size_of s) spare.old.items) (S.sections other.now) }
     requires kept_room { length spare.old.items ≤ vec_capacity kept.old }
-    ensures sections { sections_of kept.new.items ≡ S.sections other.now }
+    ensures sections { kept_sections kept.new.items ≡ S.sections other.now }
     ensures rises { Rises (S.sections other.now) }
     ensures all { length kept.new.items + length spare.new.items ≡ length spare.old.items }
     ensures kept_room { (size : ℕ) → HaveRoom size spare.old.items → HaveRoom size kept.new.items }

@@ -3,7 +3,7 @@ ghost use Rattle.std.specs.Prelude.{◌≡◌, ◌+◌, ◌<◌, ◌≤◌, ◌^
 ghost use Rattle.ckpt_types.specs.Reads.{piece_read, pieces_read};
 ghost use Rattle.ckpt_types.specs.Sections.{Rises, present, memory_used};
 ghost use Rattle.section_store.specs.StoreState.{with_pieces};
-ghost use Rattle.section_store.specs.Stored.{sections_of};
+ghost use Rattle.section_store.specs.Stored.{kept_sections};
 
 use crate::order::find;
 use crate::stored::Stored;
@@ -11,11 +11,11 @@ use ckpt_types::{Moment, ReadBuf, ReadElement, Totals};
 
 /// Adds the bytes that each element reads.
 pub(crate) fn read_all(kept: &[Box<Stored>], elements: &[ReadElement], out: &mut ReadBuf)
-    requires rises { Rises (sections_of kept.now) }
-    requires readable { IsOk (pieces_read 0 elements.now (sections_of kept.now)) }
+    requires rises { Rises (kept_sections kept.now) }
+    requires readable { IsOk (pieces_read 0 elements.now (kept_sections kept.now)) }
     requires places { length elements.now ≤ out.old.spare_pieces }
-    requires room { IfOk (pieces_read 0 elements.now (sections_of kept.now)) (λ pieces. sum_by length pieces ≤ out.old.spare_bytes) }
-    ensures { IfOk (pieces_read 0 elements.now (sections_of kept.now)) (λ pieces. out.new ≡ with_pieces pieces out.old) }
+    requires room { IfOk (pieces_read 0 elements.now (kept_sections kept.now)) (λ pieces. sum_by length pieces ≤ out.old.spare_bytes) }
+    ensures { IfOk (pieces_read 0 elements.now (kept_sections kept.now)) (λ pieces. out.new ≡ with_pieces pieces out.old) }
 {
     for element in elements {
         out.push(piece(kept, element));
@@ -24,9 +24,9 @@ pub(crate) fn read_all(kept: &[Box<Stored>], elements: &[ReadElement], out: &mut
 
 /// The bytes that an element reads.
 fn piece<'a>(kept: &'a [Box<Stored>], element: &ReadElement) -> &'a [u8]
-    requires rises { Rises (sections_of kept.now) }
-    requires readable { IsOk (piece_read 0 element.now (sections_of kept.now)) }
-    ensures { piece_read 0 element.now (sections_of kept.now) ≡ Ok result.now }
+    requires rises { Rises (kept_sections kept.now) }
+    requires readable { IsOk (piece_read 0 element.now (kept_sections kept.now)) }
+    ensures { piece_read 0 element.now (kept_sections kept.now) ≡ Ok result.now }
 {
     let Some(place) = find(kept, element.id.as_slice()) else {
         unreachable!()
@@ -47,9 +47,9 @@ fn part(bytes: &[u8], offset: u64, len: u64) -> &[u8]
 
 /// How many sections are present, and how many bytes they have together.
 pub(crate) fn totals(kept: &[Box<Stored>], now: Moment) -> Totals
-    requires { memory_used (sections_of kept.now) < 2 ^ 64 }
-    ensures count { result.count ≡ length (present now (sections_of kept.now)) }
-    ensures bytes { result.bytes ≡ memory_used (present now (sections_of kept.now)) }
+    requires { memory_used (kept_sections kept.now) < 2 ^ 64 }
+    ensures count { result.count ≡ length (present now (kept_sections kept.now)) }
+    ensures bytes { result.bytes ≡ memory_used (present now (kept_sections kept.now)) }
 {
     let mut count = 0;
     let mut bytes: u128 = 0;

@@ -3,8 +3,8 @@ ghost use Rattle.std.specs.Prelude.{◌≡◌, ◌+◌, ◌≤◌, ◌<◌, [], 
 ghost use Rattle.ckpt_types.specs.Attributes.{is_malformed};
 ghost use Rattle.ckpt_types.specs.Reads.{read, status};
 ghost use Rattle.ckpt_types.specs.Sections.{Fits, opening, default_section, present};
-ghost use Rattle.ckpt_types.specs.Updates.{outcome, element_written, elements_written, overwritten, created, deleted, expiration_set, generated_id};
-ghost use Rattle.section_store.specs.StoreState.{corrupted, with_pieces};
+ghost use Rattle.ckpt_types.specs.Updates.{outcome, element_written, elements_written, overwritten, section_created, section_deleted, expiration_set, generated_id};
+ghost use Rattle.section_store.specs.StoreState.{with_corrupted, with_pieces};
 ghost use Rattle.section_store.specs.Summary.{AreTaken};
 
 use crate::expiry::drop_absent;
@@ -40,9 +40,9 @@ impl Model for Store {
 
     ghost Value = { StoreState };
 
-    ghost use Rattle.section_store.specs.Store.{state_of, IsReserved};
+    ghost use Rattle.section_store.specs.Store.{store_state, IsReserved};
 
-    ghost view = { state_of };
+    ghost view = { store_state };
 
     ghost invariant = { IsReserved };
 }
@@ -100,7 +100,7 @@ impl Store {
 
     /// Makes the section of that identifier a corrupted one, where one stands.
     pub fn corrupt(&mut self, id: &[u8])
-        ensures { self.new ≡ record self.old { sections = corrupted id.now self.old.sections } }
+        ensures { self.new ≡ record self.old { sections = with_corrupted id.now self.old.sections } }
     {
         if let Some(place) = find(self.kept.as_slice(), id) {
             corrupt_at(&mut self.kept, place);
@@ -250,10 +250,10 @@ impl Store {
     }
 
     fn create(&mut self, new: &NewId, expiration: Moment, bytes: &[u8], now: Moment)
-        requires accepted { IsOk (created self.old.attributes new.now expiration bytes.now now self.old.sections) }
+        requires accepted { IsOk (section_created self.old.attributes new.now expiration bytes.now now self.old.sections) }
         requires all_present { present now self.old.sections ≡ self.old.sections }
         ensures attributes { self.new.attributes ≡ self.old.attributes }
-        ensures sections { created self.old.attributes new.now expiration bytes.now now self.old.sections ≡ Ok self.new.sections }
+        ensures sections { section_created self.old.attributes new.now expiration bytes.now now self.old.sections ≡ Ok self.new.sections }
     {
         let made = new_id(new, self.kept.as_slice(), self.summary.first, now);
         let section = SectionRef {
@@ -273,9 +273,9 @@ impl Store {
     }
 
     fn delete(&mut self, id: &[u8])
-        requires { IsOk (deleted self.old.attributes id.now self.old.sections) }
+        requires { IsOk (section_deleted self.old.attributes id.now self.old.sections) }
         ensures attributes { self.new.attributes ≡ self.old.attributes }
-        ensures sections { deleted self.old.attributes id.now self.old.sections ≡ Ok self.new.sections }
+        ensures sections { section_deleted self.old.attributes id.now self.old.sections ≡ Ok self.new.sections }
     {
         let Some(place) = find(self.kept.as_slice(), id) else {
             unreachable!()

@@ -18,11 +18,11 @@ pub(crate) struct Stored {
 }
 
 impl Stored {
-    ghost use Rattle.section_store.specs.Stored.{section_of};
+    ghost use Rattle.section_store.specs.Stored.{kept_section};
 
     /// Whether the section is present.
     pub fn is_present(&self, now: Moment) -> bool
-        ensures { result ≡ is_present now (section_of self.now) }
+        ensures { result ≡ is_present now (kept_section self.now) }
     {
         !expired(self.expiration, now)
     }

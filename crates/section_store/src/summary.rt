@@ -1,7 +1,7 @@
 //! What is known of all sections together, so that an update need not look at each.
 ghost use Rattle.std.specs.Prelude.{◌≡◌, ◌<◌, ◌^◌};
 ghost use Rattle.ckpt_types.specs.Sections.{memory_used};
-ghost use Rattle.section_store.specs.Stored.{sections_of};
+ghost use Rattle.section_store.specs.Stored.{kept_sections};
 ghost use Rattle.section_store.specs.Summary.{IsSummary};
 
 use crate::stored::Stored;
@@ -21,8 +21,8 @@ pub(crate) struct Summary {
 impl Summary {
     /// What is kept of these sections, with no number counted as taken.
     pub fn of(kept: &[Box<Stored>]) -> Summary
-        requires { memory_used (sections_of kept.now) < 2 ^ 64 }
-        ensures { IsSummary result (sections_of kept.now) }
+        requires { memory_used (kept_sections kept.now) < 2 ^ 64 }
+        ensures { IsSummary result (kept_sections kept.now) }
     {
         let mut earliest = NEVER;
         let mut used = 0;

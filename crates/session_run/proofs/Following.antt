@@ -10,6 +10,7 @@ use Rattle.ckpt_types.specs.declared.identities.Who.TheVariants.{Actor, Call}
 use Rattle.ckpt_types.specs.declared.identities.CallId.{CallId}
 use Rattle.ckpt_types.specs.declared.operation.Op.{Op}
 use Rattle.ckpt_types.specs.declared.operation.Op.TheVariants as ops
+use Rattle.ckpt_types.specs.Limits.{built_line_labels}
 use Rattle.run_labels.specs.declared.labels.Label.{Label}
 use Rattle.run_labels.specs.declared.labels.Label.TheVariants as labels
 use Rattle.run_labels.specs.declared.words.Said.{Said}
@@ -22,15 +23,14 @@ use Rattle.cluster_record.specs.RecordState.{is_up}
 use Rattle.ckpt_machine.specs.Machine.{Machine, CallState, empty_cluster}
 use Rattle.ckpt_machine.specs.Steps.{after}
 use Rattle.ckpt_machine.specs.Runs.{last, last_from, IsRun}
-use Rattle.ckpt_machine.specs.Driving.{Kept}
-use Rattle.cluster_record.specs.StepDone.{StepDone}
 use Rattle.ckpt_machine.proofs.Runs.{last_from-append, run_before}
 use Rattle.world_core.specs.Runs.{GoesOn, IsRunTo, SaysTrue, Answers, AnswersBegin, AnswersStep, IsIdleWord, IsShownOf, Happens, step_word}
 use Rattle.world_core.specs.declared.world.Event.TheVariants as happenings
-use Rattle.world_core.proofs.Held.{state_in}
-use Rattle.world_core.specs.Shows.{hand_at, shown_hand}
+use Rattle.world_core.proofs.Held.{state_in, in_hand_is}
+use Rattle.world_core.proofs.Words.{none_in_hand, words_in_hand}
+use Rattle.world_core.specs.Shows.{hand_at}
 use Rattle.session_run.specs.Follows.{StepsToEnd, StepsUpTo, SaysTrueIn, IsWholeCall, IsBegunCall, IsListing, AreSteps, stepped_call, AnswersLine, FollowsFrom, Follows}
-use Rattle.session_run.specs.Growing.{built_line_labels, GrowsBy, IsFinish, IsStepping, client_where, client_in_hand}
+use Rattle.session_run.specs.Growing.{GrowsBy, IsFinish, IsStepping, client_where, client_in_hand}
 
 -- what is left of a call that goes on are the steps of the call in hand
 steps_of_hand : (call : CallId) (op : Op) (end : Option Outcome) (o : Option InHand) (more : List Label) → GoesOn call op end o → IsFinish o more → StepsToEnd call end more
@@ -99,13 +99,8 @@ begin_alone c op old new log l run answers = absurd answers
 not_begun : (c : ℕ) (old new : World) (log longer : List Label) (call : CallId) (op : Op) (end : Option Outcome) → IsRunTo old log → IsRunTo new longer → longer ≡ log ++ labels.Began call op end ∷ [] → call.actor ≡ Client c → is_some (hand_at old.hands c) ≡ true → ⊥
 not_begun c old new log longer call op end run later grows own held =
     let (before, allowed, due) = run_before _ log (labels.Began call op end) (subst IsRun grows later.run) in
-    let h = run.shows.history in
-    let none : shown_hand (h.kept c) (h.steps c) (hand_at old.hands c) ≡ None = sym (ap (λ (m : Machine). m.in_hand (Client c)) run.shows.same) ∙ ap (last log).in_hand (sym own) ∙ due.none_in_hand in
-    by_hand (hand_at old.hands c) (h.kept c) (h.steps c) none held
-  where
-    by_hand : (o : Option InHand) (kept : Kept) (steps : List StepDone) → shown_hand kept steps o ≡ None → is_some o ≡ true → ⊥
-    by_hand None kept steps none held = cc held
-    by_hand (Some hand) kept steps none held = cc none
+    words_in_hand run.shows.history c (hand_at old.hands c) (λ none. let is : false ≡ true = sym (ap is_some none) ∙ held in cc)
+    (sym (ap (λ (m : Machine). m.in_hand (Client c)) run.shows.same) ∙ ap (last log).in_hand (sym own) ∙ due.none_in_hand)
 
 -- so the one label that answers its line is a word
 pub busy_alone : (c : ℕ) (op : Op) (old new : World) (log longer : List Label) (l : Label) → IsRunTo old log → IsRunTo new longer → longer ≡ log ++ l ∷ [] → AnswersBegin (Client c) op old new l → is_some (hand_at old.hands c) ≡ true → IsWholeCall (last log) (Client c) op (l ∷ [])
@@ -121,23 +116,23 @@ listing_alone k l is = absurd is
 -- ---- the call of which a line asks for steps
 
 -- the client that is named has it in hand, in the world and in the state that it shows
-record IsHeld (w : World) (log : List Label) (who : Who) (c : ℕ) : Type 0 where
+record IsHeldBy (w : World) (log : List Label) (who : Who) (c : ℕ) : Type 0 where
   pub hand : InHand
   pub held : hand_at w.hands c ≡ Some hand
   pub state : CallState
   pub stepped : stepped_call (last log) who ≡ Some state
   pub call_is : state.call ≡ hand.call
 
-is_held : (w : World) (log : List Label) (who : Who) (c : ℕ) → IsRunTo w log → client_in_hand who w ≡ Some c → IsHeld w log who c
+is_held : (w : World) (log : List Label) (who : Who) (c : ℕ) → IsRunTo w log → client_in_hand who w ≡ Some c → IsHeldBy w log who c
 is_held w log (Actor (Client d)) c run is = by_hand (hand_at w.hands d) refl is
   where
-    by_hand : (o : Option InHand) → hand_at w.hands d ≡ o → client_where o d ≡ Some c → IsHeld w log (Actor (Client d)) c
+    by_hand : (o : Option InHand) → hand_at w.hands d ≡ o → client_where o d ≡ Some c → IsHeldBy w log (Actor (Client d)) c
     by_hand None held is = absurd (cc is)
     by_hand (Some hand) held is = record {
       hand = hand;
       held = ap (hand_at w.hands) (sym (same_Some d c is)) ∙ held;
       state = state_in run.shows.history d hand;
-      stepped = ap (λ (m : Machine). m.in_hand (Client d)) run.shows.same ∙ ap (shown_hand (run.shows.history.kept d) (run.shows.history.steps d)) held;
+      stepped = ap (λ (m : Machine). m.in_hand (Client d)) run.shows.same ∙ in_hand_is w run.shows.history d hand held;
       call_is = refl;
     }
 is_held w log (Actor (Node r)) c run is = absurd (cc is)
@@ -145,9 +140,9 @@ is_held w log (Call call) c run is = absurd (cc is)
 
 -- where no client is named that has a call in hand, nothing is stepped
 pub none_stepped : (w : World) (log : List Label) (who : Who) → IsRunTo w log → client_in_hand who w ≡ None → stepped_call (last log) who ≡ None
-none_stepped w log (Actor (Client d)) run is = ap (λ (m : Machine). m.in_hand (Client d)) run.shows.same ∙ by_hand (hand_at w.hands d) is
+none_stepped w log (Actor (Client d)) run is = ap (λ (m : Machine). m.in_hand (Client d)) run.shows.same ∙ none_in_hand w run.shows.history d (by_hand (hand_at w.hands d) is)
   where
-    by_hand : (o : Option InHand) → client_where o d ≡ None → shown_hand (run.shows.history.kept d) (run.shows.history.steps d) o ≡ None
+    by_hand : (o : Option InHand) → client_where o d ≡ None → o ≡ None
     by_hand None is = refl
     by_hand (Some hand) is = absurd (cc is)
 none_stepped w log (Actor (Node r)) run is = ap (λ (m : Machine). m.in_hand (Node r)) run.shows.same

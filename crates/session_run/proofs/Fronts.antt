@@ -8,22 +8,23 @@ use Rattle.ckpt_types.specs.declared.identities.Who.{Who}
 use Rattle.ckpt_types.specs.declared.operation.Op.{Op}
 use Rattle.run_labels.specs.declared.words.LineWord.{LineWord}
 use Rattle.run_labels.specs.declared.words.LineWord.TheVariants as linewords
-use Rattle.run_labels.specs.declared.words.OpWord.{OpWord}
+use Rattle.ckpt_types.specs.declared.words.OpWord.{OpWord}
 use Rattle.run_labels.specs.declared.words.Said.TheVariants.{Idle}
 use Rattle.node_msgs.specs.declared.steps.StepReply.TheVariants as replies
 use Rattle.node_msgs.specs.declared.steps.Verb.TheVariants.{Look}
 use Rattle.run_labels.specs.declared.details.Details.TheVariants as beside
 use Rattle.run_labels.specs.declared.labels.Label.{Label}
 use Rattle.run_labels.specs.declared.labels.Label.TheVariants as labels
-use Rattle.run_labels.specs.OpWord.{word_of_op}
+use Rattle.ckpt_types.specs.Limits.{built_line_labels}
+use Rattle.ckpt_types.specs.OpWord.{word_of_op}
 use Rattle.script_lang.specs.declared.lines.Line.{Line}
 use Rattle.script_lang.specs.declared.lines.Line.TheVariants as lines
-use Rattle.script_lang.specs.BuiltScripts.{moment_behind}
+use Rattle.script_lang.specs.Grammar.{moment_behind}
 use Rattle.world_core.specs.declared.hands.InHand.{InHand}
 use Rattle.ckpt_machine.specs.Machine.{Machine, CallState}
 use Rattle.ckpt_machine.specs.Runs.{last, last_from}
 use Rattle.session_run.specs.Follows.{AnswersLine, AreSteps, StepsToEnd, StepsUpTo, stepped_call, FollowsFrom, Follows, FollowsFront}
-use Rattle.session_run.specs.Growing.{built_line_labels, GrowsBy, GrowsTowards, IsFinish, IsStepping, client_in_hand, AreLeft}
+use Rattle.session_run.specs.Growing.{GrowsBy, GrowsTowards, IsFinish, IsStepping, client_in_hand, AreLeft}
 use Rattle.session_run.proofs.Following.{idle_alone, none_stepped}
 use Rattle.world_core.specs.declared.world.World.{World}
 use Rattle.world_core.specs.declared.world.Event.TheVariants as happenings

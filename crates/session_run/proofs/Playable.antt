@@ -1,52 +1,18 @@
 -- Each line of a script of what is built can be played.
 use Rattle.std.proofs.Common.{◌≡◌, ℕ, zero, suc, ◌+◌, ◌-◌, ◌^◌, List, [], ◌∷◌, ℤ, pos, ◌≤ℤ◌, refl, sym, subst, arith}
-use Rattle.std.specs.Prelude.{Option, Some, None}
 use Rattle.std.proofs.lemmas.Int.{ints}
-use Rattle.ckpt_types.specs.declared.attributes.CreationAttributes.{CreationAttributes}
-use Rattle.ckpt_types.specs.declared.calls.CallbackSet.{CallbackSet}
 use Rattle.ckpt_types.specs.declared.identities.ActorName.TheVariants.{Client, Node}
 use Rattle.ckpt_types.specs.declared.identities.Who.{Who}
 use Rattle.ckpt_types.specs.declared.identities.Who.TheVariants.{Actor, Call}
-use Rattle.ckpt_types.specs.declared.operation.Op.{Op}
-use Rattle.ckpt_types.specs.declared.operation.Op.TheVariants as ops
 use Rattle.run_labels.specs.declared.labels.Label.{Label}
 use Rattle.script_lang.specs.declared.lines.Line.{Line}
 use Rattle.script_lang.specs.declared.lines.Line.TheVariants as lines
-use Rattle.script_lang.specs.BuiltScripts.{no_callbacks, AreBuiltAttributes, IsBuiltOp, IsStepped, IsBuiltLine, AreBuiltLines, AreNodesFirst, moment_behind}
-use Rattle.ckpt_machine.specs.Beginning.{RegistersNone, AreBuilt, IsBuilt}
+use Rattle.script_lang.specs.BuiltScripts.{IsStepped, IsBuiltLine, AreBuiltLines, AreNodesFirst}
+use Rattle.script_lang.specs.Grammar.{moment_behind}
 use Rattle.cluster_record.specs.RecordState.{IsMomentFrom}
 use Rattle.session_run.specs.Growing.{AreLeft, CanPlay}
 use Rattle.world_core.specs.Runs.{MayBeStepped}
 use Rattle.session_run.specs.Playable.{IsPlayableLine, ArePlayable, IsPlayable}
-
-registers_none : (callbacks : CallbackSet) → callbacks ≡ no_callbacks → RegistersNone callbacks
-registers_none callbacks none = subst RegistersNone (sym none) (record { opens = refl; syncs = refl })
-
-are_built : (a : Option CreationAttributes) → AreBuiltAttributes a → AreBuilt a
-are_built None built = tt
-are_built (Some a) built = record {
-  not_active = (built.not_active, built.not_collocated_active);
-  not_weak = (built.not_weak, built.not_collocated_weak);
-}
-
-is_built : (op : Op) → IsBuiltOp op → IsBuilt op
-is_built (ops.Client node version callbacks) built = (built.0, registers_none callbacks built.2)
-is_built (ops.Open place name flags timeout a) built = (built.0, are_built a built.2)
-is_built ops.Finalize built = tt
-is_built (ops.Close place) built = built
-is_built (ops.Unlink name) built = tt
-is_built (ops.Retain place duration) built = built.0
-is_built (ops.Create place update) built = built.0
-is_built (ops.Delete place update) built = built.0
-is_built (ops.Expire place update) built = built.0
-is_built (ops.Write place update) built = built.0
-is_built (ops.Over place update) built = built.0
-is_built (ops.Read place elements) built = built.0
-is_built (ops.Status place) built = built
-is_built (ops.Iter iteration place chosen time) built = (built.0, built.1)
-is_built (ops.Next iteration) built = built
-is_built (ops.EndIter iteration) built = built
-is_built op built = absurd built
 
 -- a moment that is before 2^63-1 is before the end of time
 is_moment : (t u : ℤ) → t ≤ℤ u → u ≤ℤ pos (2 ^ 63 - 2) → IsMomentFrom t u
@@ -58,8 +24,8 @@ is_stepped (Actor (Node r)) is = tt
 is_stepped (Call call) is = tt
 
 is_playable : (t : ℤ) (line : Line) → IsBuiltLine t line → IsPlayableLine t line
-is_playable t (lines.Call client op) built = (built.0, is_built op built.1)
-is_playable t (lines.Begin (Client client) op) built = (built.0, is_built op built.1)
+is_playable t (lines.Call client op) built = (built.0, built.1)
+is_playable t (lines.Begin (Client client) op) built = (built.0, built.1)
 is_playable t (lines.Begin (Node r) op) built = absurd built
 is_playable t (lines.Step who steps) built = (is_stepped who built.0, built.1)
 is_playable t (lines.Finish who) built = is_stepped who built

@@ -14,7 +14,8 @@ use Rattle.run_labels.specs.declared.words.LineWord.{LineWord}
 use Rattle.run_labels.specs.declared.words.LineWord.TheVariants as linewords
 use Rattle.run_labels.specs.declared.words.Said.{Said}
 use Rattle.run_labels.specs.declared.words.Said.TheVariants.{Down, Idle}
-use Rattle.run_labels.specs.OpWord.{word_of_op}
+use Rattle.ckpt_types.specs.Limits.{line_labels_max}
+use Rattle.ckpt_types.specs.OpWord.{word_of_op}
 use Rattle.script_lang.specs.declared.lines.Line.{Line}
 use Rattle.script_lang.specs.declared.lines.Line.TheVariants as lines
 use Rattle.cluster_record.specs.RecordState.{is_up}
@@ -79,10 +80,6 @@ AnswersLine m (lines.Finish who) log = AreSteps (stepped_call m who) who linewor
 AnswersLine m (lines.At t) log = log ≡ labels.Moved t ∷ []
 AnswersLine m (lines.Show k) log = IsListing k log
 AnswersLine m line log = ⊥
-
--- the most labels that a line gives
-abbrev pub line_labels_max : ℕ
-line_labels_max = 1000
 
 -- from this state the lines come in order, each with its labels, no more than a line gives, and each in the state after
 -- the labels before it

@@ -13,10 +13,6 @@ use Rattle.world_core.specs.Shows.{hand_at}
 use Rattle.session_run.specs.Follows.{StepsToEnd, StepsUpTo}
 use Rattle.session_run.specs.Playable.{IsPlayableLine, ArePlayable, IsPlayable}
 
--- the most labels that a line gives, of the lines that are built
-abbrev pub built_line_labels : ℕ
-built_line_labels = 40
-
 -- the log is longer by labels that have this
 abbrev pub GrowsBy : List Label → List Label → (List Label → Type 0) → Type 0
 GrowsBy old new P = (more : List Label) × (new ≡ old ++ more) × P more

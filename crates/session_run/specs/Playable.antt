@@ -1,16 +1,13 @@
 -- Which scripts can be played so far: calls of clients in any order, of up to eight nodes.
-use Rattle.std.specs.Prelude.{ℕ, List, [], ◌∷◌, ◌<◌, ℤ, pos}
+use Rattle.std.specs.Prelude.{List, [], ◌∷◌, ◌<◌, ℤ, pos}
+use Rattle.ckpt_types.specs.Asks.{IsBuilt}
 use Rattle.ckpt_types.specs.Limits.{client_numbers}
 use Rattle.script_lang.specs.declared.lines.Line.{Line}
 use Rattle.script_lang.specs.declared.lines.Line.TheVariants as lines
-use Rattle.script_lang.specs.BuiltScripts.{AreFirstNodes, moment_behind}
-use Rattle.ckpt_machine.specs.Beginning.{IsBuilt}
+use Rattle.script_lang.specs.BuiltScripts.{AreFirstNodes}
+use Rattle.script_lang.specs.Grammar.{moment_behind}
 use Rattle.cluster_record.specs.RecordState.{IsMomentFrom}
 use Rattle.world_core.specs.Runs.{IsScriptClient, MayBeStepped}
-
--- the most lines of a script that is played
-abbrev pub played_lines_max : ℕ
-played_lines_max = 2000000
 
 -- at this moment the line can be played with the nodes up: a call of a client, whole or only begun; steps of a call; a moment that does not go back; or a show
 abbrev pub IsPlayableLine : ℤ → Line → Type 0

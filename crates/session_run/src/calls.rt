@@ -2,16 +2,16 @@
 ghost use Rattle.std.specs.Prelude.{◌≡◌, ◌≢◌, ◌+◌, ◌-◌, ◌<◌, ◌≤◌, ◌^◌, length, None, OnOk, OnErr, false};
 ghost use Rattle.ckpt_types.specs.declared.identities.ActorName.TheVariants.{Client};
 ghost use Rattle.ckpt_types.specs.declared.identities.Who.TheVariants.{Actor};
-ghost use Rattle.ckpt_types.specs.Limits.{client_numbers};
+ghost use Rattle.ckpt_types.specs.Asks.{IsBuilt};
+ghost use Rattle.ckpt_types.specs.Limits.{built_line_labels, client_numbers};
 ghost use Rattle.run_labels.specs.declared.words.LineWord.TheVariants as linewords;
-ghost use Rattle.ckpt_machine.specs.Beginning.{IsBuilt};
 ghost use Rattle.ckpt_machine.specs.Runs.{last};
 ghost use Rattle.world_core.specs.declared.world.Event.TheVariants as happenings;
 ghost use Rattle.world_core.specs.Runs.{IsRunTo, IsScriptClient, Happens, MayBeStepped};
 ghost use Rattle.world_core.specs.StepsLeft.{ComesNearer, left_of};
 ghost use Rattle.world_core.specs.Shows.{hand_at};
 ghost use Rattle.session_run.specs.Follows.{AreSteps, IsBegunCall, IsWholeCall, StepsToEnd, StepsUpTo, stepped_call};
-ghost use Rattle.session_run.specs.Growing.{built_line_labels, client_in_hand, GrowsBy, GrowsTowards, IsFinish, IsStepping};
+ghost use Rattle.session_run.specs.Growing.{client_in_hand, GrowsBy, GrowsTowards, IsFinish, IsStepping};
 
 use ckpt_types::{ActorName, Op, Who};
 use run_labels::RunLog;

@@ -1,14 +1,15 @@
 //! A script is played line by line.
 ghost use Rattle.std.specs.Prelude.{◌≡◌, ◌+◌, ◌-◌, ◌*◌, ◌<◌, ◌≤◌, ◌^◌, [], length, OnOk};
-ghost use Rattle.script_lang.specs.BuiltScripts.{moment_behind};
+ghost use Rattle.ckpt_types.specs.Limits.{built_line_labels, played_lines_max};
+ghost use Rattle.script_lang.specs.Grammar.{moment_behind};
 ghost use Rattle.ckpt_machine.specs.Acknowledged.{AcknowledgedStay};
 ghost use Rattle.ckpt_machine.specs.AllOrNone.{IsAllOrNoneThroughout};
 ghost use Rattle.ckpt_machine.specs.Refusals.{EachRefusalLeaves};
 ghost use Rattle.ckpt_machine.specs.Runs.{last};
 ghost use Rattle.world_core.specs.Runs.{IsNew, IsRunTo};
 ghost use Rattle.session_run.specs.Follows.{AnswersLine, Follows, FollowsFront};
-ghost use Rattle.session_run.specs.Growing.{CanPlay, built_line_labels, GrowsBy, GrowsTowards};
-ghost use Rattle.session_run.specs.Playable.{IsPlayable, played_lines_max};
+ghost use Rattle.session_run.specs.Growing.{CanPlay, GrowsBy, GrowsTowards};
+ghost use Rattle.session_run.specs.Playable.{IsPlayable};
 
 use crate::calls::{begin_of, finish_of, play_call, steps_of};
 use outside_io::Gate;

@@ -4,7 +4,7 @@ use Rattle.std.proofs.lemmas.Bool.{not-true, not-false, cases_eq}
 use Rattle.std.proofs.lemmas.Option.{none-some, same_Some}
 use Rattle.ckpt_types.specs.Sections.{Section, is_taken, Rises, without_section}
 use Rattle.ckpt_types.specs.Updates.{numbered_id, numbers_from, generated_id}
-use Rattle.ckpt_types.proofs.Numbering.{numbered_id-injective}
+use Rattle.ckpt_types.proofs.Numbering.{is_free, numbered_id-injective}
 use Rattle.ckpt_types.proofs.Placing.{Rises-without_section, section_at-without_section_other, length-without_section}
 
 -- a number up to 2 ^ 64 has another identifier than each lower one from 1 on
@@ -48,10 +48,6 @@ find-None test n (suc count) is m from below =
       | true ↦ λ passes found. absurd (none-some n (sym found))
       | false ↦ λ fails found. elim (cases_eq m n) [ inl same ↦ ap test same ∙ fails | inr other ↦ find-None test (n + 1) count found m (omega arith) (omega arith) ]
     ] refl is
-
--- no section has the number's identifier
-abbrev is_free : List Section → ℕ → Bool
-is_free sections n = not (is_taken (numbered_id n) sections)
 
 -- no section has the identifier that the service makes
 pub is_taken-generated_id : (sections : List Section) → Rises sections → length sections < 2 ^ 64 → is_taken (generated_id sections) sections ≡ false

@@ -32,10 +32,10 @@ not_found None is = refl
 not_found (Some s) is = absurd (cc is)
 
 -- what is made of two tests is made of each outcome
-pub two_tests : {A B : Type 0} (f : A → B) (b c : Bool) (x y z : A) → f (cond b x (cond c y z)) ≡ cond b (f x) (cond c (f y) (f z))
-two_tests f true c x y z = refl
-two_tests f false true x y z = refl
-two_tests f false false x y z = refl
+pub two_conditions : {A B : Type 0} (f : A → B) (b c : Bool) (x y z : A) → f (cond b x (cond c y z)) ≡ cond b (f x) (cond c (f y) (f z))
+two_conditions f true c x y z = refl
+two_conditions f false true x y z = refl
+two_conditions f false false x y z = refl
 
 -- two tests give one answer where one holds just where the other does
 pub nat_lt_alike : (a b c d : ℕ) → (a < b → c < d) → (c < d → a < b) → nat_lt a b ≡ nat_lt c d

@@ -15,9 +15,9 @@ use Rattle.ckpt_types.proofs.Accepted.{element_written-Ok}
 use Rattle.ckpt_types.proofs.Fitting.{length-written}
 use Rattle.update_rules.specs.declared.refused.Refused.{Refused}
 use Rattle.update_rules.specs.Present.{size_at}
-use Rattle.update_rules.specs.Told.{told}
-use Rattle.update_rules.specs.Writes.{with_data, with_element, with_elements, end_of, end_in, last_end_in, measured}
-use Rattle.update_rules.proofs.Sizes.{size_at-Some, size_at-None, two_tests, memory_used-in_place}
+use Rattle.update_rules.specs.Told.{check_answer}
+use Rattle.update_rules.specs.Writes.{with_data, with_element, with_elements, element_end, end_in, last_end_in, measured}
+use Rattle.update_rules.proofs.Sizes.{size_at-Some, size_at-None, two_conditions, memory_used-in_place}
 
 -- ---- what is left rises
 
@@ -65,7 +65,7 @@ larger-0 (Some n) = ap Some (omega arith)
 -- an element makes the section of its identifier as large as its end, and leaves the others
 size_at-with_data : (t : ℤ) (e : IoElement) (sections : List Section) (id : List ℕ) (found : Option Section) → section_at e.id sections ≡ found → size_at id (with_data t e sections found) ≡ larger (end_in id e) (size_at id sections)
 size_at-with_data t e sections id None there =
-    elim (pointwise nat_eq e.id id) as (λ b. pointwise nat_eq e.id id ≡ b → size_at id sections ≡ larger (cond b (end_of e) 0) (size_at id sections)) [
+    elim (pointwise nat_eq e.id id) as (λ b. pointwise nat_eq e.id id ≡ b → size_at id sections ≡ larger (cond b (element_end e) 0) (size_at id sections)) [
       | true ↦ λ same. let none : section_at id sections ≡ None = ap (λ x. section_at x sections) (sym ((bytes_decides e.id id).0 same)) ∙ there in rw none refl
       | false ↦ λ other. sym (larger-0 (size_at id sections))
     ] refl
@@ -73,7 +73,7 @@ size_at-with_data t e sections id (Some s) there =
     let named : s.id ≡ e.id = section_at-named e.id sections s there in
     let new : Section = record s { bytes = written s.bytes e.offset e.bytes; last_update = t } in
     ap (option_map size_of) (section_at-with_section new id sections ∙ ap (λ x. cond (pointwise nat_eq x id) (Some new) (section_at id sections)) named)
-    ∙ elim (pointwise nat_eq e.id id) as (λ b. pointwise nat_eq e.id id ≡ b → option_map size_of (cond b (Some new) (section_at id sections)) ≡ larger (cond b (end_of e) 0) (size_at id sections)) [
+    ∙ elim (pointwise nat_eq e.id id) as (λ b. pointwise nat_eq e.id id ≡ b → option_map size_of (cond b (Some new) (section_at id sections)) ≡ larger (cond b (element_end e) 0) (size_at id sections)) [
       | true ↦ λ same.
           let here : section_at id sections ≡ Some s = ap (λ x. section_at x sections) (sym ((bytes_decides e.id id).0 same)) ∙ there in
           rw here (ap Some (length-written s.bytes e.offset e.bytes))
@@ -103,32 +103,32 @@ pub measured-element_written-absent : (a : CreationAttributes) (t : ℤ) (place 
 measured-element_written-absent a t place e sections is = rw (size_at-None e.id sections is) refl
 
 -- an element is refused where it ends past what was declared for a section, or adds too many bytes; else it adds what is behind the section's end
-measured-element_written : (a : CreationAttributes) (t : ℤ) (place : ℕ) (e : IoElement) (sections : List Section) (size : ℕ) → Rises sections → size_at e.id sections ≡ Some size → measured (element_written a t place e sections) ≡ (if nat_lt a.max_section_size (end_of e) then Err (record { error = InvalidParam; index = place }) else if nat_lt a.checkpoint_size (memory_used sections + (end_of e - size)) then Err (record { error = NoSpace; index = place }) else Ok (memory_used sections + (end_of e - size)))
+measured-element_written : (a : CreationAttributes) (t : ℤ) (place : ℕ) (e : IoElement) (sections : List Section) (size : ℕ) → Rises sections → size_at e.id sections ≡ Some size → measured (element_written a t place e sections) ≡ (if nat_lt a.max_section_size (element_end e) then Err (record { error = InvalidParam; index = place }) else if nat_lt a.checkpoint_size (memory_used sections + (element_end e - size)) then Err (record { error = NoSpace; index = place }) else Ok (memory_used sections + (element_end e - size)))
 measured-element_written a t place e sections size rises is =
     let (s, there, has) = size_at-Some e.id sections size is in
     let placed : Section = record s { bytes = written s.bytes e.offset e.bytes; last_update = t } in
     let sum : memory_used (with_section placed sections) + size_of s ≡ memory_used sections + size_of placed = memory_used-in_place placed s e.id sections rises there refl in
-    let used : memory_used (with_section placed sections) ≡ memory_used sections + (end_of e - size) = omega (arith, sum, length-written s.bytes e.offset e.bytes, has) in
+    let used : memory_used (with_section placed sections) ≡ memory_used sections + (element_end e - size) = omega (arith, sum, length-written s.bytes e.offset e.bytes, has) in
     rw there (
-    two_tests measured (nat_lt a.max_section_size (end_of e)) (nat_lt a.checkpoint_size (memory_used (with_section placed sections))) _ _ _
-    ∙ ap (λ n. if nat_lt a.max_section_size (end_of e) then Err (record { error = InvalidParam; index = place }) else if nat_lt a.checkpoint_size n then Err (record { error = NoSpace; index = place }) else Ok n) used)
+    two_conditions measured (nat_lt a.max_section_size (element_end e)) (nat_lt a.checkpoint_size (memory_used (with_section placed sections))) _ _ _
+    ∙ ap (λ n. if nat_lt a.max_section_size (element_end e) then Err (record { error = InvalidParam; index = place }) else if nat_lt a.checkpoint_size n then Err (record { error = NoSpace; index = place }) else Ok n) used)
 
 -- an element that ends past what was declared for a section is refused
-pub measured-element_written-long : (a : CreationAttributes) (t : ℤ) (place : ℕ) (e : IoElement) (sections : List Section) (size : ℕ) → Rises sections → size_at e.id sections ≡ Some size → a.max_section_size < end_of e → measured (element_written a t place e sections) ≡ Err (record { error = InvalidParam; index = place })
+pub measured-element_written-long : (a : CreationAttributes) (t : ℤ) (place : ℕ) (e : IoElement) (sections : List Section) (size : ℕ) → Rises sections → size_at e.id sections ≡ Some size → a.max_section_size < element_end e → measured (element_written a t place e sections) ≡ Err (record { error = InvalidParam; index = place })
 measured-element_written-long a t place e sections size rises is long =
-    measured-element_written a t place e sections size rises is ∙ rw (lt-ltb a.max_section_size (end_of e) long) refl
+    measured-element_written a t place e sections size rises is ∙ rw (lt-ltb a.max_section_size (element_end e) long) refl
 
 -- an element that adds too many bytes is refused
-pub measured-element_written-full : (a : CreationAttributes) (t : ℤ) (place : ℕ) (e : IoElement) (sections : List Section) (size used : ℕ) → Rises sections → size_at e.id sections ≡ Some size → used ≡ memory_used sections → end_of e ≤ a.max_section_size → a.checkpoint_size < used + (end_of e - size) → measured (element_written a t place e sections) ≡ Err (record { error = NoSpace; index = place })
+pub measured-element_written-full : (a : CreationAttributes) (t : ℤ) (place : ℕ) (e : IoElement) (sections : List Section) (size used : ℕ) → Rises sections → size_at e.id sections ≡ Some size → used ≡ memory_used sections → element_end e ≤ a.max_section_size → a.checkpoint_size < used + (element_end e - size) → measured (element_written a t place e sections) ≡ Err (record { error = NoSpace; index = place })
 measured-element_written-full a t place e sections size used rises is sum short full =
     measured-element_written a t place e sections size rises is
-    ∙ rw (le-ltb a.max_section_size (end_of e) short, ← sum, lt-ltb a.checkpoint_size (used + (end_of e - size)) full) refl
+    ∙ rw (le-ltb a.max_section_size (element_end e) short, ← sum, lt-ltb a.checkpoint_size (used + (element_end e - size)) full) refl
 
 -- another element adds its bytes behind the section's end
-pub measured-element_written-fine : (a : CreationAttributes) (t : ℤ) (place : ℕ) (e : IoElement) (sections : List Section) (size used : ℕ) → Rises sections → size_at e.id sections ≡ Some size → used ≡ memory_used sections → end_of e ≤ a.max_section_size → used + (end_of e - size) ≤ a.checkpoint_size → measured (element_written a t place e sections) ≡ Ok (used + (end_of e - size))
+pub measured-element_written-fine : (a : CreationAttributes) (t : ℤ) (place : ℕ) (e : IoElement) (sections : List Section) (size used : ℕ) → Rises sections → size_at e.id sections ≡ Some size → used ≡ memory_used sections → element_end e ≤ a.max_section_size → used + (element_end e - size) ≤ a.checkpoint_size → measured (element_written a t place e sections) ≡ Ok (used + (element_end e - size))
 measured-element_written-fine a t place e sections size used rises is sum short fits =
     measured-element_written a t place e sections size rises is
-    ∙ rw (le-ltb a.max_section_size (end_of e) short, ← sum, le-ltb a.checkpoint_size (used + (end_of e - size)) fits) refl
+    ∙ rw (le-ltb a.max_section_size (element_end e) short, ← sum, le-ltb a.checkpoint_size (used + (element_end e - size)) fits) refl
 
 -- an element that is not refused leaves what it writes
 element_written-with_element : (a : CreationAttributes) (t : ℤ) (place : ℕ) (e : IoElement) (sections after : List Section) → element_written a t place e sections ≡ Ok after → after ≡ with_element t e sections
@@ -139,29 +139,29 @@ element_written-with_element a t place e sections after is =
 -- ---- the elements in order
 
 -- a refused element refuses the write
-told-elements_written-Err : (a : CreationAttributes) (t : ℤ) (place : ℕ) (e : IoElement) (elements : List IoElement) (sections : List Section) (refused : Refused) → measured (element_written a t place e sections) ≡ Err refused → told (elements_written a t place (e ∷ elements) sections) ≡ Err refused
-told-elements_written-Err a t place e elements sections refused is = step (element_written a t place e sections) is
+check_answer-elements_written-Err : (a : CreationAttributes) (t : ℤ) (place : ℕ) (e : IoElement) (elements : List IoElement) (sections : List Section) (refused : Refused) → measured (element_written a t place e sections) ≡ Err refused → check_answer (elements_written a t place (e ∷ elements) sections) ≡ Err refused
+check_answer-elements_written-Err a t place e elements sections refused is = step (element_written a t place e sections) is
   where
-    step : (first : Result (List Section) Refusal) → measured first ≡ Err refused → told (and_then first (elements_written a t (place + 1) elements)) ≡ Err refused
+    step : (first : Result (List Section) Refusal) → measured first ≡ Err refused → check_answer (and_then first (elements_written a t (place + 1) elements)) ≡ Err refused
     step (Ok after) is = absurd (cc is)
     step (Err refusal) is = cc is
 
 -- where an element is not refused the others tell, over what it leaves
-told-elements_written-Ok : (a : CreationAttributes) (t : ℤ) (place : ℕ) (e : IoElement) (elements : List IoElement) (sections : List Section) (used : ℕ) → measured (element_written a t place e sections) ≡ Ok used → (told (elements_written a t place (e ∷ elements) sections) ≡ told (elements_written a t (place + 1) elements (with_element t e sections))) × (used ≡ memory_used (with_element t e sections))
-told-elements_written-Ok a t place e elements sections used is = step (element_written a t place e sections) refl is
+check_answer-elements_written-Ok : (a : CreationAttributes) (t : ℤ) (place : ℕ) (e : IoElement) (elements : List IoElement) (sections : List Section) (used : ℕ) → measured (element_written a t place e sections) ≡ Ok used → (check_answer (elements_written a t place (e ∷ elements) sections) ≡ check_answer (elements_written a t (place + 1) elements (with_element t e sections))) × (used ≡ memory_used (with_element t e sections))
+check_answer-elements_written-Ok a t place e elements sections used is = step (element_written a t place e sections) refl is
   where
-    step : (first : Result (List Section) Refusal) → element_written a t place e sections ≡ first → measured first ≡ Ok used → (told (and_then first (elements_written a t (place + 1) elements)) ≡ told (elements_written a t (place + 1) elements (with_element t e sections))) × (used ≡ memory_used (with_element t e sections))
+    step : (first : Result (List Section) Refusal) → element_written a t place e sections ≡ first → measured first ≡ Ok used → (check_answer (and_then first (elements_written a t (place + 1) elements)) ≡ check_answer (elements_written a t (place + 1) elements (with_element t e sections))) × (used ≡ memory_used (with_element t e sections))
     step (Ok after) first is =
         let left : after ≡ with_element t e sections = element_written-with_element a t place e sections after first in
         let bytes : memory_used after ≡ used = cc is in
-        (ap (λ sections. told (elements_written a t (place + 1) elements sections)) left, sym bytes ∙ ap memory_used left)
+        (ap (λ sections. check_answer (elements_written a t (place + 1) elements sections)) left, sym bytes ∙ ap memory_used left)
     step (Err refusal) first is = absurd (cc is)
 
 -- ---- the loop over the elements
 
 -- the elements from a place on
-drop_more : (elements : List IoElement) (i : ℕ) (e : IoElement) → i < length elements → e ≡ get_or elements i e → drop i elements ≡ e ∷ drop (i + 1) elements
-drop_more elements i e lt is = drop-cons elements i e lt ∙ ap (λ x. x ∷ drop (suc i) elements) (sym is) ∙ ap (λ n. e ∷ drop n elements) (sym (add-one i))
+drop_element : (elements : List IoElement) (i : ℕ) (e : IoElement) → i < length elements → e ≡ get_or elements i e → drop i elements ≡ e ∷ drop (i + 1) elements
+drop_element elements i e lt is = drop-cons elements i e lt ∙ ap (λ x. x ∷ drop (suc i) elements) (sym is) ∙ ap (λ n. e ∷ drop n elements) (sym (add-one i))
 
 -- what the elements leave up to one more
 with_elements_more : (t : ℤ) (elements : List IoElement) (i : ℕ) (e : IoElement) (sections : List Section) → i < length elements → e ≡ get_or elements i e → with_elements t (take (i + 1) elements) sections ≡ with_element t e (with_elements t (take i elements) sections)
@@ -169,20 +169,20 @@ with_elements_more t elements i e sections lt is =
     ap (λ es. with_elements t es sections) (take_more elements i e lt ∙ ap (λ x. take i elements ++ x ∷ []) (sym is)) ∙ with_elements-append t (take i elements) (e ∷ []) sections
 
 -- a write is refused with the first of its elements that is refused
-pub write_stops : (a : CreationAttributes) (t : ℤ) (elements : List IoElement) (i : ℕ) (e : IoElement) (sections : List Section) (refused : Refused) → i < length elements → e ≡ get_or elements i e → told (elements_written a t 0 elements sections) ≡ told (elements_written a t i (drop i elements) (with_elements t (take i elements) sections)) → Err refused ≡ measured (element_written a t (length (take i elements)) e (with_elements t (take i elements) sections)) → told (elements_written a t 0 elements sections) ≡ Err refused
+pub write_stops : (a : CreationAttributes) (t : ℤ) (elements : List IoElement) (i : ℕ) (e : IoElement) (sections : List Section) (refused : Refused) → i < length elements → e ≡ get_or elements i e → check_answer (elements_written a t 0 elements sections) ≡ check_answer (elements_written a t i (drop i elements) (with_elements t (take i elements) sections)) → Err refused ≡ measured (element_written a t (length (take i elements)) e (with_elements t (take i elements) sections)) → check_answer (elements_written a t 0 elements sections) ≡ Err refused
 write_stops a t elements i e sections refused lt is rest here =
     let left = with_elements t (take i elements) sections in
     let place : length (take i elements) ≡ i = length-take-le i elements (omega arith) in
-    rest ∙ ap (λ es. told (elements_written a t i es left)) (drop_more elements i e lt is)
-    ∙ told-elements_written-Err a t i e (drop (i + 1) elements) left refused (ap (λ n. measured (element_written a t n e left)) (sym place) ∙ sym here)
+    rest ∙ ap (λ es. check_answer (elements_written a t i es left)) (drop_element elements i e lt is)
+    ∙ check_answer-elements_written-Err a t i e (drop (i + 1) elements) left refused (ap (λ n. measured (element_written a t n e left)) (sym place) ∙ sym here)
 
 -- a write goes on where an element is not refused
-pub write_goes_on : (a : CreationAttributes) (t : ℤ) (elements : List IoElement) (i : ℕ) (e : IoElement) (sections : List Section) (used : ℕ) → i < length elements → e ≡ get_or elements i e → told (elements_written a t 0 elements sections) ≡ told (elements_written a t i (drop i elements) (with_elements t (take i elements) sections)) → Ok used ≡ measured (element_written a t (length (take i elements)) e (with_elements t (take i elements) sections)) → (told (elements_written a t 0 elements sections) ≡ told (elements_written a t (i + 1) (drop (i + 1) elements) (with_elements t (take (i + 1) elements) sections))) × (used ≡ memory_used (with_elements t (take (i + 1) elements) sections))
+pub write_goes_on : (a : CreationAttributes) (t : ℤ) (elements : List IoElement) (i : ℕ) (e : IoElement) (sections : List Section) (used : ℕ) → i < length elements → e ≡ get_or elements i e → check_answer (elements_written a t 0 elements sections) ≡ check_answer (elements_written a t i (drop i elements) (with_elements t (take i elements) sections)) → Ok used ≡ measured (element_written a t (length (take i elements)) e (with_elements t (take i elements) sections)) → (check_answer (elements_written a t 0 elements sections) ≡ check_answer (elements_written a t (i + 1) (drop (i + 1) elements) (with_elements t (take (i + 1) elements) sections))) × (used ≡ memory_used (with_elements t (take (i + 1) elements) sections))
 write_goes_on a t elements i e sections used lt is rest here =
     let left = with_elements t (take i elements) sections in
     let place : length (take i elements) ≡ i = length-take-le i elements (omega arith) in
     let more : with_elements t (take (i + 1) elements) sections ≡ with_element t e left = with_elements_more t elements i e sections lt is in
-    let (goes, sum) = told-elements_written-Ok a t i e (drop (i + 1) elements) left used (ap (λ n. measured (element_written a t n e left)) (sym place) ∙ sym here) in (
-      rest ∙ ap (λ es. told (elements_written a t i es left)) (drop_more elements i e lt is) ∙ goes ∙ ap (λ s. told (elements_written a t (i + 1) (drop (i + 1) elements) s)) (sym more),
+    let (goes, sum) = check_answer-elements_written-Ok a t i e (drop (i + 1) elements) left used (ap (λ n. measured (element_written a t n e left)) (sym place) ∙ sym here) in (
+      rest ∙ ap (λ es. check_answer (elements_written a t i es left)) (drop_element elements i e lt is) ∙ goes ∙ ap (λ s. check_answer (elements_written a t (i + 1) (drop (i + 1) elements) s)) (sym more),
       sum ∙ ap memory_used (sym more),
     )

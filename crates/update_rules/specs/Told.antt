@@ -8,6 +8,6 @@ abbrev pub refused_of : Refusal → Refused
 refused_of refusal = record { error = refusal.error; index = refusal.index }
 
 -- the answer of a check: the refusal, or only that there is none
-abbrev pub told : {A : Type 0} → Result A Refusal → Result (Unit {0}) Refused
-told (Ok x) = Ok tt
-told (Err refusal) = Err (refused_of refusal)
+abbrev pub check_answer : {A : Type 0} → Result A Refusal → Result (Unit {0}) Refused
+check_answer (Ok x) = Ok tt
+check_answer (Err refusal) = Err (refused_of refusal)

@@ -22,12 +22,12 @@ with_elements t [] sections = sections
 with_elements t (e ∷ elements) sections = with_elements t elements (with_element t e sections)
 
 -- where an element's data ends in its section
-abbrev pub end_of : IoElement → ℕ
-end_of e = e.offset + length e.bytes
+abbrev pub element_end : IoElement → ℕ
+element_end e = e.offset + length e.bytes
 
 -- where it ends in the section of that identifier: 0 where it is of another
 abbrev pub end_in : List ℕ → IoElement → ℕ
-end_in id e = if pointwise nat_eq e.id id then end_of e else 0
+end_in id e = if pointwise nat_eq e.id id then element_end e else 0
 
 -- where the last of the elements' data ends in the section of that identifier
 abbrev pub last_end_in : List ℕ → List IoElement → ℕ

@@ -1,7 +1,7 @@
 //! When a read is refused, and at which element.
 ghost use Rattle.std.specs.Prelude.{◌≡◌, ◌^◌, ◌<◌, length};
 ghost use Rattle.ckpt_types.specs.Reads.{read};
-ghost use Rattle.update_rules.specs.Told.{told};
+ghost use Rattle.update_rules.specs.Told.{check_answer};
 
 use crate::present::size_present;
 use crate::refused::Refused;
@@ -15,7 +15,7 @@ pub fn check_read<S: Sections>(
     now: Moment,
 ) -> Result<(), Refused>
     requires { length elements.now < 2 ^ 32 }
-    ensures { result ≡ told (read elements.now now (S.sections sections.now)) }
+    ensures { result ≡ check_answer (read elements.now now (S.sections sections.now)) }
 {
     // The clause of `len` tells that the identifiers rise.
     let _count = sections.len();

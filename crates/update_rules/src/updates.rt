@@ -1,8 +1,8 @@
 //! When an update is refused, rule by rule.
 ghost use Rattle.std.specs.Prelude.{◌≡◌, ◌+◌, ◌^◌, ◌<◌, ◌||◌, nat_le, nat_lt, length};
 ghost use Rattle.ckpt_types.specs.Sections.{Rises, is_taken, present, memory_used};
-ghost use Rattle.ckpt_types.specs.Updates.{outcome, created, deleted, expiration_set, overwritten, is_bad_id, new_id};
-ghost use Rattle.update_rules.specs.Told.{told};
+ghost use Rattle.ckpt_types.specs.Updates.{outcome, section_created, section_deleted, expiration_set, overwritten, is_bad_id, new_id};
+ghost use Rattle.update_rules.specs.Told.{check_answer};
 
 use crate::present::size_present;
 use crate::refused::{Refused, refuse};
@@ -20,7 +20,7 @@ pub fn check<S: Sections>(
     update: &Update,
     now: Moment,
 ) -> Result<(), Refused>
-    ensures { result ≡ told (outcome attrs.now update.now now (S.sections sections.now)) }
+    ensures { result ≡ check_answer (outcome attrs.now update.now now (S.sections sections.now)) }
 {
     // The clause of `len` tells that the identifiers rise.
     let _count = sections.len();
@@ -50,7 +50,7 @@ fn check_create<S: Sections>(
 ) -> Result<(), Refused>
     requires in_order { Rises (S.sections sections.now) }
     requires few { length (S.sections sections.now) < 2 ^ 64 }
-    ensures { result ≡ told (created attrs.now new.now expiration bytes.now now (present now (S.sections sections.now))) }
+    ensures { result ≡ check_answer (section_created attrs.now new.now expiration bytes.now now (present now (S.sections sections.now))) }
 {
     let len = bytes.len() as u64;
     if attrs.max_sections == 1 {
@@ -109,7 +109,7 @@ fn check_delete<S: Sections>(
     now: Moment,
 ) -> Result<(), Refused>
     requires in_order { Rises (S.sections sections.now) }
-    ensures { result ≡ told (deleted attrs.now id.now (present now (S.sections sections.now))) }
+    ensures { result ≡ check_answer (section_deleted attrs.now id.now (present now (S.sections sections.now))) }
 {
     if attrs.max_sections == 1 {
         return refuse(AisError::InvalidParam);
@@ -128,7 +128,7 @@ fn check_expiration<S: Sections>(
     now: Moment,
 ) -> Result<(), Refused>
     requires in_order { Rises (S.sections sections.now) }
-    ensures { result ≡ told (expiration_set attrs.now id.now expiration now (present now (S.sections sections.now))) }
+    ensures { result ≡ check_answer (expiration_set attrs.now id.now expiration now (present now (S.sections sections.now))) }
 {
     if attrs.max_sections == 1 {
         return refuse(AisError::InvalidParam);
@@ -150,7 +150,7 @@ fn check_overwrite<S: Sections>(
     now: Moment,
 ) -> Result<(), Refused>
     requires in_order { Rises (S.sections sections.now) }
-    ensures { result ≡ told (overwritten attrs.now id.now bytes.now now (present now (S.sections sections.now))) }
+    ensures { result ≡ check_answer (overwritten attrs.now id.now bytes.now now (present now (S.sections sections.now))) }
 {
     let Some(size) = size_present(sections, id, now) else {
         return refuse(AisError::NotExist);

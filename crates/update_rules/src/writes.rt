@@ -2,8 +2,8 @@
 ghost use Rattle.std.specs.Prelude.{◌≡◌, ◌-◌, ◌^◌, ◌<◌, max, length, IfOk};
 ghost use Rattle.ckpt_types.specs.Sections.{Rises, present, memory_used};
 ghost use Rattle.ckpt_types.specs.Updates.{element_written, elements_written};
-ghost use Rattle.update_rules.specs.Told.{told};
-ghost use Rattle.update_rules.specs.Writes.{with_elements, end_of, end_in, last_end_in, measured};
+ghost use Rattle.update_rules.specs.Told.{check_answer};
+ghost use Rattle.update_rules.specs.Writes.{with_elements, element_end, end_in, last_end_in, measured};
 
 use crate::present::size_present;
 use crate::refused::Refused;
@@ -18,7 +18,7 @@ pub(crate) fn check_write<S: Sections>(
 ) -> Result<(), Refused>
     requires few { length elements.now < 2 ^ 32 }
     requires in_order { Rises (S.sections sections.now) }
-    ensures { result ≡ told (elements_written attrs.now now 0 elements.now (present now (S.sections sections.now))) }
+    ensures { result ≡ check_answer (elements_written attrs.now now 0 elements.now (present now (S.sections sections.now))) }
 {
     let mut used = sections.totals(now).bytes;
     for (place, element) in elements.iter().enumerate() {
@@ -95,7 +95,7 @@ fn size_with(size: u128, id: &[u8], element: &IoElement) -> u128
 
 /// Where an element's data ends in its section.
 fn end_of(element: &IoElement) -> u128
-    ensures { result ≡ end_of element.now }
+    ensures { result ≡ element_end element.now }
 {
     u128::from(element.offset) + element.bytes.as_slice().len() as u128
 }

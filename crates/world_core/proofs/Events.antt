@@ -41,8 +41,8 @@ comes_now w log (happenings.Show k) may = tt
 -- ---- the calls in hand after it
 
 -- one place of the list is set
-pub hand_set : (hands : List (Option InHand)) (c : ℕ) (p old : Option InHand) → slice_get hands c ≡ Some old → hand_at (slice_set hands c p) c ≡ p
-hand_set hands c p old there = ap or_none (get_set hands c p old c there ∙ (λ i. cond (eq-eqb c c refl i) (Some p) (slice_get hands c)))
+pub hand_after : (hands : List (Option InHand)) (c : ℕ) (p old : Option InHand) → slice_get hands c ≡ Some old → hand_at (slice_set hands c p) c ≡ p
+hand_after hands c p old there = ap or_none (get_set hands c p old c there ∙ (λ i. cond (eq-eqb c c refl i) (Some p) (slice_get hands c)))
 
 -- and no other
 pub hand_other : (hands : List (Option InHand)) (c d : ℕ) (p old : Option InHand) → slice_get hands c ≡ Some old → d ≢ c → hand_at (slice_set hands c p) d ≡ hand_at hands d
@@ -62,7 +62,7 @@ goes_on_left call op None next same_call same_op = (same_call, same_op)
 -- what a step leaves of the call is in hand after it, and the other calls are as they were
 pub step_hand : (c : ℕ) (old new : World) (label : Label) (step : IsStep c old new label) → hand_at new.hands c ≡ left step.end step.next
 step_hand c old new label step =
-    ap (λ hands. hand_at hands c) step.hands ∙ hand_set old.hands c (left step.end step.next) (Some step.hand) (place_of_hand old.hands c step.hand step.held)
+    ap (λ hands. hand_at hands c) step.hands ∙ hand_after old.hands c (left step.end step.next) (Some step.hand) (place_of_hand old.hands c step.hand step.held)
 
 step_others : (c d : ℕ) (old new : World) (label : Label) → IsStep c old new label → d ≢ c → hand_at new.hands d ≡ hand_at old.hands d
 step_others c d old new label step apart =
@@ -70,15 +70,7 @@ step_others c d old new label step apart =
 
 idle_hands : (whose : Who) (finish : Bool) (old new : World) (label : Label) → IsIdleWord whose finish old new label → new.hands ≡ old.hands
 idle_hands whose finish old new (labels.Word who word said) is = is.3
-idle_hands whose finish old new (labels.Began call op end) is = absurd is
-idle_hands whose finish old new (labels.Stepped call op verb k r reply end details) is = absurd is
-idle_hands whose finish old new (labels.Failed node failed) is = absurd is
-idle_hands whose finish old new (labels.Joined node incarnation) is = absurd is
-idle_hands whose finish old new (labels.Moved moment) is = absurd is
-idle_hands whose finish old new (labels.Pulled ckpt reply) is = absurd is
-idle_hands whose finish old new (labels.Put ckpt node reply) is = absurd is
-idle_hands whose finish old new (labels.Shown ckpt replicas) is = absurd is
-idle_hands whose finish old new (labels.Nodes count) is = absurd is
+idle_hands whose finish old new label is = absurd is
 
 -- ---- the label of a beginning
 
@@ -86,31 +78,17 @@ module _ (c : ℕ) (op : Op) (old new : World) where
   begin_does_answer : (label : Label) → BeginsOrSays c op old new label → AnswersBegin (Client c) op old new label
   begin_does_answer (labels.Began call begun end) is =
       let there = there_is old.hands c is.within in
-      let hand = ap (λ hands. hand_at hands c) is.hands ∙ hand_set old.hands c (left end is.hand) there.0 there.1 in
+      let hand = ap (λ hands. hand_at hands c) is.hands ∙ hand_after old.hands c (left end is.hand) there.0 there.1 in
       (is.actor, is.op_is, subst (GoesOn call op end) (sym hand) (goes_on_left call op end is.hand is.same_call is.same_op))
   begin_does_answer (labels.Word who word said) is = is
-  begin_does_answer (labels.Stepped call word verb k r reply end details) is = absurd is
-  begin_does_answer (labels.Failed node failed) is = absurd is
-  begin_does_answer (labels.Joined node incarnation) is = absurd is
-  begin_does_answer (labels.Moved moment) is = absurd is
-  begin_does_answer (labels.Pulled ckpt reply) is = absurd is
-  begin_does_answer (labels.Put ckpt node reply) is = absurd is
-  begin_does_answer (labels.Shown ckpt replicas) is = absurd is
-  begin_does_answer (labels.Nodes count) is = absurd is
+  begin_does_answer label is = absurd is
 
   begin_others : (label : Label) (d : ℕ) → BeginsOrSays c op old new label → d ≢ c → hand_at new.hands d ≡ hand_at old.hands d
   begin_others (labels.Began call begun end) d is apart =
       let there = there_is old.hands c is.within in
       ap (λ hands. hand_at hands d) is.hands ∙ hand_other old.hands c d (left end is.hand) there.0 there.1 apart
   begin_others (labels.Word who word said) d is apart = ap (λ hands. hand_at hands d) is.2
-  begin_others (labels.Stepped call word verb k r reply end details) d is apart = absurd is
-  begin_others (labels.Failed node failed) d is apart = absurd is
-  begin_others (labels.Joined node incarnation) d is apart = absurd is
-  begin_others (labels.Moved moment) d is apart = absurd is
-  begin_others (labels.Pulled ckpt reply) d is apart = absurd is
-  begin_others (labels.Put ckpt node reply) d is apart = absurd is
-  begin_others (labels.Shown ckpt replicas) d is apart = absurd is
-  begin_others (labels.Nodes count) d is apart = absurd is
+  begin_others label d is apart = absurd is
 
 -- ---- the label of a step
 

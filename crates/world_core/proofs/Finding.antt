@@ -17,9 +17,9 @@ use Rattle.ckpt_machine.specs.Serving.{replica_in, IsReadyFor}
 use Rattle.ckpt_machine.specs.Driving.{driver_next}
 use Rattle.ckpt_machine.specs.Machine.{Machine, Effect}
 use Rattle.ckpt_machine.specs.Steps.{seen_by, seen_at, seen_slot, due}
-use Rattle.world_core.specs.Happenings.{rooms_in}
+use Rattle.world_core.specs.Happenings.{rooms_at}
 use Rattle.ckpt_machine.specs.Facts.{Facts, IsServable}
-use Rattle.world_core.specs.Shows.{Fits, FitsReplica, History, machine_of, shown_replica, shown_slot, where_complete, hand_at}
+use Rattle.world_core.specs.Shows.{HistoryFits, FitsReplica, History, machine_of, shown_replica, shown_slot, where_complete, hand_at}
 use Rattle.world_core.proofs.Held.{state_in, in_hand_is, due_is}
 
 seen_same : (o : CallId) (p : Option Slot) → seen_slot (shown_slot o p) ≡ p
@@ -65,7 +65,7 @@ servable : (m : Machine) (r : ℕ) (request : Request) → ((k : ℕ) → reques
 servable m r (Reserve k) other h = absurd (other k refl)
 servable m r request other h = h
 
-module _ (w : World) (h : History) (c r : ℕ) (request : Request) (hand : InHand) (other : (k : ℕ) → request ≢ Reserve k) (facts : Facts (machine_of w h)) (fits : Fits w h) (held : hand_at w.hands c ≡ Some hand) (next : driver_next w.cluster (rooms_in w c) hand.driver ≡ Serve r request) where
+module _ (w : World) (h : History) (c r : ℕ) (request : Request) (hand : InHand) (other : (k : ℕ) → request ≢ Reserve k) (facts : Facts (machine_of w h)) (fits : HistoryFits w h) (held : hand_at w.hands c ≡ Some hand) (next : driver_next w.cluster (rooms_at w c) hand.driver ≡ Serve r request) where
   abbrev m : Machine
   m = machine_of w h
 

@@ -16,7 +16,7 @@ use Rattle.world_core.specs.LiveRooms.{LiveHaveRoom}
 use Rattle.world_core.specs.Holding.{replicas_on, IsReservation, IsHeld, HoldsOnlyWhatStands}
 use Rattle.ckpt_machine.specs.Serving.{replica_key, replica_in, opened_replica}
 use Rattle.ckpt_machine.specs.Facts.{Facts}
-use Rattle.world_core.specs.Shows.{History, shown_replica, shown_reservation, where_complete, where_not_complete, complete_replica, reserved_in, machine_of, FitsReplica, Fits, Shows, Does}
+use Rattle.world_core.specs.Shows.{History, shown_replica, shown_reservation, where_complete, where_not_complete, complete_replica, reserved_in, machine_of, FitsReplica, HistoryFits, Shows, Does}
 use Rattle.ckpt_machine.specs.Steps.{IsDue, after}
 use Rattle.world_core.proofs.HoldingLaws.{held_at, holds_by_key}
 use Rattle.ckpt_machine.proofs.OnceByKey.{counted, counted-filter}
@@ -58,25 +58,25 @@ replica_in-freed entries nodes k r = ap (λ o. find_key replica_key k (list_or o
   by_node None = find_key-filter replica_key (λ k. is_some (entry_of k entries)) k []
   by_node (Some xs) = find_key-filter replica_key (λ k. is_some (entry_of k entries)) k xs
 
-complete_case : (r : ℕ) (e : Option Entry) (x : Option Replica) → where_complete (slice_index (complete_of e) r) (cond (is_some e) x None) ≡ where_complete (slice_index (complete_of e) r) x
-complete_case r None x = ap (λ n. where_complete n None) (zero_there r) ∙ sym (ap (λ n. where_complete n x) (zero_there r))
-complete_case r (Some e) x = refl
+freed_complete_case : (r : ℕ) (e : Option Entry) (x : Option Replica) → where_complete (slice_index (complete_of e) r) (cond (is_some e) x None) ≡ where_complete (slice_index (complete_of e) r) x
+freed_complete_case r None x = ap (λ n. where_complete n None) (zero_there r) ∙ sym (ap (λ n. where_complete n x) (zero_there r))
+freed_complete_case r (Some e) x = refl
 
 -- the same are complete
 pub complete_replica-freed : (R : RecordState) (nodes : List (List Replica)) (k r : ℕ) → complete_replica R (freed R.entries nodes) k r ≡ complete_replica R nodes k r
 complete_replica-freed R nodes k r =
     ap (where_complete (slice_index (complete_of (entry_of k R.entries)) r)) (replica_in-freed R.entries nodes k r)
-    ∙ complete_case r (entry_of k R.entries) (replica_in nodes k r)
+    ∙ freed_complete_case r (entry_of k R.entries) (replica_in nodes k r)
 
-reserved_case : (r up : ℕ) (e : Option Entry) (x : Option Replica) → where_not_complete e r (shown_reservation up (cond (is_some e) x None)) ≡ where_not_complete e r (shown_reservation up x)
-reserved_case r up None x = refl
-reserved_case r up (Some e) x = refl
+freed_reserved_case : (r up : ℕ) (e : Option Entry) (x : Option Replica) → where_not_complete e r (shown_reservation up (cond (is_some e) x None)) ≡ where_not_complete e r (shown_reservation up x)
+freed_reserved_case r up None x = refl
+freed_reserved_case r up (Some e) x = refl
 
 -- and the same are reserved
 pub reserved_in-freed : (R : RecordState) (nodes : List (List Replica)) (k r : ℕ) → reserved_in R (freed R.entries nodes) k r ≡ reserved_in R nodes k r
 reserved_in-freed R nodes k r =
     ap (λ x. where_not_complete (entry_of k R.entries) r (shown_reservation (slice_index R.up r) x)) (replica_in-freed R.entries nodes k r)
-    ∙ reserved_case r (slice_index R.up r) (entry_of k R.entries) (replica_in nodes k r)
+    ∙ freed_reserved_case r (slice_index R.up r) (entry_of k R.entries) (replica_in nodes k r)
 
 -- ---- the world
 
@@ -91,7 +91,7 @@ machine_of-freed w h = λ i. record (machine_of w h) {
 }
 
 -- with the same histories
-pub Fits-freed : (w : World) (h : History) → Fits w h → Fits (freed_world w) h
+pub Fits-freed : (w : World) (h : History) → HistoryFits w h → HistoryFits (freed_world w) h
 Fits-freed w h fits = record {
   replicas = λ k r. subst (FitsReplica k (entry_of k w.cluster.entries) (h.effects k r)) (sym (complete_replica-freed w.cluster w.nodes k r)) (fits.replicas k r);
   hands = fits.hands;
@@ -152,17 +152,20 @@ pub record DoesBefore (old new : World) (label : Label) : Type 0 where
   pub due_is : (m : Machine) → Shows old m → Facts m → IsDue m label
   pub history : (m : Machine) → Shows old m → Facts m → History
   pub same : (m : Machine) (s : Shows old m) (f : Facts m) → after m label ≡ machine_of new (history m s f)
-  pub fits : (m : Machine) (s : Shows old m) (f : Facts m) → Fits new (history m s f)
+  pub fits : (m : Machine) (s : Shows old m) (f : Facts m) → HistoryFits new (history m s f)
 
--- then they hold only what stands
-pub does_freed : (old new : World) (label : Label) → DoesBefore old new label → ((m : Machine) → Shows old m → Facts m → HoldsOnlyWhatStands new.cluster (freed new.cluster.entries new.nodes)) → ((m : Machine) → Shows old m → Facts m → LiveHaveRoom new.cluster new.tables) → Does old (freed_world new) label
-does_freed old new label does holds rooms = record {
+-- and where the nodes hold only what stands, and the live clients have their room
+pub does_before : (old new : World) (label : Label) → DoesBefore old new label → ((m : Machine) → Shows old m → Facts m → HoldsOnlyWhatStands new.cluster new.nodes) → ((m : Machine) → Shows old m → Facts m → LiveHaveRoom new.cluster new.tables) → Does old new label
+does_before old new label does holds rooms = record {
   due_is = does.due_is;
-  shows = λ m s f. record {
-    history = does.history m s f;
-    same = does.same m s f ∙ sym (machine_of-freed new (does.history m s f));
-    fits = Fits-freed new (does.history m s f) (does.fits m s f);
-    holds = holds m s f;
-    rooms = rooms m s f;
-  };
+  shows = λ m s f. record { history = does.history m s f; same = does.same m s f; fits = does.fits m s f; holds = holds m s f; rooms = rooms m s f };
 }
+
+-- as they do once they are freed
+pub does_freed : (old new : World) (label : Label) → DoesBefore old new label → ((m : Machine) → Shows old m → Facts m → HoldsOnlyWhatStands new.cluster (freed new.cluster.entries new.nodes)) → ((m : Machine) → Shows old m → Facts m → LiveHaveRoom new.cluster new.tables) → Does old (freed_world new) label
+does_freed old new label does = does_before old (freed_world new) label (record {
+  due_is = does.due_is;
+  history = does.history;
+  same = λ m s f. does.same m s f ∙ sym (machine_of-freed new (does.history m s f));
+  fits = λ m s f. Fits-freed new (does.history m s f) (does.fits m s f);
+})

@@ -15,9 +15,11 @@ use Rattle.ckpt_machine.specs.Replicas.{Replica}
 use Rattle.world_core.specs.declared.world.World.{World}
 use Rattle.cluster_record.specs.Places.{change_key}
 use Rattle.cluster_record.specs.Calls.{client_of}
-use Rattle.cluster_record.specs.RecordState.{RecordState, identity_of, entry_of, named, stays, referred, made_with, new_entry, created_as, opened, finished, undone, has_references, idle_from, released, released_all, unnamed, unlinked, retaining, is_call_of, departed, swept}
+use Rattle.cluster_record.specs.RecordState.{RecordState, identity_of, entry_of, named, stays, referred, made_with, new_entry, created_as, opened, finished, undone, has_references, idle_from, unreferred, released_all, unnamed, unlinked, retaining, is_call_of, departed, swept}
 use Rattle.ckpt_machine.specs.Serving.{replica_in, opened_replica}
-use Rattle.ckpt_machine.specs.Driving.{event_change, event_after}
+use Rattle.world_core.specs.RecordAfter.{once_change, event_change, event_after}
+use Rattle.cluster_record.specs.DueOnce.{OneStep}
+use Rattle.cluster_record.specs.DueOnce as once
 use Rattle.cluster_record.specs.DueOpen.{making_ckpt}
 use Rattle.cluster_record.specs.LookUps.{at_ckpt, identity_in}
 use Rattle.ckpt_machine.specs.Machine.{Machine, CallState}
@@ -32,69 +34,43 @@ use Rattle.world_core.proofs.Recording.{GoesAt, NodeGoes, zero_there}
 
 -- ---- changes of an entry of which a node sees nothing
 
-record Quiet (f : Entry → Entry) : Type 0 where
-  identity : (e : Entry) → (f e).identity ≡ e.identity
-  complete : (e : Entry) → (f e).complete ≡ e.complete
-  attributes : (e : Entry) → (f e).attributes ≡ e.attributes
-  made : (e : Entry) → (f e).made ≡ e.made
-  making : (e : Entry) → (f e).making ≡ e.making
+-- what a node sees of an entry: its identity, where it is complete, its attributes, when it was made, and in which making it is
+abbrev Sight : Type 0
+Sight = ℕ × List ℕ × CreationAttributes × ℤ × Option CallId
 
-quiet_referred : (c : ℕ) → Quiet (referred c)
-quiet_referred c = record { identity = λ e. refl; complete = λ e. refl; attributes = λ e. refl; made = λ e. refl; making = λ e. refl }
+abbrev sight : Entry → Sight
+sight e = (e.identity, e.complete, e.attributes, e.made, e.making)
 
--- what is so of either is so of the one that a test takes
-either_so : {X : Type 0} (p : Entry → X) (b : Bool) (x y e : Entry) → p x ≡ p e → p y ≡ p e → p (cond b x y) ≡ p e
-either_so p true x y e first second = first
-either_so p false x y e first second = second
+abbrev Quiet : (Entry → Entry) → Type 0
+Quiet f = (e : Entry) → sight (f e) ≡ sight e
 
--- what its references and its last close say nothing of is as it was, where references were taken from it
-released_so : {X : Type 0} (p : Entry → X) (t : ℤ) (left : List ℕ) (e : Entry) → ((left : List ℕ) (idle : ℤ) → p (record e { references = left; idle = idle }) ≡ p e) → (b : Bool) → p (cond b e (idle_from t (record e { references = left }))) ≡ p e
-released_so p t left e same b =
-    let x : Entry = record e { references = left } in
-    either_so p b e (idle_from t x) e refl (either_so p (has_references x) x (record x { idle = t }) e (same left e.idle) (same left t))
+-- where references were taken from it
+without_references : (t : ℤ) (left : List ℕ) (e : Entry) (none : Bool) → sight (cond none e (idle_from t (record e { references = left }))) ≡ sight e
+without_references t left e true = refl
+without_references t left e false = elim (has_references (record e { references = left })) as (λ b. sight (cond b (record e { references = left }) (record e { references = left; idle = t })) ≡ sight e) [ true ↦ refl | false ↦ refl ]
 
-quiet_released : (c : ℕ) (t : ℤ) → Quiet (released c t)
-quiet_released c t =
-    let left = λ (e : Entry). slice_set e.references c (slice_index e.references c - 1) in
-    let none = λ (e : Entry). slice_index e.references c == 0 in
-    record {
-      identity = λ e. released_so (λ (x : Entry). x.identity) t (left e) e (λ rs i. refl) (none e);
-      complete = λ e. released_so (λ (x : Entry). x.complete) t (left e) e (λ rs i. refl) (none e);
-      attributes = λ e. released_so (λ (x : Entry). x.attributes) t (left e) e (λ rs i. refl) (none e);
-      made = λ e. released_so (λ (x : Entry). x.made) t (left e) e (λ rs i. refl) (none e);
-      making = λ e. released_so (λ (x : Entry). x.making) t (left e) e (λ rs i. refl) (none e);
-    }
+quiet_unreferred : (c : ℕ) (t : ℤ) → Quiet (unreferred c t)
+quiet_unreferred c t e = without_references t (slice_set e.references c (slice_index e.references c - 1)) e (slice_index e.references c == 0)
 
 quiet_released_all : (c : ℕ) (t : ℤ) → Quiet (released_all c t)
-quiet_released_all c t =
-    let left = λ (e : Entry). slice_set e.references c 0 in
-    let none = λ (e : Entry). slice_index e.references c == 0 in
-    record {
-      identity = λ e. released_so (λ (x : Entry). x.identity) t (left e) e (λ rs i. refl) (none e);
-      complete = λ e. released_so (λ (x : Entry). x.complete) t (left e) e (λ rs i. refl) (none e);
-      attributes = λ e. released_so (λ (x : Entry). x.attributes) t (left e) e (λ rs i. refl) (none e);
-      made = λ e. released_so (λ (x : Entry). x.made) t (left e) e (λ rs i. refl) (none e);
-      making = λ e. released_so (λ (x : Entry). x.making) t (left e) e (λ rs i. refl) (none e);
-    }
+quiet_released_all c t e = without_references t (slice_set e.references c 0) e (slice_index e.references c == 0)
 
-quiet_unnamed : Quiet unnamed
-quiet_unnamed = record { identity = λ e. refl; complete = λ e. refl; attributes = λ e. refl; made = λ e. refl; making = λ e. refl }
-
-quiet_retaining : (duration : ℤ) → Quiet (retaining duration)
-quiet_retaining duration = record { identity = λ e. refl; complete = λ e. refl; attributes = λ e. refl; made = λ e. refl; making = λ e. refl }
+-- of an entry that is changed so, a node sees what it was
+quiet_identity : (f : Entry → Entry) → Quiet f → KeepsIdentity f
+quiet_identity f q e = ap (λ (s : Sight). s.0) (q e)
 
 -- ---- each entry changed
 
-found_case : (f : Entry → Entry) (b : Bool) (x : Entry) (o : Option Entry) → cond b (Some (f x)) (option_map f o) ≡ option_map f (cond b (Some x) o)
-found_case f true x o = refl
-found_case f false x o = refl
+found_goes_case : (f : Entry → Entry) (b : Bool) (x : Entry) (o : Option Entry) → cond b (Some (f x)) (option_map f o) ≡ option_map f (cond b (Some x) o)
+found_goes_case f true x o = refl
+found_goes_case f false x o = refl
 
 found_each : (f : Entry → Entry) → KeepsIdentity f → (j : ℕ) (xs : List Entry) → entry_of j (map f xs) ≡ option_map f (entry_of j xs)
 found_each f same j [] = refl
 found_each f same j (x ∷ xs) =
     ap (λ n. cond (n == j) (Some (f x)) (entry_of j (map f xs))) (same x)
     ∙ ap (λ o. cond (x.identity == j) (Some (f x)) o) (found_each f same j xs)
-    ∙ found_case f (x.identity == j) x (entry_of j xs)
+    ∙ found_goes_case f (x.identity == j) x (entry_of j xs)
 
 -- ---- a node that has reserved
 
@@ -126,16 +102,21 @@ module _ (up : List ℕ) where
     by_test false t = goes_same j (entry_of j xs) r y
     by_test true t = let s : j ≡ k = eqb-true j k t in subst (λ (o : Option Entry). GoesAt up j o (Some (f x)) r y) (sym (ap (λ j. entry_of j xs) s ∙ is)) (goes s)
 
+  quiet_one : (f : Entry → Entry) → Quiet f → (j r : ℕ) (e : Entry) (y : Option Replica) → GoesAt up j (Some e) (Some (f e)) r y
+  quiet_one f q j r e y =
+      let same = ap (λ (s : Sight). slice_index s.1 r) (q e) in
+      (ap (λ (s : Sight). s.2) (q e), ap (λ (s : Sight). s.3) (q e), inl same, inl (ap (λ (s : Sight). s.4) (q e), same))
+
   quiet_goes : (f : Entry → Entry) → Quiet f → (k j r : ℕ) (xs : List Entry) (y : Option Replica) → GoesAt up j (entry_of j xs) (entry_of j (change_key identity_of k f xs)) r y
   quiet_goes f q k j r xs y = by_found (entry_of k xs) refl where
     by_found : (o : Option Entry) → entry_of k xs ≡ o → GoesAt up j (entry_of j xs) (entry_of j (change_key identity_of k f xs)) r y
     by_found None e = subst (λ (ys : List Entry). GoesAt up j (entry_of j xs) (entry_of j ys) r y) (sym (not_changed identity_of k f xs e)) (goes_same j (entry_of j xs) r y)
-    by_found (Some x) e = changed_goes f q.identity k j r xs x y e (λ s. let same = ap (λ (cs : List ℕ). slice_index cs r) (q.complete x) in (q.attributes x, q.made x, inl same, inl (q.making x, same)))
+    by_found (Some x) e = changed_goes f (quiet_identity f q) k j r xs x y e (λ s. quiet_one f q j r x y)
 
   -- each entry changed that is left
   each_goes : (f : Entry → Entry) → Quiet f → (j r : ℕ) (old : Option Entry) (y : Option Replica) → GoesAt up j old (option_map f old) r y
   each_goes f q j r None y = tt
-  each_goes f q j r (Some e) y = let same = ap (λ (cs : List ℕ). slice_index cs r) (q.complete e) in (q.attributes e, q.made e, inl same, inl (q.making e, same))
+  each_goes f q j r (Some e) y = quiet_one f q j r e y
 
   left_goes : (f : Entry → Entry) → Quiet f → (j r : ℕ) (old left : Option Entry) (y : Option Replica) → IsLeft old left → GoesAt up j old (option_map f left) r y
   left_goes f q j r old left y (inl none) = subst (λ (o : Option Entry). GoesAt up j old (option_map f o) r y) (sym none) tt
@@ -175,17 +156,20 @@ at_keeps : (o : Option ℕ) (R : RecordState) (change : ℕ → RecordState) →
 at_keeps None R change keeps = keeps_all R
 at_keeps (Some k) R change keeps = keeps k
 
+once_keeps : (call : CallId) (x : OneStep) (R : RecordState) → KeepsUp R (once_change call x R)
+once_keeps call (once.Enter r) R = record { up = refl; moment = refl }
+once_keeps call once.Leave R = record { up = refl; moment = refl }
+once_keeps call (once.Close k) R = record { up = refl; moment = refl }
+once_keeps call (once.Unlink name) R = at_keeps (identity_in (named name R.entries)) R (λ k. unlinked k R) (λ k. record { up = refl; moment = refl })
+once_keeps call (once.Retain k duration) R = record { up = refl; moment = refl }
+
 change_keeps : (call : CallId) (x : Driver) (step : RecordStep) (R : RecordState) → KeepsUp R (event_change call x step R)
-change_keeps call (drivers.Enter r) step R = record { up = refl; moment = refl }
+change_keeps call (drivers.Once x) step R = once_keeps call x R
 change_keeps call (drivers.Open o) events.Create R = created_keeps call o.ask.name o.ask.attrs R
 change_keeps call (drivers.Open o) events.Open R = at_keeps (identity_in (named o.ask.name R.entries)) R (λ k. opened k o.ask.client R) (λ k. record { up = refl; moment = refl })
 change_keeps call (drivers.Open o) events.Finish R = at_keeps (making_ckpt o.making) R (λ k. finished k o.ask.client R) (λ k. record { up = refl; moment = refl })
 change_keeps call (drivers.Open o) events.Undo R = at_keeps (making_ckpt o.making) R (λ k. undone k R) (λ k. record { up = refl; moment = refl })
 change_keeps call (drivers.Open o) step R = keeps_all R
-change_keeps call drivers.Leave step R = record { up = refl; moment = refl }
-change_keeps call (drivers.Close k) step R = record { up = refl; moment = refl }
-change_keeps call (drivers.Unlink name) step R = at_keeps (identity_in (named name R.entries)) R (λ k. unlinked k R) (λ k. record { up = refl; moment = refl })
-change_keeps call (drivers.Retain k duration) step R = record { up = refl; moment = refl }
 change_keeps call x step R = keeps_all R
 
 pub event_keeps : (call : CallId) (x : Driver) (step : RecordStep) (R : RecordState) → KeepsUp R (event_after call x step R)
@@ -218,24 +202,24 @@ module _ (w : World) (h : History) (facts : Facts (machine_of w h)) (holds : Hol
 
   -- an entry changed, and nothing else of it that a node sees
   one_goes : (f : Entry → Entry) → Quiet f → (k : ℕ) → Goes (record R { entries = change_key identity_of k f R.entries })
-  one_goes f q k = (λ j r. quiet_goes R.up f q k j r R.entries (replica_in w.nodes j r), IdentitiesRise-change_key f q.identity k R.entries facts.rises)
+  one_goes f q k = (λ j r. quiet_goes R.up f q k j r R.entries (replica_in w.nodes j r), IdentitiesRise-change_key f (quiet_identity f q) k R.entries facts.rises)
 
   opened_go : (c : ℕ) (k : Option ℕ) → Goes (at_ckpt k R (λ k. opened k c R))
   opened_go c None = all_go
-  opened_go c (Some k) = one_goes (referred c) (quiet_referred c) k
+  opened_go c (Some k) = one_goes (referred c) (λ e. refl) k
 
   unlinked_go : (k : Option ℕ) → Goes (at_ckpt k R (λ k. unlinked k R))
   unlinked_go None = all_go
-  unlinked_go (Some k) = one_goes unnamed quiet_unnamed k
+  unlinked_go (Some k) = one_goes unnamed (λ e. refl) k
 
   departed_go : (c : ℕ) → Goes (departed c R)
   departed_go c =
       let p = λ (e : Entry). not (is_call_of c e.making) in
       let f : Entry → Entry = released_all c R.moment in
       let q : Quiet f = quiet_released_all c R.moment in (
-        λ j r. subst (λ (o : Option Entry). GoesAt R.up j (entry_of j R.entries) o r (replica_in w.nodes j r)) (sym (found_each f q.identity j (filter p R.entries)))
+        λ j r. subst (λ (o : Option Entry). GoesAt R.up j (entry_of j R.entries) o r (replica_in w.nodes j r)) (sym (found_each f (quiet_identity f q) j (filter p R.entries)))
             (left_goes R.up f q j r (entry_of j R.entries) (entry_of j (filter p R.entries)) (replica_in w.nodes j r) (filter_leaves p R.entries facts.rises j)),
-        IdentitiesRise-map f q.identity (filter p R.entries) (IdentitiesRise-filter p R.entries facts.rises),
+        IdentitiesRise-map f (quiet_identity f q) (filter p R.entries) (IdentitiesRise-filter p R.entries facts.rises),
       )
 
   undone_go : (k : Option ℕ) → Goes (at_ckpt k R (λ k. undone k R))
@@ -257,17 +241,20 @@ module _ (w : World) (h : History) (facts : Facts (machine_of w h)) (holds : Hol
         IdentitiesRise-change_key (made_with R.up c) (λ e. refl) k R.entries facts.rises,
       )
 
+  once_go : (call : CallId) (x : OneStep) → Goes (once_change call x R)
+  once_go call (once.Enter r) = all_go
+  once_go call once.Leave = departed_go (client_of call)
+  once_go call (once.Close k) = one_goes (unreferred (client_of call) R.moment) (quiet_unreferred (client_of call) R.moment) k
+  once_go call (once.Unlink name) = unlinked_go (identity_in (named name R.entries))
+  once_go call (once.Retain k duration) = one_goes (retaining duration) (λ e. refl) k
+
   change_go : (call : CallId) (s : CallState) (x : Driver) (step : RecordStep) → IsEventReady m s x step → Goes (event_change call x step R)
-  change_go call s (drivers.Enter r) step ready = all_go
+  change_go call s (drivers.Once x) step ready = once_go call x
   change_go call s (drivers.Open o) events.Create ready = created_go call o.ask.name o.ask.attrs
   change_go call s (drivers.Open o) events.Open ready = opened_go o.ask.client (identity_in (named o.ask.name R.entries))
   change_go call s (drivers.Open o) events.Finish ready = finished_go o.ask.client s o.making ready.0
   change_go call s (drivers.Open o) events.Undo ready = undone_go (making_ckpt o.making)
   change_go call s (drivers.Open o) step ready = absurd ready
-  change_go call s drivers.Leave step ready = departed_go (client_of call)
-  change_go call s (drivers.Close k) step ready = one_goes (released (client_of call) R.moment) (quiet_released (client_of call) R.moment) k
-  change_go call s (drivers.Unlink name) step ready = unlinked_go (identity_in (named name R.entries))
-  change_go call s (drivers.Retain k duration) step ready = one_goes (retaining duration) (quiet_retaining duration) k
   change_go call s x step ready = absurd ready
 
   -- and after the sweep

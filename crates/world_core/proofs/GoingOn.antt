@@ -8,12 +8,13 @@ use Rattle.ckpt_types.specs.declared.ais_error.AisError.TheVariants.{BadHandle}
 use Rattle.ckpt_types.specs.Reads.{NextGiven}
 use Rattle.section_iter.specs.KeptIds.{KeptIds}
 use Rattle.section_iter.specs.Next.{kept_after}
-use Rattle.client_handles.specs.ClientState.{ClientState, iteration_number, iteration_at, kept_iteration, with_kept, keeping, lent, returned, NoneLent, IsValid}
+use Rattle.client_handles.specs.ClientState.{ClientState, iteration_number, iteration_at, kept_at, kept_iteration, with_kept, keeping, lent, returned, NoneLent, IsValid}
 use Rattle.client_handles.specs.Numbered.{numbered, RiseWithin}
 use Rattle.client_handles.specs.declared.begun.BegunIteration.{BegunIteration}
 use Rattle.client_handles.proofs.IterationLaws.{kept_iteration-Ok}
 use Rattle.client_handles.proofs.NumberedLaws.{numbered-All}
-use Rattle.world_core.specs.TableState.{kept_of, gone_on_as, gone_on_of}
+use Rattle.ckpt_types.specs.Asks.{Next}
+use Rattle.ckpt_machine.specs.Tables.{with_next, gone_on}
 
 -- ---- the iteration is there
 
@@ -87,19 +88,19 @@ returned-same place kept s is told =
 -- ---- what the client keeps then
 
 -- what is handed out is what is kept at the place
-pub kept_of-told : (place : ℕ) (s : ClientState) (kept : KeptIds) → Ok kept ≡ kept_iteration place s → kept_of place s ≡ Some kept
-kept_of-told place s kept told =
+pub kept_at-told : (place : ℕ) (s : ClientState) (kept : KeptIds) → Ok kept ≡ kept_iteration place s → kept_at place s ≡ Some kept
+kept_at-told place s kept told =
     let (it, stands, keeps) = kept_iteration-Ok place s kept told in
     ap (option_and_then (λ (x : BegunIteration). x.kept)) stands ∙ keeps
 
 -- with nothing given it keeps what it kept
-gone_step : (place : ℕ) (kept : KeptIds) (s : ClientState) → IsValid s → Ok kept ≡ kept_iteration place s → (next : Option NextGiven) → returned place (kept_after kept next) s ≡ gone_on_as place (Some kept) next s
+gone_step : (place : ℕ) (kept : KeptIds) (s : ClientState) → IsValid s → Ok kept ≡ kept_iteration place s → (next : Option NextGiven) → returned place (kept_after kept next) s ≡ with_next place (Some kept) next s
 gone_step place kept s is told None = returned-same place kept s is told
 gone_step place kept s is told (Some next) = refl
 
 -- lent, and returned with what stands behind the section that was given, its iteration has gone on
-pub gone_on-told : (place : ℕ) (kept : KeptIds) (next : Option NextGiven) (s : ClientState) → IsValid s → Ok kept ≡ kept_iteration place s → returned place (kept_after kept next) (lent place s) ≡ gone_on_of place next s
+pub gone_on-told : (place : ℕ) (kept : KeptIds) (next : Option NextGiven) (s : ClientState) → IsValid s → Ok kept ≡ kept_iteration place s → returned place (kept_after kept next) (lent place s) ≡ gone_on (Next place) next s
 gone_on-told place kept next s is told =
     returned-lent place (kept_after kept next) s
     ∙ gone_step place kept s is told next
-    ∙ ap (λ o. gone_on_as place o next s) (sym (kept_of-told place s kept told))
+    ∙ ap (λ o. with_next place o next s) (sym (kept_at-told place s kept told))

@@ -33,9 +33,9 @@ set_behind (y ∷ list) rest (suc c) x within = ap (λ ys. y ∷ ys) (set_behind
 pub hands_in-set : (list : List (Option InHand)) (c : ℕ) (x : Option InHand) → c < length list → hands_in (slice_set list c x) ≡ slice_set (hands_in list) c x
 hands_in-set list c x within = ap (λ n. slice_set list c x ++ replicate (100 - n) None) (length-set list c x) ∙ sym (set_behind list (replicate (100 - length list) None) c x within)
 
-one_of : (n : ℕ) → 1 ≤ n → ◌≡◌ {A = List (Option InHand)} (None ∷ replicate (n - 1) None) (replicate n None)
-one_of zero some = absurd (omega arith)
-one_of (suc n) some = ap (λ k. None ∷ replicate k None) (omega arith)
+one_hand_of : (n : ℕ) → 1 ≤ n → ◌≡◌ {A = List (Option InHand)} (None ∷ replicate (n - 1) None) (replicate n None)
+one_hand_of zero some = absurd (omega arith)
+one_hand_of (suc n) some = ap (λ k. None ∷ replicate k None) (omega arith)
 
 -- one place more, in which there is none
 pub hands_in-longer : (list : List (Option InHand)) → length list < 100 → hands_in (list ++ None ∷ []) ≡ hands_in list
@@ -43,7 +43,7 @@ hands_in-longer list few =
     let less : 100 - length (list ++ None ∷ []) ≡ 100 - length list - 1 = omega (arith, length-append list (None ∷ [])) in
     ap (λ n. list ++ None ∷ [] ++ replicate n None) less
     ∙ append_assoc list (None ∷ []) (replicate (100 - length list - 1) None)
-    ∙ ap (λ xs. list ++ xs) (one_of (100 - length list) (omega arith))
+    ∙ ap (λ xs. list ++ xs) (one_hand_of (100 - length list) (omega arith))
 
 -- a hundred in all
 pub length-hands_in : (list : List (Option InHand)) → length list ≤ 100 → length (hands_in list) ≡ 100

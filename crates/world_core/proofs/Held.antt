@@ -12,30 +12,40 @@ use Rattle.world_core.specs.declared.hands.InHand.{InHand}
 use Rattle.world_core.specs.declared.world.World.{World}
 use Rattle.cluster_record.specs.Calls.{number_of, left}
 use Rattle.world_core.specs.TableState.{TableState}
-use Rattle.cluster_record.specs.StepDone.{StepDone}
+use Rattle.cluster_record.specs.StepDone.{StepDone, counting}
+use Rattle.cluster_record.specs.DueOpen.{OpenState, create_taken, reserve_taken, open_taken_by}
+use Rattle.cluster_record.specs.DueUpdate.{UpdateState, stage_taken, commit_taken, update_taken_by}
+use Rattle.node_msgs.specs.declared.steps.Verb.{Verb}
+use Rattle.node_msgs.specs.declared.steps.Verb.TheVariants as verbs
+use Rattle.node_msgs.specs.declared.steps.StepReply.{StepReply}
+use Rattle.node_msgs.specs.declared.steps.StepReply.TheVariants as words
+use Rattle.ckpt_machine.specs.Drivers.{Driver}
+use Rattle.ckpt_machine.specs.Drivers as drivers
 use Rattle.ckpt_machine.specs.Driving.{driver_next, driver_taken}
 use Rattle.world_core.specs.HandSteps.{hand_taken}
-use Rattle.world_core.specs.Happenings.{rooms_in, IsNext}
+use Rattle.world_core.specs.Happenings.{rooms_at, IsNext}
 use Rattle.ckpt_machine.specs.Machine.{Machine, CallState}
-use Rattle.ckpt_machine.specs.Steps.{due, driver_of, rooms_of}
+use Rattle.ckpt_types.specs.Asks.{asked}
+use Rattle.ckpt_machine.specs.Tables.{rooms_in}
+use Rattle.ckpt_machine.specs.Steps.{due, driver_of}
 use Rattle.ckpt_machine.specs.Facts.{Facts}
-use Rattle.world_core.specs.Shows.{IsShown, History, Fits, FitsHand, room_for, machine_of, handles_in, hand_at, shown_hand}
+use Rattle.world_core.specs.Shows.{IsShown, History, HistoryFits, FitsHand, room_for, machine_of, tables_of, hand_at, shown_hand}
 
 -- the call with its history
 abbrev pub state_in : History → ℕ → InHand → CallState
-state_in h c hand = record { call = hand.call; op = hand.op; kept = h.kept c; steps = h.steps c; snapshot = None }
+state_in h c hand = record { call = hand.call; op = hand.op; kept = h.kept (Client c); steps = h.steps (Client c); created = h.created (Client c); snapshot = None }
 
 module _ (w : World) (h : History) (c : ℕ) (hand : InHand) (held : hand_at w.hands c ≡ Some hand) where
   pub in_hand_is : (machine_of w h).in_hand (Client c) ≡ Some (state_in h c hand)
-  in_hand_is = ap (shown_hand (h.kept c) (h.steps c)) held
+  in_hand_is = ap (shown_hand (h.kept (Client c)) (h.steps (Client c)) (h.created (Client c))) held
 
   -- it is where its steps have led it
-  pub driver_is : Fits w h → hand.driver ≡ driver_of (state_in h c hand)
-  driver_is fits = (subst (FitsHand (h.kept c) (h.steps c)) held (fits.hands c)).0
+  pub driver_is : HistoryFits w h → hand.driver ≡ driver_of (state_in h c hand)
+  driver_is fits = (subst (FitsHand (h.kept (Client c)) (h.steps (Client c))) held (fits.hands c)).0
 
   -- with the room that it took for an iteration
-  pub iteration_is : Fits w h → hand.iteration ≡ room_for hand.op (h.kept c).room
-  iteration_is fits = (subst (FitsHand (h.kept c) (h.steps c)) held (fits.hands c)).1
+  pub iteration_is : HistoryFits w h → hand.iteration ≡ room_for (asked hand.op) (h.kept (Client c)).room
+  iteration_is fits = (subst (FitsHand (h.kept (Client c)) (h.steps (Client c))) held (fits.hands c)).1
 
   -- it is the client's
   pub actor_is : Facts (machine_of w h) → hand.call.actor ≡ Client c
@@ -45,12 +55,12 @@ module _ (w : World) (h : History) (c : ℕ) (hand : InHand) (held : hand_at w.h
   in_hand_at facts = ap (machine_of w h).in_hand (actor_is facts) ∙ in_hand_is
 
   -- what the code finds due is due
-  pub due_is : Facts (machine_of w h) → Fits w h → (n : Next) → driver_next w.cluster (rooms_in w c) hand.driver ≡ n → due (machine_of w h) (state_in h c hand) ≡ n
-  due_is facts fits n next = (λ i. driver_next w.cluster (rooms_of (machine_of w h) (number_of (actor_is facts i))) (sym (driver_is fits) i)) ∙ next
+  pub due_is : Facts (machine_of w h) → HistoryFits w h → (n : Next) → driver_next w.cluster (rooms_at w c) hand.driver ≡ n → due (machine_of w h) (state_in h c hand) ≡ n
+  due_is facts fits n next = (λ i. driver_next w.cluster (rooms_in (tables_of w.tables (actor_is facts i))) (sym (driver_is fits) i)) ∙ next
 
 -- what is next for the call, is next for the one that is found in hand
-pub next_for : (w : World) (c : ℕ) (n : Next) (hand : InHand) → hand_at w.hands c ≡ Some hand → IsNext w c n → driver_next w.cluster (rooms_in w c) hand.driver ≡ n
-next_for w c n hand held next = ap (λ (h : InHand). driver_next w.cluster (rooms_in w c) h.driver) (same_Some hand next.hand (sym held ∙ next.held)) ∙ next.next_is
+pub next_for : (w : World) (c : ℕ) (n : Next) (hand : InHand) → hand_at w.hands c ≡ Some hand → IsNext w c n → driver_next w.cluster (rooms_at w c) hand.driver ≡ n
+next_for w c n hand held next = ap (λ (h : InHand). driver_next w.cluster (rooms_at w c) h.driver) (same_Some hand next.hand (sym held ∙ next.held)) ∙ next.next_is
 
 -- the call in hand of a client is the client's
 pub caller_is : (w : World) (c : ℕ) (hand : InHand) → hand_at w.hands c ≡ Some hand → IsShown w → hand.call.actor ≡ Client c
@@ -62,20 +72,48 @@ call_fact w c hand P held shown fact =
     let h = shown.shows.history in
     fact (state_in h c hand) (ap (λ (m : Machine). m.in_hand (Client c)) shown.shows.same ∙ in_hand_is w h c hand held)
 
--- and what they say of a client's handles holds of its table
-pub handles_fact : (w : World) (c : ℕ) (t : TableState) (P : List HandleView → Type 0) → slice_get w.tables c ≡ Some t → (shown : IsShown w) → P (shown.state.handles c) → P t.client.handles
-handles_fact w c t P table shown fact = subst P (ap (λ (m : Machine). m.handles c) shown.shows.same ∙ ap handles_in table) fact
+-- ---- a call that is told of a step
 
--- a call that is told of a step goes on with it, or has ended
-pub left_shown : (h : History) (c : ℕ) (hand : InHand) (done : StepDone) (end : Option Outcome) →
-    left end (record (state_in h c hand) { steps = done ∷ h.steps c }) ≡ shown_hand (h.kept c) (done ∷ h.steps c) (left end (hand_taken done hand))
-left_shown h c hand done None = refl
-left_shown h c hand done (Some o) = refl
+-- no driver looks at what a claim tells
+counted_open : (n : ℕ) (d : StepDone) (o : OpenState) (verb : Verb) → open_taken_by (counting n d) o verb ≡ open_taken_by d o verb
+counted_open n d o verbs.Create = by_reply d.reply where
+  by_reply : (reply : StepReply) → create_taken (counting n d) o reply ≡ create_taken d o reply
+  by_reply words.Ok = refl
+  by_reply reply = refl
+counted_open n d o verbs.Reserve = by_reply d.reply where
+  by_reply : (reply : StepReply) → reserve_taken (counting n d) o reply ≡ reserve_taken d o reply
+  by_reply words.Ok = refl
+  by_reply words.Memory = refl
+  by_reply reply = refl
+counted_open n d o verb = refl
 
-pub left_fits : (h : History) (c : ℕ) (hand : InHand) (done : StepDone) (end : Option Outcome) → FitsHand (h.kept c) (h.steps c) (Some hand) → FitsHand (h.kept c) (done ∷ h.steps c) (left end (hand_taken done hand))
-left_fits h c hand done None fits = (ap (driver_taken done) fits.0, fits.1)
-left_fits h c hand done (Some o) fits = tt
+counted_update : (n : ℕ) (d : StepDone) (u : UpdateState) (verb : Verb) → update_taken_by (counting n d) u verb ≡ update_taken_by d u verb
+counted_update n d u verbs.Stage = by_reply d.reply where
+  by_reply : (reply : StepReply) → stage_taken (counting n d) u reply ≡ stage_taken d u reply
+  by_reply words.Ok = refl
+  by_reply reply = refl
+counted_update n d u verbs.Commit = by_reply d.reply where
+  by_reply : (reply : StepReply) → commit_taken (counting n d) u reply ≡ commit_taken d u reply
+  by_reply words.Ok = refl
+  by_reply reply = refl
+counted_update n d u verb = refl
+
+pub taken-counting : (n : ℕ) (d : StepDone) (x : Driver) → driver_taken (counting n d) x ≡ driver_taken d x
+taken-counting n d (drivers.Once x) = refl
+taken-counting n d (drivers.Open o) = ap drivers.Open (counted_open n d o d.verb)
+taken-counting n d (drivers.Update u) = ap drivers.Update (counted_update n d u d.verb)
+taken-counting n d (drivers.Active a) = refl
+
+-- it goes on with it, or has ended
+pub left_shown : (h : History) (c : ℕ) (hand : InHand) (done : StepDone) (n : ℕ) (made : Option (List ℕ)) (end : Option Outcome) →
+    left end (record (state_in h c hand) { steps = counting n done ∷ h.steps (Client c); created = made }) ≡ shown_hand (h.kept (Client c)) (counting n done ∷ h.steps (Client c)) made (left end (hand_taken done hand))
+left_shown h c hand done n made None = refl
+left_shown h c hand done n made (Some o) = refl
+
+pub left_fits : (h : History) (c : ℕ) (hand : InHand) (done : StepDone) (n : ℕ) (end : Option Outcome) → FitsHand (h.kept (Client c)) (h.steps (Client c)) (Some hand) → FitsHand (h.kept (Client c)) (counting n done ∷ h.steps (Client c)) (left end (hand_taken done hand))
+left_fits h c hand done n None fits = (sym (taken-counting n done hand.driver) ∙ ap (driver_taken (counting n done)) fits.0, fits.1)
+left_fits h c hand done n (Some o) fits = tt
 
 -- what holds of the hands holds of the one in hand
-pub hand_fits : (w : World) (h : History) (c : ℕ) (hand : InHand) → hand_at w.hands c ≡ Some hand → Fits w h → FitsHand (h.kept c) (h.steps c) (Some hand)
-hand_fits w h c hand held fits = subst (FitsHand (h.kept c) (h.steps c)) held (fits.hands c)
+pub hand_fits : (w : World) (h : History) (c : ℕ) (hand : InHand) → hand_at w.hands c ≡ Some hand → HistoryFits w h → FitsHand (h.kept (Client c)) (h.steps (Client c)) (Some hand)
+hand_fits w h c hand held fits = subst (FitsHand (h.kept (Client c)) (h.steps (Client c))) held (fits.hands c)

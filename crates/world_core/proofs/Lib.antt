@@ -1,13 +1,12 @@
 pub mod Begin
 pub mod Beginnings
-pub mod ClosedTables
-pub mod Closing
+pub mod CallSteps
+pub mod Ended
 pub mod Events
 pub mod Finding
 pub mod Freeing
 pub mod Going
 pub mod GoingOn
-pub mod Handles
 pub mod HandsKept
 pub mod Held
 pub mod HoldingLaws
@@ -18,7 +17,7 @@ pub mod Look
 pub mod Maps
 pub mod Moving
 pub mod New
-pub mod Openers
+pub mod OpenRoom
 pub mod Openings
 pub mod Pieces
 pub mod PlainRequests

@@ -19,7 +19,7 @@ use Rattle.ckpt_machine.specs.Serving.{replica_in}
 use Rattle.world_core.specs.declared.world.World.{World}
 use Rattle.world_core.specs.Happenings.{TellsReplicas}
 use Rattle.world_core.specs.Listing.{kept_slot_listed, kept_replica_listed, kept_listed, node_listed, nodes_listed, made_listed, entry_listed, world_listing}
-use Rattle.world_core.specs.Shows.{History, Fits, FitsReplica, machine_of, shown_slot, shown_replica, where_complete, complete_replica}
+use Rattle.world_core.specs.Shows.{History, HistoryFits, FitsReplica, machine_of, shown_slot, shown_replica, where_complete, complete_replica}
 
 -- ---- the sections of a replica
 
@@ -55,7 +55,7 @@ one_is t active k r e effects origin rest false (Some x) fits = ap (λ shown. sh
 
 -- ---- all nodes
 
-module _ (w : World) (h : History) (fits : Fits w h) (k : ℕ) (e : Entry) (found : entry_of k w.cluster.entries ≡ Some e) where
+module _ (w : World) (h : History) (fits : HistoryFits w h) (k : ℕ) (e : Entry) (found : entry_of k w.cluster.entries ≡ Some e) where
   -- at the moment
   abbrev t : ℤ
   t = w.cluster.moment
@@ -98,7 +98,7 @@ module _ (w : World) (h : History) (fits : Fits w h) (k : ℕ) (e : Entry) (foun
       ∙ ap (λ (o : Option Entry). map (replica_listed t e.active) (replicas_from ((machine_of w h).replicas k) 0 (complete_of o))) (sym found))
 
 -- WHAT THE WORLD LISTS is what the machine lists
-pub listing_is : (w : World) (h : History) → Fits w h → (k : ℕ) → world_listing w k ≡ listing_at (machine_of w h) k
+pub listing_is : (w : World) (h : History) → HistoryFits w h → (k : ℕ) → world_listing w k ≡ listing_at (machine_of w h) k
 listing_is w h fits k = by_entry (entry_of k w.cluster.entries) refl where
   by_entry : (o : Option Entry) → entry_of k w.cluster.entries ≡ o → entry_listed w.nodes k w.cluster.moment o ≡ listing_of (machine_of w h) k o
   by_entry None found = refl

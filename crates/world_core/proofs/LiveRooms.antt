@@ -17,12 +17,16 @@ use Rattle.cluster_record.specs.Places.{find_key}
 use Rattle.cluster_record.specs.RecordState.{RecordState, client_key, named, is_live_client, created_as, opened, finished, undone, unlinked}
 use Rattle.ckpt_machine.specs.Drivers.{Driver}
 use Rattle.ckpt_machine.specs.Drivers as drivers
+use Rattle.cluster_record.specs.DueOnce.{OneStep}
+use Rattle.cluster_record.specs.DueOnce as once
 use Rattle.world_core.specs.declared.world.World.{World}
-use Rattle.ckpt_machine.specs.Beginning.{opened_place, opened_for, closed_place}
-use Rattle.ckpt_machine.specs.Driving.{event_change, event_after}
+use Rattle.client_handles.specs.ClientState.{ClientState, emptied}
+use Rattle.ckpt_types.specs.Asks.{asked}
+use Rattle.ckpt_machine.specs.Tables.{handle_given, closing}
+use Rattle.world_core.specs.RecordAfter.{once_change, event_change, event_after}
 use Rattle.world_core.specs.LiveRooms.{room_is_taken, LiveHaveRoom}
-use Rattle.world_core.specs.Settling.{table_changed, at_client, tables_given, closed_at, settled, looked}
-use Rattle.world_core.specs.TableState.{TableState, with_closed, with_none, with_handle, begun_with}
+use Rattle.world_core.specs.Settling.{tables_given, settled, looked}
+use Rattle.world_core.specs.TableState.{TableState, with_client, table_changed, at_client}
 use Rattle.cluster_record.specs.LookUps.{creation_flags_of}
 use Rattle.cluster_record.specs.RecordState.{entry_of}
 use Rattle.world_core.proofs.TableFields.{field_same}
@@ -38,35 +42,29 @@ module _ (w : World) (R : RecordState) (c : ℕ) where
   changed f same None is rooms = rooms
   changed f same (Some t) is rooms = rooms_set t (f t) is (same t) rooms
 
-  rooms_at : (f : TableState → TableState) → ((t : TableState) → t.roomy ≡ (f t).roomy) → LiveHaveRoom R w.tables → LiveHaveRoom R (at_client c f w.tables)
+  pub rooms_at : (f : TableState → TableState) → ((t : TableState) → t.roomy ≡ (f t).roomy) → LiveHaveRoom R w.tables → LiveHaveRoom R (at_client c f w.tables)
   rooms_at f same rooms = changed f same (slice_get w.tables c) refl rooms
 
-  rooms_closed : (place : Option ℕ) → LiveHaveRoom R w.tables → LiveHaveRoom R (closed_at c place w.tables)
-  rooms_closed None rooms = rooms
-  rooms_closed (Some place) rooms = rooms_at (with_closed place) (λ t. refl) rooms
+  -- what is kept there changes no room
+  pub rooms_client : (change : ClientState → ClientState) → LiveHaveRoom R w.tables → LiveHaveRoom R (at_client c (with_client change) w.tables)
+  rooms_client change rooms = rooms_at (with_client change) (λ t. refl) rooms
 
-  rooms_given : (N : RecordState) (op : Op) (k place : Option ℕ) → LiveHaveRoom R w.tables → LiveHaveRoom R (tables_given N c op k place w.tables)
-  rooms_given N op (Some k) (Some place) rooms = rooms_at (with_handle k (opened_for op) (creation_flags_of (entry_of k N.entries)) place) (λ t. refl) rooms
-  rooms_given N op (Some k) None rooms = rooms
-  rooms_given N op None place rooms = rooms
+  rooms_given : (N : RecordState) (op : Op) (k : Option ℕ) → LiveHaveRoom R w.tables → LiveHaveRoom R (tables_given N c op k w.tables)
+  rooms_given N op None rooms = rooms
+  rooms_given N op (Some k) rooms = rooms_client (handle_given (asked op) k (creation_flags_of (entry_of k N.entries))) rooms
 
   -- by what a step of the record makes of it
   pub rooms_settled : (N : RecordState) (op : Op) (step : RecordStep) (k : Option ℕ) → LiveHaveRoom R w.tables → LiveHaveRoom R (settled N c op step k w.tables)
-  rooms_settled N op events.Open k rooms = rooms_given N op k (opened_place op) rooms
-  rooms_settled N op events.Finish k rooms = rooms_given N op k (opened_place op) rooms
-  rooms_settled N op events.Close k rooms = rooms_closed (closed_place op) rooms
-  rooms_settled N op events.Leave k rooms = rooms_at with_none (λ t. refl) rooms
+  rooms_settled N op events.Open k rooms = rooms_given N op k rooms
+  rooms_settled N op events.Finish k rooms = rooms_given N op k rooms
+  rooms_settled N op events.Close k rooms = rooms_client (closing (asked op)) rooms
+  rooms_settled N op events.Leave k rooms = rooms_client emptied rooms
   rooms_settled N op step k rooms = rooms
 
   -- and a look at it
   pub rooms_looked : (o : Outcome) (op : Op) → LiveHaveRoom R w.tables → LiveHaveRoom R (looked o c op w.tables)
-  rooms_looked (Done answer) op rooms = rooms_closed (closed_place op) rooms
+  rooms_looked (Done answer) op rooms = rooms_client (closing (asked op)) rooms
   rooms_looked o op rooms = rooms
-
--- a call that begins takes no room
-pub roomy-begun : (ended : Option ℕ) (t : TableState) → t.roomy ≡ (begun_with ended t).roomy
-roomy-begun None t = refl
-roomy-begun (Some place) t = refl
 
 -- ---- another record
 
@@ -92,9 +90,9 @@ fewer_step p d x xs stays true behind same found = refl
 fewer_step p d x xs true false behind same found = behind (ap (λ b. is_some (cond b (Some x) (find_key client_key d (filter p xs)))) (sym same) ∙ found)
 fewer_step p d x xs false false behind same found = behind found
 
-fewer : (p : LiveClient → Bool) (d : ℕ) (xs : List LiveClient) → is_some (find_key client_key d (filter p xs)) ≡ true → is_some (find_key client_key d xs) ≡ true
-fewer p d [] found = found
-fewer p d (x ∷ xs) found = fewer_step p d x xs (p x) (client_key x == d) (fewer p d xs) refl found
+fewer_rooms : (p : LiveClient → Bool) (d : ℕ) (xs : List LiveClient) → is_some (find_key client_key d (filter p xs)) ≡ true → is_some (find_key client_key d xs) ≡ true
+fewer_rooms p d [] found = found
+fewer_rooms p d (x ∷ xs) found = fewer_step p d x xs (p x) (client_key x == d) (fewer_rooms p d xs) refl found
 
 -- one more is live
 more : (P : ℕ → Type 0) (new : LiveClient) (d : ℕ) (xs : List LiveClient) → P (client_key new) → (is_some (find_key client_key d xs) ≡ true → P d) → is_some (find_key client_key d (xs ++ new ∷ [])) ≡ true → P d
@@ -109,20 +107,23 @@ more P new d (x ∷ xs) here there found = by_key (client_key x == d) there (λ 
 
 -- a client that becomes live has its room
 abbrev pub EntersWithRoom : CallId → Driver → List TableState → Type 0
-EntersWithRoom call (drivers.Enter r) tables = room_is_taken (slice_get tables (client_of call)) ≡ true
+EntersWithRoom call (drivers.Once (once.Enter r)) tables = room_is_taken (slice_get tables (client_of call)) ≡ true
 EntersWithRoom call driver tables = Unit {0}
 
+rooms_once : (call : CallId) (x : OneStep) (R : RecordState) (tables : List TableState) → EntersWithRoom call (drivers.Once x) tables → LiveHaveRoom R tables → LiveHaveRoom (once_change call x R) tables
+rooms_once call (once.Enter r) R tables enters rooms = λ d live. more (λ d. room_is_taken (slice_get tables d) ≡ true) (record { client = client_of call; node = r; incarnation = slice_index R.up r; initialize = call.number }) d R.clients enters (rooms d) live
+rooms_once call once.Leave R tables enters rooms = λ d live. rooms d (fewer_rooms (λ l. not (client_key l == client_of call)) d R.clients live)
+rooms_once call (once.Close k) R tables enters rooms = λ d live. rooms d live
+rooms_once call (once.Unlink name) R tables enters rooms = λ d live. rooms d (at_live (identity_in (named name R.entries)) R (λ k. unlinked k R) (λ k d live. live) d live)
+rooms_once call (once.Retain k duration) R tables enters rooms = λ d live. rooms d live
+
 rooms_changed : (call : CallId) (x : Driver) (step : RecordStep) (R : RecordState) (tables : List TableState) → EntersWithRoom call x tables → LiveHaveRoom R tables → LiveHaveRoom (event_change call x step R) tables
-rooms_changed call (drivers.Enter r) step R tables enters rooms = λ d live. more (λ d. room_is_taken (slice_get tables d) ≡ true) (record { client = client_of call; node = r; incarnation = slice_index R.up r; initialize = call.number }) d R.clients enters (rooms d) live
+rooms_changed call (drivers.Once x) step R tables enters rooms = rooms_once call x R tables enters rooms
 rooms_changed call (drivers.Open o) events.Create R tables enters rooms = λ d live. rooms d (created_live call o.ask.name o.ask.attrs R d live)
 rooms_changed call (drivers.Open o) events.Open R tables enters rooms = λ d live. rooms d (at_live (identity_in (named o.ask.name R.entries)) R (λ k. opened k o.ask.client R) (λ k d live. live) d live)
 rooms_changed call (drivers.Open o) events.Finish R tables enters rooms = λ d live. rooms d (at_live (making_ckpt o.making) R (λ k. finished k o.ask.client R) (λ k d live. live) d live)
 rooms_changed call (drivers.Open o) events.Undo R tables enters rooms = λ d live. rooms d (at_live (making_ckpt o.making) R (λ k. undone k R) (λ k d live. live) d live)
 rooms_changed call (drivers.Open o) step R tables enters rooms = rooms
-rooms_changed call drivers.Leave step R tables enters rooms = λ d live. rooms d (fewer (λ l. not (client_key l == client_of call)) d R.clients live)
-rooms_changed call (drivers.Close k) step R tables enters rooms = λ d live. rooms d live
-rooms_changed call (drivers.Unlink name) step R tables enters rooms = λ d live. rooms d (at_live (identity_in (named name R.entries)) R (λ k. unlinked k R) (λ k d live. live) d live)
-rooms_changed call (drivers.Retain k duration) step R tables enters rooms = λ d live. rooms d live
 rooms_changed call x step R tables enters rooms = rooms
 
 -- so it is after a step of the record

@@ -87,9 +87,9 @@ complete_there : (R : RecordState) (k r j q : ℕ) → (slice_index (complete_of
 complete_there R k r j q complete e = let s = both_true j k q r e in subst (λ (y : ℕ × ℕ). (slice_index (complete_of (entry_of y.0 R.entries)) y.1 == 0) ≡ false) (λ i. (sym s.0 i, sym s.1 i)) complete
 
 -- the complete replicas, where the nodes have another one at one place
-pub complete_at : (R : RecordState) (nodes new : List (List Replica)) (k r : ℕ) (x : Replica) → ((j q : ℕ) → replica_in new j q ≡ cond ((j == k) && (q == r)) (Some x) (replica_in nodes j q)) → (slice_index (complete_of (entry_of k R.entries)) r == 0) ≡ false →
+pub complete_at_node : (R : RecordState) (nodes new : List (List Replica)) (k r : ℕ) (x : Replica) → ((j q : ℕ) → replica_in new j q ≡ cond ((j == k) && (q == r)) (Some x) (replica_in nodes j q)) → (slice_index (complete_of (entry_of k R.entries)) r == 0) ≡ false →
     (j q : ℕ) → complete_replica R new j q ≡ cond ((j == k) && (q == r)) (Some x) (complete_replica R nodes j q)
-complete_at R nodes new k r x at complete j q =
+complete_at_node R nodes new k r x at complete j q =
     ap (where_complete (slice_index (complete_of (entry_of j R.entries)) q)) (at j q)
     ∙ complete_case ((j == k) && (q == r)) (slice_index (complete_of (entry_of j R.entries)) q) (Some x) (replica_in nodes j q) (complete_there R k r j q complete)
 
@@ -131,26 +131,32 @@ reserved_same R nodes new k r y x is at j q =
 
 -- ---- the calls in hand
 
-there_is : (o : Option (Option InHand)) (h : InHand) → or_none o ≡ Some h → (p : Option InHand) × (o ≡ Some p)
-there_is None h e = absurd cc
-there_is (Some p) h e = (p, refl)
+there_in_some : (o : Option (Option InHand)) (h : InHand) → or_none o ≡ Some h → (p : Option InHand) × (o ≡ Some p)
+there_in_some None h e = absurd cc
+there_in_some (Some p) h e = (p, refl)
 
 none_case : (b : Bool) (p : Option InHand) (o : Option (Option InHand)) → or_none (cond b (Some p) o) ≡ cond b p (or_none o)
 none_case true p o = refl
 none_case false p o = refl
 
 pub hand_set : (hands : List (Option InHand)) (c : ℕ) (h : InHand) (p : Option InHand) → hand_at hands c ≡ Some h → (d : ℕ) → hand_at (slice_set hands c p) d ≡ cond (d == c) p (hand_at hands d)
-hand_set hands c h p is d = let t = there_is (slice_get hands c) h is in ap or_none (get_set hands c p t.0 d t.1) ∙ none_case (d == c) p (slice_get hands d)
+hand_set hands c h p is d = let t = there_in_some (slice_get hands c) h is in ap or_none (get_set hands c p t.0 d t.1) ∙ none_case (d == c) p (slice_get hands d)
 
-hand_case : (b : Bool) (k l : Kept) (new old : List StepDone) (p o : Option InHand) → (b ≡ true → k ≡ l) → cond b (shown_hand l new p) (shown_hand k old o) ≡ shown_hand k (cond b new old) (cond b p o)
-hand_case true k l new old p o e = ap (λ k. shown_hand k new p) (sym (e refl))
-hand_case false k l new old p o e = refl
+hand_case : (b : Bool) (k l : Kept) (new old : List StepDone) (made before : Option (List ℕ)) (p o : Option InHand) → (b ≡ true → k ≡ l) → cond b (shown_hand l new made p) (shown_hand k old before o) ≡ shown_hand k (cond b new old) (cond b made before) (cond b p o)
+hand_case true k l new old made before p o e = ap (λ k. shown_hand k new made p) (sym (e refl))
+hand_case false k l new old made before p o e = refl
+
+-- the history in which a client's call has these steps, and has created this
+abbrev pub with_steps : History → ℕ → List StepDone → Option (List ℕ) → History
+with_steps h c steps created = record h { steps = put_actor h.steps (Client c) steps; created = put_actor h.created (Client c) created }
 
 -- the calls in hand, where client c's is another now
-pub put_hand : (h : History) (hands : List (Option InHand)) (c : ℕ) (old : InHand) (p : Option InHand) (new : List StepDone) → hand_at hands c ≡ Some old →
-    (a : ActorName) → put_actor (hand_of h hands) (Client c) (shown_hand (h.kept c) new p) a ≡ hand_of (record h { steps = put h.steps c new }) (slice_set hands c p) a
-put_hand h hands c old p new is (Client d) = hand_case (d == c) (h.kept d) (h.kept c) new (h.steps d) p (hand_at hands d) (λ e. ap h.kept (eqb-true d c e)) ∙ ap (shown_hand (h.kept d) (put h.steps c new d)) (sym (hand_set hands c old p is d))
-put_hand h hands c old p new is (Node r) = refl
+pub put_hand : (h : History) (hands : List (Option InHand)) (c : ℕ) (old : InHand) (p : Option InHand) (new : List StepDone) (made : Option (List ℕ)) → hand_at hands c ≡ Some old →
+    (a : ActorName) → put_actor (hand_of h hands) (Client c) (shown_hand (h.kept (Client c)) new made p) a ≡ hand_of (with_steps h c new made) (slice_set hands c p) a
+put_hand h hands c old p new made is (Client d) =
+    hand_case (d == c) (h.kept (Client d)) (h.kept (Client c)) new (h.steps (Client d)) made (h.created (Client d)) p (hand_at hands d) (λ e. ap (λ d. h.kept (Client d)) (eqb-true d c e))
+    ∙ ap (shown_hand (h.kept (Client d)) (put_actor h.steps (Client c) new (Client d)) (put_actor h.created (Client c) made (Client d))) (sym (hand_set hands c old p is d))
+put_hand h hands c old p new made is (Node r) = refl
 
 fits_hand_case : (b : Bool) (k l : Kept) (new old : List StepDone) (p o : Option InHand) → (b ≡ true → k ≡ l) → FitsHand l new p → FitsHand k old o → FitsHand k (cond b new old) (cond b p o)
 fits_hand_case true k l new old p o e h g = subst (λ (k : Kept). FitsHand k new p) (sym (e refl)) h
@@ -158,7 +164,7 @@ fits_hand_case false k l new old p o e h g = g
 
 -- and how they fit
 pub fits_hand : (h : History) (hands : List (Option InHand)) (c : ℕ) (old : InHand) (p : Option InHand) (new : List StepDone) → hand_at hands c ≡ Some old →
-    FitsHand (h.kept c) new p → ((d : ℕ) → FitsHand (h.kept d) (h.steps d) (hand_at hands d)) → (d : ℕ) → FitsHand (h.kept d) (put h.steps c new d) (hand_at (slice_set hands c p) d)
+    FitsHand (h.kept (Client c)) new p → ((d : ℕ) → FitsHand (h.kept (Client d)) (h.steps (Client d)) (hand_at hands d)) → (d : ℕ) → FitsHand (h.kept (Client d)) (put_actor h.steps (Client c) new (Client d)) (hand_at (slice_set hands c p) d)
 fits_hand h hands c old p new is one all d =
-    subst (FitsHand (h.kept d) (put h.steps c new d)) (sym (hand_set hands c old p is d))
-    (fits_hand_case (d == c) (h.kept d) (h.kept c) new (h.steps d) p (hand_at hands d) (λ e. ap h.kept (eqb-true d c e)) one (all d))
+    subst (FitsHand (h.kept (Client d)) (put_actor h.steps (Client c) new (Client d))) (sym (hand_set hands c old p is d))
+    (fits_hand_case (d == c) (h.kept (Client d)) (h.kept (Client c)) new (h.steps (Client d)) p (hand_at hands d) (λ e. ap (λ d. h.kept (Client d)) (eqb-true d c e)) one (all d))

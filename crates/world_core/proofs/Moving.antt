@@ -1,41 +1,38 @@
 -- The moment: how the world shows that it is set, and that nothing else changes it.
-use Rattle.ckpt_types.specs.Reads.{NextGiven}
-use Rattle.section_iter.specs.KeptIds.{KeptIds}
-use Rattle.cluster_record.specs.Calls.{number_of, client_of}
 use Rattle.std.proofs.Common.{◌≡◌, ℕ, List, Option, Some, None, Bool, ℤ, refl, sym, ap, subst, ◌∙◌}
 use Rattle.std.specs.Prelude.{filter}
 use Rattle.ckpt_types.specs.declared.answers.Outcome.{Outcome}
 use Rattle.ckpt_types.specs.declared.identities.ActorName.{ActorName}
+use Rattle.ckpt_types.specs.declared.identities.CallId.{CallId}
 use Rattle.ckpt_types.specs.declared.identities.Who.{Who}
 use Rattle.ckpt_types.specs.declared.identities.Who.TheVariants as whos
 use Rattle.ckpt_types.specs.declared.operation.Op.{Op}
-use Rattle.node_msgs.specs.declared.next.RecordStep.{RecordStep}
-use Rattle.client_handles.specs.declared.handle_view.HandleView.{HandleView}
 use Rattle.node_msgs.specs.declared.steps.Verb.{Verb}
 use Rattle.node_msgs.specs.declared.steps.Verb.TheVariants as verbs
 use Rattle.node_msgs.specs.declared.steps.StepReply.{StepReply}
 use Rattle.node_msgs.specs.declared.steps.StepReply.TheVariants as words
 use Rattle.run_labels.specs.declared.labels.Label.{Label}
 use Rattle.run_labels.specs.declared.labels.Label.TheVariants as labels
+use Rattle.cluster_record.specs.Makings.{making_of}
+use Rattle.cluster_record.specs.RecordState.{RecordState, entry_of, stays, IsMomentFrom, moved}
+use Rattle.cluster_record.proofs.IdentityLaws.{filter_leaves}
+use Rattle.ckpt_types.specs.Asks.{Ask, asked}
+use Rattle.ckpt_types.specs.Asks as asks
+use Rattle.ckpt_machine.specs.Facts.{Facts}
+use Rattle.ckpt_machine.specs.Machine.{Machine, ReplicaState, CallState}
+use Rattle.ckpt_machine.specs.Replicas.{Replica}
+use Rattle.ckpt_machine.specs.Serving.{replica_in}
+use Rattle.ckpt_machine.specs.Steps.{on_ok, on_look, without_making, at_some, change_replica, created_for, retained_for, changed, step_of, after}
 use Rattle.world_core.specs.declared.hands.InHand.{InHand}
 use Rattle.world_core.specs.declared.world.Event.{Event}
 use Rattle.world_core.specs.declared.world.Event.TheVariants as happenings
-use Rattle.ckpt_machine.specs.Replicas.{Replica}
 use Rattle.world_core.specs.declared.world.World.{World}
-use Rattle.cluster_record.specs.RecordState.{RecordState, entry_of, stays, IsMomentFrom, moved}
-use Rattle.ckpt_machine.specs.Serving.{replica_in, given_at}
-use Rattle.ckpt_machine.specs.Beginning.{opened_place, closed_place, started_place, iteration_place, ended_place}
-use Rattle.ckpt_machine.specs.Machine.{Machine, ReplicaState, CallState}
-use Rattle.ckpt_machine.specs.Driving.{making_in}
-use Rattle.ckpt_machine.specs.Steps.{on_ok, on_look, without_making, at_some, handle_in, without_handle, without_closed, change_replica, with_handle_at, with_opened, event_done, changed, step_of, after, driver_of, with_iteration, with_next, with_ended, begun_call, asked_handle, kept_in, ids_asked, seen_at}
-use Rattle.ckpt_machine.specs.Facts.{Facts}
-use Rattle.world_core.specs.Shows.{Does, Shows, History, machine_of}
 use Rattle.world_core.specs.Freeing.{freed}
 use Rattle.world_core.specs.Happenings.{SetsMoment}
 use Rattle.world_core.specs.Runs.{Answers, AnswersBegin, AnswersStep, IsIdleWord, IsShownOf, hand_of_actor, moment_of}
-use Rattle.cluster_record.proofs.IdentityLaws.{filter_leaves}
+use Rattle.world_core.specs.Shows.{Does, Shows, History, machine_of}
 use Rattle.world_core.proofs.Freeing.{DoesBefore, does_freed, holds_freed}
-use Rattle.world_core.proofs.Going.{goes_same, goes_left, event_keeps}
+use Rattle.world_core.proofs.Going.{goes_same, goes_left}
 use Rattle.world_core.proofs.Recording.{GoesAt, with_effects, record_is, record_fits}
 
 -- ---- the moment is set
@@ -91,7 +88,7 @@ on_look-moment m n o words.Done done refused = done
 on_look-moment m n o words.Refused done refused = refused
 on_look-moment m n o reply done refused = refl
 
-without_making-moment : (m : Machine) (k : Option ℕ) → SameMoment m (without_making m k)
+without_making-moment : (m : Machine) (k : Option ℕ) → SameMoment m (without_making k m)
 without_making-moment m None = refl
 without_making-moment m (Some k) = refl
 
@@ -103,55 +100,31 @@ change_replica-moment : (m : Machine) (k r : ℕ) (x : Option ReplicaState) (cha
 change_replica-moment m k r None change = refl
 change_replica-moment m k r (Some x) change = refl
 
-with_handle_at-moment : (m : Machine) (c : ℕ) (h : HandleView) (place : Option ℕ) → SameMoment m (with_handle_at m c h place)
-with_handle_at-moment m c h None = refl
-with_handle_at-moment m c h (Some place) = refl
+created_for-moment : (call : CallId) (ask : Ask) (R : RecordState) → (created_for call ask R).moment ≡ R.moment
+created_for-moment call (asks.Open place name flags timeout None) R = refl
+created_for-moment call (asks.Open place name flags timeout (Some a)) R = refl
+created_for-moment call ask R = refl
 
-with_opened-moment : (m : Machine) (s : CallState) (k : Option ℕ) → SameMoment m (with_opened s k m)
-with_opened-moment m s None = refl
-with_opened-moment m s (Some k) = with_handle_at-moment m _ _ (opened_place s.op)
-
-with_iteration-moment : (m : Machine) (c : ℕ) (h : Option HandleView) (place : Option ℕ) (kept : KeptIds) → SameMoment m (with_iteration m c h place kept)
-with_iteration-moment m c (Some h) (Some place) kept = refl
-with_iteration-moment m c (Some h) None kept = refl
-with_iteration-moment m c None place kept = refl
-
-with_next-moment : (m : Machine) (c : ℕ) (place : Option ℕ) (kept : Option KeptIds) (next : Option NextGiven) → SameMoment m (with_next m c place kept next)
-with_next-moment m c (Some place) (Some kept) (Some next) = refl
-with_next-moment m c (Some place) (Some kept) None = refl
-with_next-moment m c (Some place) None next = refl
-with_next-moment m c None kept next = refl
-
-without_handle-moment : (m : Machine) (c : ℕ) (h : Option HandleView) → SameMoment m (without_handle m c h)
-without_handle-moment m c None = refl
-without_handle-moment m c (Some h) = refl
-
-with_closed-moment : (m : Machine) (s : CallState) → SameMoment m (without_closed s m)
-with_closed-moment m s = without_handle-moment m (client_of s.call) (handle_in m (client_of s.call) (closed_place s.op))
-
-with_ended-moment : (m : Machine) (c : ℕ) (place : Option ℕ) → SameMoment m (with_ended c place m)
-with_ended-moment m c None = refl
-with_ended-moment m c (Some place) = refl
-
-event_done-moment : (m : Machine) (s : CallState) (step : RecordStep) → SameMoment m (event_done m s step)
-event_done-moment m s step = (event_keeps s.call (driver_of s) step m.cluster).moment
+retained_for-moment : (ask : Ask) (k : ℕ) (R : RecordState) → (retained_for ask k R).moment ≡ R.moment
+retained_for-moment (asks.Retain place duration) k R = refl
+retained_for-moment ask k R = refl
 
 changed-moment : (m : Machine) (s : CallState) (verb : Verb) (k r : Option ℕ) (reply : StepReply) → SameMoment m (changed m s verb k r reply)
-changed-moment m s verbs.Enter k r reply = on_ok-moment m _ reply (event_done-moment m s _)
-changed-moment m s verbs.Open k r reply = on_ok-moment m _ reply (with_opened-moment (event_done m s _) s k ∙ event_done-moment m s _)
-changed-moment m s verbs.Create k r reply = on_ok-moment m _ reply (event_done-moment m s _)
+changed-moment m s verbs.Enter k r reply = on_ok-moment m _ reply (at_some-moment m r _ (λ r. refl))
+changed-moment m s verbs.Leave k r reply = on_ok-moment m _ reply refl
+changed-moment m s verbs.Create k r reply = on_ok-moment m _ reply (created_for-moment s.call (asked s.op) m.cluster)
 changed-moment m s verbs.Reserve k r reply = on_ok-moment m _ reply (at_some-moment m k _ (λ k. at_some-moment m r _ (λ r. refl)))
-changed-moment m s verbs.Finish k r reply = on_ok-moment m _ reply (with_opened-moment (event_done m s _) s k ∙ event_done-moment m s _)
-changed-moment m s verbs.Undo k r reply = on_ok-moment m _ reply (event_done-moment m s _)
+changed-moment m s verbs.Finish k r reply = on_ok-moment m _ reply (at_some-moment m k _ (λ k. refl))
+changed-moment m s verbs.Undo k r reply = on_ok-moment m _ reply (at_some-moment m k _ (λ k. refl))
+changed-moment m s verbs.Open k r reply = on_ok-moment m _ reply (at_some-moment m k _ (λ k. refl))
+changed-moment m s verbs.Close k r reply = on_ok-moment m _ reply (at_some-moment m k _ (λ k. refl))
+changed-moment m s verbs.Unlink k r reply = on_ok-moment m _ reply (at_some-moment m k _ (λ k. refl))
+changed-moment m s verbs.Retain k r reply = on_ok-moment m _ reply (at_some-moment m k _ (λ k. retained_for-moment (asked s.op) k m.cluster))
 changed-moment m s verbs.Stage k r reply = on_ok-moment m _ reply (at_some-moment m k _ (λ k. at_some-moment m r _ (λ r. change_replica-moment m k r (m.replicas k r) _)))
 changed-moment m s verbs.Commit k r reply = on_ok-moment m _ reply (at_some-moment m k _ (λ k. at_some-moment m r _ (λ r. change_replica-moment m k r (m.replicas k r) _)))
-changed-moment m s verbs.Iter k r reply = on_ok-moment m _ reply (at_some-moment m k _ (λ k. at_some-moment m r _ (λ r. with_iteration-moment m _ (asked_handle m s.call.actor s.op) (started_place s.op) _)))
-changed-moment m s verbs.Next k r reply = on_ok-moment m _ reply (at_some-moment m k _ (λ k. at_some-moment m r _ (λ r. with_next-moment m _ (iteration_place s.op) (kept_in (m.iterations (client_of s.call)) (iteration_place s.op)) (given_at (ids_asked m s) m.cluster.moment (seen_at m k r)))))
-changed-moment m s verbs.Leave k r reply = on_ok-moment m _ reply (event_done-moment m s _)
-changed-moment m s verbs.Close k r reply = on_ok-moment m _ reply (with_closed-moment (event_done m s _) s ∙ event_done-moment m s _)
-changed-moment m s verbs.Unlink k r reply = on_ok-moment m _ reply (event_done-moment m s _)
-changed-moment m s verbs.Retain k r reply = on_ok-moment m _ reply (event_done-moment m s _)
-changed-moment m s verbs.Look k r reply = on_look-moment m _ _ reply (with_closed-moment m s) (without_making-moment m (making_in (driver_of s)))
+changed-moment m s verbs.Iter k r reply = on_ok-moment m _ reply (at_some-moment m k _ (λ k. at_some-moment m r _ (λ r. refl)))
+changed-moment m s verbs.Next k r reply = on_ok-moment m _ reply (at_some-moment m k _ (λ k. at_some-moment m r _ (λ r. refl)))
+changed-moment m s verbs.Look k r reply = on_look-moment m _ _ reply refl (without_making-moment m (making_of s.call m.cluster))
 changed-moment m s verb k r reply = refl
 
 step_of-moment : (m : Machine) (o : Option CallState) (verb : Verb) (k r : Option ℕ) (reply : StepReply) (end : Option Outcome) → SameMoment m (step_of m o verb k r reply end)
@@ -162,7 +135,6 @@ step_of-moment m (Some s) verb k r reply end = changed-moment m s verb k r reply
 pub after-moment : (m : Machine) (l : Label) → (after m l).cluster.moment ≡ moment_after l m.cluster.moment
 after-moment m (labels.Stepped call op verb k r reply end details) = step_of-moment m (m.in_hand call.actor) verb k r reply end
 after-moment m (labels.Moved t) = refl
-after-moment m (labels.Began call op end) = with_ended-moment (begun_call m call op end) (number_of call.actor) (ended_place end op)
 after-moment m l = refl
 
 -- ---- the moment after an event

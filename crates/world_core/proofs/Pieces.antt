@@ -10,12 +10,12 @@ use Rattle.ckpt_types.specs.Updates.{Refusal, refuse_at, on_section, and_then}
 use Rattle.ckpt_types.specs.Reads.{piece_read, pieces_read, read}
 use Rattle.world_core.specs.Lending.{bytes_asked}
 
-taken : (n : ℕ) (xs : List ℕ) → length (take n xs) ≤ n
-taken n xs = grind (arith, length-take)
+piece_taken : (n : ℕ) (xs : List ℕ) → length (take n xs) ≤ n
+piece_taken n xs = grind (arith, length-take)
 
 by_size : (place : ℕ) (e : ReadElement) (bytes : List ℕ) (b : Bool) → IfOk (if b then refuse_at place InvalidParam else Ok (take e.len bytes)) (λ piece. length piece ≤ e.len)
 by_size place e bytes true = tt
-by_size place e bytes false = taken e.len bytes
+by_size place e bytes false = piece_taken e.len bytes
 
 by_section : (place : ℕ) (e : ReadElement) (o : Option Section) → IfOk (on_section place o (λ s. if nat_lt (size_of s) e.offset then refuse_at place InvalidParam else Ok (take e.len (drop e.offset s.bytes)))) (λ piece. length piece ≤ e.len)
 by_section place e None = tt

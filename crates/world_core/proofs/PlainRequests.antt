@@ -15,8 +15,9 @@ use Rattle.ckpt_machine.specs.Replicas.{Slot}
 use Rattle.cluster_record.specs.Places.{put2}
 use Rattle.cluster_record.specs.RecordState.{entry_of}
 use Rattle.node_msgs.specs.Requests.{ckpt_of}
-use Rattle.ckpt_machine.specs.Serving.{record_seen, update_of, reply_of, replica_after, stage_reply, stage_slot, committed, IsReadyFor, IsStaged}
+use Rattle.ckpt_machine.specs.Serving.{record_seen, reply_of, replica_after, stage_reply, stage_slot, committed, IsReadyFor, IsStaged}
 use Rattle.node_msgs.specs.Steps.{verb_of, word_of}
+use Rattle.ckpt_types.specs.Asks.{update_of}
 use Rattle.ckpt_machine.specs.Machine.{Machine, Effect, Applied, ReplicaState, CallState}
 use Rattle.ckpt_machine.specs.Steps.{changed, change_replica, with_slot, with_committed, staged_moment}
 use Rattle.world_core.specs.Shows.{shown_replica, FitsReplica}
@@ -35,17 +36,17 @@ abbrev pub effects_with : Option Slot → CallId → List Effect → List Effect
 effects_with None o E = E
 effects_with (Some slot) o E = E ++ Applied o slot.update slot.moment ∷ []
 
-abbrev pub effects_after : Request → Replica → CallId → List Effect → List Effect
-effects_after (Commit call k) x o E = effects_with x.slot o E
-effects_after request x o E = E
+abbrev pub effects_after : Request → Option Replica → CallId → List Effect → List Effect
+effects_after (Commit call k) (Some x) o E = effects_with x.slot o E
+effects_after request y o E = E
 
 abbrev pub origin_with : CallId → CallId → Option Slot → CallId
 origin_with call o None = call
 origin_with call o (Some slot) = o
 
-abbrev pub origin_after : Request → Replica → CallId → CallId
-origin_after (Stage call k t) x o = origin_with call o x.slot
-origin_after request x o = o
+abbrev pub origin_after : Request → Option Replica → CallId → CallId
+origin_after (Stage call k t) (Some x) o = origin_with call o x.slot
+origin_after request y o = o
 
 module _ (M : Machine) (s : CallState) (k r : ℕ) (E : List Effect) (o : CallId) (x : Replica) where
   abbrev with : Option ReplicaState → Machine
@@ -75,7 +76,7 @@ module _ (M : Machine) (s : CallState) (k r : ℕ) (E : List Effect) (o : CallId
 pub row_moves : (M : Machine) (s : CallState) (r : ℕ) (E : List Effect) (o : CallId) (x : Replica) (e : Entry) (request : Request) → IsPlain request → entry_of (ckpt_of request) M.cluster.entries ≡ Some e → x.attributes ≡ e.attributes →
     M.replicas (ckpt_of request) r ≡ shown_replica E o (Some x) → IsReadyFor request x → IsOwn s.call request → ((call : CallId) (k : ℕ) (t : ℤ) → request ≡ Stage call k t → x.slot ≡ None → staged_moment M k ≡ t) →
     changed M s (verb_of request) (Some (ckpt_of request)) (Some r) (word_of (reply_of request s.op (record_seen M.cluster (ckpt_of request)) x))
-    ≡ record M { replicas = put2 M.replicas (ckpt_of request) r (shown_replica (effects_after request x o E) (origin_after request x o) (Some (replica_after request s.op x))) }
+    ≡ record M { replicas = put2 M.replicas (ckpt_of request) r (shown_replica (effects_after request (Some x) o E) (origin_after request (Some x) o) (Some (replica_after request s.op x))) }
 row_moves M s r E o x e (Reserve k) plain at same is ready own moment = absurd (plain.reserves_none k refl)
 row_moves M s r E o x e (Iterate call k choice) plain at same is ready own moment = absurd (plain.starts_none call k choice refl)
 row_moves M s r E o x e (Next call k) plain at same is ready own moment = absurd (plain.goes_on_with_none call k refl)
@@ -93,7 +94,7 @@ fits_stage : (k : ℕ) (e : Option Entry) (E : List Effect) (x : Replica) (p : O
 fits_stage k None E x p fits = fits
 fits_stage k (Some e) E x p fits = fits
 
-pub row_fits : (k : ℕ) (e : Option Entry) (E : List Effect) (o : CallId) (x : Replica) (request : Request) (op : Op) → FitsReplica k e E (Some x) → FitsReplica k e (effects_after request x o E) (Some (replica_after request op x))
+pub row_fits : (k : ℕ) (e : Option Entry) (E : List Effect) (o : CallId) (x : Replica) (request : Request) (op : Op) → FitsReplica k e E (Some x) → FitsReplica k e (effects_after request (Some x) o E) (Some (replica_after request op x))
 row_fits k e E o x (Stage call j t) op fits = fits_stage k e E x (stage_slot (outcome x.attributes (update_of op) t x.sections) (record { owner = call; update = update_of op; moment = t }) x.slot) fits
 row_fits k e E o x (Commit call j) op fits = fits_commit k e E o x x.slot fits
 row_fits k e E o x request op fits = fits

@@ -1,4 +1,4 @@
--- What a step of the record needs, where the record has room for it, makes it ready.
+-- What a due step of the record asks, where the record has room for it, makes it ready.
 use Rattle.std.proofs.Common.{◌≡◌, ℕ, ◌+◌, ◌-◌, ◌^◌, ◌<◌, length, true, false, cond, not, refl, ap, subst, ◌∙◌}
 use Rattle.std.proofs.lemmas.Bool.{lt-leb}
 use Rattle.std.specs.Prelude.{Option, Some, None, IsSomeAnd, slice_index}
@@ -16,13 +16,15 @@ use Rattle.cluster_record.specs.RecordState.{RecordState, entry_of, named}
 use Rattle.world_core.specs.RecordReady.{CanAsk, IsRecordReady}
 use Rattle.cluster_record.specs.declared.opening.OpenAnswer.TheVariants.{Opened, Made, Refused}
 use Rattle.ckpt_machine.specs.Driving.{event_refusal, refusal_in}
+use Rattle.ckpt_machine.specs.Facts.{IsEventReady}
+use Rattle.ckpt_machine.specs.Machine.{Machine, CallState}
 use Rattle.cluster_record.specs.Opening.{answer_unless, answer_free, answer_named, open_answer}
 use Rattle.cluster_record.specs.Refusals.{plainly, all_taken}
 use Rattle.cluster_record.specs.Calls.{IsClient}
+use Rattle.cluster_record.specs.DueOnce as once
 use Rattle.cluster_record.specs.RecordReady.{CanOpen, CanRefer, CanReferAt}
 use Rattle.cluster_record.specs.DueOpen.{accepts}
 use Rattle.cluster_record.specs.LookUps.{identity_in}
-use Rattle.world_core.proofs.RecordEvent.{EventNeeds}
 
 -- no count of references is at its end
 abbrev pub FewReferences : RecordState → Type 0
@@ -64,20 +66,14 @@ answer_opened R ask (Some e) found granted there =
     )
 
 -- a step that is not refused is ready where its world has room for it
-pub record_ready : (call : CallId) (R : RecordState) (x : Driver) (step : RecordStep) → event_refusal R step x ≡ None → R.last_identity < 2 ^ 32 - 1 → FewReferences R → EventNeeds call R x step → IsRecordReady call R x step
-record_ready call R (drivers.Enter r) events.Enter granted identity few needs = needs
-record_ready call R (drivers.Open o) events.Create granted identity few needs = (can_ask call R o.ask identity few needs.3 needs.4, answer_made R o.ask needs.0 needs.1 needs.2)
-record_ready call R (drivers.Open o) events.Open granted identity few needs = (can_ask call R o.ask identity few needs.1 needs.2, answer_opened R o.ask (named o.ask.name R.entries) refl granted needs.0)
-record_ready call R (drivers.Open o) events.Finish granted identity few needs = needs.1
-record_ready call R (drivers.Open o) events.Undo granted identity few needs = needs.1
-record_ready call R drivers.Leave events.Leave granted identity few needs = tt
-record_ready call R (drivers.Close k) events.Close granted identity few needs = tt
-record_ready call R (drivers.Unlink name) events.Unlink granted identity few needs = needs
-record_ready call R (drivers.Retain k duration) events.Retain granted identity few needs = needs
-record_ready call R (drivers.Enter r) step granted identity few needs = absurd needs
-record_ready call R (drivers.Open o) step granted identity few needs = absurd needs
-record_ready call R drivers.Leave step granted identity few needs = absurd needs
-record_ready call R (drivers.Close k) step granted identity few needs = absurd needs
-record_ready call R (drivers.Unlink name) step granted identity few needs = absurd needs
-record_ready call R (drivers.Retain k duration) step granted identity few needs = absurd needs
-record_ready call R x step granted identity few needs = absurd needs
+pub record_ready : (m : Machine) (s : CallState) (x : Driver) (step : RecordStep) → event_refusal m.cluster step x ≡ None → m.cluster.last_identity < 2 ^ 32 - 1 → FewReferences m.cluster → IsEventReady m s x step → IsRecordReady s.call m.cluster x step
+record_ready m s (drivers.Once (once.Enter r)) events.Enter granted identity few ready = ready
+record_ready m s (drivers.Open o) events.Create granted identity few ready = (can_ask s.call m.cluster o.ask identity few ready.3 ready.4, answer_made m.cluster o.ask ready.0 ready.1 ready.2)
+record_ready m s (drivers.Open o) events.Open granted identity few ready = (can_ask s.call m.cluster o.ask identity few ready.1 ready.2, answer_opened m.cluster o.ask (named o.ask.name m.cluster.entries) refl granted ready.0)
+record_ready m s (drivers.Open o) events.Finish granted identity few ready = ready.1
+record_ready m s (drivers.Open o) events.Undo granted identity few ready = ready.1
+record_ready m s (drivers.Once once.Leave) events.Leave granted identity few ready = tt
+record_ready m s (drivers.Once (once.Close k)) events.Close granted identity few ready = tt
+record_ready m s (drivers.Once (once.Unlink name)) events.Unlink granted identity few ready = ready
+record_ready m s (drivers.Once (once.Retain k duration)) events.Retain granted identity few ready = ready
+record_ready m s x step granted identity few ready = absurd ready

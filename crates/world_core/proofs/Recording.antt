@@ -9,7 +9,7 @@ use Rattle.cluster_record.specs.RecordState.{RecordState, entry_of, complete_of,
 use Rattle.ckpt_machine.specs.Serving.{replica_in, opened_replica}
 use Rattle.ckpt_machine.specs.Machine.{Effect}
 use Rattle.ckpt_machine.specs.Steps.{opened_state, replica_under, reservation_under, with_record}
-use Rattle.world_core.specs.Shows.{History, Fits, FitsReplica, machine_of, shown_replica, shown_reservation, where_complete, where_not_complete}
+use Rattle.world_core.specs.Shows.{History, HistoryFits, FitsReplica, machine_of, shown_replica, shown_reservation, where_complete, where_not_complete}
 
 -- the node is complete as before, or newly with the replica that it has reserved
 abbrev pub NodeGoes : ℕ → Entry → Entry → ℕ → Option Replica → Type 0
@@ -45,14 +45,14 @@ effects_under before E = if before == 0 then [] else E
 
 -- ---- the replicas
 
-shown_case : (up : List ℕ) (k : ℕ) (old new : Option Entry) (r : ℕ) (E : List Effect) (o : CallId) (y : Option Replica) → GoesAt up k old new r y →
+record_shown_case : (up : List ℕ) (k : ℕ) (old new : Option Entry) (r : ℕ) (E : List Effect) (o : CallId) (y : Option Replica) → GoesAt up k old new r y →
     replica_under new (slice_index (complete_of old) r) r (shown_replica E o (where_complete (slice_index (complete_of old) r) y)) ≡ shown_replica (effects_under (slice_index (complete_of old) r) E) o (where_complete (slice_index (complete_of new) r) y)
-shown_case up k old None r E o y goes = sym (ap (λ b. shown_replica (effects_under (slice_index (complete_of old) r) E) o (cond b None y)) (test_zero (slice_index no_nodes r) (zero_there r)))
-shown_case up k None (Some f) r E o y goes =
+record_shown_case up k old None r E o y goes = sym (ap (λ b. shown_replica (effects_under (slice_index (complete_of old) r) E) o (cond b None y)) (test_zero (slice_index no_nodes r) (zero_there r)))
+record_shown_case up k None (Some f) r E o y goes =
     let t = test_zero (slice_index f.complete r) goes.0 in
     let before = slice_index no_nodes r in
     ap (λ b. cond b None (cond (before == 0) (Some (opened_state f)) (shown_replica E o (where_complete before y)))) t ∙ sym (ap (λ b. shown_replica (effects_under before E) o (cond b None y)) t)
-shown_case up k (Some e) (Some f) r E o y goes = by_node goes.2 where
+record_shown_case up k (Some e) (Some f) r E o y goes = by_node goes.2 where
   by_tests : (b a : Bool) → b ≡ a → cond b None (cond a (Some (opened_state f)) (shown_replica E o (cond a None y))) ≡ shown_replica (cond a [] E) o (cond b None y)
   by_tests true true s = refl
   by_tests false false s = refl
@@ -68,11 +68,11 @@ shown_case up k (Some e) (Some f) r E o y goes = by_node goes.2 where
   by_node (inl same) = by_tests (slice_index f.complete r == 0) (slice_index e.complete r == 0) (ap (λ n. n == 0) same)
   by_node (inr new) = newly (slice_index f.complete r == 0) (slice_index e.complete r == 0) (test_zero (slice_index e.complete r) new.0) ((λ i. Some (record (opened_state f) { generation = new.1 i })) ∙ ap (shown_replica [] o) (sym new.2))
 
-fits_case : (up : List ℕ) (k : ℕ) (old new : Option Entry) (r : ℕ) (E : List Effect) (y : Option Replica) → GoesAt up k old new r y → FitsReplica k old E (where_complete (slice_index (complete_of old) r) y) →
+record_fits_case : (up : List ℕ) (k : ℕ) (old new : Option Entry) (r : ℕ) (E : List Effect) (y : Option Replica) → GoesAt up k old new r y → FitsReplica k old E (where_complete (slice_index (complete_of old) r) y) →
     FitsReplica k new (effects_under (slice_index (complete_of old) r) E) (where_complete (slice_index (complete_of new) r) y)
-fits_case up k old None r E y goes fits = subst (λ (b : Bool). FitsReplica k None (effects_under (slice_index (complete_of old) r) E) (cond b None y)) (sym (test_zero (slice_index no_nodes r) (zero_there r))) tt
-fits_case up k None (Some f) r E y goes fits = subst (λ (b : Bool). FitsReplica k (Some f) (effects_under (slice_index no_nodes r) E) (cond b None y)) (sym (test_zero (slice_index f.complete r) goes.0)) tt
-fits_case up k (Some e) (Some f) r E y goes fits = by_node goes.2 where
+record_fits_case up k old None r E y goes fits = subst (λ (b : Bool). FitsReplica k None (effects_under (slice_index (complete_of old) r) E) (cond b None y)) (sym (test_zero (slice_index no_nodes r) (zero_there r))) tt
+record_fits_case up k None (Some f) r E y goes fits = subst (λ (b : Bool). FitsReplica k (Some f) (effects_under (slice_index no_nodes r) E) (cond b None y)) (sym (test_zero (slice_index f.complete r) goes.0)) tt
+record_fits_case up k (Some e) (Some f) r E y goes fits = by_node goes.2 where
   at : (x : Option Replica) → FitsReplica k (Some e) E x → FitsReplica k (Some f) E x
   at None fits = tt
   at (Some x) fits = (fits.0, fits.1 ∙ sym goes.0, fits.2)
@@ -115,14 +115,14 @@ module _ (w : World) (h : History) (R : RecordState) (goes : (k r : ℕ) → Goe
   -- the machine with the record after a step is the one that the nodes show with it
   pub record_is : with_record (machine_of w h) R ≡ machine_of (record w { cluster = R }) (with_effects w h)
   record_is =
-      let replicas = λ (k r : ℕ). shown_case w.cluster.up k (entry_of k w.cluster.entries) (entry_of k R.entries) r (h.effects k r) (h.origins k r) (replica_in w.nodes k r) (goes k r) in
+      let replicas = λ (k r : ℕ). record_shown_case w.cluster.up k (entry_of k w.cluster.entries) (entry_of k R.entries) r (h.effects k r) (h.origins k r) (replica_in w.nodes k r) (goes k r) in
       let reserved = λ (k r : ℕ). reserved_case w.cluster.up k (entry_of k w.cluster.entries) (entry_of k R.entries) r (slice_index w.cluster.up r) (replica_in w.nodes k r) (goes k r)
       ∙ ap (λ (us : List ℕ). where_not_complete (entry_of k R.entries) r (shown_reservation (slice_index us r) (replica_in w.nodes k r))) (sym up) in
       λ i. record (machine_of (record w { cluster = R }) (with_effects w h)) { replicas = λ k r. replicas k r i; reserved = λ k r. reserved k r i }
 
   -- and they fit
-  pub record_fits : Fits w h → Fits (record w { cluster = R }) (with_effects w h)
+  pub record_fits : HistoryFits w h → HistoryFits (record w { cluster = R }) (with_effects w h)
   record_fits fits = record {
-    replicas = λ k r. fits_case w.cluster.up k (entry_of k w.cluster.entries) (entry_of k R.entries) r (h.effects k r) (replica_in w.nodes k r) (goes k r) (fits.replicas k r);
+    replicas = λ k r. record_fits_case w.cluster.up k (entry_of k w.cluster.entries) (entry_of k R.entries) r (h.effects k r) (replica_in w.nodes k r) (goes k r) (fits.replicas k r);
     hands = fits.hands;
   }

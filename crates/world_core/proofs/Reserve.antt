@@ -10,41 +10,37 @@ use Rattle.ckpt_types.specs.declared.operation.Op.{Op}
 use Rattle.node_msgs.specs.declared.requests.Request.TheVariants.{Reserve}
 use Rattle.node_msgs.specs.declared.replies.Reply.{Reply}
 use Rattle.node_msgs.specs.declared.replies.Reply.TheVariants.{Done, NoMemory}
-use Rattle.node_msgs.specs.declared.next.Next.{Next}
 use Rattle.node_msgs.specs.declared.next.Next.TheVariants.{Serve}
 use Rattle.run_labels.specs.declared.details.Details.TheVariants as beside
-use Rattle.run_labels.specs.declared.words.OpWord.{OpWord}
 use Rattle.node_msgs.specs.declared.steps.Verb.TheVariants as verbs
-use Rattle.node_msgs.specs.declared.steps.StepReply.TheVariants as words
 use Rattle.run_labels.specs.declared.labels.Label.{Label}
 use Rattle.run_labels.specs.declared.labels.Label.TheVariants.{Stepped}
-use Rattle.run_labels.specs.OpWord.{word_of_op}
+use Rattle.ckpt_types.specs.OpWord.{word_of_op}
 use Rattle.world_core.specs.declared.hands.InHand.{InHand}
 use Rattle.cluster_record.specs.declared.entries.Entry.{Entry}
 use Rattle.ckpt_machine.specs.Replicas.{Replica}
 use Rattle.world_core.specs.declared.world.World.{World}
-use Rattle.cluster_record.specs.Calls.{put_actor, left}
 use Rattle.cluster_record.specs.Places.{find_key, put2, list_or}
 use Rattle.cluster_record.specs.RecordState.{RecordState, entry_of, complete_of}
 use Rattle.world_core.specs.Holding.{replicas_on, IsReservation, IsHeld, HoldsOnlyWhatStands}
 use Rattle.ckpt_machine.specs.Replicas.{RecordSeen}
 use Rattle.ckpt_machine.specs.Serving.{record_seen, replica_key, replica_in, details_at, opened_replica, with_reserved, reserved_at}
 use Rattle.node_msgs.specs.Steps.{word_of}
-use Rattle.cluster_record.specs.StepDone.{StepDone}
 use Rattle.ckpt_machine.specs.Driving.{driver_next, driver_taken, driver_end}
-use Rattle.ckpt_machine.specs.Machine.{Machine, CallState}
-use Rattle.ckpt_machine.specs.Steps.{ended_details, IsDue, IsDone, MayAnswer, after, step_of, seen_at}
-use Rattle.world_core.specs.HandSteps.{hand_taken}
-use Rattle.world_core.specs.Happenings.{rooms_in}
-use Rattle.ckpt_machine.specs.Facts.{Facts, IsReservable}
-use Rattle.world_core.specs.Shows.{Does, IsShown, Fits, FitsReplica, History, machine_of, shown_replica, where_complete, complete_replica, where_not_complete, shown_reservation, reserved_in, hand_at}
-use Rattle.world_core.proofs.Held.{state_in, in_hand_is, in_hand_at, driver_is, actor_is, due_is, left_shown, left_fits, hand_fits}
+use Rattle.ckpt_machine.specs.Steps.{changed, ended_details, seen_at}
+use Rattle.world_core.specs.Happenings.{rooms_at}
+use Rattle.ckpt_machine.specs.Facts.{IsReservable}
+use Rattle.world_core.specs.Shows.{Does, IsShown, HistoryFits, FitsReplica, History, machine_of, shown_replica, where_complete, complete_replica, where_not_complete, shown_reservation, reserved_in, hand_at}
+use Rattle.world_core.proofs.Held.{state_in, in_hand_is, driver_is, due_is}
 use Rattle.world_core.proofs.HoldingLaws.{held_at, holds_by_key, opening_there, once_set}
-use Rattle.world_core.proofs.Maps.{both_true, same_there, node_case, put_hand, fits_hand}
+use Rattle.world_core.proofs.Maps.{both_true, same_there, node_case}
 use Rattle.ckpt_machine.proofs.OnceByKey.{counted, counted-push}
 use Rattle.cluster_record.proofs.Places.{find_pushed, get_set, there_is}
 use Rattle.world_core.proofs.Serve.{served_step}
-use Rattle.world_core.proofs.Told.{with_step, told_world, told_is, told_fits}
+use Rattle.world_core.proofs.Told.{told_world}
+use Rattle.world_core.proofs.CallSteps.{IsKnown, known, known_by, step_before}
+use Rattle.world_core.proofs.Freeing.{does_before}
+use Rattle.world_core.specs.Reserving.{IsReservedAt}
 
 -- ---- what a reservation makes of the nodes
 
@@ -150,142 +146,81 @@ none_ended : (end : Option Outcome) → beside.Nothing ≡ ended_details end bes
 none_ended None = refl
 none_ended (Some end) = refl
 
-abbrev end_of : World → ℕ → ℕ → InHand → Reply → Option Outcome
+-- how the call ends by a reply
+abbrev pub end_of : World → ℕ → ℕ → InHand → Reply → Option Outcome
 end_of w r k hand reply = driver_end hand.op (served_step w (Reserve k) r reply) reply (driver_taken (served_step w (Reserve k) r reply) hand.driver)
 
-abbrev reserve_label : World → ℕ → ℕ → InHand → Reply → Label
+abbrev pub reserve_label : World → ℕ → ℕ → InHand → Reply → Label
 reserve_label w r k hand reply = Stepped hand.call (word_of_op hand.op) verbs.Reserve (Some k) (Some r) (word_of reply) (end_of w r k hand reply) beside.Nothing
 
-abbrev refused_world : World → ℕ → ℕ → ℕ → InHand → World
-refused_world w c r k hand = told_world w c hand (served_step w (Reserve k) r NoMemory) (end_of w r k hand NoMemory)
+-- the world in which the call is told of the reply, where this is the world behind the reservation
+abbrev pub reserve_world : World → ℕ → ℕ → ℕ → InHand → Reply → World
+reserve_world w c r k hand reply = told_world w c hand (served_step w (Reserve k) r reply) (end_of w r k hand reply)
 
-abbrev reserve_world : World → ℕ → ℕ → ℕ → InHand → Entry → World
-reserve_world w c r k hand e = record (told_world w c hand (served_step w (Reserve k) r (Done answers.Nothing)) (end_of w r k hand (Done answers.Nothing))) { nodes = reserved_at w.nodes r (opened_replica k e.attributes e.made) }
+entry_there : {P : Entry → Type 0} (o : Option Entry) → IsSomeAnd o P → (e : Entry) × (o ≡ Some e) × P e
+entry_there None some = absurd some
+entry_there (Some e) some = (e, refl, some)
 
-module _ (w : World) (h : History) (c r k : ℕ) (hand : InHand) (facts : Facts (machine_of w h)) (fits : Fits w h) (holds : HoldsOnlyWhatStands w.cluster w.nodes) (held : hand_at w.hands c ≡ Some hand) (next : driver_next w.cluster (rooms_in w c) hand.driver ≡ Serve r (Reserve k)) where
-  abbrev m : Machine
-  m = machine_of w h
+-- the calls in hand are as they were
+pub reserved_hands : (w mid : World) (r k : ℕ) (reply : Reply) → IsReservedAt r k w mid reply → mid.hands ≡ w.hands
+reserved_hands w mid r k (Done answers.Nothing) done = ap (λ (w : World). w.hands) (entry_there (entry_of k w.cluster.entries) done).2
+reserved_hands w mid r k NoMemory done = ap (λ (w : World). w.hands) done
+reserved_hands w mid r k reply done = absurd done
 
-  abbrev s : CallState
-  s = state_in h c hand
+module _ (w : World) (c r k : ℕ) (hand : InHand) (held : hand_at w.hands c ≡ Some hand) (next : driver_next w.cluster (rooms_at w c) hand.driver ≡ Serve r (Reserve k)) where
+  ready : (h : History) → IsKnown w h → (r < 8) × IsSomeAnd (entry_of k w.cluster.entries) (IsReservable w.cluster r)
+  ready h known = known.facts.ready (Client c) (state_in h c hand) r (Reserve k) (in_hand_is w h c hand held) (due_is w h c hand held known.facts known.fits (Serve r (Reserve k)) next)
 
-  ready : (r < 8) × IsSomeAnd (entry_of k w.cluster.entries) (IsReservable w.cluster r)
-  ready = facts.ready (Client c) s r (Reserve k) (in_hand_is w h c hand held) (due_is w h c hand held facts fits (Serve r (Reserve k)) next)
-
-  due_step : (reply : Reply) → MayAnswer m s (Reserve k) r reply → IsDue m (reserve_label w r k hand reply)
-  due_step reply may = record {
-    state = s;
-    in_hand = in_hand_at w h c hand held facts;
-    call_is = refl;
-    word = refl;
-    done = subst (λ (n : Next). IsDone m s n (record { verb = verbs.Reserve; ckpt = Some k; node = Some r; reply = word_of reply; end = end_of w r k hand reply; details = beside.Nothing })) (sym (due_is w h c hand held facts fits (Serve r (Reserve k)) next)) (record {
-      answer = reply;
-      may = may;
-      verb = refl;
-      ckpt = refl;
-      node = refl;
-      reply = refl;
-      details = none_ended (end_of w r k hand reply) ∙ ap (ended_details (end_of w r k hand reply)) (none_read k hand.op (record_seen w.cluster k) (seen_at m k r));
-      end = ap (λ x. driver_end hand.op (served_step w (Reserve k) r reply) reply (driver_taken (served_step w (Reserve k) r reply) x)) (driver_is w h c hand held fits);
-    });
-  }
-
-  refused_is : after m (reserve_label w r k hand NoMemory) ≡ machine_of (refused_world w c r k hand) (with_step h c (served_step w (Reserve k) r NoMemory))
-  refused_is =
-      ap (λ (p : Option CallState). step_of m p verbs.Reserve (Some k) (Some r) words.Memory (end_of w r k hand NoMemory)) (in_hand_at w h c hand held facts)
-      ∙ told_is w h c hand (served_step w (Reserve k) r NoMemory) (end_of w r k hand NoMemory) (actor_is w h c hand held facts) fits held
-
-  module _ (e : Entry) (there : entry_of k w.cluster.entries ≡ Some e) (within : r < length w.nodes) where
-    can : IsReservable w.cluster r e
-    can = subst (λ (o : Option Entry). IsSomeAnd o (IsReservable w.cluster r)) there ready.1
-
-    free : slice_index e.complete r ≡ 0
-    free = can.not_complete
-
-    abbrev new : Replica
-    new = opened_replica k e.attributes e.made
-
-    abbrev done : StepDone
-    done = served_step w (Reserve k) r (Done answers.Nothing)
-
-    abbrev its_end : Option Outcome
-    its_end = end_of w r k hand (Done answers.Nothing)
-
-    abbrev w' : World
-    w' = reserve_world w c r k hand e
-
-    abbrev later : History
-    later = with_step h c done
-
-    at : (j q : ℕ) → replica_in w'.nodes j q ≡ cond ((j == k) && (q == r)) (Some new) (replica_in w.nodes j q)
-    at = reserved_here w.nodes r new within (only_this w.cluster w.nodes r new e holds within there can refl)
-
-    same : (j q : ℕ) → complete_replica w.cluster w'.nodes j q ≡ complete_replica w.cluster w.nodes j q
-    same = complete_same w.cluster w.nodes w'.nodes k r new e at there free
-
-    after_is : after m (reserve_label w r k hand (Done answers.Nothing)) ≡ machine_of w' later
-    after_is =
-        let hands = put_hand h w.hands c hand (left its_end (hand_taken done hand)) (done ∷ h.steps c) held in
-        let reserved = reserved_more w.cluster w.nodes w'.nodes k r new e at there free in
-        let M : Machine = record m { reserved = put2 m.reserved k r (Some (slice_index w.cluster.up r)) } in
-        ap (λ (p : Option CallState). step_of m p verbs.Reserve (Some k) (Some r) words.Ok its_end) (in_hand_at w h c hand held facts)
-        ∙ ((λ i. record M { in_hand = put_actor m.in_hand (actor_is w h c hand held facts i) (left_shown h c hand done its_end i) })
-        ∙ (λ i. record (machine_of w' later) { replicas = λ j q. shown_replica (h.effects j q) (h.origins j q) (sym (same j q) i); reserved = λ j q. reserved j q i; in_hand = λ a. hands a i }))
-
-    fits_later : Fits w' later
-    fits_later = record {
-      replicas = λ j q. subst (FitsReplica j (entry_of j w.cluster.entries) (h.effects j q)) (sym (same j q)) (fits.replicas j q);
-      hands = fits_hand h w.hands c hand (left its_end (hand_taken done hand)) (done ∷ h.steps c) held (left_fits h c hand done its_end (hand_fits w h c hand held fits)) fits.hands;
-    }
-
-    holds_later : HoldsOnlyWhatStands w.cluster w'.nodes
-    holds_later = holds_reserved w.cluster w.nodes r new e holds within there can refl
-
-module _ (w : World) (c r k : ℕ) (hand : InHand) (held : hand_at w.hands c ≡ Some hand) (next : driver_next w.cluster (rooms_in w c) hand.driver ≡ Serve r (Reserve k)) where
   -- what the step asks: the node is there, and the checkpoint, whose attributes are well formed and for which the node is not complete
   pub reserve_ready : IsShown w → (r < 8) × IsSomeAnd (entry_of k w.cluster.entries) (IsReservable w.cluster r)
-  reserve_ready shown = ready w shown.shows.history c r k hand (subst Facts shown.shows.same shown.facts) shown.shows.fits shown.shows.holds held next
+  reserve_ready shown = ready shown.shows.history (known w shown)
 
-  refused_does : Does w (refused_world w c r k hand) (reserve_label w r k hand NoMemory)
-  refused_does = record {
-    due_is = λ m s f. subst (λ m. IsDue m (reserve_label w r k hand NoMemory)) (sym s.same) (due_step w s.history c r k hand (subst Facts s.same f) s.fits s.holds held next NoMemory (inr refl));
-    shows = λ m s f. let facts = subst Facts s.same f in record {
-      history = with_step s.history c (served_step w (Reserve k) r NoMemory);
-      same = ap (λ m. after m (reserve_label w r k hand NoMemory)) s.same ∙ refused_is w s.history c r k hand facts s.fits s.holds held next;
-      fits = told_fits w s.history c hand (served_step w (Reserve k) r NoMemory) (end_of w r k hand NoMemory) (actor_is w s.history c hand held facts) s.fits held;
-      holds = s.holds;
-      rooms = s.rooms;
-    };
-  }
+  -- what the step has changed with this reply, where the nodes have this then
+  record Reserves (reply : Reply) (nodes : List (List Replica)) (h : History) : Type 0 where
+    change : changed (machine_of w h) (state_in h c hand) verbs.Reserve (Some k) (Some r) (word_of reply) ≡ machine_of (record w { nodes = nodes }) h
+    fits : HistoryFits (record w { nodes = nodes }) h
+    holds : HoldsOnlyWhatStands w.cluster nodes
 
-  reserve_does : (e : Entry) → entry_of k w.cluster.entries ≡ Some e → r < length w.nodes → Does w (reserve_world w c r k hand e) (reserve_label w r k hand (Done answers.Nothing))
-  reserve_does e there within = record {
-    due_is = λ m s f. subst (λ m. IsDue m (reserve_label w r k hand (Done answers.Nothing))) (sym s.same) (due_step w s.history c r k hand (subst Facts s.same f) s.fits s.holds held next (Done answers.Nothing) (inl refl));
-    shows = λ m s f. let facts = subst Facts s.same f in record {
-      history = with_step s.history c (served_step w (Reserve k) r (Done answers.Nothing));
-      same = ap (λ m. after m (reserve_label w r k hand (Done answers.Nothing))) s.same ∙ after_is w s.history c r k hand facts s.fits s.holds held next e there within;
-      fits = fits_later w s.history c r k hand facts s.fits s.holds held next e there within;
-      holds = holds_later w s.history c r k hand facts s.fits s.holds held next e there within;
-      rooms = s.rooms;
-    };
-  }
+  reserves_by : (reply : Reply) (nodes : List (List Replica)) → (reply ≡ Done answers.Nothing) ⊎ (reply ≡ NoMemory) → ((h : History) → IsKnown w h → Reserves reply nodes h) → Does w (reserve_world (record w { nodes = nodes }) c r k hand reply) (reserve_label w r k hand reply)
+  reserves_by reply nodes may reserves =
+      let end = end_of w r k hand reply in
+      does_before w (reserve_world (record w { nodes = nodes }) c r k hand reply) (reserve_label w r k hand reply)
+      (step_before w c hand held (record w { nodes = nodes }) (λ h. h) verbs.Reserve (Some k) (Some r) (word_of reply) end beside.Nothing (Serve r (Reserve k)) next held (λ h. refl) (λ h known. record {
+        done = record {
+          answer = reply;
+          may = may;
+          verb = refl;
+          ckpt = refl;
+          node = refl;
+          reply = refl;
+          details = none_ended end ∙ ap (ended_details end) (none_read k hand.op (record_seen w.cluster k) (seen_at (machine_of w h) k r));
+          end = let done = served_step w (Reserve k) r reply in ap (λ x. driver_end hand.op done reply (driver_taken done x)) (driver_is w h c hand held known.fits);
+        };
+        change = (reserves h known).change;
+        fits = (reserves h known).fits;
+      }))
+      (λ m s f. (reserves s.history (known_by w m s f)).holds)
+      (λ m s f. s.rooms)
 
-  -- the node reserves, with the parts as the code names them
-  pub reserve_done : (e : Entry) (nodes : List (List Replica)) (hands : List (Option InHand)) (word : OpWord) (end : Option Outcome) → entry_of k w.cluster.entries ≡ Some e → r < length w.nodes →
-      nodes ≡ reserved_at w.nodes r (opened_replica k e.attributes e.made) → end ≡ driver_end hand.op (served_step w (Reserve k) r (Done answers.Nothing)) (Done answers.Nothing) (driver_taken (served_step w (Reserve k) r (Done answers.Nothing)) hand.driver) →
-      hands ≡ slice_set w.hands c (left end (hand_taken (served_step w (Reserve k) r (Done answers.Nothing)) hand)) → word ≡ word_of_op hand.op →
-      Does w (record w { nodes = nodes; hands = hands }) (Stepped hand.call word verbs.Reserve (Some k) (Some r) words.Ok end beside.Nothing)
-  reserve_done e nodes hands word end there within nodes_is end_is hands_is word_is =
-      let g : slice_set w.hands c (left (end_of w r k hand (Done answers.Nothing)) (hand_taken (served_step w (Reserve k) r (Done answers.Nothing)) hand)) ≡ hands
-      = ap (λ (e : Option Outcome). slice_set w.hands c (left e (hand_taken (served_step w (Reserve k) r (Done answers.Nothing)) hand))) (sym end_is) ∙ sym hands_is in
-      subst (λ (y : List (List Replica) × List (Option InHand) × OpWord × Option Outcome). Does w (record w { nodes = y.0; hands = y.1 }) (Stepped hand.call y.2 verbs.Reserve (Some k) (Some r) words.Ok y.3 beside.Nothing))
-      (λ i. (sym nodes_is i, g i, sym word_is i, sym end_is i)) (reserve_does e there within)
+  taken : (e : Entry) → entry_of k w.cluster.entries ≡ Some e → r < length w.nodes → (h : History) → IsKnown w h → Reserves (Done answers.Nothing) (reserved_at w.nodes r (opened_replica k e.attributes e.made)) h
+  taken e there within h known =
+      let new : Replica = opened_replica k e.attributes e.made in
+      let nodes = reserved_at w.nodes r new in
+      let can : IsReservable w.cluster r e = subst (λ (o : Option Entry). IsSomeAnd o (IsReservable w.cluster r)) there (ready h known).1 in
+      let at = reserved_here w.nodes r new within (only_this w.cluster w.nodes r new e known.holds within there can refl) in
+      let same = complete_same w.cluster w.nodes nodes k r new e at there can.not_complete in
+      let reserved = reserved_more w.cluster w.nodes nodes k r new e at there can.not_complete in
+      record {
+        change = λ i. record (machine_of (record w { nodes = nodes }) h) { replicas = λ j q. shown_replica (h.effects j q) (h.origins j q) (sym (same j q) i); reserved = λ j q. reserved j q i };
+        fits = record { replicas = λ j q. subst (FitsReplica j (entry_of j w.cluster.entries) (h.effects j q)) (sym (same j q)) (known.fits.replicas j q); hands = known.fits.hands };
+        holds = holds_reserved w.cluster w.nodes r new e known.holds within there can refl;
+      }
 
-  -- the node is refused the memory
-  pub reserve_refused : (hands : List (Option InHand)) (word : OpWord) (end : Option Outcome) → end ≡ driver_end hand.op (served_step w (Reserve k) r NoMemory) NoMemory (driver_taken (served_step w (Reserve k) r NoMemory) hand.driver) →
-      hands ≡ slice_set w.hands c (left end (hand_taken (served_step w (Reserve k) r NoMemory) hand)) → word ≡ word_of_op hand.op → Does w (record w { hands = hands }) (Stepped hand.call word verbs.Reserve (Some k) (Some r) words.Memory end beside.Nothing)
-  reserve_refused hands word end end_is hands_is word_is =
-      let g : slice_set w.hands c (left (end_of w r k hand NoMemory) (hand_taken (served_step w (Reserve k) r NoMemory) hand)) ≡ hands
-      = ap (λ (e : Option Outcome). slice_set w.hands c (left e (hand_taken (served_step w (Reserve k) r NoMemory) hand))) (sym end_is) ∙ sym hands_is in
-      subst (λ (y : List (Option InHand) × OpWord × Option Outcome). Does w (record w { hands = y.0 }) (Stepped hand.call y.1 verbs.Reserve (Some k) (Some r) words.Memory y.2 beside.Nothing))
-      (λ i. (g i, sym word_is i, sym end_is i)) refused_does
+  -- the node reserves, or is refused the memory
+  pub reserve_does : (mid : World) (reply : Reply) → r < length w.nodes → IsReservedAt r k w mid reply → Does w (reserve_world mid c r k hand reply) (reserve_label mid r k hand reply)
+  reserve_does mid (Done answers.Nothing) within done =
+      let (e, there, is) = entry_there (entry_of k w.cluster.entries) done in
+      subst (λ (mid : World). Does w (reserve_world mid c r k hand (Done answers.Nothing)) (reserve_label mid r k hand (Done answers.Nothing))) (sym is) (reserves_by (Done answers.Nothing) (reserved_at w.nodes r (opened_replica k e.attributes e.made)) (inl refl) (taken e there within))
+  reserve_does mid NoMemory within done =
+      subst (λ (mid : World). Does w (reserve_world mid c r k hand NoMemory) (reserve_label mid r k hand NoMemory)) (sym done) (reserves_by NoMemory w.nodes (inr refl) (λ h known. record { change = refl; fits = known.fits; holds = known.holds }))
+  reserve_does mid reply within done = absurd done

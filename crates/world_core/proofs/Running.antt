@@ -7,7 +7,7 @@ use Rattle.ckpt_types.specs.declared.answers.Outcome.{Outcome}
 use Rattle.ckpt_types.specs.declared.identities.ActorName.TheVariants.{Client}
 use Rattle.ckpt_types.specs.declared.identities.CallId.{CallId}
 use Rattle.run_labels.specs.declared.details.Details.{Details}
-use Rattle.run_labels.specs.declared.words.OpWord.{OpWord}
+use Rattle.ckpt_types.specs.declared.words.OpWord.{OpWord}
 use Rattle.node_msgs.specs.declared.steps.Verb.{Verb}
 use Rattle.node_msgs.specs.declared.steps.StepReply.{StepReply}
 use Rattle.run_labels.specs.declared.labels.Label.{Label}
@@ -23,23 +23,22 @@ use Rattle.cluster_record.specs.RecordState.{RecordState, entry_of, complete_of}
 use Rattle.ckpt_machine.specs.Driving.{driver_taken}
 use Rattle.cluster_record.specs.StepDone.{done_of}
 use Rattle.ckpt_machine.specs.Machine.{Machine, CallState}
-use Rattle.ckpt_machine.specs.Steps.{driver_of, changed, step_of, after}
+use Rattle.ckpt_machine.specs.Steps.{driver_of, changed, claimed_count, kept_behind, step_of, after}
 use Rattle.ckpt_machine.specs.Facts.{Facts}
 use Rattle.world_core.specs.Shows.{Does, Shows, FitsReplica, IsShown, HasNumbersLeft, machine_of, shown_replica, hand_at}
 use Rattle.ckpt_machine.specs.Invariant.{InvariantIn, Invariant, IsGoodIn}
 use Rattle.ckpt_machine.specs.Shape.{Shape}
 use Rattle.ckpt_machine.specs.Runs.{Counts, last}
-use Rattle.world_core.specs.Runs.{IsNew, IsRunTo}
+use Rattle.world_core.specs.Runs.{IsRunTo}
 use Rattle.ckpt_machine.specs.Left.{lacking, having, making_left, steps_left, update_left}
 use Rattle.cluster_record.specs.declared.calls.UpdatePhase.{UpdatePhase}
 use Rattle.cluster_record.specs.declared.calls.UpdatePhase.TheVariants.{Staging, Committing}
 use Rattle.world_core.specs.StepsLeft.{hand_left, left_of}
-use Rattle.world_core.proofs.Held.{state_in, in_hand_is, in_hand_at, driver_is, actor_is}
+use Rattle.world_core.proofs.Held.{state_in, in_hand_is, in_hand_at, driver_is, actor_is, taken-counting}
 use Rattle.ckpt_machine.proofs.Nearer.{step_nearer}
 use Rattle.ckpt_machine.proofs.Facts.{facts}
 use Rattle.ckpt_machine.proofs.Runs.{last-push}
 use Rattle.ckpt_machine.proofs.RunLaws.{run_has, run_goes_on}
-use Rattle.world_core.proofs.New as new_world
 
 -- the world after a log shows the state after it
 pub shown : (w : World) (log : List Label) → IsRunTo w log → IsShown w
@@ -50,10 +49,6 @@ pub goes_on : (w w' : World) (log : List Label) (l : Label) → IsRunTo w log �
 goes_on w w' log l to does =
     let known = facts (last log) (run_has log to.run).0 in
     record { run = run_goes_on log l to.run (does.due_is (last log) to.shows known); shows = subst (Shows w') (sym (last-push log l)) (does.shows (last log) to.shows known) }
-
--- no label yet is a run to a new world
-pub new_run : (w : World) → IsNew w → IsRunTo w []
-new_run w new = new_world.new_run w new
 
 -- ---- a step brings its call nearer to its end
 
@@ -71,19 +66,15 @@ update_left-from_one complete owned Committing = from_one _
 
 -- at least one step is left of a call in hand
 pub steps_left-from_one : (R : RecordState) (d : Driver) → 1 ≤ steps_left R d
-steps_left-from_one R (drivers.Enter r) = omega arith
+steps_left-from_one R (drivers.Once x) = omega arith
 steps_left-from_one R (drivers.Open o) = making_left-from_one R o.making
 steps_left-from_one R (drivers.Update u) = update_left-from_one (complete_of (entry_of u.ckpt R.entries)) u.owned u.phase
 steps_left-from_one R (drivers.Active a) = omega arith
-steps_left-from_one R drivers.Leave = omega arith
-steps_left-from_one R (drivers.Close k) = omega arith
-steps_left-from_one R (drivers.Unlink name) = omega arith
-steps_left-from_one R (drivers.Retain k duration) = omega arith
 
 -- after a step that does not end it a call is in hand with this step more
 step_of-in_hand : (m : Machine) (s : CallState) (c : ℕ) (verb : Verb) (k r : Option ℕ) (reply : StepReply) → s.call.actor ≡ Client c
-    → (step_of m (Some s) verb k r reply None).in_hand (Client c) ≡ Some (record s { steps = done_of (step_of m (Some s) verb k r reply None).cluster verb k r reply ∷ s.steps })
-step_of-in_hand m s c verb k r reply is = ap (λ b. cond b (Some (record s { steps = done_of (step_of m (Some s) verb k r reply None).cluster verb k r reply ∷ s.steps })) ((changed m s verb k r reply).in_hand (Client c))) (ap (same_actor (Client c)) is ∙ eq-eqb c c refl)
+    → (let n = step_of m (Some s) verb k r reply None in n.in_hand (Client c) ≡ Some (kept_behind m s n.cluster verb k r reply))
+step_of-in_hand m s c verb k r reply is = let n = changed m s verb k r reply in ap (λ b. cond b (Some (kept_behind m s n.cluster verb k r reply)) (n.in_hand (Client c))) (ap (same_actor (Client c)) is ∙ eq-eqb c c refl)
 
 -- after a step fewer steps are left of its call, and none where it has ended
 pub nearer : (w w' : World) (log : List Label) (c : ℕ) (hand next : InHand) (op : OpWord) (verb : Verb) (k r : Option ℕ) (reply : StepReply) (end : Option Outcome) (details : Details)
@@ -100,11 +91,12 @@ nearer w w' log c hand next op verb k r reply None details to held does then =
     let due = does.due_is m to.shows known in
     let new = does.shows m to.shows known in
     let m' = after m (Stepped hand.call op verb k r reply None details) in
-    let goes : m'.in_hand (Client c) ≡ Some (record s { steps = done_of m'.cluster verb k r reply ∷ s.steps })
-    = subst (λ o. let n = step_of m o verb k r reply None in n.in_hand (Client c) ≡ Some (record s { steps = done_of n.cluster verb k r reply ∷ s.steps })) (sym here) (step_of-in_hand m s c verb k r reply (actor_is w h c hand held its)) in
+    let goes : m'.in_hand (Client c) ≡ Some (kept_behind m s m'.cluster verb k r reply)
+    = subst (λ o. let n = step_of m o verb k r reply None in n.in_hand (Client c) ≡ Some (kept_behind m s n.cluster verb k r reply)) (sym here) (step_of-in_hand m s c verb k r reply (actor_is w h c hand held its)) in
     let driver : next.driver ≡ driver_taken (done_of m'.cluster verb k r reply) (driver_of s)
     = driver_is w' new.history c next then new.fits
-    ∙ ap driver_of (same_Some (state_in new.history c next) (record s { steps = done_of m'.cluster verb k r reply ∷ s.steps }) (sym (in_hand_is w' new.history c next then) ∙ sym (ap (λ (m : Machine). m.in_hand (Client c)) new.same) ∙ goes)) in
+    ∙ ap driver_of (same_Some (state_in new.history c next) (kept_behind m s m'.cluster verb k r reply) (sym (in_hand_is w' new.history c next then) ∙ sym (ap (λ (m : Machine). m.in_hand (Client c)) new.same) ∙ goes))
+    ∙ taken-counting (claimed_count m verb k r) (done_of m'.cluster verb k r reply) (driver_of s) in
     let now : steps_left m'.cluster (driver_taken (done_of m'.cluster verb k r reply) (driver_of s)) ≡ left_of w' (Client c)
     = ap (steps_left m'.cluster) (sym driver) ∙ ap (λ (m : Machine). steps_left m.cluster next.driver) new.same ∙ ap (hand_left w'.cluster) (sym then) in
     let before : steps_left m.cluster (driver_of s) ≡ left_of w (Client c)
@@ -161,14 +153,10 @@ update_few complete owned Staging eight = staging_few (lacking complete owned) (
 update_few complete owned Committing eight = committing_few (lacking complete owned) (having complete owned) (length complete) (lacking_having complete owned) eight
 
 steps_left-few : (R : RecordState) (d : Driver) → length R.up ≡ 8 → ((k : ℕ) → length (complete_of (entry_of k R.entries)) ≡ 8) → steps_left R d ≤ 20
-steps_left-few R (drivers.Enter r) up complete = omega arith
+steps_left-few R (drivers.Once x) up complete = omega arith
 steps_left-few R (drivers.Open o) up complete = making_left-few R o.making up
 steps_left-few R (drivers.Update u) up complete = update_few (complete_of (entry_of u.ckpt R.entries)) u.owned u.phase (complete u.ckpt)
 steps_left-few R (drivers.Active a) up complete = omega arith
-steps_left-few R drivers.Leave up complete = omega arith
-steps_left-few R (drivers.Close k) up complete = omega arith
-steps_left-few R (drivers.Unlink name) up complete = omega arith
-steps_left-few R (drivers.Retain k duration) up complete = omega arith
 
 hand_left-few : (R : RecordState) (hand : Option InHand) → length R.up ≡ 8 → ((k : ℕ) → length (complete_of (entry_of k R.entries)) ≡ 8) → hand_left R hand ≤ 20
 hand_left-few R None up complete = omega arith
@@ -189,8 +177,8 @@ roomy w log to few =
     let counts : Counts (machine_of w h) (length log) = subst (λ (m : Machine). Counts m (length log)) to.shows.same (run_has log to.run).1 in
     record {
       next = λ c. let n = counts.next (Client c) in omega (arith, n, few);
-      handles = λ c. let n = counts.last_handles c in omega (arith, n, few);
-      iterations = λ c. let n = counts.last_iterations c in omega (arith, n, few);
+      handles = λ c. let n = counts.last_handles (Client c) in omega (arith, n, few);
+      iterations = λ c. let n = counts.last_iterations (Client c) in omega (arith, n, few);
       updates = λ k r x is.
           let n = counts.effects k r _ (ap (shown_replica (h.effects k r) (h.origins k r)) is) in
           let e = (subst (FitsReplica k (entry_of k w.cluster.entries) (h.effects k r)) is (to.shows.fits.replicas k r)).2 in

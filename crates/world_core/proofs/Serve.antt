@@ -13,19 +13,15 @@ use Rattle.node_msgs.specs.declared.replies.Reply.{Reply}
 use Rattle.node_msgs.specs.declared.next.Next.{Next}
 use Rattle.node_msgs.specs.declared.next.Next.TheVariants.{Serve}
 use Rattle.run_labels.specs.declared.details.Details.{Details}
-use Rattle.run_labels.specs.declared.words.OpWord.{OpWord}
-use Rattle.node_msgs.specs.declared.steps.Verb.{Verb}
-use Rattle.node_msgs.specs.declared.steps.StepReply.{StepReply}
 use Rattle.run_labels.specs.declared.labels.Label.{Label}
 use Rattle.run_labels.specs.declared.labels.Label.TheVariants.{Stepped}
-use Rattle.run_labels.specs.OpWord.{word_of_op}
+use Rattle.ckpt_types.specs.OpWord.{word_of_op}
 use Rattle.world_core.specs.declared.hands.InHand.{InHand}
-use Rattle.ckpt_machine.specs.Replicas.{RecordSeen}
 use Rattle.ckpt_machine.specs.Replicas.{Replica}
 use Rattle.world_core.specs.declared.world.World.{World}
-use Rattle.cluster_record.specs.Calls.{put_actor, left}
+use Rattle.cluster_record.specs.Calls.{left}
 use Rattle.cluster_record.specs.declared.entries.Entry.{Entry}
-use Rattle.cluster_record.specs.Places.{find_key, change_key, list_or, put, put2}
+use Rattle.cluster_record.specs.Places.{find_key, change_key, list_or, put2}
 use Rattle.cluster_record.specs.RecordState.{RecordState, entry_of, complete_of}
 use Rattle.node_msgs.specs.Requests.{ckpt_of}
 use Rattle.world_core.specs.Holding.{replicas_on, IsReservation, IsHeld, HoldsOnlyWhatStands}
@@ -34,19 +30,21 @@ use Rattle.node_msgs.specs.Steps.{verb_of, word_of}
 use Rattle.cluster_record.specs.StepDone.{StepDone}
 use Rattle.ckpt_machine.specs.Driving.{driver_next, driver_taken, driver_end}
 use Rattle.ckpt_machine.specs.Machine.{Machine, Effect, ReplicaState, CallState}
-use Rattle.ckpt_machine.specs.Steps.{ended_details, details_due, IsDue, IsDone, MayAnswer, after, changed, stepped, step_of, seen_at, staged_moment}
+use Rattle.ckpt_machine.specs.Steps.{due, ended_details, details_due, MayAnswer, changed, seen_at, staged_moment}
 use Rattle.world_core.specs.HandSteps.{hand_taken, served_done}
-use Rattle.world_core.specs.Happenings.{rooms_in}
-use Rattle.ckpt_machine.specs.Facts.{Facts, IsServable, HasNoSlot}
-use Rattle.world_core.specs.Shows.{Does, IsShown, HasNumbersLeft, Fits, History, machine_of, shown_replica, shown_slot, complete_replica, hand_at}
+use Rattle.world_core.specs.Happenings.{rooms_at}
+use Rattle.ckpt_machine.specs.Facts.{IsServable, HasNoSlot}
+use Rattle.world_core.specs.Shows.{Does, IsShown, HasNumbersLeft, HistoryFits, History, machine_of, shown_replica, shown_slot, complete_replica, hand_at}
 use Rattle.ckpt_machine.proofs.Calls.{IsOwn, own_request}
-use Rattle.world_core.proofs.Held.{state_in, in_hand_is, in_hand_at, driver_is, actor_is, due_is, left_shown, left_fits, hand_fits}
+use Rattle.world_core.proofs.Held.{state_in, in_hand_is, driver_is, due_is}
 use Rattle.world_core.proofs.HoldingLaws.{held_at, holds_by_key, standing, once_set}
-use Rattle.world_core.proofs.Maps.{both_true, slice_there, after_key, served_at, complete_at, put_replica, fits_replica, reserved_same, put_hand, fits_hand}
+use Rattle.world_core.proofs.Maps.{both_true, slice_there, after_key, served_at, complete_at_node, put_replica, fits_replica, reserved_same}
 use Rattle.ckpt_machine.proofs.OnceByKey.{counted, counted-change_key}
 use Rattle.world_core.proofs.PlainRequests.{IsPlain, effects_after, origin_after, row_moves, row_fits}
 use Rattle.world_core.proofs.Finding.{There}
 use Rattle.world_core.proofs.Finding as finding
+use Rattle.world_core.proofs.CallSteps.{IsKnown, known, known_by, IsShownBehind, step_before}
+use Rattle.world_core.proofs.Freeing.{does_before}
 
 -- what is asked of a replica as it is, is answered by that replica
 may_answer : (m : Machine) (s : CallState) (r : ℕ) (request : Request) (answer : Reply) → IsPlain request → answer ≡ reply_at request s.op (record_seen m.cluster (ckpt_of request)) (seen_at m (ckpt_of request) r) → MayAnswer m s request r answer
@@ -99,174 +97,140 @@ module _ (R : RecordState) (nodes : List (List Replica)) (r : ℕ) (request : Re
 abbrev pub served_step : World → Request → ℕ → Reply → StepDone
 served_step w request r reply = served_done w.cluster request r reply
 
-abbrev reply_in : World → ℕ → Request → InHand → Reply
+abbrev pub reply_in : World → ℕ → Request → InHand → Reply
 reply_in w r request hand = reply_at request hand.op (record_seen w.cluster (ckpt_of request)) (replica_in w.nodes (ckpt_of request) r)
 
-abbrev details_in : World → ℕ → Request → InHand → Details
+abbrev pub details_in : World → ℕ → Request → InHand → Details
 details_in w r request hand = details_at request hand.op (record_seen w.cluster (ckpt_of request)) (replica_in w.nodes (ckpt_of request) r)
 
-abbrev end_with : World → ℕ → Request → InHand → Reply → Option Outcome
+abbrev pub end_with : World → ℕ → Request → InHand → Reply → Option Outcome
 end_with w r request hand reply = driver_end hand.op (served_step w request r reply) reply (driver_taken (served_step w request r reply) hand.driver)
 
-abbrev serve_label : World → ℕ → Request → InHand → Label
+abbrev pub serve_label : World → ℕ → Request → InHand → Label
 serve_label w r request hand = let reply = reply_in w r request hand in Stepped hand.call (word_of_op hand.op) (verb_of request) (Some (ckpt_of request)) (Some r) (word_of reply) (end_with w r request hand reply) (ended_details (end_with w r request hand reply) (details_in w r request hand))
 
-abbrev serve_world : World → ℕ → ℕ → Request → InHand → World
+abbrev pub serve_world : World → ℕ → ℕ → Request → InHand → World
 serve_world w c r request hand = let reply = reply_in w r request hand in record w { nodes = served w.nodes r request hand.op; hands = slice_set w.hands c (left (end_with w r request hand reply) (hand_taken (served_step w request r reply) hand)) }
 
-module _ (w : World) (h : History) (c r : ℕ) (request : Request) (hand : InHand) (plain : IsPlain request) (facts : Facts (machine_of w h)) (fits : Fits w h) (held : hand_at w.hands c ≡ Some hand) (next : driver_next w.cluster (rooms_in w c) hand.driver ≡ Serve r request) where
-  abbrev m : Machine
-  m = machine_of w h
-
+module _ (w : World) (c r : ℕ) (request : Request) (hand : InHand) (plain : IsPlain request) (held : hand_at w.hands c ≡ Some hand) (next : driver_next w.cluster (rooms_at w c) hand.driver ≡ Serve r request) where
   abbrev k : ℕ
   k = ckpt_of request
 
-  abbrev s : CallState
-  s = state_in h c hand
-
-  abbrev E : List Effect
-  E = h.effects k r
-
-  abbrev o : CallId
-  o = h.origins k r
-
-  abbrev ready : (r < 8) × IsServable m r request
-  ready = finding.ready w h c r request hand plain.reserves_none facts fits held next
-
-  abbrev found : There k (slice_index (complete_of (entry_of k w.cluster.entries)) r) (entry_of k w.cluster.entries) E o (replica_in w.nodes k r) (IsReadyFor request)
-  found = finding.found w h c r request hand plain.reserves_none facts fits held next
-
-  abbrev x : Replica
-  x = found.replica
-
-  abbrev seen_is : seen_at m k r ≡ replica_in w.nodes k r
-  seen_is = finding.seen_is w h c r request hand plain.reserves_none facts fits held next
-
-  shown : m.replicas k r ≡ shown_replica E o (Some x)
-  shown = ap (λ b. shown_replica E o (cond b None (replica_in w.nodes k r))) found.complete ∙ ap (shown_replica E o) found.is
-
-  abbrev E' : List Effect
-  E' = effects_after request x o E
-
-  abbrev o' : CallId
-  o' = origin_after request x o
-
-  own : IsOwn s.call request
-  own = own_request w.cluster _ s r request (due_is w h c hand held facts fits (Serve r request) next)
-
-  moment : (call : CallId) (j : ℕ) (t : ℤ) → request ≡ Stage call j t → x.slot ≡ None → staged_moment m j ≡ t
-  moment call j t is free =
-      facts.moments (Client c) s r call j t (in_hand_is w h c hand held) (due_is w h c hand held facts fits (Serve r request) next ∙ ap (Serve r) is)
-      (subst (λ (q : Request). IsSomeAnd (m.replicas (ckpt_of q) r) HasNoSlot) is (subst (λ (y : Option ReplicaState). IsSomeAnd y HasNoSlot) (sym shown) (ap (shown_slot o) free)))
+  abbrev y : Option Replica
+  y = replica_in w.nodes k r
 
   abbrev reply : Reply
   reply = reply_in w r request hand
 
-  abbrev done : StepDone
-  done = served_step w request r reply
-
   abbrev end : Option Outcome
   end = end_with w r request hand reply
 
-  abbrev w' : World
-  w' = serve_world w c r request hand
+  -- the world in which the node has served it, and its history, where the node has this replica
+  abbrev behind : World
+  behind = record w { nodes = served w.nodes r request hand.op }
 
-  abbrev label : Label
-  label = serve_label w r request hand
+  abbrev later : Option Replica → History → History
+  later y h = record h { effects = put2 h.effects k r (effects_after request y (h.origins k r) (h.effects k r)); origins = put2 h.origins k r (origin_after request y (h.origins k r)) }
 
-  abbrev later : History
-  later = record h { effects = put2 h.effects k r E'; origins = put2 h.origins k r o'; steps = put h.steps c (done ∷ h.steps c) }
+  module _ (h : History) (known : IsKnown w h) where
+    abbrev m : Machine
+    m = machine_of w h
 
-  due_step : IsDue m label
-  due_step = record {
-    state = s;
-    in_hand = in_hand_at w h c hand held facts;
-    call_is = refl;
-    word = refl;
-    done = subst (λ (n : Next). IsDone m s n (record { verb = verb_of request; ckpt = Some k; node = Some r; reply = word_of reply; end = end; details = ended_details end (details_in w r request hand) })) (sym (due_is w h c hand held facts fits (Serve r request) next)) (record {
-      answer = reply;
-      may = may_answer m s r request reply plain (ap (reply_at request hand.op (record_seen w.cluster (ckpt_of request))) (sym seen_is));
-      verb = refl;
-      ckpt = refl;
-      node = refl;
-      reply = refl;
-      details = ap (ended_details end) (ap (details_at request hand.op (record_seen w.cluster (ckpt_of request))) (sym seen_is) ∙ sym (details_plain m s r request plain));
-      end = ap (λ x. driver_end hand.op done reply (driver_taken done x)) (driver_is w h c hand held fits);
-    });
-  }
+    abbrev s : CallState
+    s = state_in h c hand
 
-  abbrev x' : Replica
-  x' = replica_after request hand.op x
+    abbrev E : List Effect
+    E = h.effects k r
 
-  move : changed m s (verb_of request) (Some k) (Some r) (word_of reply) ≡ record m { replicas = put2 m.replicas k r (shown_replica E' o' (Some x')) }
-  move =
-      ap (λ (b : Option Replica). changed m s (verb_of request) (Some k) (Some r) (word_of (reply_at request hand.op (record_seen w.cluster (ckpt_of request)) b))) found.is
-      ∙ row_moves m s r E o x found.entry request plain found.at found.attributes shown found.holds own moment
+    abbrev o : CallId
+    o = h.origins k r
 
-  at_each : (j q : ℕ) → replica_in w'.nodes j q ≡ cond ((j == k) && (q == r)) (Some x') (replica_in w.nodes j q)
-  at_each = served_at w.nodes r request hand.op x found.is
+    abbrev ready : (r < 8) × IsServable m r request
+    ready = finding.ready w h c r request hand plain.reserves_none known.facts known.fits held next
 
-  complete_each : (j q : ℕ) → complete_replica w.cluster w'.nodes j q ≡ cond ((j == k) && (q == r)) (Some x') (complete_replica w.cluster w.nodes j q)
-  complete_each = complete_at w.cluster w.nodes w'.nodes k r x' at_each found.complete
+    abbrev found : There k (slice_index (complete_of (entry_of k w.cluster.entries)) r) (entry_of k w.cluster.entries) E o y (IsReadyFor request)
+    found = finding.found w h c r request hand plain.reserves_none known.facts known.fits held next
 
-  after_is : after m label ≡ machine_of w' later
-  after_is =
-      let replicas = put_replica h.effects h.origins (complete_replica w.cluster w.nodes) (complete_replica w.cluster w'.nodes) k r E' o' x' complete_each in
-      let reserved = reserved_same w.cluster w.nodes w'.nodes k r x' x found.is at_each in
-      let hands = put_hand h w.hands c hand (left end (hand_taken done hand)) (done ∷ h.steps c) held in
-      ap (λ (p : Option CallState). step_of m p (verb_of request) (Some k) (Some r) (word_of reply) end) (in_hand_at w h c hand held facts)
-      ∙ (ap (λ (M : Machine). stepped M s (verb_of request) (Some k) (Some r) (word_of reply) end) move
-      ∙ ((λ i. record m { replicas = put2 m.replicas k r (shown_replica E' o' (Some x')); in_hand = put_actor m.in_hand (actor_is w h c hand held facts i) (left_shown h c hand done end i) })
-      ∙ (λ i. record (machine_of w' later) { replicas = replicas i; reserved = λ j q. reserved j q i; in_hand = λ a. hands a i })))
+    abbrev seen_is : seen_at m k r ≡ y
+    seen_is = finding.seen_is w h c r request hand plain.reserves_none known.facts known.fits held next
 
-  fits_later : Fits w' later
-  fits_later = record {
-    replicas = fits_replica w.cluster h.effects (complete_replica w.cluster w.nodes) (complete_replica w.cluster w'.nodes) k r E' x' complete_each (row_fits k (entry_of k w.cluster.entries) E o x request hand.op found.fits) fits.replicas;
-    hands = fits_hand h w.hands c hand (left end (hand_taken done hand)) (done ∷ h.steps c) held (left_fits h c hand done end (hand_fits w h c hand held fits)) fits.hands;
-  }
+    due_here : due m s ≡ Serve r request
+    due_here = due_is w h c hand held known.facts known.fits (Serve r request) next
 
-  -- the nodes hold what they held, one replica with another state
-  holds_later : HoldsOnlyWhatStands w.cluster w.nodes → HoldsOnlyWhatStands w.cluster w'.nodes
-  holds_later holds = holds_served w.cluster w.nodes r request hand.op x found.entry holds found.is found.at (ap (λ (o : Option Entry). slice_index (complete_of o) r == 0) (sym found.at) ∙ found.complete)
+    abbrev x : Replica
+    x = found.replica
 
-module _ (w : World) (c r : ℕ) (request : Request) (hand : InHand) (plain : IsPlain request) (held : hand_at w.hands c ≡ Some hand) (next : driver_next w.cluster (rooms_in w c) hand.driver ≡ Serve r request) where
-  serve_does : Does w (serve_world w c r request hand) (serve_label w r request hand)
-  serve_does = record {
-    due_is = λ m s f. subst (λ m. IsDue m (serve_label w r request hand)) (sym s.same) (due_step w s.history c r request hand plain (subst Facts s.same f) s.fits held next);
-    shows = λ m s f. let facts = subst Facts s.same f in record {
-      history = later w s.history c r request hand plain facts s.fits held next;
-      same = ap (λ m. after m (serve_label w r request hand)) s.same ∙ after_is w s.history c r request hand plain facts s.fits held next;
-      fits = fits_later w s.history c r request hand plain facts s.fits held next;
-      holds = holds_later w s.history c r request hand plain facts s.fits held next s.holds;
-      rooms = s.rooms;
-    };
-  }
+    shown : m.replicas k r ≡ shown_replica E o (Some x)
+    shown = ap (λ b. shown_replica E o (cond b None y)) found.complete ∙ ap (shown_replica E o) found.is
+
+    own : IsOwn s.call request
+    own = own_request w.cluster _ s r request due_here
+
+    moment : (call : CallId) (j : ℕ) (t : ℤ) → request ≡ Stage call j t → x.slot ≡ None → staged_moment m j ≡ t
+    moment call j t is free =
+        known.facts.moments (Client c) s r call j t (in_hand_is w h c hand held) (due_here ∙ ap (Serve r) is)
+        (subst (λ (q : Request). IsSomeAnd (m.replicas (ckpt_of q) r) HasNoSlot) is (subst (λ (y : Option ReplicaState). IsSomeAnd y HasNoSlot) (sym shown) (ap (shown_slot o) free)))
+
+    abbrev x' : Replica
+    x' = replica_after request hand.op x
+
+    at_each : (j q : ℕ) → replica_in behind.nodes j q ≡ cond ((j == k) && (q == r)) (Some x') (replica_in w.nodes j q)
+    at_each = served_at w.nodes r request hand.op x found.is
+
+    complete_each : (j q : ℕ) → complete_replica w.cluster behind.nodes j q ≡ cond ((j == k) && (q == r)) (Some x') (complete_replica w.cluster w.nodes j q)
+    complete_each = complete_at_node w.cluster w.nodes behind.nodes k r x' at_each found.complete
+
+    change : changed m s (verb_of request) (Some k) (Some r) (word_of reply) ≡ machine_of behind (later y h)
+    change =
+        let replicas = put_replica h.effects h.origins (complete_replica w.cluster w.nodes) (complete_replica w.cluster behind.nodes) k r (effects_after request (Some x) o E) (origin_after request (Some x) o) x' complete_each in
+        let reserved = reserved_same w.cluster w.nodes behind.nodes k r x' x found.is at_each in
+        ap (λ (y : Option Replica). changed m s (verb_of request) (Some k) (Some r) (word_of (reply_at request hand.op (record_seen w.cluster k) y))) found.is
+        ∙ (row_moves m s r E o x found.entry request plain found.at found.attributes shown found.holds own moment
+        ∙ ((λ i. record (machine_of behind (later (Some x) h)) { replicas = replicas i; reserved = λ j q. reserved j q i })
+        ∙ ap (λ (y : Option Replica). machine_of behind (later y h)) (sym found.is)))
+
+    fits_behind : HistoryFits behind (later y h)
+    fits_behind = subst (λ (y : Option Replica). HistoryFits behind (later y h)) (sym found.is) (record {
+      replicas = fits_replica w.cluster h.effects (complete_replica w.cluster w.nodes) (complete_replica w.cluster behind.nodes) k r (effects_after request (Some x) o E) x' complete_each (row_fits k (entry_of k w.cluster.entries) E o x request hand.op found.fits) known.fits.replicas;
+      hands = known.fits.hands;
+    })
+
+    is_served : IsShownBehind w c hand held behind (later y) (verb_of request) (Some k) (Some r) (word_of reply) end (ended_details end (details_in w r request hand)) (Serve r request) h
+    is_served = record {
+      done = record {
+        answer = reply;
+        may = may_answer m s r request reply plain (ap (reply_at request hand.op (record_seen w.cluster k)) (sym seen_is));
+        verb = refl;
+        ckpt = refl;
+        node = refl;
+        reply = refl;
+        details = ap (ended_details end) (ap (details_at request hand.op (record_seen w.cluster k)) (sym seen_is) ∙ sym (details_plain m s r request plain));
+        end = let done = served_step w request r reply in ap (λ x. driver_end hand.op done reply (driver_taken done x)) (driver_is w h c hand held known.fits);
+      };
+      change = change;
+      fits = fits_behind;
+    }
+
+    -- the nodes hold what they held, one replica with another state
+    holds_behind : HoldsOnlyWhatStands w.cluster behind.nodes
+    holds_behind = holds_served w.cluster w.nodes r request hand.op x found.entry known.holds found.is found.at (ap (λ (o : Option Entry). slice_index (complete_of o) r == 0) (sym found.at) ∙ found.complete)
+
+  -- the node serves the request
+  pub serve_does : Does w (serve_world w c r request hand) (serve_label w r request hand)
+  serve_does = does_before w (serve_world w c r request hand) (serve_label w r request hand)
+      (step_before w c hand held behind (later y) (verb_of request) (Some k) (Some r) (word_of reply) end (ended_details end (details_in w r request hand)) (Serve r request) next held (λ h. refl) is_served)
+      (λ m s f. holds_behind s.history (known_by w m s f))
+      (λ m s f. s.rooms)
 
   ready_at : (y : Option Replica) (x : Replica) → y ≡ Some x → IsReadyFor request x → x.count < 2 ^ 64 - 1 → IsReadyAt request y
   ready_at y x is ready room = subst (IsReadyAt request) (sym is) (record { asked = ready; room = room })
 
   -- what the step asks of its node: the node is there
   pub serve_node : IsShown w → r < 8
-  serve_node shown = (ready w shown.shows.history c r request hand plain (subst Facts shown.shows.same shown.facts) shown.shows.fits held next).0
+  serve_node shown = (ready shown.shows.history (known w shown)).0
 
   -- and its replica is ready for the request
-  pub serve_ready : IsShown w → HasNumbersLeft w → IsReadyAt request (replica_in w.nodes (ckpt_of request) r)
+  pub serve_ready : IsShown w → HasNumbersLeft w → IsReadyAt request y
   serve_ready shown room =
-      let f = found w shown.shows.history c r request hand plain (subst Facts shown.shows.same shown.facts) shown.shows.fits held next in
-      ready_at (replica_in w.nodes (ckpt_of request) r) f.replica f.is f.holds (room.updates (ckpt_of request) r f.replica (ap (λ b. cond b None (replica_in w.nodes (ckpt_of request) r)) f.complete ∙ f.is))
-
-  -- the node serves the request, with the parts of the new world and of the label as the code names them
-  pub serve_done : (op : Op) (sight : RecordSeen) (nodes : List (List Replica)) (hands : List (Option InHand)) (word : OpWord) (verb : Verb) (k : ℕ) (said : StepReply) (reply : Reply) (end : Option Outcome) (details : Details) →
-      op ≡ hand.op → sight ≡ record_seen w.cluster (ckpt_of request) → reply ≡ reply_at request op sight (replica_in w.nodes (ckpt_of request) r) → details ≡ ended_details end (details_at request op sight (replica_in w.nodes (ckpt_of request) r)) → nodes ≡ served w.nodes r request op →
-      end ≡ driver_end hand.op (served_step w request r reply) reply (driver_taken (served_step w request r reply) hand.driver) → hands ≡ slice_set w.hands c (left end (hand_taken (served_step w request r reply) hand)) →
-      word ≡ word_of_op hand.op → verb ≡ verb_of request → k ≡ ckpt_of request → said ≡ word_of reply → Does w (record w { nodes = nodes; hands = hands }) (Stepped hand.call word verb (Some k) (Some r) said end details)
-  serve_done op sight nodes hands word verb k said reply end details op_is sight_is reply_is details_is nodes_is end_is hands_is word_is verb_is k_is said_is =
-      let y = replica_in w.nodes (ckpt_of request) r in
-      let a : reply_in w r request hand ≡ reply = (λ i. reply_at request (sym op_is i) (sym sight_is i) y) ∙ sym reply_is in
-      let n : served w.nodes r request hand.op ≡ nodes = ap (served w.nodes r request) (sym op_is) ∙ sym nodes_is in
-      let e : end_with w r request hand (reply_in w r request hand) ≡ end = ap (end_with w r request hand) a ∙ sym end_is in
-      let p : ended_details (end_with w r request hand (reply_in w r request hand)) (details_in w r request hand) ≡ details = (λ i. ended_details (e i) (details_at request (sym op_is i) (sym sight_is i) y)) ∙ sym details_is in
-      let g : slice_set w.hands c (left (end_with w r request hand (reply_in w r request hand)) (hand_taken (served_step w request r (reply_in w r request hand)) hand)) ≡ hands
-      = (λ i. slice_set w.hands c (left (e i) (hand_taken (served_step w request r (a i)) hand))) ∙ sym hands_is in
-      subst (λ (y : List (List Replica) × List (Option InHand) × OpWord × Verb × ℕ × StepReply × Option Outcome × Details). Does w (record w { nodes = y.0; hands = y.1 }) (Stepped hand.call y.2 y.3 (Some y.4) (Some r) y.5 y.6 y.7))
-      (λ i. (n i, g i, sym word_is i, sym verb_is i, sym k_is i, (ap word_of a ∙ sym said_is) i, e i, p i)) serve_does
+      let f = found shown.shows.history (known w shown) in
+      ready_at y f.replica f.is f.holds (room.updates k r f.replica (ap (λ b. cond b None y) f.complete ∙ f.is))

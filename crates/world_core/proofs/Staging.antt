@@ -18,17 +18,18 @@ use Rattle.node_msgs.specs.declared.steps.Verb.TheVariants as verbs
 use Rattle.run_labels.specs.declared.details.Details.TheVariants as beside
 use Rattle.run_labels.specs.declared.labels.Label.{Label}
 use Rattle.run_labels.specs.declared.labels.Label.TheVariants.{Stepped}
-use Rattle.run_labels.specs.declared.words.OpWord.{OpWord}
-use Rattle.run_labels.specs.OpWord.{word_of_op}
+use Rattle.ckpt_types.specs.declared.words.OpWord.{OpWord}
+use Rattle.ckpt_types.specs.OpWord.{word_of_op}
 use Rattle.cluster_record.specs.Calls.{left}
 use Rattle.cluster_record.specs.RecordState.{RecordState}
 use Rattle.cluster_record.specs.StepDone.{done_of}
 use Rattle.node_msgs.specs.Steps.{word_of}
 use Rattle.ckpt_machine.specs.Drivers.{Driver}
 use Rattle.ckpt_machine.specs.Drivers as drivers
+use Rattle.ckpt_types.specs.Asks.{update_of}
 use Rattle.ckpt_machine.specs.Driving.{driver_taken, done_end}
 use Rattle.ckpt_machine.specs.Replicas.{RecordSeen, Replica, Slot}
-use Rattle.ckpt_machine.specs.Serving.{record_seen, replica_in, reply_at, details_at, served, update_of, update_answer, slot_id}
+use Rattle.ckpt_machine.specs.Serving.{record_seen, replica_in, reply_at, details_at, served, update_answer, slot_id}
 use Rattle.ckpt_machine.specs.Steps.{ended_details}
 use Rattle.world_core.specs.declared.hands.InHand.{InHand}
 use Rattle.world_core.specs.declared.world.World.{World}
@@ -93,13 +94,7 @@ commit_done (Some x) a is = cc is
 -- a stage that was done ends no update
 stage_goes_on : (R : RecordState) (k r : Option ℕ) (a : Answer) (x : Driver) → IsUpdate x → None ≡ done_end (done_of R verbs.Stage k r words.Ok) a (driver_taken (done_of R verbs.Stage k r words.Ok) x)
 stage_goes_on R k r a (drivers.Update u) is = refl
-stage_goes_on R k r a (drivers.Enter n) is = absurd is
-stage_goes_on R k r a (drivers.Open o) is = absurd is
-stage_goes_on R k r a (drivers.Active o) is = absurd is
-stage_goes_on R k r a drivers.Leave is = absurd is
-stage_goes_on R k r a (drivers.Close j) is = absurd is
-stage_goes_on R k r a (drivers.Unlink name) is = absurd is
-stage_goes_on R k r a (drivers.Retain j duration) is = absurd is
+stage_goes_on R k r a x is = absurd is
 
 -- ---- the steps
 

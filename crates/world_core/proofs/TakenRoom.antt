@@ -1,22 +1,25 @@
 -- A client whose room is taken is shown as before.
-use Rattle.std.proofs.Common.{◌≡◌, ℕ, ◌-◌, ◌^◌, ◌<◌, Bool, true, false, List, length, Option, Some, IsSomeAnd, refl, sym, ap, subst, ◌∙◌, cond, ◌==◌}
+use Rattle.std.proofs.Common.{◌≡◌, ℕ, ◌-◌, ◌^◌, ◌<◌, Bool, true, false, List, Option, Some, IsSomeAnd, refl, sym, ap, subst, ◌∙◌, cond, ◌==◌}
 use Rattle.std.proofs.lemmas.Bool.{eq-eqb}
-use Rattle.std.specs.Prelude.{nat_lt, slice_get, slice_set}
+use Rattle.std.specs.Prelude.{slice_get, slice_set}
+use Rattle.ckpt_types.specs.declared.identities.ActorName.{ActorName}
+use Rattle.ckpt_types.specs.declared.identities.ActorName.TheVariants.{Client, Node}
 use Rattle.node_msgs.specs.declared.next.Next.{Next}
 use Rattle.run_labels.specs.declared.labels.Label.{Label}
-use Rattle.ckpt_machine.specs.Drivers.{Rooms}
-use Rattle.world_core.specs.declared.world.World.{World}
+use Rattle.client_handles.specs.ClientState.{ClientState}
 use Rattle.ckpt_machine.specs.Driving.{driver_next}
-use Rattle.world_core.specs.Happenings.{IsNext, IsStep, rooms_in}
-use Rattle.world_core.specs.LiveRooms.{room_is_taken}
 use Rattle.ckpt_machine.specs.Machine.{Machine}
-use Rattle.world_core.specs.Shows.{Shows, IsShown, HasNumbersLeft, History, machine_of, next_in, handles_in, place_in, last_in, iterations_in}
-use Rattle.world_core.specs.TableState.{TableState, with_room}
+use Rattle.ckpt_machine.specs.Tables.{rooms_in}
 use Rattle.ckpt_machine.proofs.OptionLemmas.{IsSomeAnd-at}
+use Rattle.world_core.specs.declared.world.World.{World}
+use Rattle.world_core.specs.Happenings.{IsNext, IsStep}
+use Rattle.world_core.specs.LiveRooms.{room_is_taken}
+use Rattle.world_core.specs.Shows.{Shows, IsShown, HasNumbersLeft, History, machine_of, tables_of}
+use Rattle.world_core.specs.TableState.{TableState, next_in, kept_in, with_room}
 use Rattle.world_core.proofs.TableFields.{field_same, nexts_same, table_at}
 
 -- what is known of the world is known of it with the room, and a step of it then is a step of the world
-pub record Keeps (w : World) (c : ℕ) (taken : World) : Type 0 where
+pub record KeepsAll (w : World) (c : ℕ) (taken : World) : Type 0 where
   pub shown : IsShown w → IsShown taken
   pub next : (n : Next) → IsNext w c n → IsNext taken c n
   pub roomy : HasNumbersLeft w → HasNumbersLeft taken
@@ -30,13 +33,14 @@ module _ (w : World) (c : ℕ) (t : TableState) (table : slice_get w.tables c �
   same : {X : Type 0} (f : Option TableState → X) → f (Some t) ≡ f (Some (with_room t)) → (d : ℕ) → f (slice_get w.tables d) ≡ f (slice_get with_it.tables d)
   same = field_same w c t (with_room t) table
 
+  tables_same : (a : ActorName) → tables_of w.tables a ≡ tables_of with_it.tables a
+  tables_same (Client d) = same kept_in refl d
+  tables_same (Node r) = refl
+
   machine_is : (h : History) → machine_of w h ≡ machine_of with_it h
   machine_is h = λ i. record (machine_of with_it h) {
     next = λ a. nexts_same w c t (with_room t) table refl a i;
-    handles = λ d. same handles_in refl d i;
-    places = λ d p. same (λ o. place_in o p) refl d i;
-    last_handles = λ d. same last_in refl d i;
-    iterations = λ d. same iterations_in refl d i;
+    tables = λ a. tables_same a i;
   }
 
   roomy_there : (d : ℕ) → room_is_taken (slice_get w.tables d) ≡ true → room_is_taken (slice_get with_it.tables d) ≡ true
@@ -54,20 +58,17 @@ module _ (w : World) (c : ℕ) (t : TableState) (table : slice_get w.tables c �
     rooms = λ d live. roomy_there d (s.rooms d live);
   }
 
-  rooms_same : rooms_in w c ≡ rooms_in with_it c
-  rooms_same = λ i. record { handles = nat_lt (length (same handles_in refl c i)) 32; iterations = nat_lt (length (same iterations_in refl c i).begun) 8 }
-
   has_it : room_is_taken (slice_get with_it.tables c) ≡ true
   has_it = subst (λ (o : Option TableState). room_is_taken o ≡ true) (table_at w c t (with_room t) table c) (ap (λ b. room_is_taken (cond b (Some (with_room t)) (slice_get w.tables c))) (eq-eqb c c refl))
 
-  keeps : Keeps w c with_it
+  keeps : KeepsAll w c with_it
   keeps = record {
     shown = λ shown. record { state = shown.state; shows = shows_it shown.state shown.shows; facts = shown.facts };
-    next = λ n next. record { hand = next.hand; held = next.held; next_is = ap (λ (rooms : Rooms). driver_next w.cluster rooms next.hand.driver) (sym rooms_same) ∙ next.next_is };
+    next = λ n next. record { hand = next.hand; held = next.held; next_is = ap (λ (kept : ClientState). driver_next w.cluster (rooms_in kept) next.hand.driver) (sym (same kept_in refl c)) ∙ next.next_is };
     roomy = λ roomy. record {
       next = λ d. subst (λ n. n < 2 ^ 32 - 1) (same next_in refl d) (roomy.next d);
-      handles = λ d. subst (λ n. n < 2 ^ 32 - 1) (same last_in refl d) (roomy.handles d);
-      iterations = λ d. subst (λ n. n < 2 ^ 32 - 1) (same (λ o. (iterations_in o).last) refl d) (roomy.iterations d);
+      handles = λ d. subst (λ n. n < 2 ^ 32 - 1) (same (λ o. (kept_in o).last_number) refl d) (roomy.handles d);
+      iterations = λ d. subst (λ n. n < 2 ^ 32 - 1) (same (λ o. (kept_in o).last_iteration) refl d) (roomy.iterations d);
       updates = roomy.updates;
       identity = roomy.identity;
       references = roomy.references;
@@ -93,7 +94,7 @@ module _ (w : World) (c : ℕ) (t : TableState) (table : slice_get w.tables c �
   }
 
 -- with the tables as the code names them
-pub keeps_taken : (w : World) (c : ℕ) (tables : List TableState) → IsSomeAnd (slice_get w.tables c) (λ t. tables ≡ slice_set w.tables c (with_room t)) → Keeps w c (record w { tables = tables })
+pub keeps_taken : (w : World) (c : ℕ) (tables : List TableState) → IsSomeAnd (slice_get w.tables c) (λ t. tables ≡ slice_set w.tables c (with_room t)) → KeepsAll w c (record w { tables = tables })
 keeps_taken w c tables taken =
     let (t, table, tables_are) = IsSomeAnd-at (slice_get w.tables c) _ taken in
-    subst (λ (ts : List TableState). Keeps w c (record w { tables = ts })) (sym tables_are) (keeps w c t table)
+    subst (λ (ts : List TableState). KeepsAll w c (record w { tables = ts })) (sym tables_are) (keeps w c t table)

@@ -5,8 +5,8 @@ use Rattle.ckpt_types.specs.declared.identities.ActorName.TheVariants.{Client, N
 use Rattle.ckpt_types.specs.declared.identities.Who.{Who}
 use Rattle.ckpt_types.specs.declared.identities.Who.TheVariants.{Actor, Call}
 use Rattle.ckpt_types.specs.Limits.{nodes_max}
-use Rattle.run_labels.specs.declared.words.OpWord.{OpWord}
-use Rattle.run_labels.specs.declared.words.OpWord.TheVariants as opwords
+use Rattle.ckpt_types.specs.declared.words.OpWord.{OpWord}
+use Rattle.ckpt_types.specs.declared.words.OpWord.TheVariants as opwords
 use Rattle.run_labels.specs.declared.words.LineWord.{LineWord}
 use Rattle.run_labels.specs.declared.words.LineWord.TheVariants as linewords
 use Rattle.run_labels.specs.declared.words.Said.{Said}
@@ -30,16 +30,18 @@ word_done w c word said is = record {
   shows = λ m s f. s;
 }
 
-none_in_hand : (w : World) (h : History) (c : ℕ) → hand_at w.hands c ≡ None → (machine_of w h).in_hand (Client c) ≡ None
-none_in_hand w h c free = ap (shown_hand (h.kept c) (h.steps c)) free
+-- a client's call in hand, as the machine has it: none where there is none
+pub none_in_hand : (w : World) (h : History) (c : ℕ) → hand_at w.hands c ≡ None → (machine_of w h).in_hand (Client c) ≡ None
+none_in_hand w h c free = ap (shown_hand (h.kept (Client c)) (h.steps (Client c)) (h.created (Client c))) free
 
-some_in_hand : (h : History) (c : ℕ) (o : Option InHand) → o ≢ None → shown_hand (h.kept c) (h.steps c) o ≢ None
-some_in_hand h c None held none = held refl
-some_in_hand h c (Some hand) held none = absurd (cc none)
+-- and else one
+pub words_in_hand : (h : History) (c : ℕ) (o : Option InHand) → o ≢ None → shown_hand (h.kept (Client c)) (h.steps (Client c)) (h.created (Client c)) o ≢ None
+words_in_hand h c None held none = held refl
+words_in_hand h c (Some hand) held none = absurd (cc none)
 
 -- a line of a client that has a call in hand
 pub busy_done : (w : World) (c : ℕ) (op : OpWord) → hand_at w.hands c ≢ None → Does w w (Word (Actor (Client c)) (linewords.Op op) Busy)
-busy_done w c op held = word_done w c (linewords.Op op) Busy (λ h. some_in_hand h c (hand_at w.hands c) held)
+busy_done w c op held = word_done w c (linewords.Op op) Busy (λ h. words_in_hand h c (hand_at w.hands c) held)
 
 -- an Initialize of a client that is live
 pub live_done : (w : World) (c : ℕ) (op : OpWord) → op ≡ opwords.Client → hand_at w.hands c ≡ None → is_live_client c w.cluster ≡ true → Does w w (Word (Actor (Client c)) (linewords.Op op) Live)

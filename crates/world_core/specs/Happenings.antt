@@ -1,62 +1,49 @@
 -- What an event does to the world, with the label that answers it.
-use Rattle.std.specs.Prelude.{◌≡◌, ◌⊎◌, ℕ, ◌<◌, ◌≤◌, [], ◌∷◌, ◌++◌, length, Option, Some, None, Bool, nat_lt, ℤ, slice_get, slice_set}
+use Rattle.std.specs.Prelude.{◌≡◌, ◌⊎◌, ℕ, ◌<◌, ◌≤◌, [], ◌∷◌, ◌++◌, length, Option, Some, Bool, ℤ, slice_set}
 use Rattle.ckpt_types.specs.declared.answers.Outcome.{Outcome}
 use Rattle.ckpt_types.specs.declared.identities.ActorName.TheVariants.{Client}
 use Rattle.ckpt_types.specs.declared.identities.CallId.{CallId}
 use Rattle.ckpt_types.specs.declared.identities.Who.{Who}
 use Rattle.ckpt_types.specs.declared.identities.Who.TheVariants as whos
 use Rattle.ckpt_types.specs.declared.operation.Op.{Op}
-use Rattle.ckpt_types.specs.Limits.{iterations_max, handles_max, client_numbers, nodes_max}
+use Rattle.ckpt_types.specs.Limits.{client_numbers, nodes_max}
 use Rattle.node_msgs.specs.declared.next.Next.{Next}
-use Rattle.run_labels.specs.Kept.{Kept}
+use Rattle.run_labels.specs.Kept.{KeptLabels}
 use Rattle.run_labels.specs.declared.details.Details.{Details}
 use Rattle.run_labels.specs.declared.labels.Label.{Label}
 use Rattle.run_labels.specs.declared.labels.Label.TheVariants as labels
 use Rattle.node_msgs.specs.declared.steps.StepReply.{StepReply}
-use Rattle.run_labels.specs.declared.words.OpWord.{OpWord}
+use Rattle.ckpt_types.specs.declared.words.OpWord.{OpWord}
 use Rattle.node_msgs.specs.declared.steps.Verb.{Verb}
-use Rattle.client_handles.specs.declared.handle_view.HandleView.{HandleView}
 use Rattle.ckpt_machine.specs.Drivers.{Rooms}
 use Rattle.world_core.specs.declared.hands.InHand.{InHand}
-use Rattle.world_core.specs.TableState.{TableState}
+use Rattle.world_core.specs.TableState.{kept_by}
 use Rattle.world_core.specs.declared.world.Event.{Event}
 use Rattle.world_core.specs.declared.world.Event.TheVariants as happenings
 use Rattle.world_core.specs.declared.world.World.{World}
 use Rattle.cluster_record.specs.Calls.{left}
 use Rattle.cluster_record.specs.RecordState.{empty_record, IsMomentFrom}
 use Rattle.ckpt_machine.specs.Driving.{driver_next}
-use Rattle.ckpt_machine.specs.Beginning.{IsBuilt}
-use Rattle.world_core.specs.Shows.{Does, handles_in, iterations_in, handle_in_place, handle_over_place, hand_at}
+use Rattle.ckpt_types.specs.Asks.{IsBuilt}
+use Rattle.ckpt_machine.specs.Tables.{rooms_in}
+use Rattle.world_core.specs.Shows.{Does, hand_at}
 use Rattle.world_core.specs.Runs.{AnswersBegin, MayBeStepped, HasNothingToStep, IsIdleWord, IsShownOf}
 
 -- the log has one label more, of which this holds
-pub record Adds (old new : Kept) (holds : Label → Type 0) : Type 0 where
+pub record Adds (old new : KeptLabels) (holds : Label → Type 0) : Type 0 where
   pub label : Label
   pub labels : new.labels ≡ old.labels ++ label ∷ []
   pub is : holds label
 
--- what a client's table has a free place for
-abbrev pub rooms_of : Option TableState → Rooms
-rooms_of table = record {
-  handles = nat_lt (length (handles_in table)) handles_max;
-  iterations = nat_lt (length (iterations_in table).begun) iterations_max;
-}
-
 -- what the client's tables have a free place for
-abbrev pub rooms_in : World → ℕ → Rooms
-rooms_in w c = rooms_of (slice_get w.tables c)
-
--- the handle of the place of a handle, or else of the place of an iteration
-abbrev pub handle_named : World → ℕ → Option ℕ → Option ℕ → Option HandleView
-handle_named w c (Some place) iteration = handle_in_place (slice_get w.tables c) place
-handle_named w c None None = None
-handle_named w c None (Some iteration) = handle_over_place (slice_get w.tables c) iteration
+abbrev pub rooms_at : World → ℕ → Rooms
+rooms_at w c = rooms_in (kept_by w.tables c)
 
 -- this is next for the call that the client has in hand
 pub record IsNext (w : World) (c : ℕ) (next : Next) : Type 0 where
   pub hand : InHand
   pub held : hand_at w.hands c ≡ Some hand
-  pub next_is : driver_next w.cluster (rooms_in w c) hand.driver ≡ next
+  pub next_is : driver_next w.cluster (rooms_at w c) hand.driver ≡ next
 
 -- the client's call takes a step: it is in hand after it just where the step did not end it
 pub record IsStep (c : ℕ) (old new : World) (label : Label) : Type 0 where

@@ -18,7 +18,7 @@ use Rattle.node_msgs.specs.declared.replies.Reply.TheVariants as replies
 use Rattle.run_labels.specs.declared.details.Details.{Details}
 use Rattle.run_labels.specs.declared.details.Details.TheVariants as beside
 use Rattle.world_core.specs.declared.nodes.Lent.{Lent}
-use Rattle.ckpt_machine.specs.Serving.{update_of, elements_of}
+use Rattle.ckpt_types.specs.Asks.{update_of, elements_of}
 
 -- how many bytes the elements of a read ask for at most
 abbrev pub bytes_asked : List ReadElement → ℕ
@@ -48,11 +48,11 @@ IsLentFor (updates.Create new expiration bytes) read = IsLentId new read
 IsLentFor update read = Unit {0}
 
 -- a commit is lent room for what it tells, a read its elements and a buffer, and a status a place for it
-abbrev pub IsLent : Request → Op → Lent → Type 0
-IsLent (requests.Commit call k) op lent = IsLentFor (update_of op) lent.read
-IsLent (requests.Read k) op lent = IsLentRead (elements_of op) lent
-IsLent (requests.Status k) op lent = IsSome lent.status
-IsLent request op lent = Unit {0}
+abbrev pub HasLent : Request → Op → Lent → Type 0
+HasLent (requests.Commit call k) op lent = IsLentFor (update_of op) lent.read
+HasLent (requests.Read k) op lent = IsLentRead (elements_of op) lent
+HasLent (requests.Status k) op lent = IsSome lent.status
+HasLent request op lent = Unit {0}
 
 -- the status that came back from the active, as it is told beside the answer
 abbrev pub status_told : Option CheckpointDescriptor → Details

@@ -1,4 +1,5 @@
 pub mod RecordReady
+pub mod RecordAfter
 pub mod TableState
 pub mod AtRest
 pub mod LiveRooms
@@ -9,6 +10,7 @@ pub mod Listing
 pub mod Holding
 pub mod Reserving
 pub mod CallStates
+pub mod IterationPlaces
 pub mod ReplicaStates
 pub mod Lending
 pub mod HandsView

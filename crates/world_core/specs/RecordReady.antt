@@ -9,6 +9,7 @@ use Rattle.node_msgs.specs.declared.steps.StepReply.TheVariants as words
 use Rattle.ckpt_machine.specs.Driving.{takes_memory}
 use Rattle.ckpt_machine.specs.Drivers.{Driver}
 use Rattle.ckpt_machine.specs.Drivers as drivers
+use Rattle.cluster_record.specs.DueOnce.{OneStep, Enter, Unlink, Retain}
 use Rattle.cluster_record.specs.DueOpen.{OpenState}
 use Rattle.ckpt_types.specs.declared.calls.OpenAsk.{OpenAsk}
 use Rattle.ckpt_types.specs.declared.identities.CallId.{CallId}
@@ -50,10 +51,15 @@ IsRefusedWith (Some why) step words.Refused end = end ≡ why
 IsRefusedWith None step words.Memory end = IsTrue (takes_memory step) × (end ≡ NoMemory)
 IsRefusedWith refusal step reply end = ⊥
 
+-- what a call of one step asks
+abbrev pub IsOnceReady : CallId → RecordState → OneStep → Type 0
+IsOnceReady call R (Enter r) = CanBecomeLive call r R × (length R.clients < clients_max)
+IsOnceReady call R (Unlink name) = IsSomeAnd (named name R.entries) (λ e. e.making ≡ None)
+IsOnceReady call R (Retain k duration) = IsSomeAnd (entry_of k R.entries) (λ e. IsSome e.name) × (pos 0 ≤ℤ duration)
+IsOnceReady call R x = Unit {0}
+
 -- a step of a call that drives so
 abbrev pub IsRecordReady : CallId → RecordState → Driver → RecordStep → Type 0
-IsRecordReady call R (drivers.Enter r) step = CanBecomeLive call r R × (length R.clients < clients_max)
+IsRecordReady call R (drivers.Once x) step = IsOnceReady call R x
 IsRecordReady call R (drivers.Open o) step = IsOpenReady call R o step
-IsRecordReady call R (drivers.Unlink name) step = IsSomeAnd (named name R.entries) (λ e. e.making ≡ None)
-IsRecordReady call R (drivers.Retain k duration) step = IsSomeAnd (entry_of k R.entries) (λ e. IsSome e.name) × (pos 0 ≤ℤ duration)
 IsRecordReady call R driver step = Unit {0}

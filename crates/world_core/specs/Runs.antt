@@ -15,17 +15,16 @@ use Rattle.run_labels.specs.declared.words.LineWord.{LineWord}
 use Rattle.run_labels.specs.declared.words.LineWord.TheVariants as linewords
 use Rattle.run_labels.specs.declared.words.Said.{Said}
 use Rattle.run_labels.specs.declared.words.Said.TheVariants.{Down, Idle}
-use Rattle.run_labels.specs.OpWord.{word_of_op}
-use Rattle.client_handles.specs.ClientState.{new_client}
+use Rattle.ckpt_types.specs.OpWord.{word_of_op}
 use Rattle.world_core.specs.declared.hands.InHand.{InHand}
 use Rattle.world_core.specs.declared.world.Event.{Event}
 use Rattle.world_core.specs.declared.world.Event.TheVariants as happenings
 use Rattle.world_core.specs.declared.world.World.{World}
 use Rattle.cluster_record.specs.RecordState.{empty_record, is_up, IsMomentFrom}
-use Rattle.world_core.specs.TableState.{TableState}
-use Rattle.world_core.specs.NewTable.{no_callbacks}
-use Rattle.ckpt_machine.specs.Beginning.{IsBuilt}
-use Rattle.world_core.specs.Shows.{Shows, hand_at, next_in}
+use Rattle.world_core.specs.TableState.{next_in, kept_by}
+use Rattle.ckpt_types.specs.Asks.{IsBuilt}
+use Rattle.ckpt_machine.specs.Machine.{no_tables}
+use Rattle.world_core.specs.Shows.{Shows, hand_at}
 use Rattle.ckpt_machine.specs.Runs.{last, IsRun}
 
 -- ---- the world after a log
@@ -40,7 +39,7 @@ pub record IsNew (w : World) : Type 0 where
   pub cluster : w.cluster ≡ empty_record
   pub nodes : w.nodes ≡ replicate nodes_max []
   pub next : (c : ℕ) → next_in (slice_get w.tables c) ≡ 1
-  pub tables : (c : ℕ) (t : TableState) → slice_get w.tables c ≡ Some t → t.client ≡ new_client no_callbacks
+  pub tables : (c : ℕ) → kept_by w.tables c ≡ no_tables
   pub hands : (c : ℕ) → hand_at w.hands c ≡ None
 
 -- ---- events

@@ -3,13 +3,10 @@ use Rattle.std.specs.Prelude.{◌≡◌, ℕ, ◌-◌, ◌^◌, ◌<◌, List, [
 use Rattle.ckpt_types.specs.declared.identities.ActorName.{ActorName}
 use Rattle.ckpt_types.specs.declared.identities.ActorName.TheVariants.{Client, Node}
 use Rattle.ckpt_types.specs.declared.identities.CallId.{CallId}
-use Rattle.ckpt_types.specs.declared.operation.Op.{Op}
-use Rattle.ckpt_types.specs.declared.operation.Op.TheVariants as ops
 use Rattle.section_iter.specs.KeptIds.{KeptIds}
 use Rattle.section_iter.specs.declared.room.Room.{Room}
 use Rattle.run_labels.specs.declared.labels.Label.{Label}
-use Rattle.client_handles.specs.ClientState.{ClientState, handle_at, iteration_at}
-use Rattle.client_handles.specs.declared.handle_view.HandleView.{HandleView}
+use Rattle.client_handles.specs.ClientState.{ClientState}
 use Rattle.world_core.specs.declared.hands.InHand.{InHand}
 use Rattle.cluster_record.specs.declared.entries.Entry.{Entry}
 use Rattle.ckpt_machine.specs.Replicas.{Replica}
@@ -17,26 +14,29 @@ use Rattle.ckpt_machine.specs.Replicas.{Slot}
 use Rattle.world_core.specs.declared.world.World.{World}
 use Rattle.cluster_record.specs.Places.{or_none}
 use Rattle.cluster_record.specs.RecordState.{RecordState, entry_of, complete_of}
-use Rattle.world_core.specs.TableState.{TableState}
+use Rattle.world_core.specs.TableState.{TableState, next_in, kept_by}
 use Rattle.ckpt_machine.specs.Serving.{replica_in}
 use Rattle.world_core.specs.Holding.{HoldsOnlyWhatStands}
 use Rattle.world_core.specs.LiveRooms.{LiveHaveRoom}
 use Rattle.cluster_record.specs.StepDone.{StepDone}
 use Rattle.ckpt_machine.specs.Driving.{Kept, driver_state}
 use Rattle.ckpt_machine.specs.Facts.{Facts}
-use Rattle.ckpt_machine.specs.Machine.{IterationTable, no_iterations, Machine, Effect, Staged, ReplicaState, CallState}
-use Rattle.ckpt_machine.specs.Steps.{IsDue, after, handle_over}
+use Rattle.ckpt_types.specs.Asks.{Ask, asked}
+use Rattle.ckpt_types.specs.Asks as asks
+use Rattle.ckpt_machine.specs.Machine.{Machine, Effect, Staged, ReplicaState, CallState, no_tables}
+use Rattle.ckpt_machine.specs.Steps.{IsDue, after}
 
 -- ---- what the machine keeps and the code does not
 
--- the effects and the origins of replicas, and what each call in hand kept of its beginning and of its steps
+-- the effects and the origins of replicas, and what each call in hand kept of its beginning and of its steps, with the identifier that its commits have made
 pub record History : Type 0 where
   -- by checkpoint and node
   pub effects : ℕ → ℕ → List Effect
   pub origins : ℕ → ℕ → CallId
-  -- by client, for its call in hand
-  pub kept : ℕ → Kept
-  pub steps : ℕ → List StepDone
+  -- by actor, for its call in hand
+  pub kept : ActorName → Kept
+  pub steps : ActorName → List StepDone
+  pub created : ActorName → Option (List ℕ)
 
 -- ---- the replicas
 
@@ -74,48 +74,10 @@ reserved_in R nodes k r = where_not_complete (entry_of k R.entries) r (shown_res
 
 -- ---- the clients
 
--- the number of the client's next call
-abbrev pub next_in : Option TableState → ℕ
-next_in None = 1
-next_in (Some t) = t.next
-
--- the client's open handles, in the order in which they were taken
-abbrev pub handles_in : Option TableState → List HandleView
-handles_in None = []
-handles_in (Some t) = t.client.handles
-
--- 0 stands for no handle
-abbrev pub numbered_or_none : ℕ → Option ℕ
-numbered_or_none n = if n == 0 then None else Some n
-
--- the number of the handle to which a place was set, if it was set
-abbrev pub place_in : Option TableState → ℕ → Option ℕ
-place_in None p = None
-place_in (Some t) p = numbered_or_none (slice_index t.client.places p)
-
--- the number of the handle last taken, or 0
-abbrev pub last_in : Option TableState → ℕ
-last_in None = 0
-last_in (Some t) = t.client.last_number
-
--- what a client keeps of iterations
-abbrev pub iterations_of : ClientState → IterationTable
-iterations_of client = record { last = client.last_iteration; begun = client.iterations; places = client.iteration_places }
-
--- what a client's table keeps of iterations
-abbrev pub iterations_in : Option TableState → IterationTable
-iterations_in None = no_iterations
-iterations_in (Some t) = iterations_of t.client
-
--- the handle over which the iteration goes for which a place stands
-abbrev pub handle_over_place : Option TableState → ℕ → Option HandleView
-handle_over_place None p = None
-handle_over_place (Some t) p = handle_over t.client.handles (iteration_at p t.client)
-
--- the handle for which a place stands
-abbrev pub handle_in_place : Option TableState → ℕ → Option HandleView
-handle_in_place None p = None
-handle_in_place (Some t) p = handle_at p t.client
+-- what an actor keeps; a node keeps nothing
+abbrev pub tables_of : List TableState → ActorName → ClientState
+tables_of tables (Client c) = kept_by tables c
+tables_of tables (Node r) = no_tables
 
 -- the number of an actor's next call; no node has begun one yet
 abbrev pub next_of : List TableState → ActorName → ℕ
@@ -129,13 +91,13 @@ abbrev pub hand_at : List (Option InHand) → ℕ → Option InHand
 hand_at hands c = or_none (slice_get hands c)
 
 -- a call in hand as the machine has it: with what it kept of its beginning, and with its steps
-abbrev pub shown_hand : Kept → List StepDone → Option InHand → Option CallState
-shown_hand kept steps None = None
-shown_hand kept steps (Some h) = Some (record { call = h.call; op = h.op; kept = kept; steps = steps; snapshot = None })
+abbrev pub shown_hand : Kept → List StepDone → Option (List ℕ) → Option InHand → Option CallState
+shown_hand kept steps created None = None
+shown_hand kept steps created (Some h) = Some (record { call = h.call; op = h.op; kept = kept; steps = steps; created = created; snapshot = None })
 
 -- the call that an actor has in hand, as the machine has it; no node has one yet
 abbrev pub hand_of : History → List (Option InHand) → ActorName → Option CallState
-hand_of h hands (Client c) = shown_hand (h.kept c) (h.steps c) (hand_at hands c)
+hand_of h hands (Client c) = shown_hand (h.kept (Client c)) (h.steps (Client c)) (h.created (Client c)) (hand_at hands c)
 hand_of h hands (Node r) = None
 
 -- ---- the machine's state, as the world shows it with a history
@@ -147,11 +109,8 @@ machine_of w h = record {
   replicas = λ k r. shown_replica (h.effects k r) (h.origins k r) (complete_replica w.cluster w.nodes k r);
   reserved = reserved_in w.cluster w.nodes;
   snapshots = λ k. None;
-  handles = λ c. handles_in (slice_get w.tables c);
-  places = λ c p. place_in (slice_get w.tables c) p;
-  last_handles = λ c. last_in (slice_get w.tables c);
-  iterations = λ c. iterations_in (slice_get w.tables c);
-  pending = λ c. [];
+  tables = tables_of w.tables;
+  pending = λ a. [];
   next = next_of w.tables;
   in_hand = hand_of h w.hands;
   operations = λ call. None;
@@ -168,25 +127,25 @@ FitsReplica k e effects None = Unit {0}
 FitsReplica k e effects (Some x) = (x.ckpt ≡ k) × HasAttributes e x × (length effects ≡ x.count)
 
 -- the room that a call has in hand for an iteration
-abbrev pub room_for : Op → Room → Option KeptIds
-room_for (ops.Iter iteration place chosen time) room = Some (record { ids = []; room = room })
-room_for op room = None
+abbrev pub room_for : Ask → Room → Option KeptIds
+room_for (asks.Iterate iteration place chosen time) room = Some (record { ids = []; room = room })
+room_for ask room = None
 
 -- a call is where its steps have led it
 abbrev pub FitsHand : Kept → List StepDone → Option InHand → Type 0
 FitsHand kept steps None = Unit {0}
-FitsHand kept steps (Some h) = (h.driver ≡ driver_state h.call h.op kept steps) × (h.iteration ≡ room_for h.op kept.room)
+FitsHand kept steps (Some h) = (h.driver ≡ driver_state h.call h.op kept steps) × (h.iteration ≡ room_for (asked h.op) kept.room)
 
 -- the history fits the world: replicas have as many effects as they count, and calls are where their steps have led them
-pub record Fits (w : World) (h : History) : Type 0 where
+pub record HistoryFits (w : World) (h : History) : Type 0 where
   pub replicas : (k r : ℕ) → FitsReplica k (entry_of k w.cluster.entries) (h.effects k r) (complete_replica w.cluster w.nodes k r)
-  pub hands : (c : ℕ) → FitsHand (h.kept c) (h.steps c) (hand_at w.hands c)
+  pub hands : (c : ℕ) → FitsHand (h.kept (Client c)) (h.steps (Client c)) (hand_at w.hands c)
 
 -- the machine's state is the world's, with some history that fits; the nodes have no other replicas, and the clients that are live have their room
 pub record Shows (w : World) (m : Machine) : Type 0 where
   pub history : History
   pub same : m ≡ machine_of w history
-  pub fits : Fits w history
+  pub fits : HistoryFits w history
   pub holds : HoldsOnlyWhatStands w.cluster w.nodes
   pub rooms : LiveHaveRoom w.cluster w.tables
 
@@ -204,8 +163,8 @@ pub record Does (old new : World) (label : Label) : Type 0 where
 -- no count is at its end
 pub record HasNumbersLeft (w : World) : Type 0 where
   pub next : (c : ℕ) → next_in (slice_get w.tables c) < 2 ^ 32 - 1
-  pub handles : (c : ℕ) → last_in (slice_get w.tables c) < 2 ^ 32 - 1
-  pub iterations : (c : ℕ) → (iterations_in (slice_get w.tables c)).last < 2 ^ 32 - 1
+  pub handles : (c : ℕ) → (kept_by w.tables c).last_number < 2 ^ 32 - 1
+  pub iterations : (c : ℕ) → (kept_by w.tables c).last_iteration < 2 ^ 32 - 1
   pub updates : (k r : ℕ) (x : Replica) → complete_replica w.cluster w.nodes k r ≡ Some x → x.count < 2 ^ 64 - 1
   pub identity : w.cluster.last_identity < 2 ^ 32 - 1
   pub references : (k : ℕ) (e : Entry) (c : ℕ) → entry_of k w.cluster.entries ≡ Some e → slice_index e.references c < 2 ^ 32 - 1

@@ -1,15 +1,15 @@
 -- How a table is kept.
 use Rattle.std.specs.Prelude.{Option, Some, None, is_some}
 use Rattle.std.specs.Global.{Box}
-use Rattle.client_handles.specs.ClientState.{ClientState, new_client}
+use Rattle.client_handles.specs.ClientState.{ClientState}
+use Rattle.ckpt_machine.specs.Machine.{no_tables}
 use Rattle.world_core.specs.AtRest.{IsAtRest}
-use Rattle.world_core.specs.NewTable.{no_callbacks}
 use Rattle.world_core.specs.TableState.{TableState}
 use Rattle.world_core.specs.declared.tables.Table.TheInside.{Inside}
 
 -- before its room was taken a client keeps nothing
 abbrev pub client_in : Option (Box ClientState) → ClientState
-client_in None = new_client no_callbacks
+client_in None = no_tables
 client_in (Some client) = client.value
 
 -- a client's table as contracts see it

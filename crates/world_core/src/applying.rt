@@ -1,11 +1,14 @@
 //! What a step of a call does to the record.
 ghost use Rattle.std.specs.Prelude.{◌≡◌, IfOk, OnOk, OnErr, IsTrue};
 ghost use Rattle.cluster_record.specs.Opening.{open_answer, after_open};
-ghost use Rattle.world_core.specs.RecordReady.{CanAsk, IsGranted, IsOpenReady, IsRecordReady};
-ghost use Rattle.ckpt_machine.specs.Driving.{event_change, event_after, takes_memory};
+ghost use Rattle.world_core.specs.CallStates.{step_in};
+ghost use Rattle.world_core.specs.RecordAfter.{once_change, event_change, event_after};
+ghost use Rattle.world_core.specs.RecordReady.{CanAsk, IsGranted, IsOnceReady, IsOpenReady, IsRecordReady};
+ghost use Rattle.ckpt_machine.specs.Driving.{takes_memory};
 ghost use Rattle.ckpt_machine.specs.Drivers.{Open};
 
 use crate::drivers::{Driver, DriverKind};
+use crate::one_step::OneStep;
 use ckpt_types::CallId;
 use cluster_record::{OpenAnswer, Record, number_of};
 use drive_open::{OpenCall, SharedAsk};
@@ -41,33 +44,36 @@ fn change(
     ensures memory { OnErr result (IsTrue (takes_memory step)) }
 {
     match &driver.kind {
-        DriverKind::Enter(node) => {
-            let Ok(()) = cluster.enter(call, *node) else {
-                unreachable!()
-            };
+        DriverKind::Once(one_step) => {
+            change_once(cluster, call, one_step);
             Ok(())
         }
         DriverKind::Open(open_call) => change_by_open(cluster, call, open_call, step),
         DriverKind::Update(_) | DriverKind::Active(_) => Ok(()),
-        DriverKind::Leave => {
-            cluster.leave(number_of(&call.actor));
-            Ok(())
+    }
+}
+
+fn change_once(cluster: &mut Record, call: CallId, step: &OneStep)
+    requires { IsOnceReady call cluster.old (step_in step.now) }
+    ensures { cluster.new ≡ once_change call (step_in step.now) cluster.old }
+{
+    match step {
+        OneStep::Enter(node) => {
+            let Ok(()) = cluster.enter(call, *node) else {
+                unreachable!()
+            };
         }
-        DriverKind::Close(ckpt) => {
-            cluster.close(number_of(&call.actor), *ckpt);
-            Ok(())
-        }
-        DriverKind::Unlink(name) => {
+        OneStep::Leave => cluster.leave(number_of(&call.actor)),
+        OneStep::Close(ckpt) => cluster.close(number_of(&call.actor), *ckpt),
+        OneStep::Unlink(name) => {
             let Ok(()) = cluster.unlink(name.value()) else {
                 unreachable!()
             };
-            Ok(())
         }
-        DriverKind::Retain(ckpt, duration) => {
+        OneStep::Retain(ckpt, duration) => {
             let Ok(()) = cluster.retain(*ckpt, *duration) else {
                 unreachable!()
             };
-            Ok(())
         }
     }
 }

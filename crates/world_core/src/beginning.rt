@@ -1,21 +1,23 @@
-//! What a call answers at its beginning, and the places that its operation names.
+//! What a call answers at its beginning.
 ghost use Rattle.std.specs.Prelude.{◌≡◌, None, false, not, if◌then◌else◌, pos, int_lt};
 ghost use Rattle.ckpt_types.specs.declared.ais_error.AisError.TheVariants as errors;
 ghost use Rattle.ckpt_types.specs.Attributes.{has_flag, has_bad_open_flags, is_malformed};
-ghost use Rattle.ckpt_machine.specs.Beginning.{refused, if_live, version_is_bad, name_is_bad, attributes_are_bad, open_begin, vector_is_bad, update_is_bad, on_handle, may_write, may_read, may_always, choice_is_bad, choice_of, end_iteration, update_begin, begin_end, handle_place, closed_place, iteration_place, started_place, ended_place, takes_room, opened_place, no_flags, opened_for};
-ghost use Rattle.ckpt_machine.specs.Steps.{ckpt_of_handle};
+ghost use Rattle.ckpt_types.specs.Asks.{asked, takes_room};
+ghost use Rattle.ckpt_machine.specs.Beginning.{refused, if_live, version_is_bad, name_is_bad, attributes_are_bad, open_begin, vector_is_bad, update_is_bad, on_handle, may_write, may_read, may_always, choice_is_bad, end_iteration, update_begin, begin_end};
+ghost use Rattle.ckpt_machine.specs.Tables.{ckpt_of_handle, choice_of};
+ghost use Rattle.world_core.specs.IterationPlaces.{gone_on_place};
 
 use ckpt_types::{
     AisError, Answer, Bytes, CHECKPOINT_CREATE, Cause, Choice, CkptId, CreationAttributes,
-    MAJOR_MAX, MAJOR_MIN, Moment, NAME_MAX, OPEN_FLAGS_ALL, Op, OpenFlags, Outcome, RELEASE,
-    SECTIONS_ANY, Update, VECTOR_MAX, Version,
+    MAJOR_MAX, MAJOR_MIN, Moment, NAME_MAX, OPEN_FLAGS_ALL, Op, Outcome, RELEASE, SECTIONS_ANY,
+    Update, VECTOR_MAX, Version,
 };
 use client_handles::HandleView;
 
 /// What a call answers at once, where its client is live or not, and its place stands for this handle; nothing
 /// where the call goes on.
 pub fn begin_end(live: bool, handle: &Option<HandleView>, op: &Op) -> Option<Outcome>
-    ensures { result ≡ begin_end live handle.now op.now }
+    ensures { result ≡ begin_end live handle.now (asked op.now) }
 {
     match op {
         Op::Client(_, version, _) => client_begin(version),
@@ -54,68 +56,19 @@ fn if_live(live: bool, answer: Option<Outcome>) -> Option<Outcome>
     }
 }
 
-/// The place of the handle that an operation names.
-pub fn handle_place(op: &Op) -> Option<u8>
-    ensures { result ≡ handle_place op.now }
+/// The place of the iteration with which an operation goes on.
+pub fn gone_on_place(op: &Op) -> Option<u8>
+    ensures { result ≡ gone_on_place (asked op.now) }
 {
     match op {
-        Op::Create(place, _)
-        | Op::Delete(place, _)
-        | Op::Expire(place, _)
-        | Op::Write(place, _)
-        | Op::Over(place, _)
-        | Op::Read(place, _)
-        | Op::Status(place)
-        | Op::Iter(_, place, _, _)
-        | Op::Close(place)
-        | Op::Retain(place, _) => Some(*place),
-        _ => None,
-    }
-}
-
-/// The place of the handle that an operation closes.
-pub fn closed_place(op: &Op) -> Option<u8>
-    ensures { result ≡ closed_place op.now }
-{
-    match op {
-        Op::Close(place) => Some(*place),
-        _ => None,
-    }
-}
-
-/// The place of the iteration with which an operation goes on, or which it ends.
-pub fn iteration_place(op: &Op) -> Option<u8>
-    ensures { result ≡ iteration_place op.now }
-{
-    match op {
-        Op::Next(iteration) | Op::EndIter(iteration) => Some(*iteration),
-        _ => None,
-    }
-}
-
-/// The place of the iteration that an operation starts.
-pub fn started_place(op: &Op) -> Option<u8>
-    ensures { result ≡ started_place op.now }
-{
-    match op {
-        Op::Iter(iteration, _, _, _) => Some(*iteration),
-        _ => None,
-    }
-}
-
-/// The place of the iteration that a call has ended at its beginning.
-pub fn ended_place(op: &Op, end: &Option<Outcome>) -> Option<u8>
-    ensures { result ≡ ended_place end.now op.now }
-{
-    match (op, end) {
-        (Op::EndIter(iteration), Some(Outcome::Done(_))) => Some(*iteration),
+        Op::Next(iteration) => Some(*iteration),
         _ => None,
     }
 }
 
 /// Whether an operation takes room for an iteration.
 pub fn takes_room(op: &Op) -> bool
-    ensures { result ≡ takes_room op.now }
+    ensures { result ≡ takes_room (asked op.now) }
 {
     match op {
         Op::Iter(_, _, _, _) => true,
@@ -135,29 +88,6 @@ pub fn choice_of(chosen: u64, time: Moment) -> Choice
     Choice { chosen, time }
 }
 
-/// The place that an open names for its handle.
-pub fn opened_place(op: &Op) -> Option<u8>
-    ensures { result ≡ opened_place op.now }
-{
-    match op {
-        Op::Open(place, _, _, _, _) => Some(*place),
-        _ => None,
-    }
-}
-
-/// What an open opens for.
-pub fn opened_for(op: &Op) -> OpenFlags
-    ensures { result ≡ opened_for op.now }
-{
-    match op {
-        Op::Open(_, _, flags, _, _) => match OpenFlags::from_bits(*flags) {
-            Ok(flags) => flags,
-            Err(_) => no_flags(),
-        },
-        _ => no_flags(),
-    }
-}
-
 /// The checkpoint of a handle.
 pub fn ckpt_of_handle(handle: &Option<HandleView>) -> Option<CkptId>
     ensures { result ≡ ckpt_of_handle handle.now }
@@ -172,16 +102,6 @@ fn refused(error: AisError) -> Option<Outcome>
     ensures { result ≡ refused error }
 {
     Some(Outcome::Refused(error, Cause::Plain))
-}
-
-fn no_flags() -> OpenFlags
-    ensures { result ≡ no_flags }
-{
-    OpenFlags {
-        read: false,
-        write: false,
-        create: false,
-    }
 }
 
 fn client_begin(version: &Version) -> Option<Outcome>

@@ -7,14 +7,13 @@ ghost use Rattle.run_labels.specs.declared.words.LineWord.TheVariants as linewor
 ghost use Rattle.run_labels.specs.declared.labels.Label.TheVariants as labels;
 ghost use Rattle.section_iter.specs.Room.{room_declared};
 ghost use Rattle.cluster_record.specs.RecordState.{empty_record};
-ghost use Rattle.ckpt_machine.specs.Beginning.{IsBuilt, handle_place, iteration_place};
-ghost use Rattle.ckpt_machine.specs.Steps.{MayBegin, IsBeginEnd, room_at, ckpt_of_handle};
+ghost use Rattle.ckpt_types.specs.Asks.{asked, IsBuilt};
+ghost use Rattle.ckpt_machine.specs.Steps.{MayBegin, IsBeginEnd, room_at};
+ghost use Rattle.ckpt_machine.specs.Tables.{ckpt_of_handle};
 ghost use Rattle.world_core.specs.Shows.{IsShown, HasNumbersLeft, hand_at, room_for};
-ghost use Rattle.world_core.specs.Happenings.{Adds, BringsUp, Begins, handle_named};
+ghost use Rattle.world_core.specs.Happenings.{Adds, BringsUp, Begins};
 
-use crate::beginning::{
-    begin_end, ckpt_of_handle, ended_place, handle_place, iteration_place, takes_room,
-};
+use crate::beginning::{begin_end, ckpt_of_handle, takes_room};
 use crate::drivers::Driver;
 use crate::hands::InHand;
 use crate::world::World;
@@ -92,7 +91,7 @@ impl World {
         requires client { c < client_numbers }
         requires built { IsBuilt op }
         requires none { hand_at self.old.hands c ≡ None }
-        requires may { MayBegin self.old.cluster c op }
+        requires may { MayBegin self.old.cluster c (asked op) }
         requires shown { IsShown self.old }
         requires roomy { HasNumbersLeft self.old }
         requires spare { 1 ≤ log.old.spare }
@@ -103,12 +102,12 @@ impl World {
             actor: ActorName::Client(c),
             number: self.tables.number(c),
         };
-        let handle = self.named_handle(c, &op);
+        let handle = self.tables.handle_asked(c, &op);
         let due = begin_end(self.cluster.is_live_client(c), &handle, &op);
         let (end, iteration) = take_room(alloc, &op, &self.cluster, &handle, due);
         if end.is_some() {
             self.hands.covers(c);
-            self.tables.begin(c, ended_place(&op, &end));
+            self.tables.begin(c, &op, &end);
             log.push(Label::Began { call, op, end });
             return Ok(());
         }
@@ -120,7 +119,7 @@ impl World {
             driver,
             iteration,
         };
-        self.tables.begin(c, None);
+        self.tables.begin(c, &op, &None);
         self.hands.begin(c, hand);
         log.push(Label::Began {
             call,
@@ -128,20 +127,6 @@ impl World {
             end: None,
         });
         Ok(())
-    }
-
-    // The handle that the operation is about: that of the place of a handle, or else of an iteration.
-    fn named_handle(&self, c: u8, op: &Op) -> Option<HandleView>
-        requires { c < client_numbers }
-        ensures { result ≡ handle_named self.now c (handle_place op.now) (iteration_place op.now) }
-    {
-        if let Some(place) = handle_place(op) {
-            return self.tables.handle(c, place);
-        }
-        match iteration_place(op) {
-            None => None,
-            Some(place) => self.tables.iteration_handle(c, place),
-        }
     }
 }
 
@@ -166,8 +151,8 @@ fn take_room(
     handle: &Option<HandleView>,
     due: Option<Outcome>,
 ) -> (Option<Outcome>, Option<Iteration>)
-    ensures end { IsBeginEnd op.now due result.0 }
-    ensures room { result.0 ≡ None → result.1 ≡ room_for op.now (room_at cluster.now (ckpt_of_handle handle.now)) }
+    ensures end { IsBeginEnd (asked op.now) due result.0 }
+    ensures room { result.0 ≡ None → result.1 ≡ room_for (asked op.now) (room_at cluster.now (ckpt_of_handle handle.now)) }
 {
     if !takes_room(op) || due.is_some() {
         return (due, None);

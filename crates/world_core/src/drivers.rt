@@ -1,5 +1,5 @@
 //! What drives a call: what it does next, and how it ends.
-ghost use Rattle.std.specs.Prelude.{◌≡◌, ◌-◌, ◌^◌, ◌<◌, Some, IfOk, slice_get};
+ghost use Rattle.std.specs.Prelude.{◌≡◌, ◌-◌, ◌^◌, ◌<◌, Some, IfOk};
 ghost use Rattle.ckpt_types.specs.Limits.{client_numbers, nodes_max};
 ghost use Rattle.node_msgs.specs.Requests.{ckpt_of};
 ghost use Rattle.node_msgs.specs.Steps.{verb_of, word_of, event_verb};
@@ -11,21 +11,22 @@ ghost use Rattle.cluster_record.specs.Calls.{client_of};
 ghost use Rattle.cluster_record.specs.LookUps.{node_of_client};
 ghost use Rattle.cluster_record.specs.Places.{find_key};
 ghost use Rattle.cluster_record.specs.RecordState.{client_key};
+ghost use Rattle.ckpt_types.specs.Asks.{asked};
 ghost use Rattle.ckpt_machine.specs.Steps.{kept_at_beginning};
-ghost use Rattle.world_core.specs.CallStates.{driver_in};
+ghost use Rattle.ckpt_machine.specs.Tables.{rooms_in};
+ghost use Rattle.world_core.specs.CallStates.{driver_in, step_in};
 ghost use Rattle.node_msgs.specs.declared.steps.StepReply.TheVariants as words;
 ghost use Rattle.node_msgs.specs.declared.steps.Verb.TheVariants as verbs;
 ghost use Rattle.ckpt_types.specs.declared.answers.Answer.TheVariants as answers;
 ghost use Rattle.world_core.specs.UpdateSteps.{IsUpdate, end_of_refused, ended_unless};
-ghost use Rattle.world_core.specs.Happenings.{rooms_of};
-ghost use Rattle.ckpt_machine.specs.Drivers.{Close, Retain, Update};
+ghost use Rattle.world_core.specs.TableState.{kept_by};
+ghost use Rattle.ckpt_machine.specs.Drivers.{Once, Update};
+ghost use Rattle.cluster_record.specs.DueOnce.{Close, Retain};
 
 use crate::beginning::{choice_of, ckpt_of_handle};
-use crate::one_step::{close_next, retain_next, unlink_next};
+use crate::one_step::OneStep;
 use crate::tables::Tables;
-use ckpt_types::{
-    AisError, Answer, CLIENTS_MAX, CallId, Cause, CkptId, NodeId, Op, Outcome, SharedName,
-};
+use ckpt_types::{AisError, Answer, CallId, Cause, CkptId, NodeId, Op, Outcome};
 use client_handles::HandleView;
 use cluster_record::{ActiveKind, OpenAnswer, Record, number_of};
 use drive_active::ActiveCall;
@@ -55,22 +56,14 @@ impl Model for Driver {
 /// What drives the calls of each kind of operation.
 #[derive(Debug, Drop)]
 pub enum DriverKind {
-    /// A client becomes live on the node.
-    Enter(NodeId),
+    /// A call of one step of the record.
+    Once(OneStep),
     /// An open.
     Open(OpenCall),
     /// An all-replicas update.
     Update(UpdateCall),
     /// A call to the active replica.
     Active(ActiveCall),
-    /// The client leaves.
-    Leave,
-    /// A handle of the checkpoint is closed.
-    Close(CkptId),
-    /// The checkpoint of the name loses it.
-    Unlink(SharedName),
-    /// The retention of the checkpoint becomes this duration.
-    Retain(CkptId, i64),
 }
 
 impl Driver {
@@ -78,6 +71,12 @@ impl Driver {
         ensures { result ≡ driver_in kind }
     {
         Driver { kind }
+    }
+
+    fn once(step: OneStep) -> Driver
+        ensures { result ≡ Once (step_in step) }
+    {
+        Driver::by(DriverKind::Once(step))
     }
 
     /// The driver of a call that begins now, on this handle if it names one that is there. The two share the
@@ -88,10 +87,10 @@ impl Driver {
         handle: &Option<HandleView>,
         cluster: &Record,
     ) -> Result<Driver, AllocError>
-        ensures { IfOk result (λ driver. driver ≡ driver_start call op.now (kept_at_beginning cluster.now (client_of call) handle.now)) }
+        ensures { IfOk result (λ driver. driver ≡ driver_start call (asked op.now) (kept_at_beginning cluster.now (client_of call) handle.now)) }
     {
         match op {
-            Op::Client(r, _, _) => Ok(Driver::by(DriverKind::Enter(*r))),
+            Op::Client(r, _, _) => Ok(Driver::once(OneStep::Enter(*r))),
             Op::Open(_, name, _, timeout, attributes) => {
                 let client = number_of(&call.actor);
                 let ask = SharedAsk {
@@ -118,9 +117,9 @@ impl Driver {
             Op::Next(_) => Ok(active_start(call, ActiveKind::Next, ckpt_of_handle(handle))),
             Op::Close(_) => Ok(close_start(ckpt_of_handle(handle))),
             Op::Retain(_, duration) => Ok(retain_start(*duration, ckpt_of_handle(handle))),
-            Op::Unlink(name) => Ok(Driver::by(DriverKind::Unlink(name.share()?))),
-            Op::Finalize => Ok(Driver::by(DriverKind::Leave)),
-            _ => Ok(Driver::by(DriverKind::Enter(0))),
+            Op::Unlink(name) => Ok(Driver::once(OneStep::Unlink(name.share()?))),
+            Op::Finalize => Ok(Driver::once(OneStep::Leave)),
+            _ => Ok(Driver::once(OneStep::Enter(0))),
         }
     }
 
@@ -137,26 +136,13 @@ impl Driver {
     /// What the call does next, by the record and by what its client's tables have a free place for.
     pub fn next(&self, cluster: &Record, tables: &Tables, c: u8) -> Next
         requires { c < client_numbers }
-        ensures { result ≡ driver_next cluster.now (rooms_of (slice_get tables.now c)) self.now }
+        ensures { result ≡ driver_next cluster.now (rooms_in (kept_by tables.now c)) self.now }
     {
         match &self.kind {
-            DriverKind::Enter(_) => {
-                if cluster.clients_len() >= CLIENTS_MAX {
-                    Next::End(Outcome::Refused(
-                        AisError::NoResources,
-                        Cause::Count(CLIENTS_MAX as u32),
-                    ))
-                } else {
-                    Next::Event(RecordStep::Enter)
-                }
-            }
+            DriverKind::Once(step) => step.next(cluster),
             DriverKind::Open(open_call) => open_call.next(cluster, tables.has_room(c)),
             DriverKind::Update(update) => update.next(cluster),
             DriverKind::Active(active) => active.next(cluster, tables.has_iteration_room(c)),
-            DriverKind::Leave => Next::Event(RecordStep::Leave),
-            DriverKind::Close(ckpt) => close_next(cluster, *ckpt),
-            DriverKind::Unlink(name) => unlink_next(cluster, name.value()),
-            DriverKind::Retain(ckpt, _) => retain_next(cluster, *ckpt),
         }
     }
 
@@ -297,7 +283,7 @@ fn update_start(call: CallId, ckpt: Option<CkptId>) -> Driver
     ensures { result ≡ update_start call ckpt }
 {
     match ckpt {
-        None => Driver::by(DriverKind::Enter(0)),
+        None => Driver::once(OneStep::Enter(0)),
         Some(ckpt) => Driver::by(DriverKind::Update(UpdateCall::begin(call, ckpt))),
     }
 }
@@ -306,26 +292,26 @@ fn active_start(call: CallId, kind: ActiveKind, ckpt: Option<CkptId>) -> Driver
     ensures { result ≡ active_start call kind ckpt }
 {
     match ckpt {
-        None => Driver::by(DriverKind::Enter(0)),
+        None => Driver::once(OneStep::Enter(0)),
         Some(ckpt) => Driver::by(DriverKind::Active(ActiveCall::begin(call, ckpt, kind))),
     }
 }
 
 fn close_start(ckpt: Option<CkptId>) -> Driver
-    ensures { result ≡ on_kept ckpt (λ k. Close k) }
+    ensures { result ≡ on_kept ckpt (λ k. Once (Close k)) }
 {
     match ckpt {
-        None => Driver::by(DriverKind::Enter(0)),
-        Some(ckpt) => Driver::by(DriverKind::Close(ckpt)),
+        None => Driver::once(OneStep::Enter(0)),
+        Some(ckpt) => Driver::once(OneStep::Close(ckpt)),
     }
 }
 
 fn retain_start(duration: i64, ckpt: Option<CkptId>) -> Driver
-    ensures { result ≡ on_kept ckpt (λ k. Retain k duration) }
+    ensures { result ≡ on_kept ckpt (λ k. Once (Retain k duration)) }
 {
     match ckpt {
-        None => Driver::by(DriverKind::Enter(0)),
-        Some(ckpt) => Driver::by(DriverKind::Retain(ckpt, duration)),
+        None => Driver::once(OneStep::Enter(0)),
+        Some(ckpt) => Driver::once(OneStep::Retain(ckpt, duration)),
     }
 }
 
@@ -338,9 +324,9 @@ pub fn event_ckpt(cluster: &Record, driver: &Driver, step: &RecordStep) -> Optio
         (DriverKind::Open(_), RecordStep::Create) => Some(cluster.last_identity() + 1),
         (DriverKind::Open(open_call), RecordStep::Open) => cluster.find(open_call.name()),
         (DriverKind::Open(open_call), RecordStep::Finish | RecordStep::Undo) => open_call.making(),
-        (DriverKind::Unlink(name), RecordStep::Unlink) => cluster.find(name.value()),
-        (DriverKind::Close(ckpt), RecordStep::Close) => Some(*ckpt),
-        (DriverKind::Retain(ckpt, _), RecordStep::Retain) => Some(*ckpt),
+        (DriverKind::Once(OneStep::Unlink(name)), RecordStep::Unlink) => cluster.find(name.value()),
+        (DriverKind::Once(OneStep::Close(ckpt)), RecordStep::Close) => Some(*ckpt),
+        (DriverKind::Once(OneStep::Retain(ckpt, _)), RecordStep::Retain) => Some(*ckpt),
         _ => None,
     }
 }
@@ -350,7 +336,7 @@ pub fn event_node(driver: &Driver, step: &RecordStep) -> Option<NodeId>
     ensures { result ≡ event_node driver.now step.now }
 {
     match (&driver.kind, step) {
-        (DriverKind::Enter(r), RecordStep::Enter) => Some(*r),
+        (DriverKind::Once(OneStep::Enter(r)), RecordStep::Enter) => Some(*r),
         _ => None,
     }
 }

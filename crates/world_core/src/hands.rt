@@ -1,10 +1,10 @@
 //! The calls in hand, and what they lend to the nodes.
 ghost use Rattle.std.specs.Prelude.{◌≡◌, ◌≢◌, ◌<◌, ◌≤◌, [], length, replicate, Some, None, is_some, IfOk, IfSome, IsSome, MatchOption, OnOk, slice_set, vec_capacity};
-ghost use Rattle.run_labels.specs.OpWord.{word_of_op};
+ghost use Rattle.ckpt_types.specs.OpWord.{word_of_op};
 ghost use Rattle.cluster_record.specs.Calls.{left};
 ghost use Rattle.node_msgs.specs.Requests.{ckpt_of};
-ghost use Rattle.ckpt_machine.specs.Serving.{update_of, elements_of};
-ghost use Rattle.world_core.specs.Lending.{bytes_asked, IsLentRead, IsLentFor, IsLent};
+ghost use Rattle.ckpt_types.specs.Asks.{update_of, elements_of};
+ghost use Rattle.world_core.specs.Lending.{bytes_asked, IsLentRead, IsLentFor, HasLent};
 ghost use Rattle.ckpt_types.specs.declared.update.Update.TheVariants as updates;
 ghost use Rattle.ckpt_types.specs.declared.answers.Answer.TheVariants as answers;
 ghost use Rattle.node_msgs.specs.declared.replies.Reply.TheVariants as replies;
@@ -84,7 +84,7 @@ impl InHand {
     /// Lends what travels beside a request of the call: a buffer with room for the identifier of a new section, a
     /// share of its elements with a buffer that has room for what they may give, or a place for a status.
     pub fn lend(&self, alloc: Global, request: &Request, lent: &mut Lent) -> Result<(), AllocError>
-        ensures { OnOk result (IsLent request.now self.now.op lent.new) }
+        ensures { OnOk result (HasLent request.now self.now.op lent.new) }
     {
         match request {
             Request::Commit(_, _) => lend_identifier(alloc, &self.op, lent),

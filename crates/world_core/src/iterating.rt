@@ -6,7 +6,7 @@ ghost use Rattle.node_msgs.specs.declared.requests.Request.TheVariants as reques
 ghost use Rattle.world_core.specs.Shows.{IsShown, HasNumbersLeft};
 ghost use Rattle.world_core.specs.Happenings.{Adds, IsNext, IsStep};
 
-use crate::beginning::{handle_place, iteration_place, started_place};
+use crate::beginning::gone_on_place;
 use crate::hands::InHand;
 use crate::messages::{done, served};
 use crate::nodes::told_section;
@@ -46,21 +46,12 @@ impl World {
             iteration,
         } = hand;
         let word = OpWord::of(&op);
-        let Some(place) = started_place(&op) else {
-            unreachable!()
-        };
-        let Some(over) = handle_place(&op) else {
-            unreachable!()
-        };
-        let Some(handle) = self.tables.handle(c, over) else {
-            unreachable!()
-        };
         let Some(mut iteration) = iteration else {
             unreachable!()
         };
         let now = self.cluster.now();
         self.nodes.start(r, ckpt, &mut iteration, choice, now);
-        self.tables.start(c, place, handle.handle, iteration);
+        self.tables.start(c, &op, iteration);
         log.push(done(call, word, Verb::Iter, ckpt, r));
     }
 
@@ -88,7 +79,7 @@ impl World {
         };
         let call = hand.call;
         let op = hand.word();
-        let Some(place) = iteration_place(&hand.op) else {
+        let Some(place) = gone_on_place(&hand.op) else {
             unreachable!()
         };
         let mut section = Apart::new(alloc, no_section())?;

@@ -1,16 +1,18 @@
 //! What becomes of the tables of one client that has its room.
-ghost use Rattle.std.specs.Prelude.{◌≡◌, ◌+◌, ◌-◌, ◌^◌, ◌<◌, ◌≤◌, [], true, IfOk, IsSome, length};
+ghost use Rattle.std.specs.Prelude.{◌≡◌, ◌-◌, ◌^◌, ◌<◌, true, IfOk, IsSome};
 ghost use Rattle.ckpt_types.specs.Limits.{places_max, nodes_max};
-ghost use Rattle.client_handles.specs.ClientState.{ClientState, handle_numbered, has_handle_room, has_iteration_room, iteration_at, new_client, added, bound, dropped, emptied, ended, taken};
+ghost use Rattle.client_handles.specs.ClientState.{has_handle_room, has_iteration_room, iteration_at, kept_at, dropped, emptied, ended};
 ghost use Rattle.world_core.specs.AtRest.{IsAtRest};
 ghost use Rattle.world_core.specs.Lending.{section_told};
-ghost use Rattle.world_core.specs.NewTable.{no_callbacks};
 ghost use Rattle.ckpt_machine.specs.Serving.{replica_in, given_at, next_details, next_reply_at};
-ghost use Rattle.ckpt_machine.specs.Steps.{ids_of};
-ghost use Rattle.world_core.specs.TableState.{kept_of, gone_on_of};
+ghost use Rattle.ckpt_types.specs.Asks.{asked, IsBuilt};
+ghost use Rattle.ckpt_types.specs.Asks.{Next};
+ghost use Rattle.ckpt_machine.specs.Machine.{no_tables};
+ghost use Rattle.ckpt_machine.specs.Tables.{ids_of, no_flags, flags_or_none, handle_given, started, gone_on};
+ghost use Rattle.ckpt_types.specs.Attributes.{open_flags_of};
 
 use crate::nodes::Nodes;
-use ckpt_types::{Apart, CallbackSet, CkptId, Moment, NodeId, OpenFlags, SectionDescriptor};
+use ckpt_types::{Apart, CallbackSet, CkptId, Moment, NodeId, Op, OpenFlags, SectionDescriptor};
 use client_handles::Client;
 use node_msgs::Reply;
 use section_iter::Iteration;
@@ -18,7 +20,7 @@ use std::alloc::{AllocError, Global};
 
 /// A client with no handle. Its room is taken here.
 pub(crate) fn new_client(alloc: Global) -> Result<Box<Client>, AllocError>
-    ensures { IfOk result (λ client. client.value ≡ new_client no_callbacks) }
+    ensures { IfOk result (λ client. client.value ≡ no_tables) }
 {
     let none = CallbackSet {
         opens: false,
@@ -27,17 +29,22 @@ pub(crate) fn new_client(alloc: Global) -> Result<Box<Client>, AllocError>
     Ok(Box::new(alloc, Client::new(alloc, none)?)?)
 }
 
-/// An iteration more over the handle of that number; the place stands for it.
-pub(crate) fn start(client: &mut Client, place: u8, handle: u32, iteration: Iteration)
+/// The iteration that an operation starts, over the handle of its place; nothing where that stands for none.
+pub(crate) fn start(client: &mut Client, op: &Op, iteration: Iteration)
     requires kept { IsAtRest client.old }
-    requires place { place < places_max }
+    requires built { IsBuilt op.now }
     requires room { has_iteration_room client.old ≡ true }
-    requires opened { IsSome (handle_numbered handle client.old.handles) }
     requires number { client.old.last_iteration < 2 ^ 32 - 1 }
     ensures kept { IsAtRest client.new }
-    ensures new { client.new ≡ added place handle iteration client.old }
+    ensures new { client.new ≡ started (asked op.now) iteration.room (λ choice. iteration.ids) client.old }
 {
-    let Ok(()) = client.add_iteration(place, handle, iteration) else {
+    let Op::Iter(place, over, _, _) = op else {
+        return;
+    };
+    let Ok(handle) = client.handle(*over) else {
+        return;
+    };
+    let Ok(()) = client.add_iteration(*place, handle.handle, iteration) else {
         unreachable!()
     };
 }
@@ -57,9 +64,9 @@ pub(crate) fn go_on(
     requires node { r < nodes_max }
     requires there { IsSome (iteration_at place client.old) }
     ensures kept { IsAtRest client.new }
-    ensures reply { result ≡ next_reply_at (ids_of (kept_of place client.old)) now (replica_in nodes.now ckpt r) }
-    ensures details { section_told result out.new ≡ next_details (given_at (ids_of (kept_of place client.old)) now (replica_in nodes.now ckpt r)) }
-    ensures new { client.new ≡ gone_on_of place (given_at (ids_of (kept_of place client.old)) now (replica_in nodes.now ckpt r)) client.old }
+    ensures reply { result ≡ next_reply_at (ids_of (kept_at place client.old)) now (replica_in nodes.now ckpt r) }
+    ensures details { section_told result out.new ≡ next_details (given_at (ids_of (kept_at place client.old)) now (replica_in nodes.now ckpt r)) }
+    ensures new { client.new ≡ gone_on (Next place) (given_at (ids_of (kept_at place client.old)) now (replica_in nodes.now ckpt r)) client.old }
 {
     let Ok(mut iteration) = client.lend_iteration(place) else {
         unreachable!()
@@ -69,32 +76,51 @@ pub(crate) fn go_on(
     reply
 }
 
-/// The place's iteration ends.
+/// The place's iteration ends, if it stands for one.
 pub(crate) fn end(client: &mut Client, place: u8)
-    requires kept { IsAtRest client.old }
-    requires there { IsSome (iteration_at place client.old) }
+    requires { IsAtRest client.old }
     ensures kept { IsAtRest client.new }
     ensures new { client.new ≡ ended place client.old }
 {
-    let Ok(()) = client.end_iteration(place) else {
-        unreachable!()
-    };
+    let _ended = client.end_iteration(place);
 }
 
-/// A handle more of a checkpoint; the place stands for it.
-pub(crate) fn add(client: &mut Client, id: CkptId, flags: OpenFlags, creation_flags: u32, place: u8)
+/// The handle of a checkpoint that an open gives, for which its place stands; none where the operation is no open.
+pub(crate) fn give(client: &mut Client, op: &Op, ckpt: CkptId, creation_flags: u32)
     requires kept { IsAtRest client.old }
+    requires built { IsBuilt op.now }
     requires room { has_handle_room client.old ≡ true }
     requires number { client.old.last_number < 2 ^ 32 - 1 }
-    requires place { place < places_max }
     ensures kept { IsAtRest client.new }
-    ensures new { client.new ≡ bound place (client.old.last_number + 1) (taken id flags creation_flags client.old) }
-    ensures places { length client.old.places ≡ places_max }
+    ensures new { client.new ≡ handle_given (asked op.now) ckpt creation_flags client.old }
 {
-    let Ok(number) = client.take_handle(id, flags, creation_flags) else {
+    let Op::Open(place, _, flags, _, _) = op else {
+        return;
+    };
+    let Ok(number) = client.take_handle(ckpt, opened_for(*flags), creation_flags) else {
         unreachable!()
     };
-    client.bind(place, number);
+    client.bind(*place, number);
+}
+
+// What flags open for; nothing where they are none.
+fn opened_for(flags: u32) -> OpenFlags
+    ensures { result ≡ flags_or_none (open_flags_of flags) }
+{
+    match OpenFlags::from_bits(flags) {
+        Ok(flags) => flags,
+        Err(_) => no_flags(),
+    }
+}
+
+fn no_flags() -> OpenFlags
+    ensures { result ≡ no_flags }
+{
+    OpenFlags {
+        read: false,
+        write: false,
+        create: false,
+    }
 }
 
 /// The handle for which a place stands is closed, and the iterations over it end.

@@ -11,7 +11,7 @@ ghost use Rattle.ckpt_types.specs.declared.identities.CallId.{CallId};
 ghost use Rattle.world_core.specs.UpdateSteps.{stage_reply_at, staged_on, staged_at, commit_reply_at, committed_at};
 ghost use Rattle.ckpt_machine.specs.Serving.{committed, record_seen, replica_key, replica_after, replica_in, reply_at, details_at, served, IsReadyAt, opened_replica, with_reserved, reserved_at, chosen_at, given_at, next_details, next_reply_at};
 ghost use Rattle.world_core.specs.Freeing.{is_there, freed};
-ghost use Rattle.world_core.specs.Lending.{IsLent, details_told, status_told, section_told};
+ghost use Rattle.world_core.specs.Lending.{HasLent, details_told, status_told, section_told};
 ghost use Rattle.ckpt_machine.specs.Steps.{ended_details};
 
 use crate::replica::Replica;
@@ -94,7 +94,7 @@ impl Nodes {
         requires node { r < nodes_max }
         requires ready { IsReadyAt request.now (replica_in self.old (ckpt_of request.now) r) }
         requires stages_none { (call : CallId) (k : ℕ) (t : ℤ) → request.now ≢ requests.Stage call k t }
-        requires lent { IsLent request.now op.now lent.old }
+        requires lent { HasLent request.now op.now lent.old }
         ensures reply { result ≡ reply_at request.now op.now (record_seen cluster.now (ckpt_of request.now)) (replica_in self.old (ckpt_of request.now) r) }
         ensures new { self.new ≡ served self.old r request.now op.now }
         ensures details { details_told result lent.new ≡ details_at request.now op.now (record_seen cluster.now (ckpt_of request.now)) (replica_in self.old (ckpt_of request.now) r) }
@@ -218,7 +218,7 @@ impl Node {
     fn serve(&mut self, request: &Request, op: &Op, cluster: &Record, lent: &mut Lent) -> Reply
         requires ready { IsReadyAt request.now (find_key replica_key (ckpt_of request.now) self.old) }
         requires stages_none { (call : CallId) (k : ℕ) (t : ℤ) → request.now ≢ requests.Stage call k t }
-        requires lent { IsLent request.now op.now lent.old }
+        requires lent { HasLent request.now op.now lent.old }
         ensures reply { result ≡ reply_at request.now op.now (record_seen cluster.now (ckpt_of request.now)) (find_key replica_key (ckpt_of request.now) self.old) }
         ensures new { self.new ≡ change_key replica_key (ckpt_of request.now) (replica_after request.now op.now) self.old }
         ensures details { details_told result lent.new ≡ details_at request.now op.now (record_seen cluster.now (ckpt_of request.now)) (find_key replica_key (ckpt_of request.now) self.old) }
@@ -347,7 +347,7 @@ fn serve_at(
 ) -> Reply
     requires ready { IsReadyAt request.now (find_key replica_key (ckpt_of request.now) replicas.old) }
     requires stages_none { (call : CallId) (k : ℕ) (t : ℤ) → request.now ≢ requests.Stage call k t }
-    requires lent { IsLent request.now op.now lent.old }
+    requires lent { HasLent request.now op.now lent.old }
     ensures reply { result ≡ reply_at request.now op.now (record_seen cluster.now (ckpt_of request.now)) (find_key replica_key (ckpt_of request.now) replicas.old) }
     ensures new { replicas.new ≡ change_key replica_key (ckpt_of request.now) (replica_after request.now op.now) replicas.old }
     ensures details { details_told result lent.new ≡ details_at request.now op.now (record_seen cluster.now (ckpt_of request.now)) (find_key replica_key (ckpt_of request.now) replicas.old) }
@@ -430,7 +430,7 @@ fn serve_node(
     requires node { r < length nodes.old }
     requires ready { IsReadyAt request.now (replica_in nodes.old (ckpt_of request.now) r) }
     requires stages_none { (call : CallId) (k : ℕ) (t : ℤ) → request.now ≢ requests.Stage call k t }
-    requires lent { IsLent request.now op.now lent.old }
+    requires lent { HasLent request.now op.now lent.old }
     ensures reply { result ≡ reply_at request.now op.now (record_seen cluster.now (ckpt_of request.now)) (replica_in nodes.old (ckpt_of request.now) r) }
     ensures new { nodes.new ≡ served nodes.old r request.now op.now }
     ensures details { details_told result lent.new ≡ details_at request.now op.now (record_seen cluster.now (ckpt_of request.now)) (replica_in nodes.old (ckpt_of request.now) r) }

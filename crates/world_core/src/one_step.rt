@@ -1,16 +1,60 @@
-//! What closes, unlinks and settings of a retention do next.
+//! The calls of one step of the record: what each does next.
 ghost use Rattle.std.specs.Prelude.{◌≡◌, Some};
 ghost use Rattle.ckpt_types.specs.declared.answers.Cause.TheVariants.{Plain};
 ghost use Rattle.ckpt_types.specs.declared.answers.Outcome.TheVariants.{Refused};
 ghost use Rattle.node_msgs.specs.declared.next.Next.TheVariants.{End};
-ghost use Rattle.cluster_record.specs.DueOnce.{close_next, unlink_of_making, unlink_next, retain_of, retain_next};
+ghost use Rattle.cluster_record.specs.DueOnce.{enter_next, close_next, unlink_of_making, unlink_next, retain_of, retain_next, once_next};
+ghost use Rattle.world_core.specs.CallStates.{step_in};
 
-use ckpt_types::{AisError, Answer, Bytes, CallId, Cause, CkptId, Outcome};
+use ckpt_types::{
+    AisError, Answer, Bytes, CLIENTS_MAX, CallId, Cause, CkptId, NodeId, Outcome, SharedName,
+};
 use cluster_record::{Entry, Record};
 use node_msgs::{Next, RecordStep};
 
-/// What a close does next: where the checkpoint is gone, nothing is left to do.
-pub fn close_next(cluster: &Record, ckpt: CkptId) -> Next
+/// What a call of one step does.
+#[derive(Debug, Drop)]
+pub enum OneStep {
+    /// A client becomes live on the node.
+    Enter(NodeId),
+    /// The client leaves.
+    Leave,
+    /// A handle of the checkpoint is closed.
+    Close(CkptId),
+    /// The checkpoint of the name loses it.
+    Unlink(SharedName),
+    /// The retention of the checkpoint becomes this duration.
+    Retain(CkptId, i64),
+}
+
+impl OneStep {
+    /// What the call does next, by the record.
+    pub fn next(&self, cluster: &Record) -> Next
+        ensures { result ≡ once_next cluster.now (step_in self.now) }
+    {
+        match self {
+            OneStep::Enter(_) => enter_next(cluster),
+            OneStep::Leave => Next::Event(RecordStep::Leave),
+            OneStep::Close(ckpt) => close_next(cluster, *ckpt),
+            OneStep::Unlink(name) => unlink_next(cluster, name.value()),
+            OneStep::Retain(ckpt, _) => retain_next(cluster, *ckpt),
+        }
+    }
+}
+
+// No more clients become live than may be.
+fn enter_next(cluster: &Record) -> Next
+    ensures { result ≡ enter_next cluster.now }
+{
+    if cluster.clients_len() >= CLIENTS_MAX {
+        Next::End(Outcome::Refused(AisError::NoResources, Cause::Count(CLIENTS_MAX as u32)))
+    } else {
+        Next::Event(RecordStep::Enter)
+    }
+}
+
+// Where the checkpoint of a close is gone, nothing is left to do.
+fn close_next(cluster: &Record, ckpt: CkptId) -> Next
     ensures { result ≡ close_next cluster.now ckpt }
 {
     match cluster.entry(ckpt) {
@@ -19,8 +63,8 @@ pub fn close_next(cluster: &Record, ckpt: CkptId) -> Next
     }
 }
 
-/// What an unlink does next: what is in the making keeps its name.
-pub fn unlink_next(cluster: &Record, name: &Bytes) -> Next
+// What is in the making keeps its name.
+fn unlink_next(cluster: &Record, name: &Bytes) -> Next
     ensures { result ≡ unlink_next cluster.now name.now }
 {
     match cluster.named(name) {
@@ -38,8 +82,8 @@ fn unlink_of_making(making: Option<CallId>) -> Next
     }
 }
 
-/// What a setting of the retention does next: that of an unlinked checkpoint can't be set.
-pub fn retain_next(cluster: &Record, ckpt: CkptId) -> Next
+// The retention of an unlinked checkpoint can't be set.
+fn retain_next(cluster: &Record, ckpt: CkptId) -> Next
     ensures { result ≡ retain_next cluster.now ckpt }
 {
     match cluster.entry(ckpt) {

@@ -10,10 +10,11 @@ ghost use Rattle.section_iter.specs.Room.{IsRoomFor};
 ghost use Rattle.node_msgs.specs.Requests.{ckpt_of};
 ghost use Rattle.node_msgs.specs.declared.requests.Request.TheVariants as requests;
 ghost use Rattle.node_msgs.specs.declared.replies.Reply.TheVariants as replies;
-ghost use Rattle.update_rules.specs.Told.{told};
-ghost use Rattle.ckpt_machine.specs.Serving.{record_seen, update_of, elements_of, stage_reply, stage_slot, committed, update_answer, told_id, slot_id, done_or_refused, reply_of, replica_after, read_details, details_of, next_reply, next_details, IsStaged, IsReady, opened_replica};
+ghost use Rattle.update_rules.specs.Told.{check_answer};
+ghost use Rattle.ckpt_types.specs.Asks.{update_of, elements_of};
+ghost use Rattle.ckpt_machine.specs.Serving.{record_seen, stage_reply, stage_slot, committed, update_answer, told_id, slot_id, done_or_refused, reply_of, replica_after, read_details, details_of, next_reply, next_details, IsStaged, IsReady, opened_replica};
 ghost use Rattle.world_core.specs.ReplicaStates.{TellsRefusal};
-ghost use Rattle.world_core.specs.Lending.{bytes_asked, IsLentRead, IsLentFor, IsLent, details_told, section_told};
+ghost use Rattle.world_core.specs.Lending.{bytes_asked, IsLentRead, IsLentFor, HasLent, details_told, section_told};
 ghost use Rattle.run_labels.specs.declared.details.Details.TheVariants as beside;
 
 use crate::hands::update_in;
@@ -136,7 +137,7 @@ impl Replica {
     pub fn serve(&mut self, request: &Request, op: &Op, cluster: &Record, lent: &mut Lent) -> Reply
         requires ready { IsReady request.now self.old }
         requires stages_none { (call : CallId) (k : ℕ) (t : ℤ) → request.now ≢ requests.Stage call k t }
-        requires lent { IsLent request.now op.now lent.old }
+        requires lent { HasLent request.now op.now lent.old }
         ensures reply { result ≡ reply_of request.now op.now (record_seen cluster.now (ckpt_of request.now)) self.old }
         ensures new { self.new ≡ replica_after request.now op.now self.old }
         ensures details { details_told result lent.new ≡ details_of request.now op.now (record_seen cluster.now (ckpt_of request.now)) self.old }
@@ -315,14 +316,14 @@ fn admit(store: &Store, update: &Update, now: Moment) -> Result<(), Reply>
 }
 
 fn check(store: &Store, update: &Update, now: Moment) -> Result<(), Refused>
-    ensures { result ≡ told (outcome store.now.attributes update.now now store.now.sections) }
+    ensures { result ≡ check_answer (outcome store.now.attributes update.now now store.now.sections) }
 {
     update_rules::check(store.attributes(), store, update, now)
 }
 
 fn check_read(store: &Store, elements: &[ReadElement], now: Moment) -> Result<(), Refused>
     requires { length elements.now < 2 ^ 32 }
-    ensures { result ≡ told (read elements.now now store.now.sections) }
+    ensures { result ≡ check_answer (read elements.now now store.now.sections) }
 {
     update_rules::check_read(store, elements, now)
 }

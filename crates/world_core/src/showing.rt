@@ -2,8 +2,8 @@
 ghost use Rattle.std.specs.Prelude.{◌≡◌, ◌<◌, ◌≤◌, ◌+◌, ◌++◌, ◌∷◌, [], IfOk, OnOk, OnErr, length, map, take};
 ghost use Rattle.ckpt_types.specs.Reads.{description};
 ghost use Rattle.ckpt_types.specs.Sections.{section_of, present};
-ghost use Rattle.ckpt_types.specs.Limits.{nodes_max};
-ghost use Rattle.ckpt_machine.specs.Listing.{listed_bytes_max, is_active, section_listed};
+ghost use Rattle.ckpt_types.specs.Limits.{listed_bytes_max, nodes_max};
+ghost use Rattle.ckpt_machine.specs.Listing.{is_active, section_listed};
 ghost use Rattle.ckpt_machine.specs.Serving.{replica_in};
 ghost use Rattle.world_core.specs.Listing.{kept_slot_listed, kept_replica_listed, kept_listed, node_listed, nodes_listed, made_listed, world_listing};
 ghost use Rattle.world_core.specs.Happenings.{Adds, TellsReplicas};
@@ -13,7 +13,8 @@ use crate::nodes::Nodes;
 use crate::replica::{Replica, Slot};
 use crate::world::World;
 use ckpt_types::{
-    Bytes, CkptId, Moment, NODES_MAX, NodeId, SectionDescriptor, SectionRef, Sections, Vector,
+    Bytes, CkptId, LISTED_BYTES_MAX, Moment, NODES_MAX, NodeId, SectionDescriptor, SectionRef,
+    Sections, Vector,
 };
 use cluster_record::Entry;
 use moment_rules::expired;
@@ -22,9 +23,6 @@ use run_labels::{
 };
 use section_store::Store;
 use std::alloc::{AllocError, Global};
-
-/// The most bytes of a section that are listed, its first ones.
-const LISTED_BYTES_MAX: usize = 16;
 
 impl World {
     /// The replicas of a checkpoint are told. Want of memory leaves the log as it was.

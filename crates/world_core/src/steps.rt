@@ -1,5 +1,5 @@
 //! The event by which a call takes its next step.
-ghost use Rattle.std.specs.Prelude.{◌≡◌, ◌≢◌, ◌⊎◌, ℕ, ℤ, ◌<◌, ◌≤◌, Some, None, true, IfSome, IsSomeAnd, OnOk, OnErr, length, slice_get};
+ghost use Rattle.std.specs.Prelude.{◌≡◌, ◌≢◌, ◌⊎◌, ℕ, ℤ, ◌<◌, ◌≤◌, Some, None, true, IsSomeAnd, OnOk, OnErr, length, slice_get};
 ghost use Rattle.ckpt_types.specs.declared.identities.ActorName.TheVariants.{Client};
 ghost use Rattle.ckpt_types.specs.declared.identities.Who.TheVariants as whos;
 ghost use Rattle.node_msgs.specs.declared.next.Next.TheVariants as nexts;
@@ -8,10 +8,9 @@ ghost use Rattle.node_msgs.specs.declared.requests.Request.{Request};
 ghost use Rattle.node_msgs.specs.declared.requests.Request.TheVariants as requests;
 ghost use Rattle.run_labels.specs.declared.labels.Label.TheVariants as labels;
 ghost use Rattle.run_labels.specs.declared.words.Said.TheVariants.{Idle};
-ghost use Rattle.world_core.specs.Settling.{tables_given, closed_at, settled, looked, without_making_of, CanGive, CanSettle, HasPlaces};
+ghost use Rattle.world_core.specs.Settling.{tables_given, settled, looked, without_making_of, CanGive, CanSettle};
 ghost use Rattle.cluster_record.specs.LookUps.{creation_flags_of};
 ghost use Rattle.cluster_record.specs.RecordState.{entry_of};
-ghost use Rattle.ckpt_machine.specs.Beginning.{opened_place, closed_place};
 ghost use Rattle.ckpt_machine.specs.Driving.{event_refusal};
 ghost use Rattle.world_core.specs.RecordReady.{IsRefusedWith};
 ghost use Rattle.world_core.specs.declared.hands.InHand.{InHand};
@@ -23,10 +22,9 @@ ghost use Rattle.world_core.specs.Shows.{IsShown, HasNumbersLeft, hand_at};
 ghost use Rattle.world_core.specs.Happenings.{Adds, IsNext, IsStep, IsIdle, NamesNoClient};
 ghost use Rattle.ckpt_types.specs.declared.identities.CallId.{CallId};
 ghost use Rattle.ckpt_types.specs.declared.sections.Choice.{Choice};
-ghost use Rattle.ckpt_types.specs.Limits.{client_numbers, nodes_max, places_max};
+ghost use Rattle.ckpt_types.specs.Limits.{client_numbers, nodes_max};
 
 use crate::applying::apply;
-use crate::beginning::{closed_place, opened_for, opened_place};
 use crate::drivers::{DriverKind, event_ckpt, event_end, event_node, event_refusal};
 use crate::messages::{look_word, served};
 use crate::nodes::{Lent, told_details};
@@ -390,13 +388,12 @@ fn settle(
     ckpt: Option<CkptId>,
 )
     requires client { c < client_numbers }
-    requires can { CanSettle c op.now step.now ckpt tables.old }
-    ensures new { tables.new ≡ settled cluster.now c op.now step.now ckpt tables.old }
-    ensures places { HasPlaces step.now (slice_get tables.old c) }
+    requires can { CanSettle c op.now step.now tables.old }
+    ensures { tables.new ≡ settled cluster.now c op.now step.now ckpt tables.old }
 {
     match step {
         RecordStep::Open | RecordStep::Finish => give(tables, cluster, c, op, ckpt),
-        RecordStep::Close => close(tables, c, closed_place(op)),
+        RecordStep::Close => tables.close(c, op),
         RecordStep::Leave => tables.leave(c),
         _ => {}
     }
@@ -408,38 +405,20 @@ fn settle_look(tables: &mut Tables, c: u8, op: &Op, end: &Outcome)
     ensures { tables.new ≡ looked end.now c op.now tables.old }
 {
     match end {
-        Outcome::Done(_) => close(tables, c, closed_place(op)),
+        Outcome::Done(_) => tables.close(c, op),
         _ => {}
     }
 }
 
-// The handle at the place is closed, if there is a place.
-fn close(tables: &mut Tables, c: u8, place: Option<u8>)
-    requires { c < client_numbers }
-    ensures { tables.new ≡ closed_at c place tables.old }
-{
-    if let Some(place) = place {
-        tables.close(c, place);
-    }
-}
-
-// The client gets a handle of the checkpoint, for which the place stands that the operation names.
+// The client gets the handle that its open gives of the checkpoint, if there is one.
 fn give(tables: &mut Tables, cluster: &Record, c: u8, op: &Op, ckpt: Option<CkptId>)
     requires client { c < client_numbers }
-    requires can { CanGive c op.now ckpt tables.old }
-    ensures new { tables.new ≡ tables_given cluster.now c op.now ckpt (opened_place op.now) tables.old }
-    ensures places { IsSomeAnd (slice_get tables.old c) (λ t. length t.client.places ≡ places_max) }
+    requires can { CanGive c op.now tables.old }
+    ensures { tables.new ≡ tables_given cluster.now c op.now ckpt tables.old }
 {
-    let (Some(ckpt), Some(place)) = (ckpt, opened_place(op)) else {
-        unreachable!()
-    };
-    tables.add(
-        c,
-        ckpt,
-        opened_for(op),
-        creation_flags(cluster, ckpt),
-        place,
-    );
+    if let Some(ckpt) = ckpt {
+        tables.give(c, op, ckpt, creation_flags(cluster, ckpt));
+    }
 }
 
 // The creation flags of a checkpoint; 0 where it is gone.

@@ -1,18 +1,18 @@
 //! What all clients keep: numbers, handles, iterations and places.
-ghost use Rattle.std.specs.Prelude.{◌≡◌, ◌-◌, ◌^◌, ◌<◌, ◌≤◌, [], true, IfOk, IfSome, IsSome, IsSomeAnd, OnErr, OnOk, length, nat_lt, slice_get, slice_set, replicate};
-ghost use Rattle.ckpt_types.specs.Limits.{iterations_max, handles_max, places_max, nodes_max, client_numbers};
-ghost use Rattle.client_handles.specs.ClientState.{handle_at, handle_numbered, has_handle_room, has_iteration_room, iteration_at};
+ghost use Rattle.std.specs.Prelude.{◌≡◌, ◌-◌, ◌^◌, ◌<◌, true, IfOk, IsSome, IsSomeAnd, OnErr, OnOk, length, slice_get, slice_set, replicate};
+ghost use Rattle.ckpt_types.specs.Limits.{places_max, nodes_max, client_numbers};
+ghost use Rattle.client_handles.specs.ClientState.{handle_at, has_handle_room, has_iteration_room, iterated_at, iteration_at, kept_at, emptied, ended};
+ghost use Rattle.ckpt_types.specs.Asks.{asked, IsBuilt, Next};
 ghost use Rattle.ckpt_machine.specs.Serving.{replica_in, given_at, next_details, next_reply_at};
+ghost use Rattle.ckpt_machine.specs.Tables.{handle_asked, ids_of, handle_given, started, gone_on, closing, ended_at_once};
 ghost use Rattle.world_core.specs.Lending.{section_told};
-ghost use Rattle.ckpt_machine.specs.Steps.{handle_over, ids_of};
-ghost use Rattle.world_core.specs.TableState.{with_room, with_handle, with_started_iteration, without_begun, gone_on, kept_at, begun_with, with_closed, with_none};
+ghost use Rattle.world_core.specs.TableState.{next_in, kept_by, with_room, with_client, begun_with, at_client};
 ghost use Rattle.world_core.specs.NewTable.{new_table};
-ghost use Rattle.world_core.specs.LiveRooms.{room_is_taken};
-ghost use Rattle.world_core.specs.Shows.{next_in, handles_in, iterations_in, last_in, handle_in_place, handle_over_place};
+ghost use Rattle.world_core.specs.Settling.{CanGive};
 
-use crate::kept_client::{add, close, end, go_on, leave, new_client, start};
+use crate::kept_client::{close, end, give, go_on, leave, new_client, start};
 use crate::nodes::Nodes;
-use ckpt_types::{Apart, CLIENT_NUMBERS, CkptId, Moment, NodeId, OpenFlags, SectionDescriptor};
+use ckpt_types::{Apart, CLIENT_NUMBERS, CkptId, Moment, NodeId, Op, Outcome, SectionDescriptor};
 use client_handles::{Client, HandleView};
 use node_msgs::Reply;
 use section_iter::Iteration;
@@ -95,6 +95,15 @@ impl Table {
         }
     }
 
+    fn has_iteration_room(&self) -> bool
+        ensures { result ≡ has_iteration_room self.now.client }
+    {
+        match &self.client {
+            None => true,
+            Some(client) => client.iteration_room(),
+        }
+    }
+
     // The handle for which a place stands.
     fn handle(&self, place: u8) -> Option<HandleView>
         ensures { result ≡ handle_at place self.now.client }
@@ -105,18 +114,9 @@ impl Table {
         }
     }
 
-    fn has_iteration_room(&self) -> bool
-        ensures { result ≡ has_iteration_room self.now.client }
-    {
-        match &self.client {
-            None => true,
-            Some(client) => client.iteration_room(),
-        }
-    }
-
     // The handle over which the iteration goes for which a place stands.
     fn iteration_handle(&self, place: u8) -> Option<HandleView>
-        ensures { result ≡ handle_over self.now.client.handles (iteration_at place self.now.client) }
+        ensures { result ≡ iterated_at place self.now.client }
     {
         match &self.client {
             None => None,
@@ -124,18 +124,36 @@ impl Table {
         }
     }
 
-    // An iteration more over the handle of that number.
-    fn start(&mut self, place: u8, handle: u32, iteration: Iteration)
-        requires place { place < places_max }
-        requires room { has_iteration_room self.old.client ≡ true }
-        requires opened { IsSome (handle_numbered handle self.old.client.handles) }
-        requires number { self.old.client.last_iteration < 2 ^ 32 - 1 }
-        ensures { self.new ≡ with_started_iteration place handle iteration self.old }
+    // The handle that an operation is about: that of its place, or that over which its iteration goes.
+    fn handle_asked(&self, op: &Op) -> Option<HandleView>
+        ensures { result ≡ handle_asked (asked op.now) self.now.client }
     {
-        let Some(client) = &mut self.client else {
-            unreachable!()
-        };
-        start(client, place, handle, iteration);
+        match op {
+            Op::Create(place, _)
+            | Op::Delete(place, _)
+            | Op::Expire(place, _)
+            | Op::Write(place, _)
+            | Op::Over(place, _)
+            | Op::Read(place, _)
+            | Op::Status(place)
+            | Op::Iter(_, place, _, _)
+            | Op::Close(place)
+            | Op::Retain(place, _) => self.handle(*place),
+            Op::Next(iteration) | Op::EndIter(iteration) => self.iteration_handle(*iteration),
+            _ => None,
+        }
+    }
+
+    // The iteration that an operation starts, over the handle of its place.
+    fn start(&mut self, op: &Op, iteration: Iteration)
+        requires built { IsBuilt op.now }
+        requires room { has_iteration_room self.old.client ≡ true }
+        requires number { self.old.client.last_iteration < 2 ^ 32 - 1 }
+        ensures { self.new ≡ with_client (started (asked op.now) iteration.room (λ choice. iteration.ids)) self.old }
+    {
+        if let Some(client) = &mut self.client {
+            start(client, op, iteration);
+        }
     }
 
     // The place's iteration goes on at the replica that a node has of a checkpoint.
@@ -151,9 +169,9 @@ impl Table {
         requires place { place < places_max }
         requires node { r < nodes_max }
         requires there { IsSome (iteration_at place self.old.client) }
-        ensures reply { result ≡ next_reply_at (ids_of (kept_at place self.old)) now (replica_in nodes.now ckpt r) }
-        ensures details { section_told result out.new ≡ next_details (given_at (ids_of (kept_at place self.old)) now (replica_in nodes.now ckpt r)) }
-        ensures new { self.new ≡ gone_on place (given_at (ids_of (kept_at place self.old)) now (replica_in nodes.now ckpt r)) self.old }
+        ensures reply { result ≡ next_reply_at (ids_of (kept_at place self.old.client)) now (replica_in nodes.now ckpt r) }
+        ensures details { section_told result out.new ≡ next_details (given_at (ids_of (kept_at place self.old.client)) now (replica_in nodes.now ckpt r)) }
+        ensures new { self.new ≡ with_client (gone_on (Next place) (given_at (ids_of (kept_at place self.old.client)) now (replica_in nodes.now ckpt r))) self.old }
     {
         let Some(client) = &mut self.client else {
             unreachable!()
@@ -161,55 +179,63 @@ impl Table {
         go_on(client, place, nodes, r, ckpt, now, out)
     }
 
-    // One call more, which has ended the iteration of this place at once.
-    fn begin(&mut self, ended: Option<u8>)
-        requires number { self.old.next < 2 ^ 32 - 1 }
-        requires place { IfSome ended (λ p. IsSome (iteration_at p self.old.client)) }
-        ensures { self.new ≡ begun_with ended self.old }
+    // One call more, which has ended its iteration where it was to end one.
+    fn begin(&mut self, op: &Op, end: &Option<Outcome>)
+        requires { self.old.next < 2 ^ 32 - 1 }
+        ensures { self.new ≡ begun_with end.now (asked op.now) self.old }
     {
-        if let Some(place) = ended {
-            self.end(place);
-        }
+        self.end_at_once(op, end);
         self.next += 1;
     }
 
-    // The iteration of a place ends.
-    fn end(&mut self, place: u8)
-        requires { IsSome (iteration_at place self.old.client) }
-        ensures { self.new ≡ without_begun place self.old }
+    // What an operation ends that is answered OK at its beginning: its iteration.
+    fn end_at_once(&mut self, op: &Op, end: &Option<Outcome>)
+        ensures { self.new ≡ with_client (ended_at_once end.now (asked op.now)) self.old }
     {
-        let Some(client) = &mut self.client else {
-            unreachable!()
-        };
-        end(client, place);
+        match (op, end) {
+            (Op::EndIter(place), Some(Outcome::Done(_))) => self.end(*place),
+            _ => {}
+        }
     }
 
-    fn add(&mut self, id: CkptId, flags: OpenFlags, creation_flags: u32, place: u8)
+    // The iteration of a place ends, if it stands for one.
+    fn end(&mut self, place: u8)
+        ensures { self.new ≡ with_client (ended place) self.old }
+    {
+        if let Some(client) = &mut self.client {
+            end(client, place);
+        }
+    }
+
+    // The handle of a checkpoint that an open gives, for which its place stands.
+    fn give(&mut self, op: &Op, ckpt: CkptId, creation_flags: u32)
+        requires built { IsBuilt op.now }
         requires roomy { self.old.roomy ≡ true }
         requires room { has_handle_room self.old.client ≡ true }
         requires number { self.old.client.last_number < 2 ^ 32 - 1 }
-        requires place { place < places_max }
-        ensures new { self.new ≡ with_handle id flags creation_flags place self.old }
-        ensures places { length self.old.client.places ≡ places_max }
+        ensures { self.new ≡ with_client (handle_given (asked op.now) ckpt creation_flags) self.old }
     {
         let Some(client) = &mut self.client else {
             unreachable!()
         };
-        add(client, id, flags, creation_flags, place);
+        give(client, op, ckpt, creation_flags);
     }
 
-    // The handle for which a place stands is closed, and the iterations over it end.
-    fn close(&mut self, place: u8)
-        ensures { self.new ≡ with_closed place self.old }
+    // The handle is closed that an operation closes, and the iterations over it end.
+    fn close(&mut self, op: &Op)
+        ensures { self.new ≡ with_client (closing (asked op.now)) self.old }
     {
+        let Op::Close(place) = op else {
+            return;
+        };
         if let Some(client) = &mut self.client {
-            close(client, place);
+            close(client, *place);
         }
     }
 
     // All handles are closed, and all iterations end.
     fn leave(&mut self)
-        ensures { self.new ≡ with_none self.old }
+        ensures { self.new ≡ with_client emptied self.old }
     {
         if let Some(client) = &mut self.client {
             leave(client);
@@ -245,18 +271,18 @@ impl Tables {
         self.list[c as usize].number()
     }
 
-    /// The handle for which a place of a client stands.
-    pub fn handle(&self, c: u8, place: u8) -> Option<HandleView>
+    /// The handle of a client that an operation is about: that of its place, or that over which its iteration goes.
+    pub fn handle_asked(&self, c: u8, op: &Op) -> Option<HandleView>
         requires { c < client_numbers }
-        ensures { result ≡ handle_in_place (slice_get self.now c) place }
+        ensures { result ≡ handle_asked (asked op.now) (kept_by self.now c) }
     {
-        self.list[c as usize].handle(place)
+        self.list[c as usize].handle_asked(op)
     }
 
     /// Whether a client has a free place for a handle.
     pub fn has_room(&self, c: u8) -> bool
         requires { c < client_numbers }
-        ensures { result ≡ nat_lt (length (handles_in (slice_get self.now c))) handles_max }
+        ensures { result ≡ has_handle_room (kept_by self.now c) }
     {
         self.list[c as usize].has_room()
     }
@@ -264,35 +290,21 @@ impl Tables {
     /// Whether a client has a free place for an iteration.
     pub fn has_iteration_room(&self, c: u8) -> bool
         requires { c < client_numbers }
-        ensures { result ≡ nat_lt (length (iterations_in (slice_get self.now c)).begun) iterations_max }
+        ensures { result ≡ has_iteration_room (kept_by self.now c) }
     {
         self.list[c as usize].has_iteration_room()
     }
 
-    /// The handle over which the iteration goes for which a place of a client stands.
-    pub fn iteration_handle(&self, c: u8, place: u8) -> Option<HandleView>
-        requires { c < client_numbers }
-        ensures { result ≡ handle_over_place (slice_get self.now c) place }
-    {
-        self.list[c as usize].iteration_handle(place)
-    }
-
-    /// A client starts an iteration over one of its handles, and the place stands for it. It takes no memory.
-    pub fn start(&mut self, c: u8, place: u8, handle: u32, iteration: Iteration)
+    /// A client starts the iteration that an operation starts, over the handle of its place; nothing where that
+    /// stands for none. It takes no memory.
+    pub fn start(&mut self, c: u8, op: &Op, iteration: Iteration)
         requires client { c < client_numbers }
-        requires place { place < places_max }
-        requires room { nat_lt (length (iterations_in (slice_get self.old c)).begun) iterations_max ≡ true }
-        requires opened { IsSome (handle_numbered handle (handles_in (slice_get self.old c))) }
-        requires number { (iterations_in (slice_get self.old c)).last < 2 ^ 32 - 1 }
-        ensures { IsSomeAnd (slice_get self.old c) (λ table. self.new ≡ slice_set self.old c (with_started_iteration place handle iteration table)) }
+        requires built { IsBuilt op.now }
+        requires room { has_iteration_room (kept_by self.old c) ≡ true }
+        requires number { (kept_by self.old c).last_iteration < 2 ^ 32 - 1 }
+        ensures { self.new ≡ at_client c (with_client (started (asked op.now) iteration.room (λ choice. iteration.ids))) self.old }
     {
-        start_at(
-            self.list.as_mut_slice(),
-            c as usize,
-            place,
-            handle,
-            iteration,
-        );
+        start_at(self.list.as_mut_slice(), c as usize, op, iteration);
     }
 
     /// The iteration of a client's place goes on at the replica that a node has of a checkpoint: the next
@@ -310,10 +322,10 @@ impl Tables {
         requires client { c < client_numbers }
         requires place { place < places_max }
         requires node { r < nodes_max }
-        requires there { IsSomeAnd (slice_get self.old c) (λ table. IsSome (iteration_at place table.client)) }
-        ensures reply { IsSomeAnd (slice_get self.old c) (λ table. result ≡ next_reply_at (ids_of (kept_at place table)) now (replica_in nodes.now ckpt r)) }
-        ensures details { IsSomeAnd (slice_get self.old c) (λ table. section_told result out.new ≡ next_details (given_at (ids_of (kept_at place table)) now (replica_in nodes.now ckpt r))) }
-        ensures new { IsSomeAnd (slice_get self.old c) (λ table. self.new ≡ slice_set self.old c (gone_on place (given_at (ids_of (kept_at place table)) now (replica_in nodes.now ckpt r)) table)) }
+        requires there { IsSome (iteration_at place (kept_by self.old c)) }
+        ensures reply { result ≡ next_reply_at (ids_of (kept_at place (kept_by self.old c))) now (replica_in nodes.now ckpt r) }
+        ensures details { section_told result out.new ≡ next_details (given_at (ids_of (kept_at place (kept_by self.old c))) now (replica_in nodes.now ckpt r)) }
+        ensures new { self.new ≡ at_client c (with_client (gone_on (Next place) (given_at (ids_of (kept_at place (kept_by self.old c))) now (replica_in nodes.now ckpt r)))) self.old }
     {
         go_on_at(
             self.list.as_mut_slice(),
@@ -327,51 +339,45 @@ impl Tables {
         )
     }
 
-    /// A client begins one call more, which has ended the iteration of this place at once, if it names one.
-    pub fn begin(&mut self, c: u8, ended: Option<u8>)
+    /// A client begins one call more, which has ended its iteration where it was to end one.
+    pub fn begin(&mut self, c: u8, op: &Op, end: &Option<Outcome>)
         requires client { c < client_numbers }
         requires number { next_in (slice_get self.old c) < 2 ^ 32 - 1 }
-        requires place { IfSome ended (λ p. IsSomeAnd (slice_get self.old c) (λ table. IsSome (iteration_at p table.client))) }
-        ensures { IsSomeAnd (slice_get self.old c) (λ table. self.new ≡ slice_set self.old c (begun_with ended table)) }
+        ensures { self.new ≡ at_client c (begun_with end.now (asked op.now)) self.old }
     {
-        begin_at(self.list.as_mut_slice(), c as usize, ended);
+        begin_at(self.list.as_mut_slice(), c as usize, op, end);
     }
 
-    /// A client gets a handle of a checkpoint, of the number after its last one, and the place stands for
-    /// it. It takes no memory.
-    pub fn add(&mut self, c: u8, id: CkptId, flags: OpenFlags, creation_flags: u32, place: u8)
+    /// A client gets the handle of a checkpoint that an open gives, of the number after its last one, and the
+    /// place of the open stands for it. It takes no memory.
+    pub fn give(&mut self, c: u8, op: &Op, ckpt: CkptId, creation_flags: u32)
         requires client { c < client_numbers }
-        requires roomy { room_is_taken (slice_get self.old c) ≡ true }
-        requires room { nat_lt (length (handles_in (slice_get self.old c))) handles_max ≡ true }
-        requires number { last_in (slice_get self.old c) < 2 ^ 32 - 1 }
-        requires place { place < places_max }
-        ensures new { IsSomeAnd (slice_get self.old c) (λ table. self.new ≡ slice_set self.old c (with_handle id flags creation_flags place table)) }
-        ensures places { IsSomeAnd (slice_get self.old c) (λ table. length table.client.places ≡ places_max) }
+        requires can { CanGive c op.now self.old }
+        ensures { self.new ≡ at_client c (with_client (handle_given (asked op.now) ckpt creation_flags)) self.old }
     {
-        add_at(
+        give_at(
             self.list.as_mut_slice(),
             c as usize,
-            id,
-            flags,
+            op,
+            ckpt,
             creation_flags,
-            place,
         );
     }
 
-    /// The handle for which a place of a client stands is closed, and the iterations over it end. Where it
+    /// The handle of a client is closed that an operation closes, and the iterations over it end. Where its place
     /// stands for none nothing changes. It takes no memory.
-    pub fn close(&mut self, c: u8, place: u8)
+    pub fn close(&mut self, c: u8, op: &Op)
         requires { c < client_numbers }
-        ensures { IsSomeAnd (slice_get self.old c) (λ table. self.new ≡ slice_set self.old c (with_closed place table)) }
+        ensures { self.new ≡ at_client c (with_client (closing (asked op.now))) self.old }
     {
-        close_at(self.list.as_mut_slice(), c as usize, place);
+        close_at(self.list.as_mut_slice(), c as usize, op);
     }
 
     /// All handles of a client are closed, and all its iterations end. Its places then stand for none, and
     /// no number is given again. It takes no memory.
     pub fn leave(&mut self, c: u8)
         requires { c < client_numbers }
-        ensures { IsSomeAnd (slice_get self.old c) (λ table. self.new ≡ slice_set self.old c (with_none table)) }
+        ensures { self.new ≡ at_client c (with_client emptied) self.old }
     {
         leave_at(self.list.as_mut_slice(), c as usize);
     }
@@ -396,26 +402,24 @@ fn take_room_at(tables: &mut [Table], alloc: Global, c: usize) -> Result<(), All
     table.take_room(alloc)
 }
 
-fn begin_at(tables: &mut [Table], c: usize, ended: Option<u8>)
+fn begin_at(tables: &mut [Table], c: usize, op: &Op, end: &Option<Outcome>)
     requires client { c < length tables.old }
     requires number { next_in (slice_get tables.old c) < 2 ^ 32 - 1 }
-    requires place { IfSome ended (λ p. IsSomeAnd (slice_get tables.old c) (λ table. IsSome (iteration_at p table.client))) }
-    ensures { IsSomeAnd (slice_get tables.old c) (λ table. tables.new ≡ slice_set tables.old c (begun_with ended table)) }
+    ensures { tables.new ≡ at_client c (begun_with end.now (asked op.now)) tables.old }
 {
     let table = &mut tables[c];
-    table.begin(ended);
+    table.begin(op, end);
 }
 
-fn start_at(tables: &mut [Table], c: usize, place: u8, handle: u32, iteration: Iteration)
+fn start_at(tables: &mut [Table], c: usize, op: &Op, iteration: Iteration)
     requires client { c < length tables.old }
-    requires place { place < places_max }
-    requires room { nat_lt (length (iterations_in (slice_get tables.old c)).begun) iterations_max ≡ true }
-    requires opened { IsSome (handle_numbered handle (handles_in (slice_get tables.old c))) }
-    requires number { (iterations_in (slice_get tables.old c)).last < 2 ^ 32 - 1 }
-    ensures { IsSomeAnd (slice_get tables.old c) (λ table. tables.new ≡ slice_set tables.old c (with_started_iteration place handle iteration table)) }
+    requires built { IsBuilt op.now }
+    requires room { has_iteration_room (kept_by tables.old c) ≡ true }
+    requires number { (kept_by tables.old c).last_iteration < 2 ^ 32 - 1 }
+    ensures { tables.new ≡ at_client c (with_client (started (asked op.now) iteration.room (λ choice. iteration.ids))) tables.old }
 {
     let table = &mut tables[c];
-    table.start(place, handle, iteration);
+    table.start(op, iteration);
 }
 
 fn go_on_at(
@@ -431,46 +435,35 @@ fn go_on_at(
     requires client { c < length tables.old }
     requires place { place < places_max }
     requires node { r < nodes_max }
-    requires there { IsSomeAnd (slice_get tables.old c) (λ table. IsSome (iteration_at place table.client)) }
-    ensures reply { IsSomeAnd (slice_get tables.old c) (λ table. result ≡ next_reply_at (ids_of (kept_at place table)) now (replica_in nodes.now ckpt r)) }
-    ensures details { IsSomeAnd (slice_get tables.old c) (λ table. section_told result out.new ≡ next_details (given_at (ids_of (kept_at place table)) now (replica_in nodes.now ckpt r))) }
-    ensures new { IsSomeAnd (slice_get tables.old c) (λ table. tables.new ≡ slice_set tables.old c (gone_on place (given_at (ids_of (kept_at place table)) now (replica_in nodes.now ckpt r)) table)) }
+    requires there { IsSome (iteration_at place (kept_by tables.old c)) }
+    ensures reply { result ≡ next_reply_at (ids_of (kept_at place (kept_by tables.old c))) now (replica_in nodes.now ckpt r) }
+    ensures details { section_told result out.new ≡ next_details (given_at (ids_of (kept_at place (kept_by tables.old c))) now (replica_in nodes.now ckpt r)) }
+    ensures new { tables.new ≡ at_client c (with_client (gone_on (Next place) (given_at (ids_of (kept_at place (kept_by tables.old c))) now (replica_in nodes.now ckpt r)))) tables.old }
 {
     let table = &mut tables[c];
     table.go_on(place, nodes, r, ckpt, now, out)
 }
 
-fn add_at(
-    tables: &mut [Table],
-    c: usize,
-    id: CkptId,
-    flags: OpenFlags,
-    creation_flags: u32,
-    place: u8,
-)
+fn give_at(tables: &mut [Table], c: usize, op: &Op, ckpt: CkptId, creation_flags: u32)
     requires client { c < length tables.old }
-    requires roomy { room_is_taken (slice_get tables.old c) ≡ true }
-    requires room { nat_lt (length (handles_in (slice_get tables.old c))) handles_max ≡ true }
-    requires number { last_in (slice_get tables.old c) < 2 ^ 32 - 1 }
-    requires place { place < places_max }
-    ensures new { IsSomeAnd (slice_get tables.old c) (λ table. tables.new ≡ slice_set tables.old c (with_handle id flags creation_flags place table)) }
-    ensures places { IsSomeAnd (slice_get tables.old c) (λ table. length table.client.places ≡ places_max) }
+    requires can { CanGive c op.now tables.old }
+    ensures { tables.new ≡ at_client c (with_client (handle_given (asked op.now) ckpt creation_flags)) tables.old }
 {
     let table = &mut tables[c];
-    table.add(id, flags, creation_flags, place);
+    table.give(op, ckpt, creation_flags);
 }
 
-fn close_at(tables: &mut [Table], c: usize, place: u8)
+fn close_at(tables: &mut [Table], c: usize, op: &Op)
     requires { c < length tables.old }
-    ensures { IsSomeAnd (slice_get tables.old c) (λ table. tables.new ≡ slice_set tables.old c (with_closed place table)) }
+    ensures { tables.new ≡ at_client c (with_client (closing (asked op.now))) tables.old }
 {
     let table = &mut tables[c];
-    table.close(place);
+    table.close(op);
 }
 
 fn leave_at(tables: &mut [Table], c: usize)
     requires { c < length tables.old }
-    ensures { IsSomeAnd (slice_get tables.old c) (λ table. tables.new ≡ slice_set tables.old c (with_none table)) }
+    ensures { tables.new ≡ at_client c (with_client emptied) tables.old }
 {
     let table = &mut tables[c];
     table.leave();

@@ -3,7 +3,7 @@ use Rattle.std.specs.Io.KnownBytes.{Appends}
 use Rattle.run_labels.specs.declared.labels.Label.{Label}
 use Rattle.session_run.proofs.Playable.{playable}
 use Rattle.ckptsim.specs.Headline.{asks_steps, printed}
-use Rattle.ckptsim.specs.Reading.{Reads}
+use Rattle.ckptsim.specs.Reading.{HasRead}
 use Rattle.ckptsim.proofs.Played.{read_too_long, none_refused, all_of_none, stays_of_none}
 use Rattle.ckptsim.proofs.Written.{part_of_all}
 use Rattle.ckptsim.proofs.running.ckpt_run.Goals as goal
@@ -31,7 +31,7 @@ returns-in-TooLong-clause-complete g c =
     let left = g.S.Source.left in
     let bytes = c.in-Ok.read.0.items in
     λ command. read_too_long _ (left c.args.source.now) (left c.read_all.new.source) bytes
-    (subst (Reads (left c.args.source.now) (left c.read_all.new.source) bytes) c.in-TooLong.is c.in-Ok.ensures.read)
+    (subst (HasRead (left c.args.source.now) (left c.read_all.new.source) bytes) c.in-TooLong.is c.in-Ok.ensures.read)
 
 -- ---- nothing was played
 

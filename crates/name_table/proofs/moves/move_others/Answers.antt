@@ -1,7 +1,7 @@
 use Rattle.std.proofs.Common.{◌<◌, ◌++◌, ◌∷◌, [], length, length-append, ap, sym, subst, ◌∙◌, arith}
 use Rattle.indexmap.specs.Drain.{drain_rest}
 use Rattle.name_table.specs.Kept.{table_of}
-use Rattle.name_table.specs.Table.{unlinked, EachOnce}
+use Rattle.name_table.specs.Table.{name_taken_away, EachOnce}
 use Rattle.name_table.proofs.MoveLemmas.{whole, fewer, not_yet, then_done}
 use Rattle.name_table.proofs.moves.move_others.Goals as goal
 
@@ -29,7 +29,7 @@ loop-other-preserved-then-is_another c =
       ends = tt;
       keeps = (step.1.0 ∙ before.keeps.0, step.1.1 ∙ before.keeps.1, (omega (arith, step.1.2.0, before.keeps.2.0), step.1.2.1 ∙ before.keeps.2.1), omega (arith, step.1.3, before.keeps.3));
       moved =
-          ap (λ es. table_of es ++ unlinked c.args.name.now (table_of (drain_rest c.next.new.self))) added
+          ap (λ es. table_of es ++ name_taken_away c.args.name.now (table_of (drain_rest c.next.new.self))) added
           ∙ then_done c.args.name.now _ c.loop-other.to.entries _ _ _ before.moved step.0 (sym c.if-is_another.ensures);
       room = omega (arith, ap length added, length-append c.loop-other.to.entries ((c.in-Some.other, c.in-Some.id) ∷ []), c.put_last.ensures.one_place, before.room);
     }

@@ -1,11 +1,11 @@
 use Rattle.std.proofs.Common.{arith, ◌+◌, ◌*◌, slice_index}
 use Rattle.hex.proofs.Pairs.{decode_step, decode_done}
-use Rattle.script_words.proofs.Pairs.{pair_ok, refused}
+use Rattle.script_words.proofs.Pairs.{pair_ok, pair_refused}
 use Rattle.script_words.proofs.digits.decode_pairs_into.Goals as goal
 
 pub returns-then-high-gt15-clause-no : goal.returns-then-high-gt15-clause-no
 returns-then-high-gt15-clause-no c =
-    refused c.args.digits.now c.loop-i.out c.loop-i.i c.digit_value-high.result c.digit_value-low.result (omega (arith, c.requires, c.loop-i-test.true)) c.then-high-gt15.either
+    pair_refused c.args.digits.now c.loop-i.out c.loop-i.i c.digit_value-high.result c.digit_value-low.result (omega (arith, c.requires, c.loop-i-test.true)) c.then-high-gt15.either
     c.digit_value-high.ensures.digit c.digit_value-high.ensures.none c.digit_value-low.ensures.none c.loop-i.invariant
 
 pub loop-i-preserved : goal.loop-i-preserved

@@ -1,6 +1,6 @@
 use Rattle.std.proofs.Common.{arith, rules, refl, ◌≡◌, ◌<◌, ◌^◌, true, slice_index_or}
 use Rattle.std.specs.Char.{is_ascii_digit}
-use Rattle.script_words.proofs.Numbers.{no_digit, one_more, small_yet, value_digit}
+use Rattle.script_words.proofs.Numbers.{no_digit, one_digit_more, small_yet, value_digit}
 use Rattle.script_words.proofs.reading.short_value.Goals as goal
 
 pub returns-then-not-is_ascii_digit-clause-none : goal.returns-then-not-is_ascii_digit-clause-none
@@ -21,4 +21,4 @@ overflow_add-value c =
 pub loop-digit-preserved : goal.loop-digit-preserved
 loop-digit-preserved c =
     let d : is_ascii_digit (slice_index_or c.args.digits.now c.loop-digit.digit-index 0) ≡ true = search rules in
-    one_more c.args.digits.now c.loop-digit.digit-index c.loop-digit.value _ c.loop-digit-test.true d c.loop-digit.invariant.digits c.loop-digit.invariant.value refl
+    one_digit_more c.args.digits.now c.loop-digit.digit-index c.loop-digit.value _ c.loop-digit-test.true d c.loop-digit.invariant.digits c.loop-digit.invariant.value refl

@@ -6,7 +6,7 @@ use Rattle.ckpt_types.specs.Sections.{section_of}
 use Rattle.ckpt_types.proofs.EndsLemmas.{length-pieces_between}
 use Rattle.section_iter.specs.Ids.{ids_in, AreIds}
 use Rattle.section_iter.proofs.ChosenLemmas.{chosen_taken, chosen_left, length-chosen-take-le}
-use Rattle.section_iter.proofs.IdsLemmas.{room_for_one, bytes_after, bytes_before, short_at}
+use Rattle.section_iter.proofs.IdsLemmas.{room_for_one, bytes_within, bytes_before, short_at}
 use Rattle.section_iter.proofs.choices.keep_chosen.Goals as goal
 use Rattle.section_iter.proofs.choices.keep_chosen.Goals.{then-is_chosen, else-is_chosen}
 
@@ -45,7 +45,7 @@ loop-place-preserved g c =
             ids =
                 (λ i. ids_in (w.ends-is i).items (w.bytes-is i).items) ∙ w.push_id.ensures.ids ∙ ap (λ ids. ids ++ section.id ∷ []) c.loop-place.invariant.ids
                 ∙ sym (chosen_taken c.args.choice.now _ _ place section c.at-section.ensures (sym c.is_chosen.ensures ∙ w.if-is_chosen.true));
-            within = subst (λ (n : ℕ). n ≤ (place + 1) * size) (sym used) (bytes_after size place (length c.loop-place.bytes.items) (length c.at-section.result.id.now) c.loop-place.invariant.within short);
+            within = subst (λ (n : ℕ). n ≤ (place + 1) * size) (sym used) (bytes_within size place (length c.loop-place.bytes.items) (length c.at-section.result.id.now) c.loop-place.invariant.within short);
             ends_taken = subst (λ (n : ℕ). c.args.room.ids ≤ n) (sym (ap vec_capacity w.ends-is ∙ w.push_id.ensures.ends_room)) c.loop-place.invariant.ends_taken;
             bytes_taken = omega (arith, ap vec_capacity w.bytes-is, w.push_id.ensures.bytes_room, c.loop-place.invariant.bytes_taken);
           }

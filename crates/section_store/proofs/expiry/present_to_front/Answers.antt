@@ -1,6 +1,6 @@
 use Rattle.std.proofs.Common.{◌≡◌, ◌+◌, ◌<◌, suc, take, drop, length, to_z, of_z, w64, ap, ◌∙◌, sym, subst, arith}
 use Rattle.ckpt_types.specs.Sections.{present, is_present}
-use Rattle.section_store.specs.Stored.{section_of, sections_of, HaveRoom}
+use Rattle.section_store.specs.Stored.{kept_section, kept_sections, HaveRoom}
 use Rattle.section_store.proofs.Expiring.{front-present, front-stays, front-absent}
 use Rattle.section_store.proofs.StoredLemmas.{HaveRoom-moved}
 use Rattle.section_store.proofs.expiry.present_to_front.Goals as goal
@@ -17,7 +17,7 @@ loop-place-preserved c =
     let was = c.loop-place.invariant in
     let there : place < length before = omega arith in
     let next : suc place ≡ place + 1 = omega arith in
-    let shown : c.is_present.result ≡ is_present t (section_of s.value) = c.is_present.ensures ∙ ap (λ x. is_present t (section_of x)) c.deref.ensures ∙ ap (λ b. is_present t (section_of b.value)) (sym c.index-kept-place.is) in
+    let shown : c.is_present.result ≡ is_present t (kept_section s.value) = c.is_present.ensures ∙ ap (λ x. is_present t (kept_section x)) c.deref.ensures ∙ ap (λ b. is_present t (kept_section b.value)) (sym c.index-kept-place.is) in
     elim c.if-is_present.branch [
       | then-is_present w ↦
           let present_here = sym shown ∙ w.if-is_present.true in
@@ -29,7 +29,7 @@ loop-place-preserved c =
                 record {
                   within = omega arith;
                   len = ap length (w.kept-is ∙ v.kept-is) ∙ v.swap.ensures.len ∙ was.len;
-                  present = (λ k. sections_of (take (count k) (moved k))) ∙ present_now ∙ ap (λ n. present t (sections_of (take n old))) next;
+                  present = (λ k. kept_sections (take (count k) (moved k))) ∙ present_now ∙ ap (λ n. present t (kept_sections (take n old))) next;
                   behind = (λ k. drop (sym next k) (moved k)) ∙ behind_now ∙ ap (λ n. drop n old) next;
                   room = λ size room. subst (HaveRoom size) (sym (w.kept-is ∙ v.kept-is)) (HaveRoom-moved size before _ v.swap.ensures.permutation (was.room size room));
                 }
@@ -39,7 +39,7 @@ loop-place-preserved c =
                 record {
                   within = omega arith;
                   len = ap length moved ∙ was.len;
-                  present = (λ k. sections_of (take (count k) (moved k))) ∙ present_now ∙ ap (λ n. present t (sections_of (take n old))) next;
+                  present = (λ k. kept_sections (take (count k) (moved k))) ∙ present_now ∙ ap (λ n. present t (kept_sections (take n old))) next;
                   behind = (λ k. drop (sym next k) (moved k)) ∙ behind_now ∙ ap (λ n. drop n old) next;
                   room = λ size room. subst (HaveRoom size) (sym moved) (was.room size room);
                 }
@@ -49,7 +49,7 @@ loop-place-preserved c =
           record {
             within = omega arith;
             len = ap length w.kept-is ∙ was.len;
-            present = (λ k. sections_of (take (w.front-is k) (w.kept-is k))) ∙ present_now ∙ ap (λ n. present t (sections_of (take n old))) next;
+            present = (λ k. kept_sections (take (w.front-is k) (w.kept-is k))) ∙ present_now ∙ ap (λ n. present t (kept_sections (take n old))) next;
             behind = (λ k. drop (sym next k) (w.kept-is k)) ∙ behind_now ∙ ap (λ n. drop n old) next;
             room = λ size room. subst (HaveRoom size) (sym w.kept-is) (was.room size room);
           }

@@ -6,10 +6,10 @@ use Rattle.ckpt_types.specs.Sections.{Section, is_taken, present}
 use Rattle.ckpt_types.specs.Updates.{free_number, numbered_id}
 use Rattle.ckpt_types.proofs.Numbering.{free_number-free, free_number-least, free_number-le}
 use Rattle.ckpt_types.proofs.Presence.{length-present-le}
-use Rattle.section_store.specs.Stored.{sections_of}
+use Rattle.section_store.specs.Stored.{kept_sections}
 use Rattle.section_store.specs.Summary.{AreTaken}
 use Rattle.section_store.specs.declared.stored.Stored.{Stored}
-use Rattle.section_store.proofs.StoredLemmas.{length-sections_of}
+use Rattle.section_store.proofs.StoredLemmas.{length-kept_sections}
 use Rattle.section_store.proofs.SummaryLemmas.{AreTaken-le}
 use Rattle.section_store.proofs.identifiers.free_number.Goals as goal
 
@@ -28,22 +28,22 @@ free_here sections n first le free = elim (cases_eq n (free_number sections)) [
 ]
 
 -- few sections are present where few are kept
-few_present : (t : ℤ) (kept : List (Box Stored)) → length kept + 1 < 2 ^ 64 → length (present t (sections_of kept)) + 1 < 2 ^ 64
-few_present t kept few = omega (arith, length-present-le t (sections_of kept), length-sections_of kept)
+few_present : (t : ℤ) (kept : List (Box Stored)) → length kept + 1 < 2 ^ 64 → length (present t (kept_sections kept)) + 1 < 2 ^ 64
+few_present t kept few = omega (arith, length-present-le t (kept_sections kept), length-kept_sections kept)
 
 pub loop-place-init : goal.loop-place-init
 loop-place-init c =
     let few : length c.args.kept.now + 1 < 2 ^ 64 = search rules in
     let t = to_z w64 (of_z w64 c.args.now) in
-    let taken = subst (λ m. AreTaken c.args.first (present m (sections_of c.args.kept.now))) (sym (to_z-of_z w64 c.args.now c.ranges.now)) c.requires.taken in
-    record { first = taken.counted; least = AreTaken-le c.args.first (present t (sections_of c.args.kept.now)) (few_present t c.args.kept.now few) taken }
+    let taken = subst (λ m. AreTaken c.args.first (present m (kept_sections c.args.kept.now))) (sym (to_z-of_z w64 c.args.now c.ranges.now)) c.requires.taken in
+    record { first = taken.counted; least = AreTaken-le c.args.first (present t (kept_sections c.args.kept.now)) (few_present t c.args.kept.now few) taken }
 
 -- the number that was tried is below the free one
-tried_below : (c : goal.In-Some) → c.loop-place.number < free_number (present (to_z w64 (of_z w64 c.args.now)) (sections_of c.args.kept.now))
+tried_below : (c : goal.In-Some) → c.loop-place.number < free_number (present (to_z w64 (of_z w64 c.args.now)) (kept_sections c.args.kept.now))
 tried_below c =
     let few : length c.args.kept.now + 1 < 2 ^ 64 = search rules in
     let t = to_z w64 (of_z w64 c.args.now) in
-    let sections = present t (sections_of c.args.kept.now) in
+    let sections = present t (kept_sections c.args.kept.now) in
     let taken : is_taken (numbered_id c.loop-place.number) sections ≡ true = sym c.place_taken.ensures.taken ∙ ap is_some c.in-Some.is in
     taken_below sections c.loop-place.number (few_present t c.args.kept.now few) c.loop-place.invariant.least taken
 
@@ -51,7 +51,7 @@ pub overflow_add-number : goal.overflow_add-number
 overflow_add-number c =
     let few : length c.args.kept.now + 1 < 2 ^ 64 = search rules in
     let t = to_z w64 (of_z w64 c.args.now) in
-    let sections = present t (sections_of c.args.kept.now) in
+    let sections = present t (kept_sections c.args.kept.now) in
     let all : length sections + 1 < 2 ^ 64 = few_present t c.args.kept.now few in
     let below : c.loop-place.number + 1 < 2 ^ 64 = omega (arith, tried_below c, free_number-le sections) in
     search (rules, below)
@@ -65,7 +65,7 @@ loop-place-preserved c = let below = tried_below c in record { first = omega ari
 pub returns : goal.returns
 returns c =
     let moment : to_z w64 (of_z w64 c.args.now) ≡ c.args.now = to_z-of_z w64 c.args.now c.ranges.now in
-    let sections = present (to_z w64 (of_z w64 c.args.now)) (sections_of c.args.kept.now) in
+    let sections = present (to_z w64 (of_z w64 c.args.now)) (kept_sections c.args.kept.now) in
     let free : is_taken (numbered_id c.loop-place.number) sections ≡ false = sym c.place_taken.ensures.taken ∙ ap is_some c.in_default.is in
     let here : c.loop-place.number ≡ free_number sections = free_here sections c.loop-place.number c.loop-place.invariant.first c.loop-place.invariant.least free in
-    here ∙ ap (λ t. free_number (present t (sections_of c.args.kept.now))) moment
+    here ∙ ap (λ t. free_number (present t (kept_sections c.args.kept.now))) moment

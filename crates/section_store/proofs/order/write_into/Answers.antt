@@ -3,8 +3,8 @@ use Rattle.std.proofs.lemmas.Int.{to_z-of_z}
 use Rattle.ckpt_types.specs.Updates.{written}
 use Rattle.ckpt_types.specs.Sections.{Section, memory_used}
 use Rattle.ckpt_types.proofs.Fitting.{length-written}
-use Rattle.section_store.specs.Stored.{section_of, sections_of}
-use Rattle.section_store.proofs.StoredLemmas.{sections_of-set, slice_get-sections_of}
+use Rattle.section_store.specs.Stored.{kept_section, kept_sections}
+use Rattle.section_store.proofs.StoredLemmas.{kept_sections-set, slice_get-kept_sections}
 use Rattle.section_store.proofs.SummaryLemmas.{memory_used-changed_at}
 use Rattle.section_store.proofs.order.write_into.Goals as goal
 
@@ -15,8 +15,8 @@ returns-clause-sections c =
     let change : Section → Section = λ s. record s { bytes = written s.bytes c.args.offset c.args.bytes.now; last_update = c.args.now } in
     let same = c.deref_mut-stored.ensures.value in
     let written_now = c.write_at.ensures.items ∙ ap (λ s. written s.bytes.items c.args.offset c.args.bytes.now) same in
-    sections_of-set change c.args.kept.now.items c.args.place was _ c.requires.there c.index_mut.ensures.value
-    (λ j. record (section_of (same j)) { bytes = written_now j; last_update = moment j })
+    kept_sections-set change c.args.kept.now.items c.args.place was _ c.requires.there c.index_mut.ensures.value
+    (λ j. record (kept_section (same j)) { bytes = written_now j; last_update = moment j })
 
 pub returns-clause-grown : goal.returns-clause-grown
 returns-clause-grown c =
@@ -27,5 +27,5 @@ returns-clause-grown c =
     let after : c.len.result ≡ length (written was.value.bytes.items c.args.offset c.args.bytes.now) =
     omega (arith, c.len.ensures, ap length c.write_at.ensures.items, ap (λ s. length (written s.bytes.items c.args.offset c.args.bytes.now)) c.deref_mut-stored.ensures.value) in
     let longer = length-written was.value.bytes.items c.args.offset c.args.bytes.now in
-    let changed = memory_used-changed_at change (sections_of kept) c.args.place (section_of was.value) (slice_get-sections_of kept c.args.place was c.requires.there c.index_mut.ensures.value) in
+    let changed = memory_used-changed_at change (kept_sections kept) c.args.place (kept_section was.value) (slice_get-kept_sections kept c.args.place was c.requires.there c.index_mut.ensures.value) in
     omega (arith, ap memory_used (returns-clause-sections c), before, after, longer, changed)

@@ -6,7 +6,7 @@ use Rattle.ckpt_machine.specs.Runs.{last}
 use Rattle.world_core.specs.Runs.{IsRunTo}
 use Rattle.session_run.specs.Follows.{FollowsFrom, Follows}
 use Rattle.session_run.proofs.Following.{follows_line, follows_end, drop_item}
-use Rattle.world_core.proofs.Running.{new_run}
+use Rattle.world_core.proofs.New.{new_run}
 use Rattle.session_run.specs.Growing.{AreLeft}
 use Rattle.session_run.proofs.Playable.{CanPlay-next, AreLeft-next}
 use Rattle.session_run.proofs.Fronts.{front_of_whole, front_in_line, rest_follows}

@@ -1,9 +1,10 @@
 use Rattle.std.proofs.Common.{◌≡◌, ◌*◌, ◌≤◌, List, [], ◌++◌, length, drop, pos}
+use Rattle.ckpt_types.specs.Limits.{built_line_labels}
 use Rattle.run_labels.specs.declared.labels.Label.{Label}
 use Rattle.ckpt_machine.specs.Runs.{last}
 use Rattle.world_core.specs.Runs.{IsRunTo}
 use Rattle.session_run.specs.Follows.{FollowsFrom, Follows}
-use Rattle.session_run.specs.Growing.{built_line_labels, AreLeft}
+use Rattle.session_run.specs.Growing.{AreLeft}
 use Rattle.session_run.proofs.playing.play.Given as goal
 
 abbrev pub invariant-loop-line : goal.invariant-loop-line

@@ -2,14 +2,14 @@ use Rattle.std.proofs.Common.{◌≡◌, Option, Some, Ok, w64, sym, ap, subst, 
 use Rattle.std.proofs.lemmas.Int.{to_z-of_z}
 use Rattle.ckpt_types.specs.Reads.{NextGiven}
 use Rattle.section_iter.specs.Next.{kept_after}
-use Rattle.client_handles.specs.ClientState.{ClientState, kept_iteration, lent, returned, IsLent, IsValid, NoneLent}
+use Rattle.client_handles.specs.ClientState.{ClientState, kept_at, kept_iteration, lent, returned, IsLent, IsValid, NoneLent}
 use Rattle.client_handles.proofs.ClientLaws.{IsValid-lent, IsValid-returned}
 use Rattle.client_handles.proofs.IterationLaws.{IsLent-lent}
 use Rattle.client_handles.proofs.LentLaws.{IsNotLent-none, NoneLent-returned_lent}
 use Rattle.ckpt_machine.specs.Serving.{given_at, replica_in}
-use Rattle.ckpt_machine.specs.Steps.{ids_of}
-use Rattle.world_core.specs.TableState.{kept_of, gone_on_of}
-use Rattle.world_core.proofs.GoingOn.{kept_iteration-there, kept_of-told, gone_on-told}
+use Rattle.ckpt_types.specs.Asks.{Next}
+use Rattle.ckpt_machine.specs.Tables.{ids_of, gone_on}
+use Rattle.world_core.proofs.GoingOn.{kept_iteration-there, kept_at-told, gone_on-told}
 use Rattle.world_core.proofs.kept_client.go_on.Goals as goal
 
 pub lend_iteration-requires : goal.lend_iteration-requires
@@ -41,7 +41,7 @@ returns-clause-new c =
     c.next-reply.ensures.new ∙ ap (λ t. kept_after c.in-Ok.iteration (given_at c.in-Ok.iteration.ids t (replica_in c.args.nodes.now c.args.ckpt c.args.r))) (to_z-of_z w64 c.args.now c.ranges.now) in
     let made : c.return_iteration.new.self ≡ returned c.args.place (kept_after c.in-Ok.iteration given) (lent c.args.place old) =
     c.return_iteration.ensures ∙ (λ i. returned c.args.place (after i) (c.in-Ok.ensures.lent i)) in
-    let kept : kept_of c.args.place old ≡ Some c.in-Ok.iteration = kept_of-told c.args.place old c.in-Ok.iteration told in
+    let kept : kept_at c.args.place old ≡ Some c.in-Ok.iteration = kept_at-told c.args.place old c.in-Ok.iteration told in
     made
     ∙ gone_on-told c.args.place c.in-Ok.iteration given old c.requires.kept.valid told
-    ∙ ap (λ o. gone_on_of c.args.place (given_at (ids_of o) c.args.now (replica_in c.args.nodes.now c.args.ckpt c.args.r)) old) (sym kept)
+    ∙ ap (λ o. gone_on (Next c.args.place) (given_at (ids_of o) c.args.now (replica_in c.args.nodes.now c.args.ckpt c.args.r)) old) (sym kept)

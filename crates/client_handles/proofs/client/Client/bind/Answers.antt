@@ -1,6 +1,6 @@
 use Rattle.std.proofs.Common.{◌≡◌, Some, None, ap}
 use Rattle.std.proofs.lemmas.List.{map-set}
-use Rattle.client_handles.specs.Client.{number_of, client_of}
+use Rattle.client_handles.specs.Client.{bound_number, client_shown}
 use Rattle.client_handles.specs.ClientState.{handle_numbered}
 use Rattle.client_handles.proofs.ClientLemmas.{handle_numbered-absent, kept_under, IsSound-set}
 use Rattle.client_handles.proofs.client.Client.bind.Goals as goal
@@ -19,4 +19,4 @@ invariant_of-self c =
 
 pub returns : goal.returns
 returns c =
-    rw (← c.self.view_is) (ap (λ ps. record (client_of c.self.inside) { places = ps }) (map-set number_of c.self.inside.places c.args.place (Some (record { key = c.in-Some.key; number = c.args.handle }))))
+    rw (← c.self.view_is) (ap (λ ps. record (client_shown c.self.inside) { places = ps }) (map-set bound_number c.self.inside.places c.args.place (Some (record { key = c.in-Some.key; number = c.args.handle }))))

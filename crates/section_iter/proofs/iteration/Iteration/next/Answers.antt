@@ -4,7 +4,7 @@ use Rattle.std.proofs.lemmas.Int.{to_z-of_z}
 use Rattle.ckpt_types.specs.Reads.{given, description}
 use Rattle.section_iter.specs.Ids.{ids_in}
 use Rattle.section_iter.specs.KeptIds.{KeptIds}
-use Rattle.section_iter.specs.Next.{answer_of, kept_after}
+use Rattle.section_iter.specs.Next.{given_answer, kept_after}
 use Rattle.section_iter.proofs.GivenLemmas.{answer_of-told, kept_after-rest}
 use Rattle.section_iter.proofs.iteration.Iteration.next.Goals as goal
 
@@ -17,7 +17,7 @@ returns-clause-answer g c =
     let kept : List (List ℕ) = drop c.self.inside.first all in
     let ids : kept ≡ c.args.self.now.ids = ap (drop c.self.inside.first) same ∙ ap (λ (k : KeptIds). k.ids) c.self.view_is in
     let here : Some c.in-Some.found.section ≡ option_map (λ n. description n.section) (given kept c.args.now sections) = simp to_z-of_z at c.in-Some.ensures.section in
-    answer_of-told (given kept c.args.now sections) c.in-Some.found.section here ∙ ap (λ xs. answer_of (given xs c.args.now sections)) ids
+    answer_of-told (given kept c.args.now sections) c.in-Some.found.section here ∙ ap (λ xs. given_answer (given xs c.args.now sections)) ids
 
 pub returns-clause-kept : goal.returns-clause-kept
 returns-clause-kept g c =

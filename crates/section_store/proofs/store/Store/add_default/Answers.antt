@@ -6,7 +6,7 @@ use Rattle.ckpt_types.specs.declared.sections.SectionState.TheVariants.{Valid}
 use Rattle.ckpt_types.specs.Sections.{Rises, Fits, memory_used, default_section}
 use Rattle.ckpt_types.proofs.Fitting.{Fits-default_section}
 use Rattle.ckpt_types.specs.Limits.{end_of_time}
-use Rattle.section_store.specs.Stored.{sections_of, ExpireFrom}
+use Rattle.section_store.specs.Stored.{kept_sections, ExpireFrom}
 use Rattle.section_store.specs.Summary.{AreTaken}
 use Rattle.section_store.proofs.SummaryLemmas.{AreTaken-insert}
 use Rattle.section_store.proofs.Expiring.{ExpireFrom-cons}
@@ -14,10 +14,10 @@ use Rattle.section_store.proofs.Reserved.{IsReserved-Replaces}
 use Rattle.section_store.proofs.store.Store.add_default.Goals as goal
 
 -- the default section is there alone
-left : (c : goal.After-put_in) → sections_of c.put_in.new.kept.items ≡ default_section c.args.made ∷ []
+left : (c : goal.After-put_in) → kept_sections c.put_in.new.kept.items ≡ default_section c.args.made ∷ []
 left c =
     let moment : to_z w64 (of_z w64 c.args.made) ≡ c.args.made = to_z-of_z w64 c.args.made c.ranges.made in
-    let none : sections_of c.self.inside.kept.items ≡ [] = rw (← c.self.view_is) at c.requires.none in
+    let none : kept_sections c.self.inside.kept.items ≡ [] = rw (← c.self.view_is) at c.requires.none in
     c.put_in.ensures.sections ∙ (λ i. insert (none i) 0 (record { id = c.default.ensures i; bytes = []; expiration = end_of_time; state = Valid; last_update = moment i }))
 
 pub invariant_of-self : goal.invariant_of-self
@@ -25,7 +25,7 @@ invariant_of-self c =
     let attributes = c.self.inside.attributes in
     let one : attributes.max_sections ≡ 1 = rw (← c.self.view_is) at c.requires.one in
     let some : 1 ≤ attributes.max_sections = omega arith in
-    let none : sections_of c.self.inside.kept.items ≡ [] = rw (← c.self.view_is) at c.requires.none in
+    let none : kept_sections c.self.inside.kept.items ≡ [] = rw (← c.self.view_is) at c.requires.none in
     let was = c.self.invariant.summary in
     let last : c.self.inside.summary.earliest ≤ℤ end_of_time = search (rules, arith, ints) in
     IsReserved-Replaces c.self.inside _ refl c.self.invariant (record {
@@ -34,7 +34,7 @@ invariant_of-self c =
       summary = record {
         earliest = subst (ExpireFrom c.self.inside.summary.earliest) (sym (left c)) (ExpireFrom-cons c.self.inside.summary.earliest (default_section c.args.made) [] last (All-nil (λ s. c.self.inside.summary.earliest ≤ℤ s.expiration)));
         used = was.used ∙ ap memory_used none ∙ sym (ap memory_used (left c));
-        numbers = subst (AreTaken c.self.inside.summary.first) (sym c.put_in.ensures.sections) (AreTaken-insert c.self.inside.summary.first 0 _ (sections_of c.self.inside.kept.items) was.numbers);
+        numbers = subst (AreTaken c.self.inside.summary.first) (sym c.put_in.ensures.sections) (AreTaken-insert c.self.inside.summary.first 0 _ (kept_sections c.self.inside.kept.items) was.numbers);
       };
       all = c.put_in.ensures.all;
       kept_room = c.put_in.ensures.kept_room;

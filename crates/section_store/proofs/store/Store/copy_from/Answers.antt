@@ -1,6 +1,6 @@
 use Rattle.std.proofs.Common.{ℕ, get_or, ◌≡◌, length, ap, sym, subst, refl, arith}
 use Rattle.ckpt_types.specs.Sections.{Rises, Fits, size_of}
-use Rattle.section_store.specs.Stored.{sections_of}
+use Rattle.section_store.specs.Stored.{kept_sections}
 use Rattle.section_store.specs.Summary.{IsSummary}
 use Rattle.section_store.proofs.StoredLemmas.{HaveRoom-less}
 use Rattle.section_store.proofs.Reserved.{IsReserved-Replaces}
@@ -19,7 +19,7 @@ invariant_of-self g c =
     IsReserved-Replaces c.self.inside _ refl c.self.invariant (record {
       rises = subst Rises (sym c.copy_in.ensures.sections) c.copy_in.ensures.rises;
       fits = subst (Fits c.self.inside.attributes) (sym c.copy_in.ensures.sections) (rw (← c.self.view_is) at c.requires);
-      summary = subst (λ kept. IsSummary c.of-self-inside.result (sections_of kept)) c.as_slice.ensures.value c.of-self-inside.ensures;
+      summary = subst (λ kept. IsSummary c.of-self-inside.result (kept_sections kept)) c.as_slice.ensures.value c.of-self-inside.ensures;
       all = omega (arith, none, c.copy_in.ensures.all, c.take_out_behind.ensures.all);
       kept_room = λ size kept spare. c.copy_in.ensures.kept_room size (c.take_out_behind.ensures.spare_room size kept spare);
       spare_room = λ size kept spare. c.copy_in.ensures.spare_room size (c.take_out_behind.ensures.spare_room size kept spare);

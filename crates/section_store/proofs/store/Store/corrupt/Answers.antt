@@ -1,29 +1,29 @@
 use Rattle.std.proofs.Common.{ap, ◌≡◌, ◌∙◌, sym, subst, refl}
 use Rattle.ckpt_types.specs.Sections.{Rises, Fits, memory_used}
-use Rattle.section_store.specs.StoreState.{corrupted}
-use Rattle.section_store.specs.Stored.{sections_of, ExpireFrom}
+use Rattle.section_store.specs.StoreState.{with_corrupted}
+use Rattle.section_store.specs.Stored.{kept_sections, ExpireFrom}
 use Rattle.section_store.specs.Summary.{AreTaken, IsSummary}
 use Rattle.section_store.proofs.SummaryLemmas.{AreTaken-changed_at, memory_used-changed_at-same}
-use Rattle.section_store.proofs.Placed.{corrupted-changed_at, corrupted-no_place}
+use Rattle.section_store.proofs.Placed.{with_corrupted-changed_at, with_corrupted-no_place}
 use Rattle.section_store.proofs.StoredLemmas.{place_found}
 use Rattle.section_store.proofs.Expiring.{ExpireFrom-changed_at}
 use Rattle.section_store.proofs.Reserved.{IsReserved-changed}
 use Rattle.section_store.proofs.store.Store.corrupt.Goals as goal
 
 -- the section is corrupted
-left : (c : goal.After-corrupt_at) → (sections_of c.corrupt_at.new.kept.items ≡ corrupted c.args.id.now (sections_of c.self.inside.kept.items)) × Rises (sections_of c.corrupt_at.new.kept.items) × Fits c.self.inside.attributes (sections_of c.corrupt_at.new.kept.items)
+left : (c : goal.After-corrupt_at) → (kept_sections c.corrupt_at.new.kept.items ≡ with_corrupted c.args.id.now (kept_sections c.self.inside.kept.items)) × Rises (kept_sections c.corrupt_at.new.kept.items) × Fits c.self.inside.attributes (kept_sections c.corrupt_at.new.kept.items)
 left c =
-    let kept = sections_of c.self.inside.kept.items in
+    let kept = kept_sections c.self.inside.kept.items in
     let place = place_found c.args.id.now c.self.inside.kept.items _ _ _ c.as_slice.ensures.value c.find.ensures.place c.in-Some.is in
-    let (is, rises, fits) = corrupted-changed_at c.self.inside.attributes c.args.id.now kept c.in-Some.place c.self.invariant.rises c.self.invariant.fits place in
-    let same : sections_of c.corrupt_at.new.kept.items ≡ corrupted c.args.id.now kept = c.corrupt_at.ensures.sections ∙ sym is in
+    let (is, rises, fits) = with_corrupted-changed_at c.self.inside.attributes c.args.id.now kept c.in-Some.place c.self.invariant.rises c.self.invariant.fits place in
+    let same : kept_sections c.corrupt_at.new.kept.items ≡ with_corrupted c.args.id.now kept = c.corrupt_at.ensures.sections ∙ sym is in
     (same, subst Rises (sym same) rises, subst (Fits c.self.inside.attributes) (sym same) fits)
 
 -- it expires when it did, and has the identifier and the bytes that it had
-summary : (c : goal.After-corrupt_at) → IsSummary c.self.inside.summary (sections_of c.corrupt_at.new.kept.items)
+summary : (c : goal.After-corrupt_at) → IsSummary c.self.inside.summary (kept_sections c.corrupt_at.new.kept.items)
 summary c =
     let was = c.self.invariant.summary in
-    let kept = sections_of c.self.inside.kept.items in
+    let kept = kept_sections c.self.inside.kept.items in
     let same = sym c.corrupt_at.ensures.sections in
     record {
       earliest = subst (ExpireFrom c.self.inside.summary.earliest) same (ExpireFrom-changed_at c.self.inside.summary.earliest _ c.in-Some.place kept (λ s from. from) was.earliest);
@@ -42,5 +42,5 @@ pub returns-in_default : goal.returns-in_default
 returns-in_default c =
     let kept = c.self.inside.kept.items in
     let nowhere = place_found c.args.id.now kept _ _ _ c.as_slice.ensures.value c.find.ensures.place c.in_default.is in
-    let same : corrupted c.args.id.now (sections_of kept) ≡ sections_of kept = corrupted-no_place c.args.id.now (sections_of kept) nowhere in
+    let same : with_corrupted c.args.id.now (kept_sections kept) ≡ kept_sections kept = with_corrupted-no_place c.args.id.now (kept_sections kept) nowhere in
     rw (← c.self.view_is) (λ i. record { attributes = c.self.inside.attributes; sections = sym same i })

@@ -2,15 +2,15 @@ use Rattle.std.proofs.Common.{◌≡◌, ◌≤◌, length, sum_by, ap, ◌∙�
 use Rattle.std.specs.Prelude.{IsOk, IfOk}
 use Rattle.ckpt_types.specs.Reads.{read, pieces_read}
 use Rattle.section_store.specs.StoreState.{with_pieces}
-use Rattle.section_store.specs.Stored.{sections_of}
+use Rattle.section_store.specs.Stored.{kept_sections}
 use Rattle.section_store.proofs.Reading.{read-all}
 use Rattle.section_store.proofs.store.Store.read_into.Goals as goal
 
 -- what is read
-reads : (c : goal.After-read_all-arg-1) → read c.args.elements.now c.args.now (sections_of c.self.inside.kept.items) ≡ pieces_read 0 c.args.elements.now (sections_of c.as_slice.result.now)
+reads : (c : goal.After-read_all-arg-1) → read c.args.elements.now c.args.now (kept_sections c.self.inside.kept.items) ≡ pieces_read 0 c.args.elements.now (kept_sections c.as_slice.result.now)
 reads c =
-    read-all c.args.now c.args.elements.now (sections_of c.self.inside.kept.items) c.self.invariant.rises (rw (← c.self.view_is) at c.requires.readable)
-    ∙ ap (λ kept. pieces_read 0 c.args.elements.now (sections_of kept)) (sym c.as_slice.ensures.value)
+    read-all c.args.now c.args.elements.now (kept_sections c.self.inside.kept.items) c.self.invariant.rises (rw (← c.self.view_is) at c.requires.readable)
+    ∙ ap (λ kept. pieces_read 0 c.args.elements.now (kept_sections kept)) (sym c.as_slice.ensures.value)
 
 pub read_all-requires-clause-readable : goal.read_all-requires-clause-readable
 read_all-requires-clause-readable c = subst IsOk (reads c) (rw (← c.self.view_is) at c.requires.readable)
@@ -22,6 +22,6 @@ read_all-requires-clause-room c =
 pub returns : goal.returns
 returns c =
     let readable = rw (← c.self.view_is) at c.requires.readable in
-    let same = read-all c.args.now c.args.elements.now (sections_of c.self.inside.kept.items) c.self.invariant.rises readable
-    ∙ ap (λ kept. pieces_read 0 c.args.elements.now (sections_of kept)) (sym c.as_slice.ensures.value) in
+    let same = read-all c.args.now c.args.elements.now (kept_sections c.self.inside.kept.items) c.self.invariant.rises readable
+    ∙ ap (λ kept. pieces_read 0 c.args.elements.now (kept_sections kept)) (sym c.as_slice.ensures.value) in
     rw (← c.self.view_is) (subst (λ r. IfOk r (λ pieces. c.read_all.new.out ≡ with_pieces pieces c.args.out.now)) (sym same) c.read_all.ensures)

@@ -4,18 +4,18 @@ use Rattle.std.proofs.lemmas.Int.{ints}
 use Rattle.std.proofs.lemmas.List.{take_all}
 use Rattle.std.proofs.lemmas.List.Sums.{sum_by_push}
 use Rattle.ckpt_types.specs.Sections.{memory_used, size_of}
-use Rattle.section_store.specs.Stored.{section_of, sections_of, ExpireFrom}
+use Rattle.section_store.specs.Stored.{kept_section, kept_sections, ExpireFrom}
 use Rattle.section_store.specs.declared.stored.Stored.{Stored}
 use Rattle.section_store.proofs.Expiring.{ExpireFrom-earlier, ExpireFrom-push}
-use Rattle.section_store.proofs.Reading.{sections_of-take, memory_used-take-le}
+use Rattle.section_store.proofs.Reading.{kept_sections-take, memory_used-take-le}
 use Rattle.section_store.proofs.SummaryLemmas.{AreTaken-1}
 use Rattle.section_store.proofs.summary.Summary.of.Goals as goal
 
 -- the bytes of the first records, and of one more
-used_more : (kept : List (Box Stored)) (i : ℕ) (s : Box Stored) → i < length kept → s ≡ get_or kept i s → memory_used (sections_of (take (i + 1) kept)) ≡ memory_used (sections_of (take i kept)) + length s.value.bytes.items
+used_more : (kept : List (Box Stored)) (i : ℕ) (s : Box Stored) → i < length kept → s ≡ get_or kept i s → memory_used (kept_sections (take (i + 1) kept)) ≡ memory_used (kept_sections (take i kept)) + length s.value.bytes.items
 used_more kept i s there is =
     let next : i + 1 ≡ suc i = omega arith in
-    ap (λ m. memory_used (sections_of (take m kept))) next ∙ ap memory_used (sections_of-take kept i s there is) ∙ sum_by_push size_of (sections_of (take i kept)) (section_of s.value)
+    ap (λ m. memory_used (kept_sections (take m kept))) next ∙ ap memory_used (kept_sections-take kept i s there is) ∙ sum_by_push size_of (kept_sections (take i kept)) (kept_section s.value)
 
 pub overflow_add-used : goal.overflow_add-used
 overflow_add-used c =
@@ -37,9 +37,9 @@ loop-stored-preserved c =
     let lower : least ≤ℤ bound = search (rules, arith, ints) in
     let here : least ≤ℤ s.value.expiration = search (rules, arith, ints) in
     let next : suc i ≡ i + 1 = omega arith in
-    let more = ap (λ m. sections_of (take m kept)) (sym next) ∙ sections_of-take kept i s c.loop-stored-test.true c.stored-item.is in
+    let more = ap (λ m. kept_sections (take m kept)) (sym next) ∙ kept_sections-take kept i s c.loop-stored-test.true c.stored-item.is in
     record {
-      from = subst (ExpireFrom least) (sym more) (ExpireFrom-push least (sections_of (take i kept)) (section_of s.value) (ExpireFrom-earlier bound least (sections_of (take i kept)) lower c.loop-stored.invariant.from) here);
+      from = subst (ExpireFrom least) (sym more) (ExpireFrom-push least (kept_sections (take i kept)) (kept_section s.value) (ExpireFrom-earlier bound least (kept_sections (take i kept)) lower c.loop-stored.invariant.from) here);
       used = omega (arith, c.loop-stored.invariant.used, c.len-used.ensures, ap (λ s. length s.bytes.items) c.deref-in-loop-stored.ensures, used_more kept i s c.loop-stored-test.true c.stored-item.is);
     }
 
@@ -48,7 +48,7 @@ returns c =
     let kept = c.args.kept.now in
     let whole = take_all c.loop-stored.stored-index kept (omega arith) in
     record {
-      earliest = subst (λ xs. ExpireFrom (to_z w64 c.loop-stored.earliest-bits) (sections_of xs)) whole c.loop-stored.invariant.from;
-      used = c.loop-stored.invariant.used ∙ ap (λ xs. memory_used (sections_of xs)) whole;
-      numbers = AreTaken-1 (sections_of kept);
+      earliest = subst (λ xs. ExpireFrom (to_z w64 c.loop-stored.earliest-bits) (kept_sections xs)) whole c.loop-stored.invariant.from;
+      used = c.loop-stored.invariant.used ∙ ap (λ xs. memory_used (kept_sections xs)) whole;
+      numbers = AreTaken-1 (kept_sections kept);
     }

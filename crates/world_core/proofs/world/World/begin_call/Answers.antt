@@ -1,16 +1,15 @@
-use Rattle.std.proofs.Common.{◌≡◌, refl, sym, ap, subst, ◌∙◌}
-use Rattle.std.specs.Prelude.{Option, None, slice_get, slice_set}
+use Rattle.std.proofs.Common.{refl, sym, subst, ◌∙◌}
+use Rattle.std.specs.Prelude.{Option, None}
 use Rattle.ckpt_types.specs.declared.answers.Outcome.{Outcome}
 use Rattle.ckpt_types.specs.declared.identities.ActorName.TheVariants.{Client}
 use Rattle.ckpt_types.specs.declared.identities.CallId.{CallId}
 use Rattle.world_core.specs.declared.hands.InHand.{InHand}
-use Rattle.ckpt_machine.specs.Beginning.{handle_place, iteration_place}
+use Rattle.ckpt_types.specs.Asks.{asked}
 use Rattle.ckpt_machine.specs.Driving.{driver_start}
-use Rattle.world_core.specs.Shows.{next_in}
-use Rattle.ckpt_machine.specs.Steps.{IsBeginEnd, room_at, ckpt_of_handle, kept_at_beginning}
-use Rattle.world_core.specs.TableState.{begun_with}
+use Rattle.ckpt_machine.specs.Steps.{IsBeginEnd, room_at, kept_at_beginning}
+use Rattle.ckpt_machine.specs.Tables.{ckpt_of_handle}
 use Rattle.world_core.proofs.Begin.{begin_done}
-use Rattle.world_core.proofs.Beginnings.{table_has_no_zero, handle_named_is, at_table, ended_hands, none_where_false}
+use Rattle.world_core.proofs.Beginnings.{ended_hands, none_where_false}
 use Rattle.world_core.proofs.world.World.begin_call.Goals as goal
 
 -- a call that is answered at once is never in hand
@@ -18,9 +17,9 @@ pub returns-then-is_some-clause-ok : goal.returns-then-is_some-clause-ok
 returns-then-is_some-clause-ok c =
     let w = c.args.self.now in
     let call : CallId = record { actor = Client c.args.c; number = c.number.result } in
-    let handle = c.named_handle-handle.result in
+    let handle = c.handle_asked-handle.result in
     let end = c.take_room-end.result.0 in
-    let driver = driver_start call c.args.op (kept_at_beginning w.cluster c.args.c handle) in
+    let driver = driver_start call (asked c.args.op) (kept_at_beginning w.cluster c.args.c handle) in
     let hand : InHand = record { call = call; op = c.args.op; driver = driver; iteration = c.take_room-end.result.1 } in
     let hands = ended_hands w.hands c.args.c end hand c.covers.ensures c.requires.none (sym c.is_some.ensures ∙ c.if-is_some.true) in
     record {
@@ -28,14 +27,10 @@ returns-then-is_some-clause-ok c =
       labels = c.push.ensures.labels;
       is = record {
         begins = record { actor = refl; op_is = refl; hand = hand; same_call = refl; same_op = refl; within = c.covers.ensures; hands = hands };
-        does = begin_done w c.args.c c.args.op c.args.op c.args.op c.number.result handle c.is_live_client.result c.begin_end-due.result end (room_at w.cluster (ckpt_of_handle handle)) c.take_room-end.result.1 c.ended_place.result c.begin.new.self driver w.hands
+        does = begin_done w c.args.c c.args.op c.args.op c.args.op c.number.result handle c.is_live_client.result c.begin_end-due.result end (room_at w.cluster (ckpt_of_handle handle)) c.take_room-end.result.1 c.begin.new.self driver w.hands
             c.requires.client c.number.ensures.within c.covers.ensures c.requires.none c.requires.built c.requires.may
-            (λ t table. table_has_no_zero w c.args.c t c.requires.shown table)
-            refl refl
-            (λ t table. c.number.ensures.value ∙ ap next_in table)
-            (λ t table. c.named_handle-handle.ensures ∙ handle_named_is w c.args.c (handle_place c.args.op) (iteration_place c.args.op) t table)
-            c.is_live_client.ensures c.begin_end-due.ensures c.take_room-end.ensures.end refl c.take_room-end.ensures.room c.ended_place.ensures
-            (λ t table. at_table (λ t. c.begin.new.self ≡ slice_set w.tables c.args.c (begun_with c.ended_place.result t)) (slice_get w.tables c.args.c) t table c.begin.ensures)
+            refl refl c.number.ensures.value c.handle_asked-handle.ensures
+            c.is_live_client.ensures c.begin_end-due.ensures c.take_room-end.ensures.end refl c.take_room-end.ensures.room c.begin.ensures
             refl hands;
       };
     }
@@ -43,7 +38,7 @@ returns-then-is_some-clause-ok c =
 pub returns-clause-ok : goal.returns-clause-ok
 returns-clause-ok c =
     let w = c.args.self.now in
-    let handle = c.named_handle-handle.result in
+    let handle = c.handle_asked-handle.result in
     let hand : InHand = record { call = record { actor = Client c.args.c; number = c.number.result }; op = c.in_ok-own.own; driver = c.in_ok-driver.driver; iteration = c.take_room-end.result.1 } in
     let goes = none_where_false c.take_room-end.result.0 (sym c.is_some.ensures ∙ c.if-is_some.false) in
     record {
@@ -51,14 +46,10 @@ returns-clause-ok c =
       labels = c.push-2.ensures.labels;
       is = record {
         begins = record { actor = refl; op_is = refl; hand = hand; same_call = refl; same_op = c.in_ok-own.ensures; within = c.begin-3.ensures.within; hands = c.begin-3.ensures.new };
-        does = begin_done w c.args.c c.args.op c.in_ok-own.own c.args.op c.number.result handle c.is_live_client.result c.begin_end-due.result None (room_at w.cluster (ckpt_of_handle handle)) c.take_room-end.result.1 None c.begin-2.new.self c.in_ok-driver.driver c.begin-3.new.self
+        does = begin_done w c.args.c c.args.op c.in_ok-own.own c.args.op c.number.result handle c.is_live_client.result c.begin_end-due.result None (room_at w.cluster (ckpt_of_handle handle)) c.take_room-end.result.1 c.begin-2.new.self c.in_ok-driver.driver c.begin-3.new.self
             c.requires.client c.number.ensures.within c.begin-3.ensures.within c.requires.none c.requires.built c.requires.may
-            (λ t table. table_has_no_zero w c.args.c t c.requires.shown table)
-            c.in_ok-own.ensures refl
-            (λ t table. c.number.ensures.value ∙ ap next_in table)
-            (λ t table. c.named_handle-handle.ensures ∙ handle_named_is w c.args.c (handle_place c.args.op) (iteration_place c.args.op) t table)
-            c.is_live_client.ensures c.begin_end-due.ensures (subst (λ (o : Option Outcome). IsBeginEnd c.args.op c.begin_end-due.result o) goes c.take_room-end.ensures.end) refl (λ none. c.take_room-end.ensures.room goes) refl
-            (λ t table. at_table (λ t. c.begin-2.new.self ≡ slice_set w.tables c.args.c (begun_with None t)) (slice_get w.tables c.args.c) t table c.begin-2.ensures)
+            c.in_ok-own.ensures refl c.number.ensures.value c.handle_asked-handle.ensures
+            c.is_live_client.ensures c.begin_end-due.ensures (subst (λ (o : Option Outcome). IsBeginEnd (asked c.args.op) c.begin_end-due.result o) goes c.take_room-end.ensures.end) refl (λ none. c.take_room-end.ensures.room goes) c.begin-2.ensures
             c.in_ok-driver.ensures c.begin-3.ensures.new;
       };
     }

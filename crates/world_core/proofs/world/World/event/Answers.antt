@@ -30,25 +30,13 @@ returns-clause-happens c =
     (added.labels ∙ ap (λ labels. labels ++ added.label ∷ []) c.reserve.ensures.labels)
 
 pub returns-clause-refused : goal.returns-clause-refused
-returns-clause-refused c =
-    let added = c.in_ok-happen.ensures.ok in
-    run_leaves c.happen.new.log.labels
-    (run_with c.args.event c.args.self.now c.happen.new.self c.args.log.now.labels c.happen.new.log.labels added.label c.requires added.is
-    (added.labels ∙ ap (λ labels. labels ++ added.label ∷ []) c.reserve.ensures.labels)).run
+returns-clause-refused c = run_leaves c.happen.new.log.labels (returns-clause-run c).run
 
 pub returns-clause-all_or_none : goal.returns-clause-all_or_none
-returns-clause-all_or_none c =
-    let added = c.in_ok-happen.ensures.ok in
-    on_all_or_none c.happen.new.log.labels
-    (run_with c.args.event c.args.self.now c.happen.new.self c.args.log.now.labels c.happen.new.log.labels added.label c.requires added.is
-    (added.labels ∙ ap (λ labels. labels ++ added.label ∷ []) c.reserve.ensures.labels)).run
+returns-clause-all_or_none c = on_all_or_none c.happen.new.log.labels (returns-clause-run c).run
 
 pub returns-clause-acknowledged : goal.returns-clause-acknowledged
-returns-clause-acknowledged c =
-    let added = c.in_ok-happen.ensures.ok in
-    acknowledged_stay c.happen.new.log.labels
-    (run_with c.args.event c.args.self.now c.happen.new.self c.args.log.now.labels c.happen.new.log.labels added.label c.requires added.is
-    (added.labels ∙ ap (λ labels. labels ++ added.label ∷ []) c.reserve.ensures.labels)).run
+returns-clause-acknowledged c = acknowledged_stay c.happen.new.log.labels (returns-clause-run c).run
 
 -- what is not done leaves the log as it was
 pub returns-in_err-reserve-clause-refused : goal.returns-in_err-reserve-clause-refused

@@ -1,33 +1,22 @@
-use Rattle.std.proofs.Common.{◌≡◌, ◌<◌, Some, None, sym, subst, ◌∙◌, w64, to_z, of_z}
-use Rattle.std.specs.Prelude.{IsSome, IsSomeAnd, slice_get}
+use Rattle.std.proofs.Common.{sym, subst, ◌∙◌, w64, to_z, of_z}
 use Rattle.std.proofs.lemmas.Int.{to_z-of_z}
-use Rattle.std.proofs.lemmas.Option.{same_Some}
-use Rattle.client_handles.specs.ClientState.{iteration_at}
 use Rattle.world_core.specs.Happenings.{IsStep}
-use Rattle.world_core.proofs.IterationSteps.{going, going_node, iteration_there, next_is}
+use Rattle.world_core.proofs.IterationSteps.{going_node, going_place, going_within, going_there, goes_on_is}
 use Rattle.world_core.proofs.world.World.next_step.Goals as goal
 
-pub unreachable-requires-in_default-iteration_place :
-    goal.unreachable-requires-in_default-iteration_place
-unreachable-requires-in_default-iteration_place c =
-    let g = going c.args.self.now c.args.c c.args.r c.args.asked c.args.ckpt c.in-Some.hand.now c.in-Some.ensures c.requires.next c.requires.shown in
-    absurd (let e : None ≡ Some g.place = sym c.in_default-iteration_place.is ∙ c.iteration_place.ensures ∙ g.goes_on in cc)
+pub unreachable-requires-in_default-gone_on_place : goal.unreachable-requires-in_default-gone_on_place
+unreachable-requires-in_default-gone_on_place c = going_place c.args.self.now c.args.c c.args.r c.args.asked c.args.ckpt c.in-Some.hand.now c.in-Some.ensures c.requires.next c.requires.shown c.gone_on_place.result c.gone_on_place.ensures c.in_default-gone_on_place.is
 
 pub go_on-reply-requires-clause-place : goal.go_on-reply-requires-clause-place
 go_on-reply-requires-clause-place c =
-    let g = going c.args.self.now c.args.c c.args.r c.args.asked c.args.ckpt c.in-Some.hand.now c.in-Some.ensures c.requires.next c.requires.shown in
-    let place : g.place ≡ c.in-Some-iteration_place.place = same_Some g.place c.in-Some-iteration_place.place (sym g.goes_on ∙ sym c.iteration_place.ensures ∙ c.in-Some-iteration_place.is) in
-    subst (λ n. n < 100) place g.within
+    going_within c.args.self.now c.args.c c.args.r c.args.asked c.args.ckpt c.in-Some.hand.now c.in-Some.ensures c.requires.next c.in-Some-gone_on_place.place (sym c.in-Some-gone_on_place.is ∙ c.gone_on_place.ensures) c.requires.shown
 
 pub go_on-reply-requires-clause-node : goal.go_on-reply-requires-clause-node
 go_on-reply-requires-clause-node c = going_node c.args.self.now c.args.c c.args.r c.args.asked c.args.ckpt c.in-Some.hand.now c.in-Some.ensures c.requires.next c.requires.shown
 
 pub go_on-reply-requires-clause-there : goal.go_on-reply-requires-clause-there
 go_on-reply-requires-clause-there c =
-    let g = going c.args.self.now c.args.c c.args.r c.args.asked c.args.ckpt c.in-Some.hand.now c.in-Some.ensures c.requires.next c.requires.shown in
-    let place : g.place ≡ c.in-Some-iteration_place.place = same_Some g.place c.in-Some-iteration_place.place (sym g.goes_on ∙ sym c.iteration_place.ensures ∙ c.in-Some-iteration_place.is) in
-    subst (λ n. IsSomeAnd (slice_get c.args.self.now.tables c.args.c) (λ table. IsSome (iteration_at n table.client))) place
-    (iteration_there c.args.self.now c.args.c c.args.r c.args.asked c.args.ckpt c.in-Some.hand.now c.in-Some.ensures c.requires.next c.requires.shown)
+    going_there c.args.self.now c.args.c c.args.r c.args.asked c.args.ckpt c.in-Some.hand.now c.in-Some.ensures c.requires.next c.in-Some-gone_on_place.place (sym c.in-Some-gone_on_place.is ∙ c.gone_on_place.ensures) c.requires.shown
 
 pub take-end-requires-clause-node : goal.take-end-requires-clause-node
 take-end-requires-clause-node c = going_node c.args.self.now c.args.c c.args.r c.args.asked c.args.ckpt c.in-Some.hand.now c.in-Some.ensures c.requires.next c.requires.shown
@@ -41,7 +30,7 @@ returns-clause-ok c =
     record {
       label = _;
       labels = c.push.ensures.labels;
-      is = subst (IsStep c.args.c _ _) (sym c.served.ensures) (next_is c.args.self.now c.args.c c.args.r c.args.asked c.args.ckpt hand held c.requires.next c.requires.shown
-          c.in-Some-iteration_place.place now c.go_on-reply.new.self c.take-end.new.self c.word-op.result c.word.result c.go_on-reply.result c.take-end.result _ c.told_section-details.result
-          (sym c.in-Some-iteration_place.is ∙ c.iteration_place.ensures) now_is c.go_on-reply.ensures.reply c.go_on-reply.ensures.details c.go_on-reply.ensures.new (c.take-end.ensures.end hand held) (c.take-end.ensures.new hand held) c.word-op.ensures c.word.ensures c.told_section-details.ensures);
+      is = subst (IsStep c.args.c _ _) (sym c.served.ensures) (goes_on_is c.args.self.now c.args.c c.args.r c.args.asked c.args.ckpt hand held c.requires.next
+          c.in-Some-gone_on_place.place (sym c.in-Some-gone_on_place.is ∙ c.gone_on_place.ensures) now c.go_on-reply.new.self c.take-end.new.self c.word-op.result c.word.result c.go_on-reply.result c.take-end.result _ c.told_section-details.result
+          now_is c.go_on-reply.ensures.reply c.go_on-reply.ensures.details c.go_on-reply.ensures.new (c.take-end.ensures.end hand held) (c.take-end.ensures.new hand held) c.word-op.ensures c.word.ensures c.told_section-details.ensures);
     }

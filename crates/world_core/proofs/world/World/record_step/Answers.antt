@@ -5,7 +5,8 @@ use Rattle.ckpt_types.specs.declared.answers.Outcome.TheVariants.{NoMemory}
 use Rattle.node_msgs.specs.declared.steps.StepReply.TheVariants.{Memory}
 use Rattle.world_core.specs.RecordReady.{IsRefusedWith}
 use Rattle.node_msgs.specs.declared.next.Next.TheVariants.{Event}
-use Rattle.ckpt_machine.specs.Driving.{event_after, event_refusal, takes_memory}
+use Rattle.ckpt_machine.specs.Driving.{event_refusal, takes_memory}
+use Rattle.world_core.specs.RecordAfter.{event_after}
 use Rattle.cluster_record.specs.RecordState.{RecordState}
 use Rattle.world_core.specs.Settling.{CanSettle}
 use Rattle.world_core.specs.Shows.{hand_at}
@@ -26,7 +27,7 @@ settle-requires-clause-can c =
     let hand = c.in-Some.hand.now in
     let held : hand_at w.hands c.args.c ≡ Some hand = c.in-Some.ensures in
     let next = next_for w c.args.c (Event c.args.step) hand held c.requires.next in
-    subst (λ (k : Option ℕ). CanSettle c.args.c hand.op c.args.step k w.tables) (sym c.event_ckpt-ckpt.ensures) (can_settle w c.args.c c.args.step hand held next c.requires.shown (c.requires.granted hand held) c.requires.roomy)
+    can_settle w c.args.c c.args.step hand held next c.requires.shown (c.requires.granted hand held) c.requires.roomy
 
 pub refuse_step-requires-clause-refused : goal.refuse_step-requires-clause-refused
 refuse_step-requires-clause-refused c hand held =
@@ -48,5 +49,5 @@ returns c =
       label = _;
       labels = c.push.ensures.labels;
       is = event_step w c.args.c c.args.step hand held next c.requires.shown c.apply.new.cluster c.free_gone.new.self c.settle.new.tables c.told.new.self c.word-op.result c.verb-verb.result c.event_ckpt-ckpt.result c.event_node-node.result c.event_end-end.result
-          (c.requires.granted hand held) c.requires.roomy c.settle.ensures.places c.requires.has_room record_is c.event_ckpt-ckpt.ensures c.event_node-node.ensures c.event_end-end.ensures c.settle.ensures.new c.told.ensures c.free_gone.ensures c.word-op.ensures c.verb-verb.ensures;
+          (c.requires.granted hand held) c.requires.roomy c.requires.has_room record_is c.event_ckpt-ckpt.ensures c.event_node-node.ensures c.event_end-end.ensures c.settle.ensures c.told.ensures c.free_gone.ensures c.word-op.ensures c.verb-verb.ensures;
     }

@@ -1,0 +1,112 @@
+-- What drives a call is what its operation asks for, by the call's own steps alone.
+use Rattle.std.proofs.Common.{◌≡◌, ℕ, List, [], ◌∷◌, Option, Some, None, ℤ, refl, ap, sym, subst, ◌∙◌}
+use Rattle.ckpt_types.specs.declared.calls.OpenAsk.{OpenAsk}
+use Rattle.ckpt_types.specs.declared.identities.CallId.{CallId}
+use Rattle.ckpt_types.specs.declared.operation.Op.{Op}
+use Rattle.node_msgs.specs.declared.steps.Verb.{Verb}
+use Rattle.node_msgs.specs.declared.steps.Verb.TheVariants as verbs
+use Rattle.node_msgs.specs.declared.steps.StepReply.{StepReply}
+use Rattle.node_msgs.specs.declared.steps.StepReply.TheVariants as words
+use Rattle.cluster_record.specs.declared.calls.Making.{Making}
+use Rattle.cluster_record.specs.Calls.{client_of}
+use Rattle.cluster_record.specs.DueOnce as once
+use Rattle.cluster_record.specs.DueOpen.{OpenState, create_taken, with_making, reserve_taken, open_taken_by}
+use Rattle.cluster_record.specs.StepDone.{StepDone}
+use Rattle.ckpt_types.specs.Asks.{Ask, asked}
+use Rattle.ckpt_types.specs.Asks as asks
+use Rattle.ckpt_machine.specs.Drivers.{Driver}
+use Rattle.ckpt_machine.specs.Drivers as drivers
+use Rattle.ckpt_machine.specs.Driving.{Kept, on_kept, driver_start, driver_state, driver_taken}
+
+-- an open is of this call and its client, and of the name and the attributes that are asked for
+pub record IsOpenFor (call : CallId) (ask : Ask) (o : OpenState) : Type 0 where
+  pub place : ℕ
+  pub flags : ℕ
+  pub timeout : ℤ
+  pub asks : ask ≡ asks.Open place o.ask.name flags timeout o.ask.attrs
+  pub call_is : o.call ≡ call
+  pub client : o.ask.client ≡ client_of call
+
+-- a retention is set to the duration that is asked for
+pub record IsRetentionFor (ask : Ask) (duration : ℤ) : Type 0 where
+  pub place : ℕ
+  pub asks : ask ≡ asks.Retain place duration
+
+-- a driver does what is asked for
+abbrev pub DrivesFor : CallId → Ask → Driver → Type 0
+DrivesFor call ask (drivers.Open o) = IsOpenFor call ask o
+DrivesFor call ask (drivers.Once (once.Retain k duration)) = IsRetentionFor ask duration
+DrivesFor call ask driver = Unit {0}
+
+-- ---- at the beginning
+
+-- one that wants a checkpoint, where it keeps one
+kept_drives : (call : CallId) (ask : Ask) (o : Option ℕ) (start : ℕ → Driver) → ((k : ℕ) → DrivesFor call ask (start k)) → DrivesFor call ask (on_kept o start)
+kept_drives call ask None start each = tt
+kept_drives call ask (Some k) start each = each k
+
+start_drives : (call : CallId) (ask : Ask) (kept : Kept) → DrivesFor call ask (driver_start call ask kept)
+start_drives call (asks.Open place name flags timeout a) kept = record { place = place; flags = flags; timeout = timeout; asks = refl; call_is = refl; client = refl }
+start_drives call (asks.Retain place duration) kept = kept_drives call (asks.Retain place duration) kept.ckpt _ (λ k. record { place = place; asks = refl })
+start_drives call (asks.Change place update) kept = kept_drives call (asks.Change place update) kept.ckpt _ (λ k. tt)
+start_drives call (asks.Read place elements) kept = kept_drives call (asks.Read place elements) kept.ckpt _ (λ k. tt)
+start_drives call (asks.Status place) kept = kept_drives call (asks.Status place) kept.ckpt _ (λ k. tt)
+start_drives call (asks.Iterate iteration place chosen time) kept = kept_drives call (asks.Iterate iteration place chosen time) kept.ckpt _ (λ k. tt)
+start_drives call (asks.Next iteration) kept = kept_drives call (asks.Next iteration) kept.ckpt _ (λ k. tt)
+start_drives call (asks.Close place) kept = kept_drives call (asks.Close place) kept.ckpt _ (λ k. tt)
+start_drives call ask kept = tt
+
+-- ---- behind a step
+
+-- an open of the same call asks for the same
+record AsksAlike (o p : OpenState) : Type 0 where
+  call : p.call ≡ o.call
+  ask : p.ask ≡ o.ask
+
+making_alike : (o : OpenState) (making : Option Making) (change : Making → Making) → AsksAlike o (with_making o making change)
+making_alike o None change = record { call = refl; ask = refl }
+making_alike o (Some making) change = record { call = refl; ask = refl }
+
+create_alike : (d : StepDone) (o : OpenState) (reply : StepReply) → AsksAlike o (create_taken d o reply)
+create_alike d o words.Ok = record { call = refl; ask = refl }
+create_alike d o reply = record { call = refl; ask = refl }
+
+reserve_alike : (d : StepDone) (o : OpenState) (reply : StepReply) → AsksAlike o (reserve_taken d o reply)
+reserve_alike d o words.Ok = making_alike o o.making _
+reserve_alike d o words.Memory = making_alike o o.making _
+reserve_alike d o reply = record { call = refl; ask = refl }
+
+taken_alike : (d : StepDone) (o : OpenState) (verb : Verb) → AsksAlike o (open_taken_by d o verb)
+taken_alike d o verbs.Create = create_alike d o d.reply
+taken_alike d o verbs.Reserve = reserve_alike d o d.reply
+taken_alike d o verb = record { call = refl; ask = refl }
+
+taken_drives : (call : CallId) (ask : Ask) (d : StepDone) (x : Driver) → DrivesFor call ask x → DrivesFor call ask (driver_taken d x)
+taken_drives call ask d (drivers.Once x) drives = drives
+taken_drives call ask d (drivers.Open o) drives =
+    let alike = taken_alike d o d.verb in
+    record {
+      place = drives.place;
+      flags = drives.flags;
+      timeout = drives.timeout;
+      asks = subst (λ (a : OpenAsk). ask ≡ asks.Open drives.place a.name drives.flags drives.timeout a.attrs) (sym alike.ask) drives.asks;
+      call_is = alike.call ∙ drives.call_is;
+      client = ap (λ (a : OpenAsk). a.client) alike.ask ∙ drives.client;
+    }
+taken_drives call ask d (drivers.Update u) drives = tt
+taken_drives call ask d (drivers.Active a) drives = tt
+
+-- ---- in any state of a call
+
+-- where its steps have led it
+pub state_drives : (call : CallId) (op : Op) (kept : Kept) (steps : List StepDone) → DrivesFor call (asked op) (driver_state call op kept steps)
+state_drives call op kept [] = start_drives call (asked op) kept
+state_drives call op kept (d ∷ steps) = taken_drives call (asked op) d (driver_state call op kept steps) (state_drives call op kept steps)
+
+-- an open is of the name and the attributes that its operation asks for
+pub open_for : (call : CallId) (op : Op) (kept : Kept) (steps : List StepDone) (o : OpenState) → driver_state call op kept steps ≡ drivers.Open o → IsOpenFor call (asked op) o
+open_for call op kept steps o is = subst (DrivesFor call (asked op)) is (state_drives call op kept steps)
+
+-- a retention is set to the duration that its operation asks for
+pub retention_for : (call : CallId) (op : Op) (kept : Kept) (steps : List StepDone) (k : ℕ) (duration : ℤ) → driver_state call op kept steps ≡ drivers.Once (once.Retain k duration) → IsRetentionFor (asked op) duration
+retention_for call op kept steps k duration is = subst (DrivesFor call (asked op)) is (state_drives call op kept steps)

@@ -1,0 +1,101 @@
+-- What a call finds in its client's tables, and what it makes of them, by what it asks for.
+use Rattle.std.specs.Prelude.{ℕ, ◌+◌, List, [], Option, Some, None, Result, Ok, Err, nat_le, if◌then◌else◌, ℤ, false}
+use Rattle.ckpt_types.specs.declared.ais_error.AisError.{AisError}
+use Rattle.ckpt_types.specs.declared.answers.Outcome.{Outcome}
+use Rattle.ckpt_types.specs.declared.answers.Outcome.TheVariants.{Done}
+use Rattle.ckpt_types.specs.declared.open_flags.OpenFlags.{OpenFlags}
+use Rattle.ckpt_types.specs.declared.sections.Choice.{Choice}
+use Rattle.ckpt_types.specs.Attributes.{open_flags_of}
+use Rattle.ckpt_types.specs.Limits.{sections_any}
+use Rattle.ckpt_types.specs.Reads.{NextGiven}
+use Rattle.section_iter.specs.KeptIds.{KeptIds}
+use Rattle.section_iter.specs.Next.{kept_after}
+use Rattle.section_iter.specs.declared.room.Room.{Room}
+use Rattle.client_handles.specs.ClientState.{ClientState, handle_at, iterated_at, kept_at, taken, bound, dropped, added, returned, ended, has_handle_room, has_iteration_room}
+use Rattle.client_handles.specs.declared.handle_view.HandleView.{HandleView}
+use Rattle.ckpt_types.specs.Asks.{Ask}
+use Rattle.ckpt_types.specs.Asks as asks
+use Rattle.ckpt_machine.specs.Drivers.{Rooms}
+
+-- ---- what it finds
+
+-- what the tables have a free place for
+abbrev pub rooms_in : ClientState → Rooms
+rooms_in t = record { handles = has_handle_room t; iterations = has_iteration_room t }
+
+-- the handle that it is about: that of its place, or that over which its iteration goes
+abbrev pub handle_asked : Ask → ClientState → Option HandleView
+handle_asked (asks.Change place update) t = handle_at place t
+handle_asked (asks.Read place elements) t = handle_at place t
+handle_asked (asks.Status place) t = handle_at place t
+handle_asked (asks.Iterate iteration place chosen time) t = handle_at place t
+handle_asked (asks.Next iteration) t = iterated_at iteration t
+handle_asked (asks.EndIteration iteration) t = iterated_at iteration t
+handle_asked (asks.Close place) t = handle_at place t
+handle_asked (asks.Retain place duration) t = handle_at place t
+handle_asked ask t = None
+
+-- the checkpoint of a handle
+abbrev pub ckpt_of_handle : Option HandleView → Option ℕ
+ckpt_of_handle None = None
+ckpt_of_handle (Some h) = Some h.id
+
+-- what is kept of the iteration with which it goes on
+abbrev pub kept_asked : Ask → ClientState → Option KeptIds
+kept_asked (asks.Next iteration) t = kept_at iteration t
+kept_asked ask t = None
+
+-- the identifiers that are kept
+abbrev pub ids_of : Option KeptIds → List (List ℕ)
+ids_of None = []
+ids_of (Some kept) = kept.ids
+
+-- ---- what it makes of them
+
+-- opened for nothing
+abbrev pub no_flags : OpenFlags
+no_flags = record { read = false; write = false; create = false }
+
+-- what flags open for, where they are flags
+abbrev pub flags_or_none : Result OpenFlags AisError → OpenFlags
+flags_or_none (Ok flags) = flags
+flags_or_none (Err error) = no_flags
+
+-- an open has a handle more, of the checkpoint with these creation flags, and its place stands for it
+abbrev pub handle_given : Ask → ℕ → ℕ → ClientState → ClientState
+handle_given (asks.Open place name flags timeout a) k creation_flags t = bound place (t.last_number + 1) (taken k (flags_or_none (open_flags_of flags)) creation_flags t)
+handle_given ask k creation_flags t = t
+
+-- which sections are chosen, by the number of a choice
+abbrev pub choice_of : ℕ → ℤ → Choice
+choice_of chosen time = record { chosen = if nat_le chosen sections_any then chosen else 0; time = time }
+
+-- an iteration more, over a handle, and its place stands for it
+abbrev pub with_iteration : ℕ → Option HandleView → KeptIds → ClientState → ClientState
+with_iteration iteration None kept t = t
+with_iteration iteration (Some h) kept t = added iteration h.handle kept t
+
+-- it starts an iteration, which keeps what its choice is given, in this room
+abbrev pub started : Ask → Room → (Choice → List (List ℕ)) → ClientState → ClientState
+started (asks.Iterate iteration place chosen time) room chosen_by t = with_iteration iteration (handle_at place t) (record { ids = chosen_by (choice_of chosen time); room = room }) t
+started ask room chosen_by t = t
+
+-- of what is kept, what stands behind the section that was given is kept on; all where none was
+abbrev pub with_next : ℕ → Option KeptIds → Option NextGiven → ClientState → ClientState
+with_next iteration (Some kept) (Some next) t = returned iteration (kept_after kept (Some next)) t
+with_next iteration kept next t = t
+
+-- its iteration has given this section
+abbrev pub gone_on : Ask → Option NextGiven → ClientState → ClientState
+gone_on (asks.Next iteration) next t = with_next iteration (kept_at iteration t) next t
+gone_on ask next t = t
+
+-- it ends a handle, and the iterations over it
+abbrev pub closing : Ask → ClientState → ClientState
+closing (asks.Close place) t = dropped place t
+closing ask t = t
+
+-- what it ends where it is answered OK at its beginning: an iteration
+abbrev pub ended_at_once : Option Outcome → Ask → ClientState → ClientState
+ended_at_once (Some (Done answer)) (asks.EndIteration iteration) t = ended iteration t
+ended_at_once end ask t = t

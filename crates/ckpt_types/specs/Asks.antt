@@ -1,0 +1,121 @@
+-- What an operation asks for: the five updates ask alike, and what is not built asks for nothing.
+use Rattle.std.specs.Prelude.{◌≡◌, ◌≢◌, ℕ, ◌+◌, ◌<◌, List, [], Option, Some, None, Bool, true, false, ℤ}
+use Rattle.ckpt_types.specs.declared.attributes.CreationAttributes.{CreationAttributes}
+use Rattle.ckpt_types.specs.declared.calls.CallbackSet.{CallbackSet}
+use Rattle.ckpt_types.specs.declared.calls.Version.{Version}
+use Rattle.ckpt_types.specs.declared.operation.Op.{Op}
+use Rattle.ckpt_types.specs.declared.operation.Op.TheVariants as ops
+use Rattle.ckpt_types.specs.declared.update.ReadElement.{ReadElement}
+use Rattle.ckpt_types.specs.declared.update.Update.{Update}
+use Rattle.ckpt_types.specs.declared.update.Update.TheVariants as updates
+use Rattle.ckpt_types.specs.Limits.{wr_active_replica, wr_active_replica_weak, checkpoint_collocated, places_max, nodes_max}
+
+-- what a call asks for; of places, that of the handle stands first, and that of an iteration before it
+pub data Ask : Type 0 where
+  -- to be live on a node, by a version of the service, with callbacks
+  Enter : ℕ → Version → CallbackSet → Ask
+  -- a handle of the checkpoint of a name: its place, the name, the flags, the timeout, and the attributes with which it is made
+  Open : ℕ → List ℕ → ℕ → ℤ → Option CreationAttributes → Ask
+  -- an update of the sections
+  Change : ℕ → Update → Ask
+  -- what these elements have
+  Read : ℕ → List ReadElement → Ask
+  -- the status of the checkpoint
+  Status : ℕ → Ask
+  -- an iteration over the sections that a choice and a time name
+  Iterate : ℕ → ℕ → ℕ → ℤ → Ask
+  -- the next section of an iteration
+  Next : ℕ → Ask
+  -- the end of an iteration
+  EndIteration : ℕ → Ask
+  -- the end of a handle
+  Close : ℕ → Ask
+  -- another retention of the checkpoint
+  Retain : ℕ → ℤ → Ask
+  -- the end of a name
+  Unlink : List ℕ → Ask
+  -- to be live no more
+  Leave : Ask
+  -- what is not built yet
+  Unbuilt : Ask
+
+-- WHAT AN OPERATION ASKS FOR
+abbrev pub asked : Op → Ask
+asked (ops.Client r version callbacks) = Enter r version callbacks
+asked (ops.Open place name flags timeout a) = Open place name flags timeout a
+asked (ops.Create place update) = Change place update
+asked (ops.Delete place update) = Change place update
+asked (ops.Expire place update) = Change place update
+asked (ops.Write place update) = Change place update
+asked (ops.Over place update) = Change place update
+asked (ops.Read place elements) = Read place elements
+asked (ops.Status place) = Status place
+asked (ops.Iter iteration place chosen time) = Iterate iteration place chosen time
+asked (ops.Next iteration) = Next iteration
+asked (ops.EndIter iteration) = EndIteration iteration
+asked (ops.Close place) = Close place
+asked (ops.Retain place duration) = Retain place duration
+asked (ops.Unlink name) = Unlink name
+asked ops.Finalize = Leave
+asked op = Unbuilt
+
+-- the update that is asked for
+abbrev pub update_asked : Ask → Update
+update_asked (Change place update) = update
+update_asked ask = updates.Nothing
+
+-- the update of an operation
+abbrev pub update_of : Op → Update
+update_of op = update_asked (asked op)
+
+-- the elements that are asked for
+abbrev pub elements_asked : Ask → List ReadElement
+elements_asked (Read place elements) = elements
+elements_asked ask = []
+
+-- the elements of a read
+abbrev pub elements_of : Op → List ReadElement
+elements_of op = elements_asked (asked op)
+
+-- an iteration that is started takes room for the identifiers that it keeps
+abbrev pub takes_room : Ask → Bool
+takes_room (Iterate iteration place chosen time) = true
+takes_room ask = false
+
+-- ---- the operations that are built
+
+-- callbacks are not kept yet: none is registered
+pub record RegistersNone (callbacks : CallbackSet) : Type 0 where
+  pub opens : callbacks.opens ≡ false
+  pub syncs : callbacks.syncs ≡ false
+
+-- of the attributes that pass their check, these are not built yet: updates on the active replica alone, and weak ones, each
+-- collocated or not
+pub record IsBuiltAttributes (a : CreationAttributes) : Type 0 where
+  pub not_active : (a.creation_flags ≢ wr_active_replica) × (a.creation_flags ≢ wr_active_replica + checkpoint_collocated)
+  pub not_weak : (a.creation_flags ≢ wr_active_replica_weak) × (a.creation_flags ≢ wr_active_replica_weak + checkpoint_collocated)
+
+-- attributes are of a kind that is built, where they are given
+abbrev pub AreBuilt : Option CreationAttributes → Type 0
+AreBuilt None = Unit {0}
+AreBuilt (Some a) = IsBuiltAttributes a
+
+-- what is asked for is built, and names a node and places that there are
+abbrev pub IsBuiltAsk : Ask → Type 0
+IsBuiltAsk (Enter r version callbacks) = (r < nodes_max) × RegistersNone callbacks
+IsBuiltAsk (Open place name flags timeout a) = (place < places_max) × AreBuilt a
+IsBuiltAsk (Change place update) = place < places_max
+IsBuiltAsk (Read place elements) = place < places_max
+IsBuiltAsk (Status place) = place < places_max
+IsBuiltAsk (Iterate iteration place chosen time) = (iteration < places_max) × (place < places_max)
+IsBuiltAsk (Next iteration) = iteration < places_max
+IsBuiltAsk (EndIteration iteration) = iteration < places_max
+IsBuiltAsk (Close place) = place < places_max
+IsBuiltAsk (Retain place duration) = place < places_max
+IsBuiltAsk (Unlink name) = Unit {0}
+IsBuiltAsk Leave = Unit {0}
+IsBuiltAsk Unbuilt = ⊥
+
+-- the operation is one that is built
+abbrev pub IsBuilt : Op → Type 0
+IsBuilt op = IsBuiltAsk (asked op)

@@ -1,0 +1,86 @@
+-- A step of the call that a client has in hand: that it is due, and what the world shows behind it.
+use Rattle.std.proofs.Common.{◌≡◌, ℕ, ◌∷◌, refl, sym, ap, subst, ◌∙◌}
+use Rattle.std.specs.Prelude.{Option, Some}
+use Rattle.ckpt_types.specs.declared.answers.Outcome.{Outcome}
+use Rattle.ckpt_types.specs.declared.identities.ActorName.TheVariants.{Client}
+use Rattle.node_msgs.specs.declared.next.Next.{Next}
+use Rattle.node_msgs.specs.declared.steps.Verb.{Verb}
+use Rattle.node_msgs.specs.declared.steps.StepReply.{StepReply}
+use Rattle.run_labels.specs.declared.details.Details.{Details}
+use Rattle.run_labels.specs.declared.labels.Label.{Label}
+use Rattle.run_labels.specs.declared.labels.Label.TheVariants.{Stepped}
+use Rattle.ckpt_types.specs.OpWord.{word_of_op}
+use Rattle.cluster_record.specs.StepDone.{StepDone, done_of, counting}
+use Rattle.ckpt_machine.specs.Driving.{driver_next}
+use Rattle.ckpt_machine.specs.Facts.{Facts}
+use Rattle.ckpt_machine.specs.Machine.{Machine, CallState}
+use Rattle.ckpt_machine.specs.Steps.{IsDue, IsDone, after, changed, claimed_count, created_by, step_of, stepped}
+use Rattle.world_core.specs.declared.hands.InHand.{InHand}
+use Rattle.world_core.specs.declared.world.World.{World}
+use Rattle.world_core.specs.Happenings.{rooms_at}
+use Rattle.world_core.specs.Holding.{HoldsOnlyWhatStands}
+use Rattle.world_core.specs.Shows.{Shows, IsShown, HistoryFits, History, machine_of, hand_at}
+use Rattle.world_core.proofs.Freeing.{DoesBefore}
+use Rattle.world_core.proofs.Held.{state_in, in_hand_at, actor_is, due_is}
+use Rattle.world_core.proofs.Told.{with_step, told_world, told_is, told_fits}
+
+-- what is known of a world, and of a history with which it shows a state that has the facts
+pub record IsKnown (w : World) (h : History) : Type 0 where
+  pub facts : Facts (machine_of w h)
+  pub fits : HistoryFits w h
+  pub holds : HoldsOnlyWhatStands w.cluster w.nodes
+
+pub known_by : (w : World) (m : Machine) (s : Shows w m) → Facts m → IsKnown w s.history
+known_by w m s facts = record { facts = subst Facts s.same facts; fits = s.fits; holds = s.holds }
+
+pub known : (w : World) (shown : IsShown w) → IsKnown w shown.shows.history
+known w shown = known_by w shown.state shown.shows shown.facts
+
+-- `behind` shows with the history `later` what the step changes, the call's own steps aside
+module _ (w : World) (c : ℕ) (hand : InHand) (held : hand_at w.hands c ≡ Some hand) (behind : World) (later : History → History) (verb : Verb) (k r : Option ℕ) (reply : StepReply) (end : Option Outcome) (details : Details) where
+  abbrev label : Label
+  label = Stepped hand.call (word_of_op hand.op) verb k r reply end details
+
+  abbrev pub step_done : StepDone
+  step_done = done_of behind.cluster verb k r reply
+
+  -- the world in which the call is told of it
+  abbrev pub behind_step : World
+  behind_step = told_world behind c hand step_done end
+
+  -- with the history that the machine has then
+  abbrev history_behind : History → History
+  history_behind h = let m = machine_of w h in let s = state_in h c hand in with_step (later h) c (counting (claimed_count m verb k r) step_done) (created_by m s verb k r)
+
+  -- the step is the one that is next, and is so shown
+  pub record IsShownBehind (next : Next) (h : History) : Type 0 where
+    pub done : IsDone (machine_of w h) (state_in h c hand) next (record { verb = verb; ckpt = k; node = r; reply = reply; end = end; details = details })
+    pub change : changed (machine_of w h) (state_in h c hand) verb k r reply ≡ machine_of behind (later h)
+    pub fits : HistoryFits behind (later h)
+
+  module _ (next : Next) (next_is : driver_next w.cluster (rooms_at w c) hand.driver ≡ next) (still : hand_at behind.hands c ≡ Some hand) (same : (h : History) → state_in h c hand ≡ state_in (later h) c hand) where
+    due_step : (h : History) → IsKnown w h → IsShownBehind next h → IsDue (machine_of w h) label
+    due_step h is step = record {
+      state = state_in h c hand;
+      in_hand = in_hand_at w h c hand held is.facts;
+      call_is = refl;
+      word = refl;
+      done = subst (λ (n : Next). IsDone (machine_of w h) (state_in h c hand) n (record { verb = verb; ckpt = k; node = r; reply = reply; end = end; details = details })) (sym (due_is w h c hand held is.facts is.fits next next_is)) step.done;
+    }
+
+    after_is : (h : History) → IsKnown w h → IsShownBehind next h → after (machine_of w h) label ≡ machine_of behind_step (history_behind h)
+    after_is h is step =
+        let m = machine_of w h in
+        let s = state_in h c hand in
+        ap (λ (p : Option CallState). step_of m p verb k r reply end) (in_hand_at w h c hand held is.facts)
+        ∙ (λ i. stepped (step.change i) (record (same h i) { steps = counting (claimed_count m verb k r) (done_of (step.change i).cluster verb k r reply) ∷ (same h i).steps; created = created_by m s verb k r }) end)
+        ∙ told_is behind (later h) c hand step_done (claimed_count m verb k r) (created_by m s verb k r) end (actor_is w h c hand held is.facts) step.fits still
+
+    -- the step, before the nodes are freed
+    pub step_before : ((h : History) → IsKnown w h → IsShownBehind next h) → DoesBefore w behind_step label
+    step_before step = record {
+      due_is = λ m s f. let is = known_by w m s f in subst (λ (m : Machine). IsDue m label) (sym s.same) (due_step s.history is (step s.history is));
+      history = λ m s f. history_behind s.history;
+      same = λ m s f. let is = known_by w m s f in ap (λ (m : Machine). after m label) s.same ∙ after_is s.history is (step s.history is);
+      fits = λ m s f. let is = known_by w m s f in told_fits behind (later s.history) c hand step_done _ _ end (actor_is w s.history c hand held is.facts) (step s.history is).fits still;
+    }

@@ -1,0 +1,96 @@
+-- Where a call opens, or starts an iteration, there is room for it.
+use Rattle.std.proofs.Common.{◌≡◌, ℕ, ℤ, Bool, true, false, cond, refl, subst}
+use Rattle.std.specs.Prelude.{◌&&◌, Option, Some, None, not, nat_le, length}
+use Rattle.ckpt_types.specs.declared.answers.Outcome.{Outcome}
+use Rattle.ckpt_types.specs.declared.attributes.CreationAttributes.{CreationAttributes}
+use Rattle.ckpt_types.specs.declared.identities.CallId.{CallId}
+use Rattle.ckpt_types.specs.declared.sections.Choice.{Choice}
+use Rattle.node_msgs.specs.declared.next.Next.{Next}
+use Rattle.node_msgs.specs.declared.next.Next.TheVariants.{Event, End, Serve}
+use Rattle.node_msgs.specs.declared.next.RecordStep.TheVariants as events
+use Rattle.node_msgs.specs.declared.requests.Request.TheVariants as requests
+use Rattle.cluster_record.specs.declared.calls.ActiveKind.{ActiveKind}
+use Rattle.cluster_record.specs.declared.calls.ActiveKind.TheVariants as kinds
+use Rattle.cluster_record.specs.declared.calls.Making.{Making}
+use Rattle.cluster_record.specs.declared.entries.Entry.{Entry}
+use Rattle.cluster_record.specs.DueActive.{ActiveState, on_active, active_on, request_by, starts_iteration}
+use Rattle.cluster_record.specs.DueOpen.{OpenState, accepts, create_next, entry_by, entry_next, on_named, reserve_or_finish, on_making, by_making, open_next}
+use Rattle.cluster_record.specs.Opening.{answer_unless, answer_named, open_answer}
+use Rattle.cluster_record.specs.RecordState.{RecordState, entry_of, named}
+use Rattle.cluster_record.specs.StepDone.{first_lacking}
+use Rattle.ckpt_machine.specs.Drivers.{Driver, Rooms}
+use Rattle.ckpt_machine.specs.Drivers as drivers
+use Rattle.ckpt_machine.specs.Driving.{driver_next, refusal_in}
+use Rattle.ckpt_machine.proofs.Deadlines.{in_time-either}
+use Rattle.ckpt_machine.proofs.NextOf.{OfAsked, next_of}
+
+-- ---- where an open gives a handle
+
+-- an opening that is next, and that the record does not refuse, has room
+abbrev HasRoomFor : Option Outcome → Bool → Next → Type 0
+HasRoomFor refusal room (Event events.Open) = refusal ≡ None → room ≡ true
+HasRoomFor refusal room next = Unit {0}
+
+room_create : (refusal : Option Outcome) (room a b : Bool) (x y : Outcome) → HasRoomFor refusal room (cond a (End x) (cond b (End y) (Event events.Create)))
+room_create refusal room true b x y = tt
+room_create refusal room false true x y = tt
+room_create refusal room false false x y = tt
+
+room_open : (refusal : Option Outcome) (b room : Bool) (x y : Outcome) → HasRoomFor refusal room (cond b (End x) (cond (not room) (End y) (Event events.Open)))
+room_open refusal true room x y = tt
+room_open refusal false true x y = λ granted. refl
+room_open refusal false false x y = tt
+
+-- what is in the making is refused
+room_entry : (room : Bool) (a : Option CreationAttributes) (e : Entry) (making : Option CallId) → HasRoomFor (refusal_in (answer_unless making a e)) room (entry_by making room a e)
+room_entry room a e (Some call) = λ granted. absurd (cc granted)
+room_entry room a e None = room_open (refusal_in (answer_unless None a e)) (not (accepts a e)) room _ _
+
+room_named : (R : RecordState) (room : Bool) (deadline : Option ℤ) (a : Option CreationAttributes) (e : Option Entry) → HasRoomFor (refusal_in (answer_named R a e)) room (on_named R room deadline a e)
+room_named R room deadline None None = tt
+room_named R room deadline (Some a) None =
+    let refusal = refusal_in (answer_named R (Some a) None) in
+    in_time-either (HasRoomFor refusal room) deadline R.moment (create_next R room) (λ o. tt) (room_create refusal room (not room) (nat_le 16 (length R.entries)) _ _)
+room_named R room deadline a (Some e) = in_time-either (HasRoomFor (refusal_in (answer_named R a (Some e))) room) deadline R.moment (entry_next room a e) (λ o. tt) (room_entry room a e e.making)
+
+room_making : (R : RecordState) (room : Bool) (o : OpenState) (m : Option Making) → HasRoomFor (refusal_in (open_answer R o.ask)) room (by_making R room o m)
+room_making R room o None = room_named R room o.deadline o.ask.attrs (named o.ask.name R.entries)
+room_making R room o (Some m) = in_time-either (HasRoomFor (refusal_in (open_answer R o.ask)) room) o.deadline R.moment (on_making R m) (λ o. tt) (by_test m.refused (first_lacking 0 R.up m.reserved)) where
+  by_test : (b : Bool) (r : Option ℕ) → HasRoomFor (refusal_in (open_answer R o.ask)) room (cond b (Event events.Undo) (reserve_or_finish m.ckpt r))
+  by_test true r = tt
+  by_test false None = tt
+  by_test false (Some r) = tt
+
+pub open_room : (R : RecordState) (room : Bool) (o : OpenState) → open_next R room o ≡ Event events.Open → refusal_in (open_answer R o.ask) ≡ None → room ≡ true
+open_room R room o next = subst (HasRoomFor (refusal_in (open_answer R o.ask)) room) next (room_making R room o o.making)
+
+-- ---- where a call starts an iteration, there is room for it
+
+-- the active is asked to start one only where there is
+abbrev HasPlaceFor : Bool → Next → Type 0
+HasPlaceFor room (Serve r (requests.Iterate call k choice)) = room ≡ true
+HasPlaceFor room next = Unit {0}
+
+place_kind : (room : Bool) (call : CallId) (k : ℕ) (kind : ActiveKind) (x : Outcome) (r : ℕ) → HasPlaceFor room (cond (starts_iteration kind && not room) (End x) (Serve r (request_by call k kind)))
+place_kind true call k (kinds.Iterate choice) x r = refl
+place_kind false call k (kinds.Iterate choice) x r = tt
+place_kind room call k kind x r = tt
+
+place_active : (room : Bool) (a : ActiveState) (e : Option Entry) → HasPlaceFor room (active_on room a e)
+place_active room a None = tt
+place_active room a (Some e) = at e.active where
+  at : (r : Option ℕ) → HasPlaceFor room (on_active room a r)
+  at None = tt
+  at (Some r) = place_kind room a.call a.ckpt a.kind _ r
+
+open_place_of : (R : RecordState) (room : Rooms) (x : Driver) → OfAsked (HasPlaceFor room.iterations) x → HasPlaceFor room.iterations (driver_next R room x)
+open_place_of R room x asks = next_of (HasPlaceFor room.iterations) (λ o. tt) (λ step. tt) (λ r k. tt) R room x asks
+
+place_next : (R : RecordState) (room : Rooms) (x : Driver) → HasPlaceFor room.iterations (driver_next R room x)
+place_next R room (drivers.Once x) = open_place_of R room (drivers.Once x) tt
+place_next R room (drivers.Open o) = open_place_of R room (drivers.Open o) tt
+place_next R room (drivers.Update u) = open_place_of R room (drivers.Update u) (λ r t. tt, λ r. tt)
+place_next R room (drivers.Active a) = place_active room.iterations a (entry_of a.ckpt R.entries)
+
+pub iterate_room : (R : RecordState) (room : Rooms) (x : Driver) (r : ℕ) (call : CallId) (k : ℕ) (choice : Choice) → driver_next R room x ≡ Serve r (requests.Iterate call k choice) → room.iterations ≡ true
+iterate_room R room x r call k choice e = subst (HasPlaceFor room.iterations) e (place_next R room x)
