@@ -14,7 +14,7 @@ use Rattle.node_msgs.specs.declared.steps.Verb.{Verb}
 use Rattle.node_msgs.specs.declared.steps.Verb.TheVariants as verbs
 use Rattle.node_msgs.specs.declared.steps.StepReply.{StepReply}
 use Rattle.node_msgs.specs.declared.steps.StepReply.TheVariants as words
-use Rattle.run_labels.specs.declared.details.Details.{Details}
+use Rattle.node_msgs.specs.declared.details.Details.{Details}
 use Rattle.run_labels.specs.declared.labels.Label.{Label}
 use Rattle.run_labels.specs.declared.labels.Label.TheVariants as labels
 use Rattle.ckpt_types.specs.declared.words.OpWord.{OpWord}
@@ -37,7 +37,7 @@ use Rattle.ckpt_machine.specs.Laws.{AcknowledgedStays}
 use Rattle.ckpt_machine.specs.Machine.{Machine, Applied, Effect, ReplicaState, Staged, CallState}
 use Rattle.ckpt_machine.specs.Owned.{OwnsNothing}
 use Rattle.ckpt_machine.specs.Runs.{last_from, last, IsRunFrom, IsRun}
-use Rattle.ckpt_machine.specs.Serving.{update_answer}
+use Rattle.node_core.specs.Serving.{update_answer}
 use Rattle.ckpt_machine.specs.Shape.{IsCompleteOn}
 use Rattle.ckpt_machine.specs.Steps.{IsDue, with_record, record_step, created_for, retained_for, change_replica, with_committed, committed_slot, with_slot, effect_of, changed, on_ok, on_look, without_making, at_some, replica_under, opened_state, stepped, step_of, staged_moment, after}
 use Rattle.ckpt_machine.proofs.OwnMaking.{making_there}

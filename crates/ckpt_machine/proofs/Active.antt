@@ -24,7 +24,7 @@ use Rattle.cluster_record.specs.declared.entries.Entry.{Entry}
 use Rattle.cluster_record.specs.Calls.{put_actor}
 use Rattle.cluster_record.specs.DueActive.{active_on, on_active, request_by, starts_iteration}
 use Rattle.cluster_record.specs.RecordState.{entry_of, attributes_now, first_complete}
-use Rattle.run_labels.specs.declared.details.Details.TheVariants as beside
+use Rattle.node_msgs.specs.declared.details.Details.TheVariants as beside
 use Rattle.ckpt_types.specs.Asks.{Ask, asked, elements_asked, elements_of}
 use Rattle.ckpt_types.specs.Asks as asks
 use Rattle.ckpt_machine.specs.Tables.{choice_of, started, gone_on}
@@ -35,8 +35,9 @@ use Rattle.ckpt_machine.specs.Entries.{WasMade}
 use Rattle.ckpt_machine.specs.InHand.{active_kind, IsInPlace, IsActiveIn}
 use Rattle.ckpt_machine.specs.Invariant.{IsGoodIn, InvariantIn, Invariant}
 use Rattle.ckpt_machine.specs.Machine.{Machine, ReplicaState, CallState}
-use Rattle.ckpt_machine.specs.Serving.{retention_in, read_details, reply_at, details_at, done_or_refused, next_reply, next_reply_at, next_details, given_at, chosen_at, record_seen}
-use Rattle.ckpt_machine.specs.Steps.{Told, IsDone, IsServed, driver_of, seen, seen_at, seen_by, rooms_of, ids_asked, details_due, with_tables}
+use Rattle.node_core.specs.Serving.{read_details, reply_at, details_at, done_or_refused, next_reply, next_details}
+use Rattle.node_core.specs.Seen.{record_seen, entry_seen}
+use Rattle.ckpt_machine.specs.Steps.{Told, IsDone, IsServed, driver_of, seen, seen_at, seen_by, rooms_of, ids_asked, payload_due, details_due, with_tables, given_at, chosen_at}
 use Rattle.ckpt_machine.specs.Guards.{OnReplica, IterOk, NextAnswer, LookRefused, HasNoActive, NoActiveLook}
 use Rattle.ckpt_machine.specs.Shape.{Shape, IsCompleteOn, IsShaped, IsSpread}
 use Rattle.ckpt_machine.proofs.EndedTables.{started_keeps, gone_on_keeps}
@@ -177,11 +178,11 @@ module _ (m : Machine) (shapes : ℕ → Shape) (inv : InvariantIn shapes m) (s 
 
       -- the node answers by it
       answered : (t : Told) (served : IsServed m s at.node (requests.Read k) t) (r : Result (List (List ℕ)) Refusal) → Gives r → served.answer ≡ done_or_refused (replies.Done answers.Pieces) r
-      answered t served r gives = served.may ∙ ap (reply_at (requests.Read k) s.op (record_seen m.cluster k)) (active_seen m k at) ∙ ap (done_or_refused (replies.Done answers.Pieces)) gives
+      answered t served r gives = served.may ∙ ap (reply_at (requests.Read k) (payload_due m s) (record_seen m.cluster k at.node)) (active_seen m k at) ∙ ap (done_or_refused (replies.Done answers.Pieces)) gives
 
       -- with the details
       details : (r : Result (List (List ℕ)) Refusal) → Gives r → details_due m s (requests.Read k) at.node ≡ read_details r
-      details r gives = ap (details_at (requests.Read k) s.op (record_seen m.cluster k)) (active_seen m k at) ∙ ap read_details gives
+      details r gives = ap (details_at (requests.Read k) (payload_due m s) (record_seen m.cluster k at.node)) (active_seen m k at) ∙ ap read_details gives
 
       -- the read, by what it gave
       read_by : (t : Told) → IsServed m s at.node (requests.Read k) t → (r : Result (List (List ℕ)) Refusal) → Gives r → Goes m s (driver_of s) t
@@ -201,13 +202,13 @@ module _ (m : Machine) (shapes : ℕ → Shape) (inv : InvariantIn shapes m) (s 
     -- it tells the status
     status_told : details_due m s (requests.Status k) at.node ≡ beside.Status (status (attributes_now at.entry) m.cluster.moment at.replica.sections)
     status_told =
-        ap (details_at (requests.Status k) s.op (record_seen m.cluster k)) (active_seen m k at)
-        ∙ ap (λ o. details_at (requests.Status k) s.op (record { moment = m.cluster.moment; retention = retention_in o }) (Some (seen k at.entry.attributes at.replica))) at.found
+        ap (details_at (requests.Status k) (payload_due m s) (record_seen m.cluster k at.node)) (active_seen m k at)
+        ∙ ap (λ o. details_at (requests.Status k) (payload_due m s) (record { moment = m.cluster.moment; entry = entry_seen at.node o }) (Some (seen k at.entry.attributes at.replica))) at.found
 
     status_goes : (is : driver_of s ≡ drivers.Active (record { call = call; ckpt = k; kind = kinds.Status })) (t : Told) → IsServed m s at.node (requests.Status k) t → Goes m s (driver_of s) t
     status_goes is t served =
         subst (Goes m s (driver_of s)) (sym (IsServed-told m s at.node (requests.Status k) t (driver kinds.Status) (replies.Done answers.Status) served is
-        (served.may ∙ ap (reply_at (requests.Status k) s.op (record_seen m.cluster k)) (active_seen m k at)))) (record {
+        (served.may ∙ ap (reply_at (requests.Status k) (payload_due m s) (record_seen m.cluster k at.node)) (active_seen m k at)))) (record {
           row = ((asks_of kinds.Status is).0, (asks_of kinds.Status is).1, on_its_replica m k at _ (record { active = at.active; answer = refl; told = status_told }));
           holds = ends kinds.Status is;
           nearer = λ none. absurd (cc none);
@@ -219,10 +220,10 @@ module _ (m : Machine) (shapes : ℕ → Shape) (inv : InvariantIn shapes m) (s 
       iterate_goes : (t : Told) → (rooms_of m s).iterations ≡ true → IsServed m s at.node (requests.Iterate call k choice) t → Goes m s (driver_of s) t
       iterate_goes t has served =
           subst (Goes m s (driver_of s)) (sym (IsServed-told m s at.node (requests.Iterate call k choice) t (driver (kinds.Iterate choice)) (replies.Done answers.Nothing) served is
-          (served.may ∙ ap (reply_at (requests.Iterate call k choice) s.op (record_seen m.cluster k)) (active_seen m k at)))) (record {
+          (served.may ∙ ap (reply_at (requests.Iterate call k choice) (payload_due m s) (record_seen m.cluster k at.node)) (active_seen m k at)))) (record {
             row = (
               (let its = asks_of (kinds.Iterate choice) is in (its.0, its.1, its.2, its.3, its.4, on_its_replica m k at (IterOk m s at.node _) (record { active = at.active; room = has; answer = refl }))),
-              ap (details_at (requests.Iterate call k choice) s.op (record_seen m.cluster k)) (active_seen m k at),
+              ap (details_at (requests.Iterate call k choice) (payload_due m s) (record_seen m.cluster k at.node)) (active_seen m k at),
             );
             holds = ends_started (kinds.Iterate choice) is s.kept.room (λ choice. chosen_at choice m.cluster.moment (seen_at m k at.node));
             nearer = λ none. absurd (cc none);
@@ -250,11 +251,11 @@ module _ (m : Machine) (shapes : ℕ → Shape) (inv : InvariantIn shapes m) (s 
 
       -- the node answers by it
       next_answered : (t : Told) (served : IsServed m s at.node (requests.Next call k) t) (next : Option NextGiven) → GivesNext next → served.answer ≡ next_reply next
-      next_answered t served next gives = served.may ∙ ap (next_reply_at (ids_asked m s) m.cluster.moment) (active_seen m k at) ∙ ap next_reply gives
+      next_answered t served next gives = served.may ∙ ap (reply_at (requests.Next call k) (payload_due m s) (record_seen m.cluster k at.node)) (active_seen m k at) ∙ ap next_reply gives
 
       -- with the identifier
       next_told : (next : Option NextGiven) → GivesNext next → details_due m s (requests.Next call k) at.node ≡ next_details next
-      next_told next gives = ap (λ x. next_details (given_at (ids_asked m s) m.cluster.moment x)) (active_seen m k at) ∙ ap next_details gives
+      next_told next gives = ap (details_at (requests.Next call k) (payload_due m s) (record_seen m.cluster k at.node)) (active_seen m k at) ∙ ap next_details gives
 
       next_by : (t : Told) → IsServed m s at.node (requests.Next call k) t → (next : Option NextGiven) → GivesNext next → Goes m s (driver_of s) t
       next_by t served (Some next) gives = subst (Goes m s (driver_of s)) (sym (IsServed-told m s at.node (requests.Next call k) t (driver kinds.Next) (next_reply (Some next)) served is (next_answered t served (Some next) gives))) (record {

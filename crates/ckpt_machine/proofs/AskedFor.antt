@@ -1,8 +1,8 @@
 -- What drives a call is what its operation asks for, by the call's own steps alone.
 use Rattle.std.proofs.Common.{◌≡◌, ℕ, List, [], ◌∷◌, Option, Some, None, ℤ, refl, ap, sym, subst, ◌∙◌}
+use Rattle.std.specs.Prelude.{IfSome}
 use Rattle.ckpt_types.specs.declared.calls.OpenAsk.{OpenAsk}
 use Rattle.ckpt_types.specs.declared.identities.CallId.{CallId}
-use Rattle.ckpt_types.specs.declared.operation.Op.{Op}
 use Rattle.node_msgs.specs.declared.steps.Verb.{Verb}
 use Rattle.node_msgs.specs.declared.steps.Verb.TheVariants as verbs
 use Rattle.node_msgs.specs.declared.steps.StepReply.{StepReply}
@@ -17,6 +17,8 @@ use Rattle.ckpt_types.specs.Asks as asks
 use Rattle.ckpt_machine.specs.Drivers.{Driver}
 use Rattle.ckpt_machine.specs.Drivers as drivers
 use Rattle.ckpt_machine.specs.Driving.{Kept, on_kept, driver_start, driver_state, driver_taken}
+use Rattle.ckpt_machine.specs.Machine.{CallState}
+use Rattle.ckpt_machine.specs.Steps.{IsDriven, driver_of}
 
 -- an open is of this call and its client, and of the name and the attributes that are asked for
 pub record IsOpenFor (call : CallId) (ask : Ask) (o : OpenState) : Type 0 where
@@ -41,11 +43,12 @@ DrivesFor call ask driver = Unit {0}
 -- ---- at the beginning
 
 -- one that wants a checkpoint, where it keeps one
-kept_drives : (call : CallId) (ask : Ask) (o : Option ℕ) (start : ℕ → Driver) → ((k : ℕ) → DrivesFor call ask (start k)) → DrivesFor call ask (on_kept o start)
+kept_drives : (call : CallId) (ask : Ask) (o : Option ℕ) (start : ℕ → Driver) → ((k : ℕ) → DrivesFor call ask (start k)) → IfSome (on_kept o start) (DrivesFor call ask)
 kept_drives call ask None start each = tt
 kept_drives call ask (Some k) start each = each k
 
-start_drives : (call : CallId) (ask : Ask) (kept : Kept) → DrivesFor call ask (driver_start call ask kept)
+-- what drives one that asks for this, where anything does
+start_drives : (call : CallId) (ask : Ask) (kept : Kept) → IfSome (driver_start call ask kept) (DrivesFor call ask)
 start_drives call (asks.Open place name flags timeout a) kept = record { place = place; flags = flags; timeout = timeout; asks = refl; call_is = refl; client = refl }
 start_drives call (asks.Retain place duration) kept = kept_drives call (asks.Retain place duration) kept.ckpt _ (λ k. record { place = place; asks = refl })
 start_drives call (asks.Change place update) kept = kept_drives call (asks.Change place update) kept.ckpt _ (λ k. tt)
@@ -98,15 +101,18 @@ taken_drives call ask d (drivers.Active a) drives = tt
 
 -- ---- in any state of a call
 
+steps_drive : (call : CallId) (ask : Ask) (begun : Driver) (steps : List StepDone) → DrivesFor call ask begun → DrivesFor call ask (driver_state begun steps)
+steps_drive call ask begun [] drives = drives
+steps_drive call ask begun (d ∷ steps) drives = taken_drives call ask d (driver_state begun steps) (steps_drive call ask begun steps drives)
+
 -- where its steps have led it
-pub state_drives : (call : CallId) (op : Op) (kept : Kept) (steps : List StepDone) → DrivesFor call (asked op) (driver_state call op kept steps)
-state_drives call op kept [] = start_drives call (asked op) kept
-state_drives call op kept (d ∷ steps) = taken_drives call (asked op) d (driver_state call op kept steps) (state_drives call op kept steps)
+pub state_drives : (s : CallState) → IsDriven s → DrivesFor s.call (asked s.op) (driver_of s)
+state_drives s driven = steps_drive s.call (asked s.op) s.begun s.steps (subst (λ o. IfSome o (DrivesFor s.call (asked s.op))) driven (start_drives s.call (asked s.op) s.kept))
 
 -- an open is of the name and the attributes that its operation asks for
-pub open_for : (call : CallId) (op : Op) (kept : Kept) (steps : List StepDone) (o : OpenState) → driver_state call op kept steps ≡ drivers.Open o → IsOpenFor call (asked op) o
-open_for call op kept steps o is = subst (DrivesFor call (asked op)) is (state_drives call op kept steps)
+pub open_for : (s : CallState) (o : OpenState) → IsDriven s → driver_of s ≡ drivers.Open o → IsOpenFor s.call (asked s.op) o
+open_for s o driven is = subst (DrivesFor s.call (asked s.op)) is (state_drives s driven)
 
 -- a retention is set to the duration that its operation asks for
-pub retention_for : (call : CallId) (op : Op) (kept : Kept) (steps : List StepDone) (k : ℕ) (duration : ℤ) → driver_state call op kept steps ≡ drivers.Once (once.Retain k duration) → IsRetentionFor (asked op) duration
-retention_for call op kept steps k duration is = subst (DrivesFor call (asked op)) is (state_drives call op kept steps)
+pub retention_for : (s : CallState) (k : ℕ) (duration : ℤ) → IsDriven s → driver_of s ≡ drivers.Once (once.Retain k duration) → IsRetentionFor (asked s.op) duration
+retention_for s k duration driven is = subst (DrivesFor s.call (asked s.op)) is (state_drives s driven)

@@ -1,5 +1,5 @@
 -- Where each operation begins, with any calls of others in hand.
-use Rattle.std.proofs.Common.{◌≡◌, ℕ, ◌<◌, inl, inr, List, [], ◌∷◌, Option, Some, None, is_some, Bool, true, false, cond, ◌==◌, ◌||◌, ℤ, refl, sym, ap, subst, ◌∙◌, arith}
+use Rattle.std.proofs.Common.{◌≡◌, ℕ, ◌<◌, List, [], ◌∷◌, Option, Some, None, is_some, Bool, true, false, cond, ◌==◌, ◌||◌, ℤ, refl, sym, ap, subst, ◌∙◌, arith}
 use Rattle.std.specs.Option.{option_and_then}
 use Rattle.std.specs.Prelude.{IsSome, IfSome, Contains, int_lt, pos, ◌≤ℤ◌, slice_index}
 use Rattle.std.proofs.lemmas.Bool.{or_parts}
@@ -7,7 +7,6 @@ use Rattle.std.proofs.lemmas.Int.{ints}
 use Rattle.std.proofs.lemmas.List.Elements.{Contains-append_right}
 use Rattle.std.proofs.lemmas.Option.{same_Some}
 use Rattle.ckpt_types.specs.declared.answers.Outcome.{Outcome}
-use Rattle.ckpt_types.specs.declared.answers.Outcome.TheVariants.{NoMemory}
 use Rattle.ckpt_types.specs.declared.attributes.CreationAttributes.{CreationAttributes}
 use Rattle.ckpt_types.specs.declared.identities.ActorName.{ActorName}
 use Rattle.ckpt_types.specs.declared.identities.ActorName.TheVariants.{Client, Node}
@@ -30,20 +29,25 @@ use Rattle.cluster_record.specs.Places.{find_key}
 use Rattle.cluster_record.specs.RecordState.{entry_of, client_key, is_live, is_live_client, is_up}
 use Rattle.ckpt_types.specs.Asks.{Ask, asked, IsBuiltAsk, IsBuilt}
 use Rattle.ckpt_types.specs.Asks as asks
-use Rattle.ckpt_machine.specs.Beginning.{begin_end, if_live, on_handle, open_begin, may_always, may_write, update_is_bad, attributes_are_bad, name_is_bad, end_iteration}
+use Rattle.ckpt_machine.specs.Beginning.{begin_end, if_live, on_handle, open_begin, may_always, may_write, update_is_bad, attributes_are_bad, name_is_bad}
 use Rattle.ckpt_machine.specs.Drivers.{Driver}
-use Rattle.ckpt_machine.specs.Driving.{driver_start, active_start, deadline_from}
+use Rattle.ckpt_machine.specs.Drivers as drivers
+use Rattle.cluster_record.specs.DueActive.{active_begun}
+use Rattle.cluster_record.specs.DueOnce as once
+use Rattle.cluster_record.specs.DueUpdate.{update_begun}
+use Rattle.ckpt_machine.specs.Driving.{Kept, driver_start, active_start, deadline_from}
 use Rattle.ckpt_machine.specs.Entries.{WasMade}
 use Rattle.ckpt_machine.specs.InHand.{AreGoodAttributes, active_kind, is_enter, IsInPlace}
 use Rattle.ckpt_machine.specs.Invariant.{IsGoodClient, InvariantIn, Invariant}
 use Rattle.ckpt_machine.specs.Machine.{Machine, CallState}
-use Rattle.ckpt_machine.specs.Steps.{IsBegun, MayBegin, asked_handle, kept_at_beginning, room_in, begun, begun_call, IsBeginEnd, driver_of}
+use Rattle.ckpt_machine.specs.Steps.{IsBegun, IsDriven, MayBegin, asked_handle, kept_at_beginning, room_in, begun, begun_call, call_begun, started_call, driver_of}
 use Rattle.ckpt_machine.specs.Tables.{handle_asked, ckpt_of_handle, choice_of, ended_at_once}
 use Rattle.ckpt_machine.specs.Shape.{Shape}
 use Rattle.ckpt_machine.proofs.Begun.{begun_live, begun_keeps, update_begins}
 use Rattle.ckpt_machine.proofs.ClientTables.{same_tables}
 use Rattle.ckpt_machine.proofs.EndedTables.{client_by_number, ended_at_once_keeps}
 use Rattle.ckpt_machine.proofs.ReplicaSteps.{put_actor-here}
+use Rattle.ckpt_machine.proofs.Starting.{if_live-None, on_handle-None, iteration_answers, goes_on_begun, driven_begun}
 
 -- ---- what a beginning that goes on has passed
 
@@ -52,17 +56,7 @@ passed : (b : Bool) (why : Outcome) (o : Option Outcome) → cond b (Some why) o
 passed true why o e = absurd (cc e)
 passed false why o e = (refl, e)
 
--- what is said of a client that is live goes on only where it is
-if_live-None : (live : Bool) (o : Option Outcome) → if_live live o ≡ None → (live ≡ true) × (o ≡ None)
-if_live-None true o e = (refl, e)
-if_live-None false o e = absurd (cc e)
-
--- what is said on a handle goes on only where there is one
-on_handle-None : (h : Option HandleView) (bad : Bool) (may : OpenFlags → Bool) → on_handle h bad may ≡ None → (x : HandleView) × (h ≡ Some x)
-on_handle-None None bad may e = absurd (cc e)
-on_handle-None (Some x) bad may e = (x, refl)
-
--- and only with good arguments
+-- what is said on a handle goes on only with good arguments
 on_handle-good : (h : Option HandleView) (bad : Bool) (may : OpenFlags → Bool) → on_handle h bad may ≡ None → bad ≡ false
 on_handle-good None bad may e = absurd (cc e)
 on_handle-good (Some x) true may e = absurd (cc e)
@@ -90,11 +84,6 @@ open_begin-named name flags timeout a e =
     let (good_flags, rest) = passed (has_bad_open_flags flags) _ _ e in
     let (good, none) = passed (name_is_bad name || int_lt timeout (pos 0) || attributes_are_bad flags a) _ None rest in
     (or_parts (name_is_bad name) _ (or_parts (name_is_bad name || int_lt timeout (pos 0)) _ good).0).0
-
--- what ends an iteration goes on with nothing
-iteration_answers : (h : Option HandleView) → end_iteration h ≡ None → ⊥
-iteration_answers None e = cc e
-iteration_answers (Some h) e = cc e
 
 -- ---- the handle of a place
 
@@ -139,22 +128,17 @@ client_within : (a : ActorName) → IsClient a → number_of a < client_numbers
 client_within (Client c) is = is
 client_within (Node r) is = absurd is
 
--- a call that goes on answers nothing at once
-goes_on_begun : (ask : Ask) (due end : Option Outcome) → IsBeginEnd ask due end → end ≡ None → due ≡ None
-goes_on_begun ask due end (inl same) none = sym same ∙ none
-goes_on_begun ask due end (inr refused) none = absurd (let e : None ≡ Some NoMemory = sym none ∙ refused.2 in cc)
-
 -- ---- where a call begins
 
 module _ (m : Machine) (shapes : ℕ → Shape) (inv : InvariantIn shapes m) (call : CallId) (idle : m.in_hand call.actor ≡ None) (client : IsClient call.actor) (number : call.number ≡ m.next call.actor) where
   abbrev c : ℕ
   c = number_of call.actor
 
-  abbrev state_with : Op → Option HandleView → CallState
-  state_with op h = record { call = call; op = op; kept = kept_at_beginning m.cluster (number_of call.actor) h; steps = []; created = None; snapshot = None }
+  abbrev kept_with : Option HandleView → Kept
+  kept_with h = kept_at_beginning m.cluster (number_of call.actor) h
 
-  abbrev start_with : Ask → Option HandleView → Driver
-  start_with ask h = driver_start call ask (kept_at_beginning m.cluster (number_of call.actor) h)
+  abbrev state_with : Op → Option HandleView → Driver → CallState
+  state_with op h d = started_call call op (kept_with h) d
 
   -- the checkpoint of the handle that an operation is about was made
   asked_made : (op : Op) (h : HandleView) → asked_handle m call.actor op ≡ Some h → WasMade m.cluster h.id
@@ -171,10 +155,12 @@ module _ (m : Machine) (shapes : ℕ → Shape) (inv : InvariantIn shapes m) (ca
       by_client None live good = absurd (cc live)
       by_client (Some x) live good = good.1
 
-  -- a call that begins is where its operation begins, and live, unless it is an Initialize
+  -- a call that begins is driven by what it asks for, is where its operation begins, and live, unless it is an Initialize
   record Starts (op : Op) (ask : Ask) (h : Option HandleView) : Type 0 where
-    at : IsInPlace m shapes (state_with op h) (start_with ask h)
-    live : is_enter (start_with ask h) ≡ false → is_live m.cluster call ≡ true
+    driver : Driver
+    driven : driver_start call ask (kept_with h) ≡ Some driver
+    at : IsInPlace m shapes (state_with op h driver) driver
+    live : is_enter driver ≡ false → is_live m.cluster call ≡ true
 
   -- one that goes on, on a handle where it needs one
   record GoesOn (op : Op) (ask : Ask) (h : Option HandleView) : Type 0 where
@@ -188,29 +174,33 @@ module _ (m : Machine) (shapes : ℕ → Shape) (inv : InvariantIn shapes m) (ca
   if_goes o goes = let (live, rest) = if_live-None (is_live_client c m.cluster) o goes in (live_then live, rest)
 
   -- a call to the active on a handle
-  starts_active : (op : Op) (ask : Ask) (kind : ActiveKind) (h : Option HandleView) (bad : Bool) (may : OpenFlags → Bool) → GoesOn op ask h → ((o : Option HandleView) → start_with ask o ≡ active_start call kind (ckpt_of_handle o)) → active_kind ask ≡ Some kind → if_live (is_live_client c m.cluster) (on_handle h bad may) ≡ None → Starts op ask h
+  starts_active : (op : Op) (ask : Ask) (kind : ActiveKind) (h : Option HandleView) (bad : Bool) (may : OpenFlags → Bool) → GoesOn op ask h → ((o : Option HandleView) → driver_start call ask (kept_with o) ≡ active_start call kind (ckpt_of_handle o)) → active_kind ask ≡ Some kind → if_live (is_live_client c m.cluster) (on_handle h bad may) ≡ None → Starts op ask h
   starts_active op ask kind h bad may on begins is goes =
       let (live, rest) = if_goes (on_handle h bad may) goes in
       let (x, there) = on_handle-None h bad may rest in
       let named : asked_handle m call.actor op ≡ Some x = on.named ∙ there in
       subst (Starts op ask) (sym there) (record {
-        at = subst (IsInPlace m shapes (state_with op (Some x))) (sym (begins (Some x))) (record {
+        driver = drivers.Active (active_begun call x.id kind);
+        driven = begins (Some x);
+        at = record {
           call = refl;
           kind = ap active_kind on.is ∙ is;
           made = asked_made op x named;
           kept = refl;
           room = kept_room (entry_of x.id m.cluster.entries);
           handle = subst (λ (o : Option HandleView). IsSome o) (sym named) refl;
-        });
+        };
         live = λ others. live;
       })
 
   -- each operation that goes on
   starts : (op : Op) (ask : Ask) (h : Option HandleView) → GoesOn op ask h → IsBuiltAsk ask → Starts op ask h
-  starts op (asks.Enter r version callbacks) h on built = record { at = record { version = version; callbacks = callbacks; asks = on.is; client = client; up = on.may.1; not_live = on.may.0 }; live = λ others. absurd (cc others) }
+  starts op (asks.Enter r version callbacks) h on built = record { driver = drivers.Once (once.Enter r); driven = refl; at = record { version = version; callbacks = callbacks; asks = on.is; client = client; up = on.may.1; not_live = on.may.0 }; live = λ others. absurd (cc others) }
   starts op (asks.Open place name flags timeout a) h on built =
       let (live, rest) = if_live-None (is_live_client c m.cluster) _ on.goes in
       record {
+        driver = _;
+        driven = refl;
         at = record {
           caller = client;
           client = refl;
@@ -229,7 +219,7 @@ module _ (m : Machine) (shapes : ℕ → Shape) (inv : InvariantIn shapes m) (ca
   starts op (asks.Change place update) h on built =
       let (live, rest) = if_goes (on_handle h (update_is_bad update) may_write) on.goes in
       let (x, there) = on_handle-None h _ _ rest in
-      subst (Starts op (asks.Change place update)) (sym there) (record { at = update_begins m shapes inv call idle c op x place update on.is (asked_made op x (on.named ∙ there)); live = λ others. live })
+      subst (Starts op (asks.Change place update)) (sym there) (record { driver = drivers.Update (update_begun call x.id); driven = refl; at = update_begins m shapes inv call idle c op x place update on.is (asked_made op x (on.named ∙ there)); live = λ others. live })
   starts op (asks.Read place elements) h on built = starts_active op (asks.Read place elements) kinds.Read h _ _ on (λ o. refl) refl on.goes
   starts op (asks.Status place) h on built = starts_active op (asks.Status place) kinds.Status h _ _ on (λ o. refl) refl on.goes
   starts op (asks.Iterate iteration place chosen time) h on built = starts_active op (asks.Iterate iteration place chosen time) (kinds.Iterate (choice_of chosen time)) h _ _ on (λ o. refl) refl on.goes
@@ -238,16 +228,18 @@ module _ (m : Machine) (shapes : ℕ → Shape) (inv : InvariantIn shapes m) (ca
   starts op (asks.Close place) h on built =
       let (live, rest) = if_goes (on_handle h false may_always) on.goes in
       let (x, there) = on_handle-None h _ _ rest in
-      subst (Starts op (asks.Close place)) (sym there) (record { at = record { place = place; asks = on.is; kept = refl }; live = λ others. live })
+      subst (Starts op (asks.Close place)) (sym there) (record { driver = drivers.Once (once.Close x.id); driven = refl; at = record { place = place; asks = on.is; kept = refl }; live = λ others. live })
   starts op (asks.Retain place duration) h on built =
       let (live, rest) = if_goes (on_handle h (int_lt duration (pos 0)) may_always) on.goes in
       let (x, there) = on_handle-None h _ _ rest in
       subst (Starts op (asks.Retain place duration)) (sym there) (record {
+        driver = drivers.Once (once.Retain x.id duration);
+        driven = refl;
         at = record { place = place; asks = on.is; from_zero = not_below duration (on_handle-good h (int_lt duration (pos 0)) may_always rest); kept = refl; made = asked_made op x (on.named ∙ there) };
         live = λ others. live;
       })
-  starts op (asks.Unlink name) h on built = let (live, rest) = if_goes None on.goes in record { at = on.is; live = λ others. live }
-  starts op asks.Leave h on built = let (live, rest) = if_live-None (is_live_client c m.cluster) None on.goes in record { at = record { asks = on.is; live = live }; live = λ others. live_then live }
+  starts op (asks.Unlink name) h on built = let (live, rest) = if_goes None on.goes in record { driver = drivers.Once (once.Unlink name); driven = refl; at = on.is; live = λ others. live }
+  starts op asks.Leave h on built = let (live, rest) = if_live-None (is_live_client c m.cluster) None on.goes in record { driver = drivers.Once once.Leave; driven = refl; at = record { asks = on.is; live = live }; live = λ others. live_then live }
   starts op asks.Unbuilt h on built = absurd built
 
   -- ---- the state after a beginning
@@ -259,9 +251,12 @@ module _ (m : Machine) (shapes : ℕ → Shape) (inv : InvariantIn shapes m) (ca
   pub begin_keeps : (op : Op) (end : Option Outcome) → IsBegun m call op end → Invariant (begun m call op end)
   begin_keeps op (Some o) is = record { shapes = shapes; holds = ended_keeps op o }
   begin_keeps op None is =
-      let first = starts op (asked op) (asked_handle m call.actor op) (record { is = refl; may = is.may; goes = goes_on_begun (asked op) _ None is.answer refl; named = refl }) is.built in
+      let h = asked_handle m call.actor op in
+      let first = starts op (asked op) h (record { is = refl; may = is.may; goes = goes_on_begun (asked op) _ None is.answer refl; named = refl }) is.built in
+      let begins : call_begun None call op (kept_with h) ≡ Some (state_with op h first.driver) = driven_begun call op (kept_with h) first.driver first.driven in
       record {
         shapes = shapes;
-        holds = subst (InvariantIn shapes) (sym (same_tables (begun_call m call op None) call.actor (ended_at_once None (asked op)) refl)) (begun_keeps m shapes inv call idle (Some (state_with op (asked_handle m call.actor op))) client number
-            (λ z same. subst (λ z. (z.call ≡ call) × IsBuilt z.op × (is_enter (driver_of z) ≡ false → is_live m.cluster z.call ≡ true) × IsInPlace m shapes z (driver_of z)) (same_Some (state_with op (asked_handle m call.actor op)) z same) (refl, is.built, first.live, first.at)));
+        holds = subst (InvariantIn shapes) (sym (same_tables (begun_call m call op None) call.actor (ended_at_once None (asked op)) refl)) (begun_keeps m shapes inv call idle (call_begun None call op (kept_with h)) client number
+            (λ z there. subst (λ z. (z.call ≡ call) × IsBuilt z.op × IsDriven z × (is_enter (driver_of z) ≡ false → is_live m.cluster z.call ≡ true) × IsInPlace m shapes z (driver_of z)) (same_Some (state_with op h first.driver) z (sym begins ∙ there))
+            (refl, is.built, first.driven, first.live, first.at)));
       }

@@ -1,5 +1,5 @@
 -- A call begins, with any calls of others in hand.
-use Rattle.std.proofs.Common.{◌≡◌, ℕ, ◌+◌, ◌<◌, inl, inr, [], Option, Some, None, Bool, true, false, cond, not, refl, sym, ap, subst, ◌∙◌, arith}
+use Rattle.std.proofs.Common.{◌≡◌, ℕ, ◌+◌, ◌<◌, inl, inr, Option, Some, None, Bool, true, false, cond, not, refl, sym, ap, subst, ◌∙◌, arith}
 use Rattle.std.specs.Prelude.{is_some, IfSome, slice_index}
 use Rattle.std.proofs.lemmas.Bool.{le-ltb}
 use Rattle.ckpt_types.specs.declared.identities.ActorName.{ActorName}
@@ -17,11 +17,12 @@ use Rattle.cluster_record.specs.RecordState.{RecordState, entry_of, client_key, 
 use Rattle.cluster_record.specs.StepDone.{has}
 use Rattle.ckpt_types.specs.Asks.{asked, IsBuilt}
 use Rattle.ckpt_types.specs.Asks as asks
+use Rattle.ckpt_machine.specs.Drivers as drivers
 use Rattle.ckpt_machine.specs.Entries.{WasMade}
 use Rattle.ckpt_machine.specs.InHand.{is_enter, IsInPlace, IsUpdateIn}
 use Rattle.ckpt_machine.specs.Invariant.{IsGoodClient, IsGoodIn, InvariantIn}
 use Rattle.ckpt_machine.specs.Machine.{Machine, CallState}
-use Rattle.ckpt_machine.specs.Steps.{driver_of, kept_at_beginning}
+use Rattle.ckpt_machine.specs.Steps.{driver_of, IsDriven, started_call, kept_at_beginning}
 use Rattle.ckpt_machine.specs.Shape.{Shape, is_owner, IsSpread}
 use Rattle.ckpt_machine.proofs.NodeLists.{has-none, slice_index-replicate}
 use Rattle.ckpt_machine.proofs.ReplicaSteps.{put_actor-cases, put_actor-other, held_by_other}
@@ -61,7 +62,7 @@ module _ (m : Machine) (shapes : ℕ → Shape) (inv : InvariantIn shapes m) (ca
   IfSome-rises c (Some live) was = (next_rises (Client c) live.initialize was.0, was.1)
 
   -- the invariant holds after it, where it holds of the call that begins
-  pub begun_keeps : (o : Option CallState) → IsClient call.actor → call.number ≡ m.next call.actor → ((z : CallState) → o ≡ Some z → (z.call ≡ call) × IsBuilt z.op × (is_enter (driver_of z) ≡ false → is_live m.cluster z.call ≡ true) × IsInPlace m shapes z (driver_of z)) → InvariantIn shapes (then_machine o)
+  pub begun_keeps : (o : Option CallState) → IsClient call.actor → call.number ≡ m.next call.actor → ((z : CallState) → o ≡ Some z → (z.call ≡ call) × IsBuilt z.op × IsDriven z × (is_enter (driver_of z) ≡ false → is_live m.cluster z.call ≡ true) × IsInPlace m shapes z (driver_of z)) → InvariantIn shapes (then_machine o)
   begun_keeps o client number own = record {
     up = inv.up;
     none_live = inv.none_live;
@@ -71,6 +72,7 @@ module _ (m : Machine) (shapes : ℕ → Shape) (inv : InvariantIn shapes m) (ca
     entries = λ k e found. IsGoodIn-apart m shapes (then_machine o).next (then_machine o).in_hand (λ k sh d own. put_actor-other m.in_hand call.actor o d.actor (held_other d.actor own.state own.in_hand)) (λ k d maker. put_actor-other m.in_hand call.actor o d.actor (held_other d.actor maker.state maker.in_hand))
         k (shapes k) e e.making (inv.entries k e found);
     handles = inv.handles;
+    rest = inv.rest;
     clients = λ c. IfSome-rises c (find_key client_key c m.cluster.clients) (inv.clients c);
     hands = λ a z there. elim (put_actor-cases m.in_hand call.actor o a z there) [
       | inl here ↦ (let mine = own z here.1 in record {
@@ -79,10 +81,11 @@ module _ (m : Machine) (shapes : ℕ → Shape) (inv : InvariantIn shapes m) (ca
         number = (let given : z.call.number ≡ m.next call.actor = ap (λ (c : CallId). c.number) mine.0 ∙ number in
             subst (λ b. z.call.number < put_actor m.next call.actor (m.next call.actor + 1) b) (sym here.0) (subst (λ (n : ℕ). z.call.number < n) (sym (ap (λ b. cond b (m.next call.actor + 1) (m.next call.actor)) (same_actor-refl call.actor))) (omega (arith, given))));
         built = mine.1;
-        live = mine.2;
-        here = IsIn-apart m shapes (then_machine o).next (then_machine o).in_hand z (driver_of z) mine.3;
+        driven = mine.2;
+        live = mine.3;
+        here = IsIn-apart m shapes (then_machine o).next (then_machine o).in_hand z (driver_of z) mine.4;
       })
-      | inr other ↦ (let was = inv.hands a z other.1 in record { actor = was.actor; client = was.client; number = next_rises a z.call.number was.number; built = was.built; live = was.live; here = IsIn-apart m shapes (then_machine o).next (then_machine o).in_hand z (driver_of z) was.here })
+      | inr other ↦ (let was = inv.hands a z other.1 in record { actor = was.actor; client = was.client; number = next_rises a z.call.number was.number; built = was.built; driven = was.driven; live = was.live; here = IsIn-apart m shapes (then_machine o).next (then_machine o).in_hand z (driver_of z) was.here })
     ];
   }
 
@@ -107,7 +110,7 @@ module _ (m : Machine) (shapes : ℕ → Shape) (inv : InvariantIn shapes m) (ca
 
   -- it is where an update begins
   pub update_begins : (c : ℕ) (op : Op) (h : HandleView) (place : ℕ) (update : Update) → asked op ≡ asks.Change place update → WasMade m.cluster h.id
-      → IsUpdateIn m shapes (record { call = call; op = op; kept = kept_at_beginning m.cluster c (Some h); steps = []; created = None; snapshot = None }) (update_begun call h.id)
+      → IsUpdateIn m shapes (started_call call op (kept_at_beginning m.cluster c (Some h)) (drivers.Update (update_begun call h.id))) (update_begun call h.id)
   update_begins c op h place update is made = record {
     call = refl;
     place = place;

@@ -14,12 +14,13 @@ use Rattle.ckpt_machine.specs.Invariant.{Invariant}
 use Rattle.ckpt_machine.specs.Machine.{Machine, CallState}
 use Rattle.ckpt_machine.specs.Runs.{last, IsRunFrom, IsRun}
 use Rattle.cluster_record.specs.StepDone.{StepDone}
-use Rattle.ckpt_machine.specs.Steps.{IsDue, kept_behind, changed, step_of, after}
-use Rattle.ckpt_machine.proofs.Histories.{HasHistory, first_state, follows, keeps_history, history_empty}
+use Rattle.ckpt_machine.specs.Steps.{IsDue, call_begun, kept_behind, changed, step_of, after}
+use Rattle.ckpt_machine.proofs.Histories.{HasHistory, follows, keeps_history, history_empty}
 use Rattle.ckpt_machine.proofs.Lawful.{lawful}
 use Rattle.ckpt_machine.proofs.ReplicaSteps.{put_actor-cases}
 use Rattle.ckpt_machine.proofs.Runs.{last-push}
 use Rattle.ckpt_machine.proofs.Start.{invariant_empty}
+use Rattle.ckpt_machine.proofs.Starting.{first_kept, begun_as}
 
 -- each call that this state has in hand began in the log
 abbrev AllBegan : List Label → Machine → Type 0
@@ -35,9 +36,11 @@ begun_longer log l call op k begun = record {
 }
 
 -- a call that begins and goes on begins there
-left_begun : (log : List Label) (call : CallId) (op : Op) (end : Option Outcome) (s : CallState) → left end (first_state (last log) call op) ≡ Some s → HasBegun (log ++ labels.Began call op end ∷ []) s.call s.op s.kept.ckpt
-left_begun log call op None s is = subst (λ (z : CallState). HasBegun (log ++ labels.Began call op None ∷ []) z.call z.op z.kept.ckpt) (same_Some (first_state (last log) call op) s is) (record { before = log; behind = []; log_is = refl; ckpt_is = refl })
-left_begun log call op (Some e) s is = absurd (cc is)
+begins_there : (log : List Label) (call : CallId) (op : Op) (end : Option Outcome) (s : CallState) → call_begun end call op (first_kept (last log) call op) ≡ Some s → HasBegun (log ++ labels.Began call op end ∷ []) s.call s.op s.kept.ckpt
+begins_there log call op None s is =
+    let (d, driven, same) = begun_as None call op (first_kept (last log) call op) s is in
+    subst (λ (z : CallState). HasBegun (log ++ labels.Began call op None ∷ []) z.call z.op z.kept.ckpt) same (record { before = log; behind = []; log_is = refl; ckpt_is = refl })
+begins_there log call op (Some e) s is = absurd (cc is)
 
 -- a call that goes on after a step is the one that took it
 left_same : (log : List Label) (s : CallState) (steps : List StepDone) (created : Option (List ℕ)) (end : Option Outcome) (z : CallState) → HasBegun log s.call s.op s.kept.ckpt → left end (record s { steps = steps; created = created }) ≡ Some z → HasBegun log z.call z.op z.kept.ckpt
@@ -51,8 +54,8 @@ module _ (log : List Label) (inv : Invariant (last log)) (history : HasHistory (
   -- after any label that is allowed and due
   after_began : (l : Label) → Allowed (last log) l → IsDue (last log) l → AllBegan (log ++ l ∷ []) (after (last log) l)
   after_began (labels.Began call op end) allowed due s held =
-      elim (put_actor-cases (last log).in_hand call.actor (left end (first_state (last log) call op)) s.call.actor s held) [
-        | inl own ↦ left_begun log call op end s own.1
+      elim (put_actor-cases (last log).in_hand call.actor (call_begun end call op (first_kept (last log) call op)) s.call.actor s held) [
+        | inl own ↦ begins_there log call op end s own.1
         | inr other ↦ longer (labels.Began call op end) s other.1
       ]
   after_began (labels.Stepped call op verb k r reply end details) allowed due z in_hand =

@@ -38,6 +38,7 @@ module _ (m : Machine) (shapes : ℕ → Shape) (inv : InvariantIn shapes m) (n 
     swept = inv.swept;
     entries = λ k e found. IsGoodIn-alike m then_machine k (shapes k) e e (IsLaterEntry-refl e) (λ r there. refl) (λ d own. refl) (λ d own. refl) e.making (inv.entries k e found);
     handles = inv.handles;
+    rest = inv.rest;
     clients = λ c. subst (λ clients. IfSome (find_key client_key c clients) (IsGoodClient m.next (brought_up n m.cluster) c)) (sym (inv.none_live none)) tt;
     hands = λ a z held. let was = inv.hands a z held in IsInHand-alike m then_machine shapes shapes z (looks_up z) a (λ live. live_alike m.cluster (brought_up n m.cluster) z.call was.client refl ∙ live) was.number was;
   }

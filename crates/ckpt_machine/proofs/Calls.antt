@@ -3,9 +3,8 @@ use Rattle.cluster_record.specs.declared.calls.ActiveKind.{ActiveKind}
 use Rattle.cluster_record.specs.declared.calls.ActiveKind.TheVariants as kinds
 use Rattle.ckpt_machine.specs.Drivers.{Rooms}
 use Rattle.std.proofs.Common.{◌≡◌, ℕ, List, [], ◌∷◌, refl, subst, ◌∙◌}
-use Rattle.std.specs.Prelude.{Option, Some, None}
+use Rattle.std.specs.Prelude.{Option, Some, None, IfSome}
 use Rattle.ckpt_types.specs.declared.identities.CallId.{CallId}
-use Rattle.ckpt_types.specs.declared.operation.Op.{Op}
 use Rattle.ckpt_types.specs.Asks.{Ask, asked}
 use Rattle.ckpt_types.specs.Asks as asks
 use Rattle.node_msgs.specs.declared.requests.Request.{Request}
@@ -25,7 +24,7 @@ use Rattle.ckpt_machine.specs.Driving.{Kept, on_kept, driver_start, driver_state
 use Rattle.cluster_record.specs.DueUpdate.{update_taken_by}
 use Rattle.cluster_record.specs.DueActive.{request_by}
 use Rattle.ckpt_machine.specs.Machine.{CallState}
-use Rattle.ckpt_machine.specs.Steps.{driver_of}
+use Rattle.ckpt_machine.specs.Steps.{IsDriven, driver_of}
 use Rattle.ckpt_machine.proofs.NextOf.{OfAsked, next_of}
 
 -- a request that a call makes in its own name
@@ -52,11 +51,11 @@ taken_call d u verbs.Commit words.Ok = refl
 taken_call d u verbs.Commit reply = refl
 taken_call d u verb reply = refl
 
-of_kept : (c : CallId) (o : Option ℕ) (start : ℕ → Driver) → ((k : ℕ) → Of c (start k)) → Of c (on_kept o start)
+of_kept : (c : CallId) (o : Option ℕ) (start : ℕ → Driver) → ((k : ℕ) → Of c (start k)) → IfSome (on_kept o start) (Of c)
 of_kept c None start h = tt
 of_kept c (Some k) start h = h k
 
-of_start : (call : CallId) (ask : Ask) (kept : Kept) → Of call (driver_start call ask kept)
+of_start : (call : CallId) (ask : Ask) (kept : Kept) → IfSome (driver_start call ask kept) (Of call)
 of_start call (asks.Change place update) kept = of_kept call kept.ckpt _ (λ k. refl)
 of_start call (asks.Read place elements) kept = of_kept call kept.ckpt _ (λ k. tt)
 of_start call (asks.Status place) kept = of_kept call kept.ckpt _ (λ k. tt)
@@ -70,9 +69,13 @@ of_taken : (call : CallId) (d : StepDone) (x : Driver) → Of call x → Of call
 of_taken call d (drivers.Update u) h = taken_call d u d.verb d.reply ∙ h
 of_taken call d x h = tt
 
-of_steps : (call : CallId) (op : Op) (kept : Kept) (steps : List StepDone) → Of call (driver_state call op kept steps)
-of_steps call op kept [] = of_start call (asked op) kept
-of_steps call op kept (d ∷ steps) = of_taken call d (driver_state call op kept steps) (of_steps call op kept steps)
+of_steps : (call : CallId) (begun : Driver) (steps : List StepDone) → Of call begun → Of call (driver_state begun steps)
+of_steps call begun [] h = h
+of_steps call begun (d ∷ steps) h = of_taken call d (driver_state begun steps) (of_steps call begun steps h)
+
+-- so is what drives a call now
+of_state : (s : CallState) → IsDriven s → Of s.call (driver_of s)
+of_state s driven = of_steps s.call s.begun s.steps (subst (λ o. IfSome o (Of s.call)) driven (of_start s.call (asked s.op) s.kept))
 
 own_kind : (c call : CallId) (k : ℕ) (kind : ActiveKind) → IsOwn c (request_by call k kind)
 own_kind c call k kinds.Apply = tt
@@ -88,5 +91,5 @@ own_asked c (drivers.Active a) is = λ r. own_kind c a.call a.ckpt a.kind
 own_asked c x is = tt
 
 -- what a call asks a node, it asks as itself
-pub own_request : (R : RecordState) (room : Rooms) (s : CallState) (r : ℕ) (request : Request) → driver_next R room (driver_of s) ≡ Serve r request → IsOwn s.call request
-own_request R room s r request e = subst (Asks s.call) e (next_of (Asks s.call) (λ o. tt) (λ step. tt) (λ r k. tt) R room (driver_of s) (own_asked s.call (driver_of s) (of_steps s.call s.op s.kept s.steps)))
+pub own_request : (R : RecordState) (room : Rooms) (s : CallState) (r : ℕ) (request : Request) → IsDriven s → driver_next R room (driver_of s) ≡ Serve r request → IsOwn s.call request
+own_request R room s r request driven e = subst (Asks s.call) e (next_of (Asks s.call) (λ o. tt) (λ step. tt) (λ r k. tt) R room (driver_of s) (own_asked s.call (driver_of s) (of_state s driven)))

@@ -2,7 +2,7 @@
 use Rattle.std.proofs.Common.{◌≡◌, ℕ, None, true, false, cond, refl, ap, ◌∙◌}
 use Rattle.std.specs.Prelude.{Contains}
 use Rattle.ckpt_types.specs.declared.identities.ActorName.{ActorName}
-use Rattle.client_handles.specs.ClientState.{ClientState}
+use Rattle.client_handles.specs.ClientState.{ClientState, NoneLent}
 use Rattle.client_handles.specs.declared.handle_view.HandleView.{HandleView}
 use Rattle.cluster_record.specs.Calls.{same_actor}
 use Rattle.ckpt_machine.specs.Entries.{WasMade}
@@ -32,9 +32,9 @@ module _ (m : Machine) (shapes : ℕ → Shape) (inv : InvariantIn shapes m) (a 
     owners = λ k was r. refl;
   }
 
-  -- the invariant holds after it, where each handle that it has then is of a checkpoint that was made
-  pub tables_keep : ((h : HandleView) → Contains (change (m.tables a)).handles h → WasMade m.cluster h.id) → InvariantIn shapes then_machine
-  tables_keep good = record {
+  -- the invariant holds after it, where no iteration is lent then, and each handle that it has then is of a checkpoint that was made
+  pub tables_keep : NoneLent (change (m.tables a)) → ((h : HandleView) → Contains (change (m.tables a)).handles h → WasMade m.cluster h.id) → InvariantIn shapes then_machine
+  tables_keep at_rest good = record {
     up = inv.up;
     none_live = inv.none_live;
     rises = inv.rises;
@@ -42,6 +42,7 @@ module _ (m : Machine) (shapes : ℕ → Shape) (inv : InvariantIn shapes m) (a 
     swept = inv.swept;
     entries = λ k e found. IsGoodIn-alike m then_machine k (shapes k) e e (IsLaterEntry-refl e) (λ r there. refl) (λ d own. refl) (λ d own. refl) e.making (inv.entries k e found);
     handles = λ b h. elim (same_actor b a) as (λ t. Contains (cond t (change (m.tables a)) (m.tables b)).handles h → WasMade m.cluster h.id) [ true ↦ λ among. good h among | false ↦ λ among. inv.handles b h among ];
+    rest = λ b. elim (same_actor b a) as (λ t. NoneLent (cond t (change (m.tables a)) (m.tables b))) [ true ↦ at_rest | false ↦ inv.rest b ];
     clients = inv.clients;
     hands = λ b z held.
         let was = inv.hands b z held in
@@ -50,5 +51,5 @@ module _ (m : Machine) (shapes : ℕ → Shape) (inv : InvariantIn shapes m) (a 
   }
 
   -- where it has no handle that it did not have
-  pub fewer_keep : ((h : HandleView) → Contains (change (m.tables a)).handles h → Contains (m.tables a).handles h) → InvariantIn shapes then_machine
-  fewer_keep among_them = tables_keep (λ h among. inv.handles a h (among_them h among))
+  pub fewer_keep : NoneLent (change (m.tables a)) → ((h : HandleView) → Contains (change (m.tables a)).handles h → Contains (m.tables a).handles h) → InvariantIn shapes then_machine
+  fewer_keep at_rest among_them = tables_keep at_rest (λ h among. inv.handles a h (among_them h among))

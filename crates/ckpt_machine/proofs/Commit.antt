@@ -16,11 +16,12 @@ use Rattle.cluster_record.specs.RecordState.{entry_of, complete_of}
 use Rattle.cluster_record.specs.StepDone.{StepDone, done_of, has, last_having}
 use Rattle.node_msgs.specs.declared.steps.Verb.TheVariants as verbs
 use Rattle.node_msgs.specs.declared.steps.StepReply.TheVariants as words
-use Rattle.run_labels.specs.declared.details.Details.{Details}
-use Rattle.run_labels.specs.declared.details.Details.TheVariants as beside
+use Rattle.node_msgs.specs.declared.details.Details.{Details}
+use Rattle.node_msgs.specs.declared.details.Details.TheVariants as beside
 use Rattle.ckpt_machine.specs.Drivers as drivers
 use Rattle.ckpt_types.specs.Asks.{update_of}
-use Rattle.ckpt_machine.specs.Serving.{update_answer, told_id, or_same}
+use Rattle.node_core.specs.Serving.{update_answer, told_id}
+use Rattle.replica.specs.Replicas.{or_same}
 use Rattle.ckpt_machine.specs.Driving.{driver_taken}
 use Rattle.ckpt_machine.specs.Machine.{Machine, Applied, Staged, ReplicaState, CallState}
 use Rattle.ckpt_machine.specs.Steps.{driver_of, stepped, kept_behind, created_by, ended_details, committed_slot, with_committed}
@@ -299,6 +300,7 @@ module _ (m : Machine) (shapes : ℕ → Shape) (inv : InvariantIn shapes m) (s 
         client = hand.client;
         number = hand.number;
         built = hand.built;
+        driven = hand.driven;
         live = λ others. hand.live (ap is_enter is);
         here = subst (IsInPlace (then_machine (Some then_state)) (put shapes u.ckpt committed) then_state) (sym driver_then) (here_then p some);
       }))

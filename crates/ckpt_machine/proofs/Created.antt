@@ -146,6 +146,7 @@ module _ (m : Machine) (shapes : ℕ → Shape) (inv : InvariantIn shapes m) (s 
     swept = AllStay-push m.cluster.moment m.cluster.entries new inv.swept refl;
     entries = λ j e found. by_test j e found (j == next) refl;
     handles = λ b h among. WasMade-then h.id (inv.handles b h among);
+    rest = inv.rest;
     clients = inv.clients;
     hands = λ b z there. elim (put_actor-cases m.in_hand s.call.actor (Some w) b z there) [
       | inl here ↦ subst (λ c. IsInHand then_machine shapes c z) (sym here.0) (subst (IsInHand then_machine shapes s.call.actor) (same_Some w z here.1) own)

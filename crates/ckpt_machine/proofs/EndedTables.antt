@@ -11,8 +11,9 @@ use Rattle.ckpt_types.specs.declared.sections.Choice.{Choice}
 use Rattle.ckpt_types.specs.Reads.{NextGiven}
 use Rattle.section_iter.specs.KeptIds.{KeptIds}
 use Rattle.section_iter.specs.declared.room.Room.{Room}
-use Rattle.client_handles.specs.ClientState.{ClientState, emptied}
+use Rattle.client_handles.specs.ClientState.{ClientState, NoneLent, emptied}
 use Rattle.client_handles.specs.declared.handle_view.HandleView.{HandleView}
+use Rattle.client_handles.proofs.LentLaws.{NoneLent-emptied}
 use Rattle.cluster_record.specs.Calls.{IsClient, same_actor, number_of, client_of}
 use Rattle.cluster_record.specs.Places.{find_key}
 use Rattle.cluster_record.specs.RecordState.{RecordState, client_key, is_live, is_live_from}
@@ -24,6 +25,7 @@ use Rattle.ckpt_machine.specs.Machine.{Machine, CallState}
 use Rattle.ckpt_machine.specs.Steps.{with_tables}
 use Rattle.ckpt_machine.specs.Tables.{handle_given, with_iteration, started, with_next, gone_on, closing, ended_at_once}
 use Rattle.ckpt_machine.specs.Shape.{Shape}
+use Rattle.ckpt_machine.proofs.AtRest.{NoneLent-given, NoneLent-started, NoneLent-gone_on, NoneLent-closing, NoneLent-ended_at_once}
 use Rattle.ckpt_machine.proofs.ClientTables.{tables_keep, fewer_keep}
 
 -- two clients have two numbers
@@ -97,29 +99,29 @@ given-handles ask k creation_flags t h among = inl among
 
 module _ (m : Machine) (shapes : ℕ → Shape) (inv : InvariantIn shapes m) (a : ActorName) (idle : m.in_hand a ≡ None) where
   -- where the handles stay
-  pub same_handles_keep : (change : ClientState → ClientState) → (change (m.tables a)).handles ≡ (m.tables a).handles → InvariantIn shapes (with_tables a change m)
-  same_handles_keep change same = fewer_keep m shapes inv a idle change (λ h. subst (λ (hs : List HandleView). Contains hs h → Contains (m.tables a).handles h) (sym same) (λ among. among))
+  pub same_handles_keep : (change : ClientState → ClientState) → NoneLent (change (m.tables a)) → (change (m.tables a)).handles ≡ (m.tables a).handles → InvariantIn shapes (with_tables a change m)
+  same_handles_keep change at_rest same = fewer_keep m shapes inv a idle change at_rest (λ h. subst (λ (hs : List HandleView). Contains hs h → Contains (m.tables a).handles h) (sym same) (λ among. among))
 
   -- without a handle that was closed
   pub closing_keeps : (ask : Ask) → InvariantIn shapes (with_tables a (closing ask) m)
-  closing_keeps ask = fewer_keep m shapes inv a idle (closing ask) (closing-handles ask (m.tables a))
+  closing_keeps ask = fewer_keep m shapes inv a idle (closing ask) (NoneLent-closing ask (m.tables a) (inv.rest a)) (closing-handles ask (m.tables a))
 
   -- with none
   pub emptied_keeps : InvariantIn shapes (with_tables a emptied m)
-  emptied_keeps = fewer_keep m shapes inv a idle emptied (λ h among. let (i, below, is) = among in absurd (omega (arith, below)))
+  emptied_keeps = fewer_keep m shapes inv a idle emptied (NoneLent-emptied (m.tables a)) (λ h among. let (i, below, is) = among in absurd (omega (arith, below)))
 
   -- with an iteration that has started
   pub started_keeps : (ask : Ask) (room : Room) (chosen_by : Choice → List (List ℕ)) → InvariantIn shapes (with_tables a (started ask room chosen_by) m)
-  started_keeps ask room chosen_by = same_handles_keep (started ask room chosen_by) (started-handles ask room chosen_by (m.tables a))
+  started_keeps ask room chosen_by = same_handles_keep (started ask room chosen_by) (NoneLent-started ask room chosen_by (m.tables a) (inv.rest a)) (started-handles ask room chosen_by (m.tables a))
 
   -- with one that has gone on
   pub gone_on_keeps : (ask : Ask) (next : Option NextGiven) → InvariantIn shapes (with_tables a (gone_on ask next) m)
-  gone_on_keeps ask next = same_handles_keep (gone_on ask next) (gone_on-handles ask next (m.tables a))
+  gone_on_keeps ask next = same_handles_keep (gone_on ask next) (NoneLent-gone_on ask next (m.tables a) (inv.rest a)) (gone_on-handles ask next (m.tables a))
 
   -- with one that has ended
   pub ended_at_once_keeps : (end : Option Outcome) (ask : Ask) → InvariantIn shapes (with_tables a (ended_at_once end ask) m)
-  ended_at_once_keeps end ask = same_handles_keep (ended_at_once end ask) (ended_at_once-handles end ask (m.tables a))
+  ended_at_once_keeps end ask = same_handles_keep (ended_at_once end ask) (NoneLent-ended_at_once end ask (m.tables a) (inv.rest a)) (ended_at_once-handles end ask (m.tables a))
 
   -- with a handle of a checkpoint that was made
   pub given_keeps : (ask : Ask) (k creation_flags : ℕ) → WasMade m.cluster k → InvariantIn shapes (with_tables a (handle_given ask k creation_flags) m)
-  given_keeps ask k creation_flags made = tables_keep m shapes inv a idle (handle_given ask k creation_flags) (λ h among. elim (given-handles ask k creation_flags (m.tables a) h among) [ inl was ↦ inv.handles a h was | inr same ↦ subst (WasMade m.cluster) (sym same) made ])
+  given_keeps ask k creation_flags made = tables_keep m shapes inv a idle (handle_given ask k creation_flags) (NoneLent-given ask k creation_flags (m.tables a) (inv.rest a)) (λ h among. elim (given-handles ask k creation_flags (m.tables a) h among) [ inl was ↦ inv.handles a h was | inr same ↦ subst (WasMade m.cluster) (sym same) made ])

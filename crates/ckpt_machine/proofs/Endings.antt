@@ -19,7 +19,7 @@ use Rattle.node_msgs.specs.declared.steps.StepReply.{StepReply}
 use Rattle.node_msgs.specs.declared.steps.StepReply.TheVariants as words
 use Rattle.node_msgs.specs.declared.steps.Verb.{Verb}
 use Rattle.node_msgs.specs.declared.steps.Verb.TheVariants as verbs
-use Rattle.run_labels.specs.declared.details.Details.{Details}
+use Rattle.node_msgs.specs.declared.details.Details.{Details}
 use Rattle.run_labels.specs.declared.labels.Label.TheVariants as labels
 use Rattle.ckpt_types.specs.declared.words.OpWord.{OpWord}
 use Rattle.ckpt_types.specs.OpWord.{word_of_op}
@@ -34,7 +34,7 @@ use Rattle.ckpt_machine.specs.Endings.{may_lack_memory, IsEndOf}
 use Rattle.ckpt_machine.specs.Guards.{AsksToOpen, StageRefused, StageHeld, StageRow, CommitOk, CommitRow, ends_update, ReadRow, StatusOk, StatusRow, IterOk, IterRow, NextOk, NextAnswer, EnterRow, CreateRow, ReserveRow, FinishRow, UndoRow, OpenHeld, OpenRow, LeaveRow, CloseRow, UnlinkRow, RetainRow, LookRow, Row}
 use Rattle.ckpt_machine.specs.Laws.{EndsAsItMay}
 use Rattle.ckpt_machine.specs.Machine.{Machine, CallState}
-use Rattle.ckpt_machine.specs.Serving.{update_answer}
+use Rattle.node_core.specs.Serving.{update_answer}
 use Rattle.ckpt_machine.specs.Steps.{Told, ids_asked}
 use Rattle.ckpt_machine.proofs.Refusing.{row_at_ckpt, at_node, at_none, at_node_alone, on_replica}
 

@@ -31,7 +31,7 @@ use Rattle.ckpt_machine.specs.Drivers.{Driver, Rooms}
 use Rattle.ckpt_machine.specs.Drivers as drivers
 use Rattle.ckpt_machine.specs.Driving.{driver_next}
 use Rattle.ckpt_machine.specs.Machine.{Machine, CallState}
-use Rattle.ckpt_machine.specs.Serving.{IsReadyFor}
+use Rattle.node_core.specs.Fitting.{IsReadyFor}
 use Rattle.ckpt_machine.specs.Steps.{due, driver_of, room_in, room_at, rooms_of, seen_at, seen}
 use Rattle.ckpt_machine.specs.Tables.{choice_of}
 use Rattle.ckpt_machine.specs.Facts.{IsActive, IsServable, IsEventReady, IsStarting, IsGoingOn, Facts}
@@ -43,7 +43,7 @@ use Rattle.cluster_record.specs.LookUps.{declared_in}
 use Rattle.ckpt_machine.proofs.Active.{ActiveOf, active_of, active_seen, active_next-there}
 use Rattle.ckpt_machine.proofs.OpenReady.{IsReadyOpen, open_ready, open_fits}
 use Rattle.ckpt_machine.proofs.OwnMaking.{making_is}
-use Rattle.ckpt_machine.proofs.UpdateReady.{HasMoment, IsReadyNext, update_ready}
+use Rattle.ckpt_machine.proofs.UpdateReady.{HasMoment, HasOwn, IsReadyNext, update_ready}
 use Rattle.ckpt_machine.proofs.OptionLemmas.{IsSomeAnd-from}
 
 -- what it relies on of an iteration that is started, and of one that goes on
@@ -54,7 +54,7 @@ IsFor m s request = Unit {0}
 
 -- what the code relies on of what is due
 abbrev pub IsDueReady : Machine → CallState → Driver → Next → Type 0
-IsDueReady m s d (Serve r request) = (r < 8) × IsServable m r request × HasMoment m r request × IsFor m s request
+IsDueReady m s d (Serve r request) = (r < 8) × IsServable m r request × HasMoment m r request × HasOwn m s r request × IsFor m s request
 IsDueReady m s d (Event step) = IsEventReady m s d step
 IsDueReady m s d (End o) = Unit {0}
 
@@ -62,7 +62,7 @@ IsDueReady m s d (End o) = Unit {0}
 
 -- it asks nothing for an iteration, and stages nothing
 open_due : (m : Machine) (s : CallState) (o : OpenState) (next : Next) → IsReadyOpen m s o next → IsDueReady m s (drivers.Open o) next
-open_due m s o (Serve r (requests.Reserve k)) ready = (ready.0, ready.1, tt, tt)
+open_due m s o (Serve r (requests.Reserve k)) ready = (ready.0, ready.1, tt, tt, tt)
 open_due m s o (Serve r request) ready = absurd ready.2
 open_due m s o (Event step) ready = ready
 open_due m s o (End outcome) ready = tt
@@ -70,22 +70,22 @@ open_due m s o (End outcome) ready = tt
 -- ---- an update
 
 -- it asks nothing for an iteration
-update_due : (m : Machine) (s : CallState) (u : UpdateState) → IsReadyNext m (update_next m.cluster u) → IsDueReady m s (drivers.Update u) (update_next m.cluster u)
+update_due : (m : Machine) (s : CallState) (u : UpdateState) → IsReadyNext m s (update_next m.cluster u) → IsDueReady m s (drivers.Update u) (update_next m.cluster u)
 update_due m s u ready = by_entry (entry_of u.ckpt m.cluster.entries) ready
   where
-    by_last : (last : Option ℕ) → IsReadyNext m (commit_at u last) → IsDueReady m s (drivers.Update u) (commit_at u last)
+    by_last : (last : Option ℕ) → IsReadyNext m s (commit_at u last) → IsDueReady m s (drivers.Update u) (commit_at u last)
     by_last None ready = tt
-    by_last (Some r) ready = (ready.0, ready.1, ready.2, tt)
+    by_last (Some r) ready = (ready.0, ready.1, ready.2, ready.3, tt)
 
-    by_first : (first last : Option ℕ) → IsReadyNext m (stage_at u m.cluster.moment first last) → IsDueReady m s (drivers.Update u) (stage_at u m.cluster.moment first last)
+    by_first : (first last : Option ℕ) → IsReadyNext m s (stage_at u m.cluster.moment first last) → IsDueReady m s (drivers.Update u) (stage_at u m.cluster.moment first last)
     by_first None last ready = by_last last ready
-    by_first (Some r) last ready = (ready.0, ready.1, ready.2, tt)
+    by_first (Some r) last ready = (ready.0, ready.1, ready.2, ready.3, tt)
 
-    by_phases : (first last : Option ℕ) (ph : UpdatePhase) → IsReadyNext m (by_phase u m.cluster.moment first last ph) → IsDueReady m s (drivers.Update u) (by_phase u m.cluster.moment first last ph)
+    by_phases : (first last : Option ℕ) (ph : UpdatePhase) → IsReadyNext m s (by_phase u m.cluster.moment first last ph) → IsDueReady m s (drivers.Update u) (by_phase u m.cluster.moment first last ph)
     by_phases first last Staging ready = by_first first last ready
     by_phases first last Committing ready = by_last last ready
 
-    by_entry : (o : Option Entry) → IsReadyNext m (update_on u m.cluster.moment o) → IsDueReady m s (drivers.Update u) (update_on u m.cluster.moment o)
+    by_entry : (o : Option Entry) → IsReadyNext m s (update_on u m.cluster.moment o) → IsDueReady m s (drivers.Update u) (update_on u m.cluster.moment o)
     by_entry None ready = tt
     by_entry (Some e) ready = by_phases (first_lacking 0 e.complete u.owned) (last_having 0 e.complete u.owned) u.phase ready
 
@@ -150,10 +150,10 @@ module _ (m : Machine) (shapes : ℕ → Shape) (inv : InvariantIn shapes m) (s 
 
     by_kind : (x : ActiveKind) → active_kind (asked s.op) ≡ Some x → (b : Bool) → IsDueReady m s driver (cond b (End (Refused NoResources (Count 8))) (Serve at.node (request_by call k x)))
     by_kind x kind_is true = tt
-    by_kind kinds.Read kind_is false = (at.within, seen_there (requests.Read k) refl tt, tt, tt)
-    by_kind kinds.Status kind_is false = (at.within, seen_there (requests.Status k) refl tt, tt, tt)
-    by_kind (kinds.Iterate choice) kind_is false = (at.within, seen_there (requests.Iterate call k choice) refl tt, tt, is_starting choice kind_is)
-    by_kind kinds.Next kind_is false = (at.within, seen_there (requests.Next call k) refl tt, tt, is_going_on kind_is)
+    by_kind kinds.Read kind_is false = (at.within, seen_there (requests.Read k) refl tt, tt, tt, tt)
+    by_kind kinds.Status kind_is false = (at.within, seen_there (requests.Status k) refl tt, tt, tt, tt)
+    by_kind (kinds.Iterate choice) kind_is false = (at.within, seen_there (requests.Iterate call k choice) refl tt, tt, tt, is_starting choice kind_is)
+    by_kind kinds.Next kind_is false = (at.within, seen_there (requests.Next call k) refl tt, tt, tt, is_going_on kind_is)
     by_kind kinds.Apply kind_is false = absurd (none_applies (asked s.op) kind_is)
     by_kind (kinds.Weak n) kind_is false = absurd (none_weak (asked s.op) n kind_is)
 
@@ -233,13 +233,16 @@ pub facts : (m : Machine) → Invariant m → Facts m
 facts m inv = record {
   callers = λ a s here. (inv.holds.hands a s here).actor;
   built = λ a s here. (inv.holds.hands a s here).built;
+  driven = λ a s here. (inv.holds.hands a s here).driven;
   rises = inv.holds.rises;
   up_to = inv.holds.up_to;
+  rest = inv.holds.rest;
   ready = λ a s r request here is. let ready = ready_for m inv a s (Serve r request) here is in (ready.0, ready.1);
   moments = λ a s r call k t here is free. (ready_for m inv a s (Serve r (requests.Stage call k t)) here is).2 free;
+  commits = λ a s r call k here is. (ready_for m inv a s (Serve r (requests.Commit call k)) here is).3;
   events = λ a s step here is. ready_for m inv a s (Event step) here is;
   opens = λ a s o here is. open_fits m inv.shapes inv.holds s o (in_own m inv a s here) is;
   makes = λ a s here. making_is m inv.shapes inv.holds s (in_own m inv a s here);
-  starts = λ a s r call k choice here is. (ready_for m inv a s (Serve r (requests.Iterate call k choice)) here is).3;
-  goes_on = λ a s r call k here is. (ready_for m inv a s (Serve r (requests.Next call k)) here is).3;
+  starts = λ a s r call k choice here is. (ready_for m inv a s (Serve r (requests.Iterate call k choice)) here is).4;
+  goes_on = λ a s r call k here is. (ready_for m inv a s (Serve r (requests.Next call k)) here is).4;
 }

@@ -190,6 +190,7 @@ module _ (m : Machine) (shapes : ℕ → Shape) (inv : InvariantIn shapes m) (s 
     swept = stays;
     entries = λ j g there. by_test j g there (j == making.ckpt) refl;
     handles = λ b h among. WasMade-then h.id (inv.handles b h among);
+    rest = inv.rest;
     clients = inv.clients;
     hands = λ a z there. elim (put_actor-cases m.in_hand s.call.actor None a z there) [
       | inl here ↦ absurd (let w : None ≡ Some z = here.1 in cc w)

@@ -19,7 +19,7 @@ use Rattle.run_labels.specs.declared.labels.Label.{Label}
 use Rattle.run_labels.specs.declared.labels.Label.TheVariants as labels
 use Rattle.cluster_record.specs.declared.calls.UpdatePhase.TheVariants.{Committing}
 use Rattle.cluster_record.specs.declared.entries.Entry.{Entry}
-use Rattle.cluster_record.specs.Calls.{same_actor, number_of, put_actor, left}
+use Rattle.cluster_record.specs.Calls.{same_actor, put_actor, left}
 use Rattle.cluster_record.specs.DueUpdate.{UpdateState, update_on, by_phase, commit_at, update_taken, update_taken_by, commit_taken}
 use Rattle.cluster_record.specs.RecordState.{entry_of, moved, stays}
 use Rattle.cluster_record.specs.StepDone.{StepDone, done_of, counting, first_lacking, last_having}
@@ -30,13 +30,14 @@ use Rattle.ckpt_machine.specs.Guards.{IsMadeBy, OnReplica, CommitOk, Row, Allowe
 use Rattle.ckpt_machine.specs.Invariant.{IsGoodIn, InvariantIn, Invariant}
 use Rattle.ckpt_machine.specs.Machine.{Machine, Staged, ReplicaState, CallState, empty_cluster}
 use Rattle.ckpt_machine.specs.Shape.{Shape, IsCompleteOn, IsShaped, IsOwner, slot_by}
-use Rattle.ckpt_machine.specs.Steps.{Told, IsDone, IsDue, driver_of, due, rooms_of, begun, with_record, kept_at_beginning, asked_handle, changed, kept_behind, claimed_count, stepped, step_of, after}
+use Rattle.ckpt_machine.specs.Steps.{Told, IsDone, IsDue, driver_of, due, rooms_of, begun, with_record, call_begun, changed, kept_behind, claimed_count, stepped, step_of, after}
 use Rattle.ckpt_machine.proofs.OwnMaking.{making_there}
 use Rattle.ckpt_machine.proofs.Follows.{IsFree, IsIncomplete, IsBare, Has, ReplicasFollow, record_follows, StepNeeds, changed_follows}
 use Rattle.ckpt_machine.specs.Runs.{last_from, last, IsRunFrom, IsRun}
 use Rattle.ckpt_machine.proofs.Lawful.{lawful}
 use Rattle.ckpt_machine.proofs.ReplicaSteps.{put_actor-cases}
 use Rattle.ckpt_machine.proofs.Start.{invariant_empty}
+use Rattle.ckpt_machine.proofs.Starting.{first_kept, begun_as}
 use Rattle.ckpt_machine.proofs.Actors.{same_actor-refl, same_actor-true}
 use Rattle.ckpt_machine.proofs.NodeLists.{slice_index-replicate}
 use Rattle.ckpt_machine.proofs.Owning.{owner_origin}
@@ -238,17 +239,14 @@ module _ (m : Machine) (inv : Invariant m) (history : HasHistory m) (s : CallSta
 
 -- ---- any label
 
-abbrev pub first_state : Machine → CallId → Op → CallState
-first_state m call op = record { call = call; op = op; kept = kept_at_beginning m.cluster (number_of call.actor) (asked_handle m call.actor op); steps = []; created = None; snapshot = None }
-
 begun_history : (m : Machine) → HasHistory m → (call : CallId) (op : Op) (end : Option Outcome) → call.number ≡ m.next call.actor → HasHistory (begun m call op end)
 begun_history m history call op end number = record {
   bare = history.bare;
   given = λ k r d has. number_later d (history.given k r d (record { replica = has.replica; there = has.there; effect = has.effect }));
-  commits = λ k r z in_hand has. elim (put_actor-cases m.in_hand call.actor (left end (first_state m call op)) z.call.actor z in_hand) [
+  commits = λ k r z in_hand has. elim (put_actor-cases m.in_hand call.actor (call_begun end call op (first_kept m call op)) z.call.actor z in_hand) [
     | inl own ↦ (
         let was : Has m k r z.call = record { replica = has.replica; there = has.there; effect = has.effect } in
-        let below : call.number < m.next call.actor = history.given k r call (subst (Has m k r) (sym (begun_is end z own.1)) was) in
+        let below : call.number < m.next call.actor = history.given k r call (subst (Has m k r) (sym (begun_is z own.1)) was) in
         absurd (omega (arith, below, number)))
     | inr other ↦ history.commits k r z other.1 (record { replica = has.replica; there = has.there; effect = has.effect })
   ];
@@ -261,9 +259,8 @@ begun_history m history call op end number = record {
         by_test false other = below
         by_test true same = let it : m.next d.actor ≡ m.next call.actor = ap m.next (same_actor-true d.actor call.actor same) in omega (arith, below, it)
 
-    begun_is : (o : Option Outcome) (z : CallState) → left o (first_state m call op) ≡ Some z → call ≡ z.call
-    begun_is None z is = ap (λ (z : CallState). z.call) (same_Some (first_state m call op) z is)
-    begun_is (Some e) z is = absurd (cc is)
+    begun_is : (z : CallState) → call_begun end call op (first_kept m call op) ≡ Some z → call ≡ z.call
+    begun_is z is = let (d, starts, same) = begun_as end call op (first_kept m call op) z is in ap (λ (z : CallState). z.call) same
 
 moved_history : (m : Machine) → HasHistory m → (t : ℤ) → HasHistory (with_record m (moved t m.cluster))
 moved_history m history t = record {

@@ -15,10 +15,12 @@ pub mod Owning
 pub mod RecordSteps
 pub mod Stage
 pub mod StagedMoment
+pub mod AtRest
 pub mod ClientTables
 pub mod AllOrNone
 pub mod Update
 pub mod Start
+pub mod Starting
 pub mod UpdateReady
 pub mod OtherCalls
 pub mod Entries

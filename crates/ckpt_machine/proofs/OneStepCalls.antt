@@ -22,7 +22,7 @@ use Rattle.cluster_record.specs.LookUps.{identity_in}
 use Rattle.cluster_record.specs.Places.{find_key}
 use Rattle.cluster_record.specs.RecordState.{RecordState, entry_of, named, client_key, has_references, is_live, unreferred, closed, unnamed, retaining, released_all, is_call_of, departed}
 use Rattle.cluster_record.proofs.IdentityLaws.{entry_of-find, IdentitiesRise-filter, IdentitiesRise-map, AllUpTo-filter, AllUpTo-map}
-use Rattle.run_labels.specs.declared.details.Details.TheVariants as beside
+use Rattle.node_msgs.specs.declared.details.Details.TheVariants as beside
 use Rattle.ckpt_types.specs.Asks.{asked}
 use Rattle.ckpt_types.specs.Asks as asks
 use Rattle.ckpt_machine.specs.Drivers as drivers

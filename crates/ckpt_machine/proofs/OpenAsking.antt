@@ -26,7 +26,7 @@ use Rattle.cluster_record.specs.RecordState.{RecordState, entry_of, named, no_no
 use Rattle.cluster_record.specs.Refusals.{plainly}
 use Rattle.cluster_record.specs.StepDone.{StepDone, done_of, has}
 use Rattle.cluster_record.proofs.IdentityLaws.{entry_of-find}
-use Rattle.run_labels.specs.declared.details.Details.TheVariants as beside
+use Rattle.node_msgs.specs.declared.details.Details.TheVariants as beside
 use Rattle.ckpt_types.specs.Asks.{asked}
 use Rattle.ckpt_machine.specs.Drivers as drivers
 use Rattle.ckpt_machine.specs.Driving.{driver_taken, event_ckpt, event_node, event_refusal, refusal_in, opened_end}
@@ -128,6 +128,7 @@ module _ (m : Machine) (shapes : ℕ → Shape) (inv : InvariantIn shapes m) (s 
       client = hand.client;
       number = hand.number;
       built = hand.built;
+      driven = hand.driven;
       live = λ others. hand.live (ap is_enter is);
       here = subst (IsInPlace then_machine shapes then_state) (sym driver_then) (record {
         caller = at_open.caller;

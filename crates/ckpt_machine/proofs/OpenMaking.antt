@@ -224,6 +224,7 @@ module _ (m : Machine) (shapes : ℕ → Shape) (inv : InvariantIn shapes m) (s 
         client = hand.client;
         number = hand.number;
         built = hand.built;
+        driven = hand.driven;
         live = λ others. hand.live (ap is_enter is);
         here = subst (IsInPlace then_machine shapes then_state) (sym driver_then) (record {
           caller = at_open.caller;

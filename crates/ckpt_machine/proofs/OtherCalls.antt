@@ -108,7 +108,7 @@ module _ (m n : Machine) (shapes then_shapes : ℕ → Shape) (z : CallState) (a
 
   -- and all holds of it that did
   pub IsInHand-alike : (a : ActorName) → (is_live m.cluster z.call ≡ true → is_live n.cluster z.call ≡ true) → z.call.number < n.next a → IsInHand m shapes a z → IsInHand n then_shapes a z
-  IsInHand-alike a live number was = record { actor = was.actor; client = was.client; number = number; built = was.built; live = λ others. live (was.live others); here = IsIn-alike (driver_of z) was.here }
+  IsInHand-alike a live number was = record { actor = was.actor; client = was.client; number = number; built = was.built; driven = was.driven; live = λ others. live (was.live others); here = IsIn-alike (driver_of z) was.here }
 
 -- ---- a checkpoint
 

@@ -108,10 +108,11 @@ module _ (m : Machine) (shapes : ℕ → Shape) (inv : InvariantIn shapes m) (s 
     swept = inv.swept;
     entries = λ k e found. IsGoodIn-apart m shapes m.next others owner_stays maker_stays k (shapes k) e e.making (inv.entries k e found);
     handles = inv.handles;
+    rest = inv.rest;
     clients = inv.clients;
     hands = λ a z left. elim (put_actor-cases m.in_hand s.call.actor None a z left) [
       | inl here ↦ absurd (let w : None ≡ Some z = here.1 in cc w)
-      | inr other ↦ (let was = inv.hands a z other.1 in record { actor = was.actor; client = was.client; number = was.number; built = was.built; live = was.live; here = IsIn-apart m shapes m.next others z (driver_of z) was.here })
+      | inr other ↦ (let was = inv.hands a z other.1 in record { actor = was.actor; client = was.client; number = was.number; built = was.built; driven = was.driven; live = was.live; here = IsIn-apart m shapes m.next others z (driver_of z) was.here })
     ];
   }
 

@@ -108,6 +108,7 @@ module _ (m : Machine) (shapes : ℕ → Shape) (inv : InvariantIn shapes m) (R 
         let (e, was, later) = after_it.later k f is in
         subst (IsGoodIn then_machine k (shapes k) f) (sym later.making) (IsGoodIn-kept k (shapes k) e f e.making was is later (inv.entries k e was)));
     handles = λ b h among. WasMade-kept h.id (inv.handles b h among);
+    rest = inv.rest;
     clients = after_it.clients;
     hands = λ a z left. let was = inv.hands a z (after_it.was_held a z left) in IsInHand-alike m then_machine shapes shapes z (looks_kept a z left) a (after_it.live a z left) was.number was;
   }

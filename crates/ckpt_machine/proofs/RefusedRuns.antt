@@ -1,5 +1,5 @@
 -- A call that ends with a refusal has nothing after it, and leaves all else as it was.
-use Rattle.run_labels.specs.declared.details.Details.{Details}
+use Rattle.node_msgs.specs.declared.details.Details.{Details}
 use Rattle.std.proofs.Common.{◌≡◌, ℕ, inl, inr, List, [], ◌∷◌, ◌++◌, Option, Some, None, true, false, cond, not, ◌==◌, refl, sym, ap, subst, ◌∙◌, append_assoc, arith}
 use Rattle.std.specs.Prelude.{IsSomeAnd, slice_index}
 use Rattle.std.proofs.lemmas.Option.{same_Some}
@@ -30,7 +30,7 @@ use Rattle.ckpt_machine.proofs.Histories.{HasHistory, commits_by, commit, gone, 
 use Rattle.ckpt_machine.proofs.Lawful.{lawful}
 use Rattle.ckpt_machine.proofs.EntryLists.{find_key-without, AllStay-filter, swept-all}
 use Rattle.ckpt_machine.proofs.ReplicaSteps.{put_actor-here}
-use Rattle.ckpt_machine.proofs.Refusing.{at_node, commit_ends, left_none, refusal_leaves}
+use Rattle.ckpt_machine.proofs.Refusing.{at_node, commit_ends, left_none, none_begun, refusal_leaves}
 use Rattle.ckpt_machine.specs.Laws.{RefusedHasNothing}
 use Rattle.ckpt_machine.proofs.Runs.{last-push, run_before, run_front}
 use Rattle.ckpt_machine.proofs.OptionLemmas.{IsSomeAnd-at}
@@ -95,7 +95,7 @@ begun_none m history call op end number k r x there has = let below = history.gi
 -- what is refused has nothing
 pub refused_has_nothing : (m : Machine) (l : Label) → Invariant m → HasHistory m → Allowed m l → IsDue m l → IsRefusal l → IsSomeAnd (call_of l) (HasNothing (after m l))
 refused_has_nothing m (labels.Began call op end) inv history allowed is refused = record {
-  owns = owns_nothing (begun m call op end) (lawful m (labels.Began call op end) inv is).1 (keeps_history m (labels.Began call op end) inv history allowed is).bare call (put_actor-here m.in_hand call.actor _ ∙ left_none end _ refused);
+  owns = owns_nothing (begun m call op end) (lawful m (labels.Began call op end) inv is).1 (keeps_history m (labels.Began call op end) inv history allowed is).bare call (put_actor-here m.in_hand call.actor _ ∙ none_begun end call op _ refused);
   effects = begun_none m history call op end is.number;
 }
 refused_has_nothing m (labels.Stepped call op verb k r reply end details) inv history allowed step refused =

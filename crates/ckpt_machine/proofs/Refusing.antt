@@ -1,7 +1,8 @@
 -- A refusal leaves the record, the replicas, and the tables as they were.
-use Rattle.run_labels.specs.declared.details.Details.{Details}
+use Rattle.node_msgs.specs.declared.details.Details.{Details}
 use Rattle.ckpt_types.specs.Reads.{NextGiven, given}
 use Rattle.cluster_record.specs.Calls.{same_actor, put_actor, left}
+use Rattle.ckpt_machine.specs.Driving.{Kept}
 use Rattle.cluster_record.specs.Makings.{making_of}
 use Rattle.std.proofs.Common.{◌≡◌, ◌⊎◌, inl, inr, ℕ, List, Option, Some, None, Bool, true, false, cond, refl, sym, ap, subst, ◌∙◌, IsSomeAnd}
 use Rattle.ckpt_types.specs.declared.answers.Answer.{Answer}
@@ -15,6 +16,7 @@ use Rattle.node_msgs.specs.declared.steps.Verb.TheVariants as verbs
 use Rattle.node_msgs.specs.declared.steps.StepReply.{StepReply}
 use Rattle.node_msgs.specs.declared.steps.StepReply.TheVariants as words
 use Rattle.ckpt_types.specs.declared.identities.ActorName.{ActorName}
+use Rattle.ckpt_types.specs.declared.operation.Op.{Op}
 use Rattle.ckpt_types.specs.declared.identities.CallId.{CallId}
 use Rattle.ckpt_types.specs.declared.words.OpWord.{OpWord}
 use Rattle.run_labels.specs.declared.labels.Label.{Label}
@@ -23,9 +25,9 @@ use Rattle.client_handles.specs.ClientState.{ClientState}
 use Rattle.cluster_record.specs.declared.entries.Entry.{Entry}
 use Rattle.cluster_record.specs.RecordState.{entry_of}
 use Rattle.ckpt_types.specs.Asks.{Ask, asked}
-use Rattle.ckpt_machine.specs.Serving.{update_answer}
+use Rattle.node_core.specs.Serving.{update_answer}
 use Rattle.ckpt_machine.specs.Machine.{Machine, ReplicaState, CallState}
-use Rattle.ckpt_machine.specs.Steps.{changed, stepped, step_of, after, ids_asked, Told, without_making, kept_behind}
+use Rattle.ckpt_machine.specs.Steps.{changed, call_begun, stepped, step_of, after, ids_asked, Told, without_making, kept_behind}
 use Rattle.ckpt_machine.specs.Tables.{ended_at_once}
 use Rattle.ckpt_machine.specs.Complete.{complete_replicas}
 use Rattle.ckpt_machine.specs.Guards.{AtCkpt, AtNode, AtNodeAlone, AtNone, OnReplica, CommitOk, Row, Allowed, ends_update, IterOk, NextOk, NextAnswer, LookRow, UndoRow, AsksToOpen}
@@ -139,6 +141,11 @@ pub left_none : (end : Option Outcome) (s : CallState) → IsRefused end → lef
 left_none (Some o) s refused = refl
 left_none None s refused = absurd refused
 
+-- nor is one that is refused at its beginning
+pub none_begun : (end : Option Outcome) (call : CallId) (op : Op) (kept : Kept) → IsRefused end → call_begun end call op kept ≡ None
+none_begun (Some o) call op kept refused = refl
+none_begun None call op kept refused = absurd refused
+
 leaves_step : (m n : Machine) (s : CallState) (end : Option Outcome) → n ≡ m → IsRefused end → LeavesAll s.call.actor m (stepped n s end)
 leaves_step m n s end same refused = record {
   cluster = ap (λ (x : Machine). x.cluster) same;
@@ -218,7 +225,7 @@ refusal_leaves m (labels.Began call op end) allowed refused = record {
   next = λ a. refl;
   others = λ a other. put_actor-other m.in_hand call.actor _ a other;
   operations = λ d. refl;
-  ended = put_actor-here m.in_hand call.actor _ ∙ left_none end _ refused;
+  ended = put_actor-here m.in_hand call.actor _ ∙ none_begun end call op _ refused;
 }
 refusal_leaves m (labels.Stepped call op verb k r reply end details) allowed refused = step_leaves m call op verb k r reply end details allowed refused
 refusal_leaves m l allowed refused = absurd refused

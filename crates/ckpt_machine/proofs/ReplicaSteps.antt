@@ -147,6 +147,7 @@ module _ (m : Machine) (shapes : ℕ → Shape) (inv : InvariantIn shapes m) (s 
     swept = inv.swept;
     entries = λ j e found. by_test j e found (j == u.ckpt) refl;
     handles = inv.handles;
+    rest = inv.rest;
     clients = inv.clients;
     hands = λ a z there. elim (put_actor-cases m.in_hand s.call.actor o a z there) [
       | inl here ↦ subst (λ b. IsInHand (with_step f o) (put shapes u.ckpt sh) b z) (sym here.0) (own z here.1)

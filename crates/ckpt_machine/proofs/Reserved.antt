@@ -94,6 +94,7 @@ module _ (m : Machine) (shapes : ℕ → Shape) (inv : InvariantIn shapes m) (s 
     swept = inv.swept;
     entries = λ j e found. IsGoodIn-then j (shapes j) e e.making (inv.entries j e found);
     handles = inv.handles;
+    rest = inv.rest;
     clients = inv.clients;
     hands = λ a z there. elim (put_actor-cases m.in_hand s.call.actor (Some w) a z there) [
       | inl here ↦ subst (λ b. IsInHand then_machine shapes b z) (sym here.0) (subst (IsInHand then_machine shapes s.call.actor) (same_Some w z here.1) own)

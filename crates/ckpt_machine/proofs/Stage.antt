@@ -236,6 +236,7 @@ module _ (m : Machine) (shapes : ℕ → Shape) (inv : InvariantIn shapes m) (s 
             client = hand.client;
             number = hand.number;
             built = hand.built;
+            driven = hand.driven;
             live = λ others. hand.live (ap is_enter is);
             here = subst (IsInPlace then_machine (put shapes u.ckpt staged) then_state) (sym driver_then) here_then;
           })

@@ -5,6 +5,7 @@ use Rattle.ckpt_types.specs.declared.update.Update.TheVariants as updates
 use Rattle.ckpt_machine.specs.Machine.{empty_cluster}
 use Rattle.ckpt_machine.specs.Shape.{Shape}
 use Rattle.ckpt_machine.specs.Invariant.{Invariant}
+use Rattle.ckpt_machine.proofs.AtRest.{NoneLent-no_tables}
 
 no_shape : Shape
 no_shape = record { owners = λ r. None; origin = record { actor = Node 0; number = 0 }; update = updates.Nothing; moment = empty_cluster.cluster.moment; sections = []; effects = []; outcome = []; done = false }
@@ -20,6 +21,7 @@ invariant_empty = record {
     swept = tt;
     entries = λ k e found. absurd (cc found);
     handles = λ c h among. let (i, below, is) = among in absurd (omega (arith, below));
+    rest = λ a. NoneLent-no_tables;
     clients = λ c. tt;
     hands = λ a s held. absurd (cc held);
   };

@@ -23,7 +23,7 @@ use Rattle.node_msgs.specs.declared.requests.Request.TheVariants as requests
 use Rattle.node_msgs.specs.declared.replies.Reply.TheVariants as replies
 use Rattle.node_msgs.specs.declared.steps.Verb.TheVariants as verbs
 use Rattle.node_msgs.specs.declared.steps.StepReply.TheVariants as words
-use Rattle.run_labels.specs.declared.details.Details.TheVariants as beside
+use Rattle.node_msgs.specs.declared.details.Details.TheVariants as beside
 use Rattle.ckpt_machine.specs.Drivers.{Driver}
 use Rattle.ckpt_machine.specs.Drivers as drivers
 use Rattle.ckpt_machine.specs.InHand.{OwnsIn, HasSome}
@@ -31,10 +31,11 @@ use Rattle.ckpt_machine.specs.Invariant.{InvariantIn, Invariant}
 use Rattle.ckpt_types.specs.Asks.{Ask, asked, update_asked, update_of}
 use Rattle.ckpt_types.specs.Asks as asks
 use Rattle.cluster_record.specs.Makings.{making_of}
-use Rattle.ckpt_machine.specs.Serving.{update_answer, told_id, stage_reply, done_or_refused, reply_at, details_at, record_seen, slot_id}
+use Rattle.node_core.specs.Serving.{update_answer, commit_answer, told_id, stage_reply, done_or_refused, reply_at, details_at, slot_id}
+use Rattle.node_core.specs.Seen.{record_seen}
 use Rattle.ckpt_machine.specs.Driving.{making_in, refused_cause, driver_taken}
 use Rattle.ckpt_machine.specs.Machine.{Machine, Staged, ReplicaState, CallState}
-use Rattle.ckpt_machine.specs.Steps.{Told, IsDone, IsServed, driver_of, stepped, kept_behind, staged_moment, ended_details, with_committed, with_slot, seen_at, seen_slot, change_replica, without_making}
+use Rattle.ckpt_machine.specs.Steps.{Told, IsDone, IsServed, driver_of, payload_due, stepped, kept_behind, staged_moment, ended_details, with_committed, with_slot, seen_at, seen_slot, change_replica, without_making}
 use Rattle.ckpt_machine.specs.Guards.{StageRefused, StageHeld, owns_slot, LookRefused, GoneLook}
 use Rattle.ckpt_machine.specs.Left.{update_left, steps_left}
 use Rattle.ckpt_machine.proofs.StepsLeft.{update_nearer}
@@ -112,11 +113,11 @@ module _ (m : Machine) (shapes : ℕ → Shape) (inv : InvariantIn shapes m) (s 
         abbrev Gives : Result (List Section) Refusal → Type 0
         Gives result = outcome e.attributes (update_of s.op) moment x.sections ≡ result
 
-        answered : (z : Option Staged) → x.slot ≡ z → served.answer ≡ stage_reply (outcome e.attributes (update_of s.op) moment x.sections) (seen_slot z)
+        answered : (z : Option Staged) → x.slot ≡ z → served.answer ≡ stage_reply (outcome e.attributes (update_of s.op) moment x.sections) (seen_slot (length x.effects) z)
         answered z slot =
             served.may
-            ∙ ap (reply_at to_stage s.op (record_seen m.cluster u.ckpt)) (seen_is m shapes inv s u held is e found r x there)
-            ∙ ap (λ y. stage_reply (outcome e.attributes (update_of s.op) moment x.sections) (seen_slot y)) slot
+            ∙ ap (reply_at to_stage (payload_due m s) (record_seen m.cluster u.ckpt r)) (seen_is m shapes inv s u held is e found r x there)
+            ∙ ap (λ y. stage_reply (outcome e.attributes (update_of s.op) moment x.sections) (seen_slot (length x.effects) y)) slot
 
         -- held by another call
         held_moves : last ≡ None → (d : CallId) → (shapes u.ckpt).owners r ≡ Some d → x.slot ≡ slot_by (shapes u.ckpt) (Some d) → Goes m s (drivers.Update u) t
@@ -143,8 +144,8 @@ module _ (m : Machine) (shapes : ℕ → Shape) (inv : InvariantIn shapes m) (s 
               nearer = λ none. absurd (cc none);
             })
           where
-            no_details : details_at to_stage s.op (record_seen m.cluster u.ckpt) (seen_at m u.ckpt r) ≡ beside.Nothing
-            no_details = ap (details_at to_stage s.op (record_seen m.cluster u.ckpt)) (seen_is m shapes inv s u held is e found r x there)
+            no_details : details_at to_stage (payload_due m s) (record_seen m.cluster u.ckpt r) (seen_at m u.ckpt r) ≡ beside.Nothing
+            no_details = ap (details_at to_stage (payload_due m s) (record_seen m.cluster u.ckpt r)) (seen_is m shapes inv s u held is e found r x there)
 
         staged_nearer : steps_left m.cluster (driver_taken (done_of m.cluster verbs.Stage (Some u.ckpt) (Some r) words.Ok) (drivers.Update u)) < steps_left m.cluster (drivers.Update u)
         staged_nearer = subst (λ (o : Option Entry). update_left (complete_of o) (slice_set u.owned r (slice_index (complete_of o) r)) Staging < update_left (complete_of o) u.owned u.phase) (sym found)
@@ -183,7 +184,7 @@ module _ (m : Machine) (shapes : ℕ → Shape) (inv : InvariantIn shapes m) (s 
                     answer = refl;
                   }),
                 ),
-                ap (details_at to_stage s.op (record_seen m.cluster u.ckpt)) (seen_is m shapes inv s u held is e found r x there),
+                ap (details_at to_stage (payload_due m s) (record_seen m.cluster u.ckpt r)) (seen_is m shapes inv s u held is e found r x there),
               );
               holds = ended_keeps m shapes inv s u held is (λ f there. owns_none none);
               nearer = λ none. absurd (cc none);
@@ -309,9 +310,13 @@ module _ (m : Machine) (shapes : ℕ → Shape) (inv : InvariantIn shapes m) (s 
 
       pub commit_moves : (commits : Commits (shapes u.ckpt) s e) (x : ReplicaState) → m.replicas u.ckpt r ≡ Some x → IsShaped (shapes u.ckpt) (Some s.call) x → (t : Told) → IsServed m s r to_commit t → Goes m s (drivers.Update u) t
       commit_moves commits x there shaped t served =
-          let told = IsServed-told m s r to_commit t (drivers.Update u) (replies.Done A) served is (served.may ∙ ap (reply_at to_commit s.op (record_seen m.cluster u.ckpt)) (seen_is m shapes inv s u held is e found r x there)) in
-          let details : details_at to_commit s.op (record_seen m.cluster u.ckpt) (seen_at m u.ckpt r) ≡ told_id (update_of s.op) (shapes u.ckpt).moment x.sections
-          = ap (details_at to_commit s.op (record_seen m.cluster u.ckpt)) (seen_is m shapes inv s u held is e found r x there) ∙ ap (λ w. slot_id (update_of s.op) x.sections (seen_slot w)) shaped.slot in
+          let told = IsServed-told m s r to_commit t (drivers.Update u) (replies.Done A) served is (
+          served.may
+          ∙ ap (reply_at to_commit (payload_due m s) (record_seen m.cluster u.ckpt r)) (seen_is m shapes inv s u held is e found r x there)
+          ∙ ap (λ w. replies.Done (commit_answer (seen_slot (length x.effects) w))) shaped.slot
+          ∙ ap (λ v. replies.Done (update_answer v)) commits.update) in
+          let details : details_at to_commit (payload_due m s) (record_seen m.cluster u.ckpt r) (seen_at m u.ckpt r) ≡ told_id (update_of s.op) (shapes u.ckpt).moment x.sections
+          = ap (details_at to_commit (payload_due m s) (record_seen m.cluster u.ckpt r)) (seen_is m shapes inv s u held is e found r x there) ∙ ap (λ w. slot_id x.sections (seen_slot (length x.effects) w)) shaped.slot ∙ ap (λ v. told_id v (shapes u.ckpt).moment x.sections) commits.update in
           let end : commit_end Committing A (last_having 0 (complete_of (entry_of u.ckpt m.cluster.entries)) (slice_set u.owned r 0)) ≡ done_if_none A left_then
           = ap (λ o. commit_end Committing A (last_having 0 (complete_of o) (slice_set u.owned r 0))) found in
           subst (Goes m s (drivers.Update u)) (sym (told ∙ (λ i. record { verb = verbs.Commit; ckpt = Some u.ckpt; node = Some r; reply = words.Ok; end = end i; details = ended_details (end i) (details i) }))) (record {

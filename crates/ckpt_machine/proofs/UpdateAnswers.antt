@@ -15,7 +15,7 @@ use Rattle.node_msgs.specs.declared.steps.StepReply.{StepReply}
 use Rattle.node_msgs.specs.declared.steps.StepReply.TheVariants as words
 use Rattle.node_msgs.specs.declared.steps.Verb.{Verb}
 use Rattle.node_msgs.specs.declared.steps.Verb.TheVariants as verbs
-use Rattle.run_labels.specs.declared.details.Details.{Details}
+use Rattle.node_msgs.specs.declared.details.Details.{Details}
 use Rattle.ckpt_types.specs.OpWord.{word_of_op}
 use Rattle.ckpt_machine.specs.Acknowledged.{IsUpdateWord}
 use Rattle.ckpt_types.specs.Asks.{Ask, asked}

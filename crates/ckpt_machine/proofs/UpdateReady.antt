@@ -1,9 +1,8 @@
--- What the code relies on of an update's due request: its node is one of the eight and has the replica, and a commit's slot is its own and has an outcome.
+-- What the code relies on of an update's due request: its node is one of the eight and has the replica, and a commit's slot is the call's, with its own update.
 use Rattle.std.proofs.Common.{◌≡◌, ℕ, ◌+◌, ◌<◌, Option, Some, None, true, false, ℤ, refl, sym, ap, subst, ◌∙◌, arith}
-use Rattle.std.specs.Prelude.{is_ok, IsSomeAnd, slice_index}
+use Rattle.std.specs.Prelude.{IsSomeAnd, length, slice_index}
 use Rattle.std.proofs.lemmas.Option.{same_Some}
 use Rattle.ckpt_types.specs.declared.identities.CallId.{CallId}
-use Rattle.ckpt_types.specs.Updates.{outcome}
 use Rattle.cluster_record.specs.declared.calls.UpdatePhase.{UpdatePhase}
 use Rattle.cluster_record.specs.declared.calls.UpdatePhase.TheVariants.{Staging, Committing}
 use Rattle.cluster_record.specs.declared.entries.Entry.{Entry}
@@ -16,14 +15,16 @@ use Rattle.node_msgs.specs.declared.requests.Request.{Request}
 use Rattle.node_msgs.specs.declared.requests.Request.TheVariants as requests
 use Rattle.ckpt_machine.specs.Drivers as drivers
 use Rattle.ckpt_machine.specs.Machine.{Machine, ReplicaState, CallState}
-use Rattle.ckpt_machine.specs.Serving.{IsReadyFor, IsStaged}
+use Rattle.ckpt_types.specs.Asks.{update_of}
+use Rattle.stage_slot.specs.Slots.{IsOwnedBy}
+use Rattle.node_core.specs.Fitting.{IsReadyFor}
 use Rattle.ckpt_machine.specs.Facts.{IsServable, HasNoSlot}
 use Rattle.ckpt_machine.specs.Steps.{driver_of, seen, seen_at, seen_slot, staged_moment}
-use Rattle.ckpt_machine.specs.Shape.{Shape, IsCompleteOn, IsShaped, IsSpread, slot_by}
+use Rattle.ckpt_machine.specs.Shape.{Shape, IsCompleteOn, IsShaped, IsSpread, PhaseFits, slot_by}
 use Rattle.ckpt_machine.specs.Invariant.{InvariantIn}
 use Rattle.ckpt_machine.proofs.NodeLists.{first_lacking-is, last_having-is, lacked-has, had-there, index-within}
 use Rattle.ckpt_machine.proofs.StagedMoment.{moment_first, moment_later}
-use Rattle.ckpt_machine.proofs.Owning.{at, spread, owns_had, replica_at, seen_is}
+use Rattle.ckpt_machine.proofs.Owning.{at, spread, own_phase, owns_had, replica_at, seen_is}
 use Rattle.ckpt_machine.proofs.OptionLemmas.{IsSomeAnd-at, IsSomeAnd-from}
 
 -- a due stage has the moment of the slots that stand, where its replica has none
@@ -31,10 +32,15 @@ abbrev pub HasMoment : Machine → ℕ → Request → Type 0
 HasMoment m r (requests.Stage call k t) = IsSomeAnd (m.replicas k r) HasNoSlot → staged_moment m k ≡ t
 HasMoment m r request = Unit {0}
 
+-- a due commit is of the call's own update
+abbrev pub HasOwn : Machine → CallState → ℕ → Request → Type 0
+HasOwn m s r (requests.Commit call k) = IsSomeAnd (m.replicas k r) (λ x. IsSomeAnd x.slot (λ slot. slot.update ≡ update_of s.op))
+HasOwn m s r request = Unit {0}
+
 -- a due request can be served
-abbrev pub IsReadyNext : Machine → Next → Type 0
-IsReadyNext m (Serve r request) = (r < 8) × IsServable m r request × HasMoment m r request
-IsReadyNext m next = Unit {0}
+abbrev pub IsReadyNext : Machine → CallState → Next → Type 0
+IsReadyNext m s (Serve r request) = (r < 8) × IsServable m r request × HasMoment m r request × HasOwn m s r request
+IsReadyNext m s next = Unit {0}
 
 module _ (m : Machine) (shapes : ℕ → Shape) (inv : InvariantIn shapes m) (s : CallState) (u : UpdateState) (held : m.in_hand s.call.actor ≡ Some s) (is : driver_of s ≡ drivers.Update u) where
   module _ (e : Entry) (found : entry_of u.ckpt m.cluster.entries ≡ Some e) where
@@ -55,12 +61,20 @@ module _ (m : Machine) (shapes : ℕ → Shape) (inv : InvariantIn shapes m) (s 
         by_owner None no_owner none = no_owner
         by_owner (Some d) owns none = absurd (cc none)
 
-    stage_ready : (r : ℕ) (t : ℤ) → IsCompleteOn e r → ((shapes u.ckpt).owners r ≡ None → staged_moment m u.ckpt ≡ t) → IsReadyNext m (Serve r (requests.Stage u.call u.ckpt t))
+    stage_ready : (r : ℕ) (t : ℤ) → IsCompleteOn e r → ((shapes u.ckpt).owners r ≡ None → staged_moment m u.ckpt ≡ t) → IsReadyNext m s (Serve r (requests.Stage u.call u.ckpt t))
     stage_ready r t there mom =
         let (x, here, shaped) = replica_at m shapes inv s u held is e found r there in
-        (within r there, IsSomeAnd-from (seen_at m u.ckpt r) (IsReadyFor (requests.Stage u.call u.ckpt t)) (seen u.ckpt e.attributes x) (seen_is m shapes inv s u held is e found r x here) tt, λ free. mom (free_node r there free))
+        (within r there, IsSomeAnd-from (seen_at m u.ckpt r) (IsReadyFor (requests.Stage u.call u.ckpt t)) (seen u.ckpt e.attributes x) (seen_is m shapes inv s u held is e found r x here) tt, λ free. mom (free_node r there free), tt)
 
-    commit_ready : (r : ℕ) → has (slice_index e.complete r) (slice_index u.owned r) ≡ true → IsReadyNext m (Serve r (requests.Commit u.call u.ckpt))
+    -- the slots of the call are of its own update
+    own_update : (r : ℕ) → (shapes u.ckpt).owners r ≡ Some s.call → (shapes u.ckpt).update ≡ update_of s.op
+    own_update r owns = by_phases u.phase (own_phase m shapes inv s u held is (shapes u.ckpt) (was.owned r s.call owns))
+      where
+        by_phases : (ph : UpdatePhase) → PhaseFits (shapes u.ckpt) s u ph → (shapes u.ckpt).update ≡ update_of s.op
+        by_phases Staging fits = fits.update
+        by_phases Committing fits = fits.update
+
+    commit_ready : (r : ℕ) → has (slice_index e.complete r) (slice_index u.owned r) ≡ true → IsReadyNext m s (Serve r (requests.Commit u.call u.ckpt))
     commit_ready r had =
         let there = had-there (slice_index e.complete r) (slice_index u.owned r) had in
         let owns = owns_had m shapes inv s u held is e found r there had in
@@ -68,21 +82,19 @@ module _ (m : Machine) (shapes : ℕ → Shape) (inv : InvariantIn shapes m) (s 
         let own : IsShaped (shapes u.ckpt) (Some s.call) x = subst (λ o. IsShaped (shapes u.ckpt) o x) owns shaped in (
           within r there,
           IsSomeAnd-from (seen_at m u.ckpt r) (IsReadyFor (requests.Commit u.call u.ckpt)) (seen u.ckpt e.attributes x) (seen_is m shapes inv s u held is e found r x here)
-              (subst (λ z. IsSomeAnd (seen_slot z) (IsStaged u.call (seen u.ckpt e.attributes x))) (sym own.slot) (record {
-                owner = sym (at m shapes inv s u held is).call;
-                fits = ap is_ok (ap (outcome e.attributes (shapes u.ckpt).update (shapes u.ckpt).moment) own.sections ∙ was.fits r s.call owns);
-              })),
+              (subst (λ z. IsOwnedBy u.call (seen_slot (length x.effects) z)) (sym own.slot) (sym (at m shapes inv s u held is).call)),
           tt,
+          IsSomeAnd-from (m.replicas u.ckpt r) (λ x. IsSomeAnd x.slot (λ slot. slot.update ≡ update_of s.op)) x here (subst (λ z. IsSomeAnd z (λ slot. slot.update ≡ update_of s.op)) (sym own.slot) (own_update r owns)),
         )
 
-    commit_last : (r : ℕ) → last_having 0 e.complete u.owned ≡ Some r → IsReadyNext m (Serve r (requests.Commit u.call u.ckpt))
+    commit_last : (r : ℕ) → last_having 0 e.complete u.owned ≡ Some r → IsReadyNext m s (Serve r (requests.Commit u.call u.ckpt))
     commit_last r some =
         let at_r = last_having-is 0 e.complete u.owned r ((at m shapes inv s u held is).nodes ∙ sym was.nodes) some in
         let here : r ≡ 0 + at_r.place = at_r.at in
         let same : at_r.place ≡ r = omega (arith, here) in
         commit_ready r (subst (λ (q : ℕ). has (slice_index e.complete q) (slice_index u.owned q) ≡ true) same at_r.had)
 
-    by_next : (ph : UpdatePhase) → u.phase ≡ ph → (first last : Option ℕ) → first_lacking 0 e.complete u.owned ≡ first → last_having 0 e.complete u.owned ≡ last → IsReadyNext m (by_phase u m.cluster.moment first last ph)
+    by_next : (ph : UpdatePhase) → u.phase ≡ ph → (first last : Option ℕ) → first_lacking 0 e.complete u.owned ≡ first → last_having 0 e.complete u.owned ≡ last → IsReadyNext m s (by_phase u m.cluster.moment first last ph)
     by_next Staging staging (Some r) last lacked having =
         let at_r = first_lacking-is 0 e.complete u.owned r lacked in
         let here : r ≡ 0 + at_r.place = at_r.at in
@@ -103,9 +115,9 @@ module _ (m : Machine) (shapes : ℕ → Shape) (inv : InvariantIn shapes m) (s 
     by_next Committing committing first None lacked having = tt
 
   -- whatever is due of an update
-  pub update_ready : IsReadyNext m (update_next m.cluster u)
+  pub update_ready : IsReadyNext m s (update_next m.cluster u)
   update_ready = by_entry (entry_of u.ckpt m.cluster.entries) refl
     where
-      by_entry : (o : Option Entry) → entry_of u.ckpt m.cluster.entries ≡ o → IsReadyNext m (update_on u m.cluster.moment o)
+      by_entry : (o : Option Entry) → entry_of u.ckpt m.cluster.entries ≡ o → IsReadyNext m s (update_on u m.cluster.moment o)
       by_entry None gone = tt
       by_entry (Some e) found = by_next e found u.phase refl (first_lacking 0 e.complete u.owned) (last_having 0 e.complete u.owned) refl refl

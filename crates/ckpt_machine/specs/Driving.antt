@@ -144,36 +144,36 @@ abbrev pub deadline_from : ℤ → Ask → Option ℤ
 deadline_from moment (asks.Open place name flags timeout a) = Some (sum_until_end moment timeout)
 deadline_from moment ask = None
 
--- the driver of a call on the checkpoint that it keeps
-abbrev pub on_kept : Option ℕ → (ℕ → Driver) → Driver
-on_kept None start = drivers.Once (Enter 0)
-on_kept (Some k) start = start k
+-- the driver of a call on the checkpoint that it keeps, where it keeps one
+abbrev pub on_kept : Option ℕ → (ℕ → Driver) → Option Driver
+on_kept None start = None
+on_kept (Some k) start = Some (start k)
 
 -- an update has staged nowhere when it begins
-abbrev pub update_start : CallId → Option ℕ → Driver
+abbrev pub update_start : CallId → Option ℕ → Option Driver
 update_start call ckpt = on_kept ckpt (λ k. drivers.Update (update_begun call k))
 
 -- the driver of a call to the active
-abbrev pub active_start : CallId → ActiveKind → Option ℕ → Driver
+abbrev pub active_start : CallId → ActiveKind → Option ℕ → Option Driver
 active_start call kind ckpt = on_kept ckpt (λ k. drivers.Active (active_begun call k kind))
 
--- the driver of a call that begins; what ends at its beginning, or is not built, has none of its own
-abbrev pub driver_start : CallId → Ask → Kept → Driver
-driver_start call (asks.Enter r version callbacks) kept = drivers.Once (Enter r)
-driver_start call (asks.Open place name flags timeout a) kept = drivers.Open (open_begun call (record { name = name; attrs = a; client = client_of call; node = kept.node }) (Some (sum_until_end kept.moment timeout)))
+-- what drives a call that goes on behind its beginning; a call on no checkpoint does not, nor does one that is answered at its beginning, or is not built
+abbrev pub driver_start : CallId → Ask → Kept → Option Driver
+driver_start call (asks.Enter r version callbacks) kept = Some (drivers.Once (Enter r))
+driver_start call (asks.Open place name flags timeout a) kept = Some (drivers.Open (open_begun call (record { name = name; attrs = a; client = client_of call; node = kept.node }) (Some (sum_until_end kept.moment timeout))))
 driver_start call (asks.Change place update) kept = update_start call kept.ckpt
 driver_start call (asks.Read place elements) kept = active_start call kinds.Read kept.ckpt
 driver_start call (asks.Status place) kept = active_start call kinds.Status kept.ckpt
 driver_start call (asks.Iterate iteration place chosen time) kept = active_start call (kinds.Iterate (choice_of chosen time)) kept.ckpt
 driver_start call (asks.Next iteration) kept = active_start call kinds.Next kept.ckpt
-driver_start call (asks.EndIteration iteration) kept = drivers.Once (Enter 0)
+driver_start call (asks.EndIteration iteration) kept = None
 driver_start call (asks.Close place) kept = on_kept kept.ckpt (λ k. drivers.Once (Close k))
 driver_start call (asks.Retain place duration) kept = on_kept kept.ckpt (λ k. drivers.Once (Retain k duration))
-driver_start call (asks.Unlink name) kept = drivers.Once (Unlink name)
-driver_start call asks.Leave kept = drivers.Once Leave
-driver_start call asks.Unbuilt kept = drivers.Once (Enter 0)
+driver_start call (asks.Unlink name) kept = Some (drivers.Once (Unlink name))
+driver_start call asks.Leave kept = Some (drivers.Once Leave)
+driver_start call asks.Unbuilt kept = None
 
--- where a call's steps have led it, the newest first
-abbrev pub driver_state : CallId → Op → Kept → List StepDone → Driver
-driver_state call op kept [] = driver_start call (asked op) kept
-driver_state call op kept (d ∷ steps) = driver_taken d (driver_state call op kept steps)
+-- where a call's steps, the newest first, have led what drove it at its beginning
+abbrev pub driver_state : Driver → List StepDone → Driver
+driver_state begun [] = begun
+driver_state begun (d ∷ steps) = driver_taken d (driver_state begun steps)

@@ -22,14 +22,15 @@ use Rattle.cluster_record.specs.Calls.{IsClient, client_of}
 use Rattle.cluster_record.specs.Identities.{IdentitiesRise, AllUpTo}
 use Rattle.cluster_record.specs.RecordState.{RecordState, entry_of, named, is_up, is_live_client}
 use Rattle.node_msgs.specs.Requests.{ckpt_of}
-use Rattle.ckpt_machine.specs.Serving.{IsReadyFor}
+use Rattle.node_core.specs.Fitting.{IsReadyFor}
 use Rattle.ckpt_machine.specs.Driving.{making_in}
 use Rattle.cluster_record.specs.RecordReady.{CanBecomeLive, CanOpen}
-use Rattle.ckpt_types.specs.Asks.{asked, IsBuilt}
+use Rattle.ckpt_types.specs.Asks.{asked, update_of, IsBuilt}
+use Rattle.client_handles.specs.ClientState.{NoneLent}
 use Rattle.ckpt_types.specs.Asks as asks
 use Rattle.ckpt_machine.specs.Tables.{choice_of}
 use Rattle.ckpt_machine.specs.Machine.{Machine, ReplicaState, CallState}
-use Rattle.ckpt_machine.specs.Steps.{due, driver_of, rooms_of, room_at, seen_at, staged_moment, asked_handle}
+use Rattle.ckpt_machine.specs.Steps.{due, driver_of, IsDriven, rooms_of, room_at, seen_at, staged_moment, asked_handle}
 
 -- a replica can be reserved: the node is up, the checkpoint is in the making, the node is not complete, and the attributes passed their check
 pub record IsReservable (R : RecordState) (r : ℕ) (e : Entry) : Type 0 where
@@ -96,14 +97,19 @@ pub record IsGoingOn (m : Machine) (s : CallState) : Type 0 where
 
 -- what the code relies on, of each call in hand
 pub record Facts (m : Machine) : Type 0 where
-  -- a call in hand is its actor's, and is built
+  -- a call in hand is its actor's, and is built, and what it asks for drives it
   pub callers : (a : ActorName) (s : CallState) → m.in_hand a ≡ Some s → s.call.actor ≡ a
   pub built : (a : ActorName) (s : CallState) → m.in_hand a ≡ Some s → IsBuilt s.op
+  pub driven : (a : ActorName) (s : CallState) → m.in_hand a ≡ Some s → IsDriven s
+  -- no iteration is lent between two steps
+  pub rest : (a : ActorName) → NoneLent (m.tables a)
   pub rises : IdentitiesRise m.cluster.entries
   pub up_to : AllUpTo m.cluster.last_identity m.cluster.entries
   pub ready : (a : ActorName) (s : CallState) (r : ℕ) (request : Request) → m.in_hand a ≡ Some s → due m s ≡ Serve r request → (r < nodes_max) × IsServable m r request
   -- a due stage has the moment of the slots that stand
   pub moments : (a : ActorName) (s : CallState) (r : ℕ) (call : CallId) (k : ℕ) (t : ℤ) → m.in_hand a ≡ Some s → due m s ≡ Serve r (requests.Stage call k t) → IsSomeAnd (m.replicas k r) HasNoSlot → staged_moment m k ≡ t
+  -- a due commit is of the call's own update
+  pub commits : (a : ActorName) (s : CallState) (r : ℕ) (call : CallId) (k : ℕ) → m.in_hand a ≡ Some s → due m s ≡ Serve r (requests.Commit call k) → IsSomeAnd (m.replicas k r) (λ x. IsSomeAnd x.slot (λ slot. slot.update ≡ update_of s.op))
   pub events : (a : ActorName) (s : CallState) (step : RecordStep) → m.in_hand a ≡ Some s → due m s ≡ Event step → IsEventReady m s (driver_of s) step
   -- an open has room for the handle of what it is making, and its client is live
   pub opens : (a : ActorName) (s : CallState) (o : OpenState) → m.in_hand a ≡ Some s → driver_of s ≡ drivers.Open o → (IsSome o.making → (rooms_of m s).handles ≡ true) × (is_live_client (client_of s.call) m.cluster ≡ true)

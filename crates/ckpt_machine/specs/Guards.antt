@@ -18,8 +18,8 @@ use Rattle.ckpt_types.specs.declared.update.Update.{Update}
 use Rattle.ckpt_types.specs.Updates.{Refusal, outcome}
 use Rattle.ckpt_types.specs.Reads.{read, status, NextGiven, given, description}
 use Rattle.ckpt_types.specs.Limits.{clients_max, checkpoints_max, handles_max, iterations_max, nodes_max}
-use Rattle.run_labels.specs.declared.details.Details.{Details}
-use Rattle.run_labels.specs.declared.details.Details.TheVariants as beside
+use Rattle.node_msgs.specs.declared.details.Details.{Details}
+use Rattle.node_msgs.specs.declared.details.Details.TheVariants as beside
 use Rattle.ckpt_types.specs.declared.words.OpWord.{OpWord}
 use Rattle.node_msgs.specs.declared.steps.Verb.{Verb}
 use Rattle.node_msgs.specs.declared.steps.Verb.TheVariants as verbs
@@ -38,7 +38,7 @@ use Rattle.cluster_record.specs.Makings.{making_of}
 use Rattle.ckpt_types.specs.Asks.{Ask, asked}
 use Rattle.ckpt_types.specs.Asks as asks
 use Rattle.ckpt_machine.specs.Driving.{deadline_from, refused_cause}
-use Rattle.ckpt_machine.specs.Serving.{update_answer, told_id}
+use Rattle.node_core.specs.Serving.{update_answer, told_id}
 use Rattle.ckpt_machine.specs.Machine.{Machine, Staged, ReplicaState, CallState}
 use Rattle.ckpt_machine.specs.Listing.{listing_at}
 use Rattle.ckpt_machine.specs.Steps.{Told, rooms_of, ids_asked, staged_moment, effect_of}

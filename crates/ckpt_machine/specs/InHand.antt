@@ -26,7 +26,7 @@ use Rattle.ckpt_machine.specs.Beginning.{name_is_bad}
 use Rattle.ckpt_machine.specs.Guards.{AsksToOpen}
 use Rattle.ckpt_machine.specs.Tables.{choice_of}
 use Rattle.ckpt_machine.specs.Machine.{Machine, CallState}
-use Rattle.ckpt_machine.specs.Steps.{driver_of, rooms_of, asked_handle}
+use Rattle.ckpt_machine.specs.Steps.{driver_of, IsDriven, rooms_of, asked_handle}
 use Rattle.section_iter.specs.Room.{room_declared}
 use Rattle.cluster_record.specs.declared.calls.UpdatePhase.{UpdatePhase}
 use Rattle.cluster_record.specs.StepDone.{has, last_having}
@@ -158,11 +158,12 @@ is_enter (drivers.Open o) = false
 is_enter (drivers.Update u) = false
 is_enter (drivers.Active a) = false
 
--- a call in hand is its actor's, a client; its number was given, it is built, each but an Initialize is live, and it is where its steps have led it
+-- a call in hand is its actor's, a client; its number was given, it is built, what it asks for drives it, each but an Initialize is live, and it is where its steps have led it
 pub record IsInHand (m : Machine) (shapes : ℕ → Shape) (a : ActorName) (s : CallState) : Type 0 where
   pub actor : s.call.actor ≡ a
   pub client : IsClient s.call.actor
   pub number : s.call.number < m.next a
   pub built : IsBuilt s.op
+  pub driven : IsDriven s
   pub live : is_enter (driver_of s) ≡ false → is_live m.cluster s.call ≡ true
   pub here : IsInPlace m shapes s (driver_of s)

@@ -3,6 +3,7 @@ use Rattle.std.specs.Prelude.{◌≡◌, ℕ, ◌<◌, [], Option, Some, None, I
 use Rattle.ckpt_types.specs.declared.identities.ActorName.{ActorName}
 use Rattle.ckpt_types.specs.declared.identities.CallId.{CallId}
 use Rattle.client_handles.specs.declared.handle_view.HandleView.{HandleView}
+use Rattle.client_handles.specs.ClientState.{NoneLent}
 use Rattle.cluster_record.specs.declared.calls.Making.{Making}
 use Rattle.cluster_record.specs.DueOpen.{OpenState}
 use Rattle.cluster_record.specs.declared.clients.LiveClient.{LiveClient}
@@ -48,6 +49,8 @@ pub record InvariantIn (shapes : ℕ → Shape) (m : Machine) : Type 0 where
   pub swept : AllStay m.cluster.moment m.cluster.entries
   pub entries : (k : ℕ) (e : Entry) → entry_of k m.cluster.entries ≡ Some e → IsGoodIn m k (shapes k) e e.making
   pub handles : (a : ActorName) (h : HandleView) → Contains (m.tables a).handles h → WasMade m.cluster h.id
+  -- no iteration is lent between two steps
+  pub rest : (a : ActorName) → NoneLent (m.tables a)
   pub clients : (c : ℕ) → IfSome (find_key client_key c m.cluster.clients) (IsGoodClient m.next m.cluster c)
   pub hands : (a : ActorName) (s : CallState) → m.in_hand a ≡ Some s → IsInHand m shapes a s
 

@@ -3,7 +3,7 @@ use Rattle.std.specs.Prelude.{◌≡◌, ℕ, ◌+◌, ◌<◌, List, length, Op
 use Rattle.ckpt_types.specs.declared.identities.CallId.{CallId}
 use Rattle.node_msgs.specs.declared.steps.StepReply.{StepReply}
 use Rattle.node_msgs.specs.declared.steps.Verb.{Verb}
-use Rattle.run_labels.specs.declared.details.Details.{Details}
+use Rattle.node_msgs.specs.declared.details.Details.{Details}
 use Rattle.run_labels.specs.declared.labels.Label.{Label}
 use Rattle.run_labels.specs.declared.labels.Label.TheVariants as labels
 use Rattle.ckpt_types.specs.declared.words.OpWord.{OpWord}

@@ -1,8 +1,6 @@
 pub mod Drivers
-pub mod Replicas
 pub mod Beginning
 pub mod Tables
-pub mod Serving
 pub mod Driving
 pub mod Machine
 pub mod Complete

@@ -10,6 +10,7 @@ use Rattle.ckpt_types.specs.Sections.{Section}
 use Rattle.client_handles.specs.ClientState.{ClientState, new_client}
 use Rattle.cluster_record.specs.RecordState.{RecordState, empty_record}
 use Rattle.cluster_record.specs.StepDone.{StepDone}
+use Rattle.ckpt_machine.specs.Drivers.{Driver}
 use Rattle.ckpt_machine.specs.Driving.{Kept}
 
 -- an update that a replica has taken: whose it is, and at which moment; or a weak write that was cut short after so many elements
@@ -53,11 +54,12 @@ pub record PendingCall : Type 0 where
   pub invocation : ℕ
   pub outcome : Option Outcome
 
--- a call that is begun and not ended: what it kept at its beginning, its steps, the newest first, the identifier of the section that its commits have made, and the snapshot in its hand
+-- a call that is begun and not ended: what it kept at its beginning, what drove it then, its steps, the newest first, the identifier of the section that its commits have made, and the snapshot in its hand
 pub record CallState : Type 0 where
   pub call : CallId
   pub op : Op
   pub kept : Kept
+  pub begun : Driver
   pub steps : List StepDone
   pub created : Option (List ℕ)
   pub snapshot : Option Snapshot

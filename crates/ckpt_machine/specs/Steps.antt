@@ -1,7 +1,7 @@
 -- Which label is due, with its answer, and the state after a label.
 use Rattle.section_iter.specs.Room.{room_declared}
 use Rattle.section_iter.specs.declared.room.Room.{Room}
-use Rattle.std.specs.Option.{option_or}
+use Rattle.std.specs.Option.{option_or, option_map}
 use Rattle.std.specs.Prelude.{◌≡◌, ◌≢◌, ◌⊎◌, ℕ, ◌+◌, ◌<◌, ◌≤◌, List, [], ◌∷◌, ◌++◌, length, Option, Some, None, IsTrue, true, false, ◌==◌, if◌then◌else◌, ℤ, slice_index}
 use Rattle.ckpt_types.specs.declared.answers.Answer.TheVariants as answers
 use Rattle.ckpt_types.specs.declared.answers.Outcome.{Outcome}
@@ -16,6 +16,9 @@ use Rattle.ckpt_types.specs.declared.operation.Op.{Op}
 use Rattle.ckpt_types.specs.declared.update.Update.{Update}
 use Rattle.ckpt_types.specs.Sections.{Section, opening}
 use Rattle.ckpt_types.specs.Updates.{outcome}
+use Rattle.ckpt_types.specs.Reads.{NextGiven, given, chosen}
+use Rattle.ckpt_types.specs.declared.sections.Choice.{Choice}
+use Rattle.node_core.specs.Payloads.{Payload}
 use Rattle.ckpt_types.specs.Limits.{nodes_max}
 use Rattle.node_msgs.specs.declared.requests.Request.{Request}
 use Rattle.node_msgs.specs.declared.requests.Request.TheVariants as requests
@@ -24,8 +27,8 @@ use Rattle.node_msgs.specs.declared.replies.Reply.TheVariants as replies
 use Rattle.node_msgs.specs.declared.next.RecordStep.{RecordStep}
 use Rattle.node_msgs.specs.declared.next.Next.{Next}
 use Rattle.node_msgs.specs.declared.next.Next.TheVariants.{Serve, Event, End}
-use Rattle.run_labels.specs.declared.details.Details.{Details}
-use Rattle.run_labels.specs.declared.details.Details.TheVariants as beside
+use Rattle.node_msgs.specs.declared.details.Details.{Details}
+use Rattle.node_msgs.specs.declared.details.Details.TheVariants as beside
 use Rattle.ckpt_types.specs.declared.words.OpWord.{OpWord}
 use Rattle.ckpt_types.specs.declared.words.OpWord.TheVariants as opwords
 use Rattle.node_msgs.specs.declared.steps.Verb.{Verb}
@@ -43,36 +46,38 @@ use Rattle.client_handles.specs.declared.handle_view.HandleView.{HandleView}
 use Rattle.ckpt_machine.specs.Drivers.{Driver}
 use Rattle.ckpt_machine.specs.Drivers.{Rooms}
 use Rattle.cluster_record.specs.declared.entries.Entry.{Entry}
-use Rattle.ckpt_machine.specs.Replicas.{Replica}
-use Rattle.ckpt_machine.specs.Replicas.{Slot}
+use Rattle.replica.specs.Replicas.{Replica}
+use Rattle.stage_slot.specs.Slots.{Slot}
 use Rattle.cluster_record.specs.Calls.{number_of, client_of, IsClient, put_actor, left}
 use Rattle.cluster_record.specs.Places.{find_key, put2}
 use Rattle.cluster_record.specs.LookUps.{node_of_client, declared_in, creation_flags_of}
 use Rattle.cluster_record.specs.RecordState.{RecordState, entry_of, complete_of, client_key, is_live_client, is_up, no_nodes, brought_up, IsMomentFrom, moved, swept, entered, created_as, finished, opened, undone, closed, unlinked, retained, departed}
 use Rattle.node_msgs.specs.Requests.{ckpt_of}
-use Rattle.ckpt_machine.specs.Serving.{made_id, record_seen, reply_at, details_at, or_same, next_reply_at, next_details, given_at, chosen_at}
+use Rattle.node_core.specs.Serving.{made_id, reply_at, details_at}
+use Rattle.node_core.specs.Seen.{record_seen}
+use Rattle.replica.specs.Replicas.{or_same}
 use Rattle.node_msgs.specs.Steps.{word_of, verb_of, event_verb}
-use Rattle.ckpt_machine.specs.Driving.{Kept, driver_state, driver_next, driver_taken, driver_end, event_ckpt, event_node, event_end, event_refusal, takes_memory}
+use Rattle.ckpt_machine.specs.Driving.{Kept, driver_start, driver_state, driver_next, driver_taken, driver_end, event_ckpt, event_node, event_end, event_refusal, takes_memory}
 use Rattle.ckpt_machine.specs.Listing.{listing_at}
 use Rattle.ckpt_machine.specs.Machine.{Machine, Effect, Applied, Staged, ReplicaState, CallState}
 use Rattle.client_handles.specs.ClientState.{ClientState, emptied}
 use Rattle.cluster_record.specs.Makings.{making_of}
 use Rattle.cluster_record.specs.StepDone.{done_of, counting}
-use Rattle.ckpt_types.specs.Asks.{Ask, asked, update_of, takes_room, IsBuilt}
+use Rattle.ckpt_types.specs.Asks.{Ask, asked, update_of, elements_of, takes_room, IsBuilt}
 use Rattle.ckpt_types.specs.Asks as asks
 use Rattle.ckpt_machine.specs.Tables.{rooms_in, handle_asked, ckpt_of_handle, kept_asked, ids_of, handle_given, started, gone_on, closing, ended_at_once}
 use Rattle.ckpt_machine.specs.Beginning.{begin_end}
 
 -- ---- what the code sees of one replica
 
--- a slot as the node has it, which does not know whose update it is
-abbrev pub seen_slot : Option Staged → Option Slot
-seen_slot None = None
-seen_slot (Some s) = Some (record { owner = s.owner; update = s.update; moment = s.moment })
+-- a slot as the node has it, which does not know whose update it is, with the number of updates that the replica had when it was staged
+abbrev pub seen_slot : ℕ → Option Staged → Option Slot
+seen_slot count None = None
+seen_slot count (Some s) = Some (record { owner = s.owner; update = s.update; moment = s.moment; count = count })
 
--- a replica as its node has it, with a count in place of the effects
+-- a replica as its node has it, with a count in place of the effects, which do not change while a slot stands
 abbrev pub seen : ℕ → CreationAttributes → ReplicaState → Replica
-seen k a x = record { ckpt = k; attributes = a; sections = x.sections; count = length x.effects; generation = x.generation; slot = seen_slot x.slot }
+seen k a x = record { ckpt = k; attributes = a; sections = x.sections; count = length x.effects; generation = x.generation; slot = seen_slot (length x.effects) x.slot }
 
 -- the replica that a node shows, of a checkpoint that is there
 abbrev pub seen_by : ℕ → Option Entry → Option ReplicaState → Option Replica
@@ -88,7 +93,11 @@ seen_at m k r = seen_by k (entry_of k m.cluster.entries) (m.replicas k r)
 
 -- what drives the call now
 abbrev pub driver_of : CallState → Driver
-driver_of s = driver_state s.call s.op s.kept s.steps
+driver_of s = driver_state s.begun s.steps
+
+-- what drove it at its beginning is what drives a call that asks for this
+abbrev pub IsDriven : CallState → Type 0
+IsDriven s = driver_start s.call (asked s.op) s.kept ≡ Some s.begun
 
 -- what the tables of a call's client have a free place for
 abbrev pub rooms_of : Machine → CallState → Rooms
@@ -102,16 +111,18 @@ due m s = driver_next m.cluster (rooms_of m s) (driver_of s)
 abbrev pub ids_asked : Machine → CallState → List (List ℕ)
 ids_asked m s = ids_of (kept_asked (asked s.op) (m.tables s.call.actor))
 
+-- what travels beside a request of the call
+abbrev pub payload_due : Machine → CallState → Payload
+payload_due m s = record { update = update_of s.op; elements = elements_of s.op; ids = ids_asked m s }
+
 -- a reservation is done or refused for memory; every other answer is that of the one replica
 abbrev pub MayAnswer : Machine → CallState → Request → ℕ → Reply → Type 0
 MayAnswer m s (requests.Reserve k) r answer = (answer ≡ replies.Done answers.Nothing) ⊎ (answer ≡ replies.NoMemory)
-MayAnswer m s (requests.Next call k) r answer = answer ≡ next_reply_at (ids_asked m s) m.cluster.moment (seen_at m k r)
-MayAnswer m s request r answer = answer ≡ reply_at request s.op (record_seen m.cluster (ckpt_of request)) (seen_at m (ckpt_of request) r)
+MayAnswer m s request r answer = answer ≡ reply_at request (payload_due m s) (record_seen m.cluster (ckpt_of request) r) (seen_at m (ckpt_of request) r)
 
 -- what comes with the answer, to be told beside it
 abbrev pub details_due : Machine → CallState → Request → ℕ → Details
-details_due m s (requests.Next call k) r = next_details (given_at (ids_asked m s) m.cluster.moment (seen_at m k r))
-details_due m s request r = details_at request s.op (record_seen m.cluster (ckpt_of request)) (seen_at m (ckpt_of request) r)
+details_due m s request r = details_at request (payload_due m s) (record_seen m.cluster (ckpt_of request) r) (seen_at m (ckpt_of request) r)
 
 -- a label tells what came with the step that ends its call
 abbrev pub ended_details : Option Outcome → Details → Details
@@ -332,6 +343,16 @@ abbrev pub at_some : Option ℕ → Machine → (ℕ → Machine) → Machine
 at_some None m change = m
 at_some (Some n) m change = change n
 
+-- what the replica of a node gives next to one who keeps these identifiers
+abbrev pub given_at : List (List ℕ) → ℤ → Option Replica → Option NextGiven
+given_at ids now None = None
+given_at ids now (Some x) = given ids now x.sections
+
+-- what it gives to keep to an iteration that starts
+abbrev pub chosen_at : Choice → ℤ → Option Replica → List (List ℕ)
+chosen_at choice now None = []
+chosen_at choice now (Some x) = chosen choice now x.sections
+
 -- the tables of an actor are changed
 abbrev pub with_tables : ActorName → (ClientState → ClientState) → Machine → Machine
 with_tables a change m = record m { tables = put_actor m.tables a (change (m.tables a)) }
@@ -434,18 +455,20 @@ abbrev pub step_of : Machine → Option CallState → Verb → Option ℕ → Op
 step_of m None verb k r reply end = m
 step_of m (Some s) verb k r reply end = let behind = changed m s verb k r reply in stepped behind (kept_behind m s behind.cluster verb k r reply) end
 
+-- a call behind its beginning, with what drives it
+abbrev pub started_call : CallId → Op → Kept → Driver → CallState
+started_call call op kept driver = record { call = call; op = op; kept = kept; begun = driver; steps = []; created = None; snapshot = None }
+
+-- it is in hand where its beginning has not ended it, and something drives it
+abbrev pub call_begun : Option Outcome → CallId → Op → Kept → Option CallState
+call_begun (Some end) call op kept = None
+call_begun None call op kept = option_map (started_call call op kept) (driver_start call (asked op) kept)
+
 -- a call has begun, and is in hand if it goes on
 abbrev pub begun_call : Machine → CallId → Op → Option Outcome → Machine
 begun_call m call op end = record m {
   next = put_actor m.next call.actor (m.next call.actor + 1);
-  in_hand = put_actor m.in_hand call.actor (left end (record {
-    call = call;
-    op = op;
-    kept = kept_at_beginning m.cluster (number_of call.actor) (asked_handle m call.actor op);
-    steps = [];
-    created = None;
-    snapshot = None;
-  }));
+  in_hand = put_actor m.in_hand call.actor (call_begun end call op (kept_at_beginning m.cluster (number_of call.actor) (asked_handle m call.actor op)));
 }
 
 -- a call has begun, and has ended an iteration where it ends one

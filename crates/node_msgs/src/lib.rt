@@ -2,12 +2,14 @@
 #![tactic(auto)]
 
 mod changes;
+mod details;
 mod next;
 mod replies;
 mod requests;
 mod steps;
 
 pub use changes::NodeChange;
+pub use details::Details;
 pub use next::{Next, RecordStep};
 pub use replies::Reply;
 pub use requests::Request;

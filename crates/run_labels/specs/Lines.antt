@@ -1,7 +1,7 @@
 -- The text of a run.
 use Rattle.std.specs.Prelude.{ℕ, List, [], ◌++◌, Bool}
 use Rattle.std.specs.List.{flat_map}
-use Rattle.run_labels.specs.declared.details.Details.TheVariants.{Nothing}
+use Rattle.node_msgs.specs.declared.details.Details.TheVariants.{Nothing}
 use Rattle.run_labels.specs.declared.labels.Label.{Label}
 use Rattle.run_labels.specs.declared.labels.Label.TheVariants as labels
 use Rattle.run_labels.specs.Events.{fail_line, join_line, pull_line, put_line, word_line}

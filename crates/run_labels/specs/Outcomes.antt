@@ -15,8 +15,8 @@ use Rattle.ckpt_types.specs.declared.sections.CheckpointDescriptor.{CheckpointDe
 use Rattle.ckpt_types.specs.declared.sections.SectionDescriptor.{SectionDescriptor}
 use Rattle.ckpt_types.specs.AisError.{error_text}
 use Rattle.ckpt_types.specs.Limits.{release, major_max, minor_answered}
-use Rattle.run_labels.specs.declared.details.Details.{Details}
-use Rattle.run_labels.specs.declared.details.Details.TheVariants as beside
+use Rattle.node_msgs.specs.declared.details.Details.{Details}
+use Rattle.node_msgs.specs.declared.details.Details.TheVariants as beside
 use Rattle.ckpt_types.specs.declared.words.OpWord.{OpWord}
 use Rattle.ckpt_types.specs.declared.words.OpWord.TheVariants as words
 use Rattle.ckpt_types.specs.OpWord.{op_text}

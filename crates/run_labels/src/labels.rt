@@ -1,9 +1,8 @@
 //! The labels of a run: one for each event.
-use crate::details::Details;
 use crate::shown::ShownReplicas;
 use crate::words::{LineWord, Said};
 use ckpt_types::{CallId, CkptId, Incarnation, Moment, NodeId, Op, OpWord, Outcome, Who};
-use node_msgs::{StepReply, Verb};
+use node_msgs::{Details, StepReply, Verb};
 
 /// How a `pull` line was answered.
 #[derive(Clone, Copy, Debug, PartialEq, Eq)]

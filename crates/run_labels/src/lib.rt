@@ -1,7 +1,6 @@
 //! The labels of a run, the log that keeps them, and the lines that they print.
 #![tactic(auto)]
 
-mod details;
 mod digits;
 mod events;
 mod fronts;
@@ -16,7 +15,6 @@ mod texts;
 mod words;
 
 pub use ckpt_types::OpWord;
-pub use details::Details;
 pub use labels::{Label, PullReply, PutReply};
 pub use lines::{append_line, render_line};
 pub use log::RunLog;

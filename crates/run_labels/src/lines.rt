@@ -1,6 +1,6 @@
 //! The lines that one label prints.
 ghost use Rattle.std.specs.Prelude.{◌≡◌, [], ◌++◌, true, false, IfOk, OnOk};
-ghost use Rattle.run_labels.specs.declared.details.Details.TheVariants.{Nothing};
+ghost use Rattle.node_msgs.specs.declared.details.Details.TheVariants.{Nothing};
 ghost use Rattle.ckpt_types.specs.OpWord.{word_of_op};
 ghost use Rattle.run_labels.specs.Outcomes.{end_text};
 ghost use Rattle.run_labels.specs.Steps.{where_asked, begin_line, step_line, moment_line};

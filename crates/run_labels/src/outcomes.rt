@@ -1,12 +1,11 @@
 //! The result line of a call that has ended.
 ghost use Rattle.std.specs.Prelude.{◌≡◌, ◌+◌, ◌≤◌, ◌++◌, OnOk, Some, codes, decimal, vec_len, vec_capacity};
 ghost use Rattle.std.specs.List.{flat_map};
-ghost use Rattle.run_labels.specs.declared.details.Details.TheVariants as beside;
+ghost use Rattle.node_msgs.specs.declared.details.Details.TheVariants as beside;
 ghost use Rattle.ckpt_types.specs.OpWord.{op_text};
 ghost use Rattle.ckpt_types.specs.Spelling.{time_text};
 ghost use Rattle.run_labels.specs.Outcomes.{spoken_text, cause_text, told_version, piece_text, facts_text, section_text, attributes_text, status_text, details_text, answer_text, answered_text, head_text, done_line, refusal_line, result_line, end_text, stepped_end_text, is_async};
 
-use crate::details::Details;
 use crate::fronts::{
     FRONT_ROOM, LONG_NUMBER, push_call, push_ok, push_read, push_word, push_write,
 };
@@ -18,6 +17,7 @@ use ckpt_types::{
     AisError, Answer, CallId, Cause, CheckpointDescriptor, CreationAttributes, MAJOR_MAX,
     MINOR_ANSWERED, OpWord, Outcome, Pieces, RELEASE, SectionDescriptor,
 };
+use node_msgs::Details;
 use std::alloc::AllocError;
 
 /// The result line of a call that ended by a step.

@@ -12,7 +12,7 @@ use Rattle.ckpt_types.specs.declared.words.OpWord.{OpWord}
 use Rattle.run_labels.specs.declared.words.Said.TheVariants.{Idle}
 use Rattle.node_msgs.specs.declared.steps.StepReply.TheVariants as replies
 use Rattle.node_msgs.specs.declared.steps.Verb.TheVariants.{Look}
-use Rattle.run_labels.specs.declared.details.Details.TheVariants as beside
+use Rattle.node_msgs.specs.declared.details.Details.TheVariants as beside
 use Rattle.run_labels.specs.declared.labels.Label.{Label}
 use Rattle.run_labels.specs.declared.labels.Label.TheVariants as labels
 use Rattle.ckpt_types.specs.Limits.{built_line_labels}

@@ -4,10 +4,10 @@ use ckpt_types::{
     CreationAttributes, Given, NEVER, Op, Outcome, Pieces, ReadBuf, SectionDescriptor, SectionId,
     SectionState, Shared, Vector, Who,
 };
-use node_msgs::{StepReply, Verb};
+use node_msgs::{Details, StepReply, Verb};
 use run_labels::{
-    Details, Label, LineWord, OpWord, PullReply, PutReply, RunLog, Said, ShownReplica,
-    ShownSection, ShownSlot, append_line, render_line,
+    Label, LineWord, OpWord, PullReply, PutReply, RunLog, Said, ShownReplica, ShownSection,
+    ShownSlot, append_line, render_line,
 };
 use std::alloc::{AllocError, Global};
 use std::test::Fail;

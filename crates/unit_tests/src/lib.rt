@@ -14,6 +14,8 @@ mod listed;
 #[cfg(test)]
 mod names;
 #[cfg(test)]
+mod replicas;
+#[cfg(test)]
 mod rules;
 #[cfg(test)]
 mod scripts;

@@ -20,38 +20,39 @@ use Rattle.ckpt_types.specs.Asks.{Ask, asked, IsBuilt}
 use Rattle.ckpt_machine.specs.Drivers.{Driver}
 use Rattle.ckpt_machine.specs.Driving.{Kept, driver_start}
 use Rattle.ckpt_machine.specs.Beginning.{begin_end}
-use Rattle.ckpt_machine.specs.Machine.{CallState}
-use Rattle.ckpt_machine.specs.Steps.{IsDue, MayBegin, after, room_at, kept_at_beginning, IsBeginEnd}
+use Rattle.ckpt_machine.specs.Steps.{IsDue, MayBegin, after, room_at, kept_at_beginning, IsBeginEnd, call_begun}
 use Rattle.ckpt_machine.specs.Tables.{ckpt_of_handle, handle_asked, ended_at_once}
 use Rattle.world_core.specs.declared.hands.InHand.{InHand}
 use Rattle.world_core.specs.declared.world.World.{World}
 use Rattle.world_core.specs.TableState.{TableState, next_in, kept_in, kept_by, begun_with, table_changed, at_client}
-use Rattle.world_core.specs.Shows.{Does, HistoryFits, FitsHand, History, machine_of, next_of, tables_of, hand_at, hand_of, shown_hand, room_for}
+use Rattle.world_core.specs.Shows.{Beginning, Does, HistoryFits, FitsHand, History, machine_of, next_of, tables_of, hand_at, hand_of, shown_hand, room_for}
 use Rattle.world_core.proofs.LiveRooms.{rooms_set}
+use Rattle.ckpt_machine.proofs.Starting.{driven_begun}
 use Rattle.world_core.proofs.TableFields.{field_put}
 
-begun_hand_case : (b : Bool) (k l : Kept) (old : List StepDone) (made : Option (List ℕ)) (p : Option InHand) (o : Option (Option InHand)) → cond b (shown_hand k [] None p) (shown_hand l old made (or_none o)) ≡ shown_hand (cond b k l) (cond b [] old) (cond b None made) (or_none (cond b (Some p) o))
+begun_hand_case : (b : Bool) (k l : Beginning) (old : List StepDone) (made : Option (List ℕ)) (p : Option InHand) (o : Option (Option InHand)) → cond b (shown_hand k [] None p) (shown_hand l old made (or_none o)) ≡ shown_hand (cond b k l) (cond b [] old) (cond b None made) (or_none (cond b (Some p) o))
 begun_hand_case true k l old made p o = refl
 begun_hand_case false k l old made p o = refl
 
-begun_fits_case : (b : Bool) (k l : Kept) (old : List StepDone) (p : Option InHand) (o : Option (Option InHand)) → FitsHand k [] p → FitsHand l old (or_none o) → FitsHand (cond b k l) (cond b [] old) (or_none (cond b (Some p) o))
+begun_fits_case : (b : Bool) (k l : Beginning) (old : List StepDone) (p : Option InHand) (o : Option (Option InHand)) → FitsHand k [] p → FitsHand l old (or_none o) → FitsHand (cond b k l) (cond b [] old) (or_none (cond b (Some p) o))
 begun_fits_case true k l old p o h g = h
 begun_fits_case false k l old p o h g = g
 
-module _ (w : World) (c : ℕ) (op : Op) (t : TableState) (q : Option InHand) (end : Option Outcome) (room : Option KeptIds) (within : c < 100) (built : IsBuilt op) (may : MayBegin w.cluster c (asked op)) (table : slice_get w.tables c ≡ Some t) (there : slice_get w.hands c ≡ Some q) (free : hand_at w.hands c ≡ None)
-    (answers : IsBeginEnd (asked op) (begin_end (is_live_client c w.cluster) (handle_asked (asked op) (kept_by w.tables c)) (asked op)) end) (took : end ≡ None → room ≡ room_for (asked op) (kept_at_beginning w.cluster c (handle_asked (asked op) (kept_by w.tables c))).room) where
+module _ (w : World) (c : ℕ) (op : Op) (t : TableState) (q : Option InHand) (end : Option Outcome) (room : Option KeptIds) (driver : Driver) (within : c < 100) (built : IsBuilt op) (may : MayBegin w.cluster c (asked op)) (table : slice_get w.tables c ≡ Some t) (there : slice_get w.hands c ≡ Some q) (free : hand_at w.hands c ≡ None)
+    (answers : IsBeginEnd (asked op) (begin_end (is_live_client c w.cluster) (handle_asked (asked op) (kept_by w.tables c)) (asked op)) end) (took : end ≡ None → room ≡ room_for (asked op) (kept_at_beginning w.cluster c (handle_asked (asked op) (kept_by w.tables c))).room)
+    (driven : end ≡ None → driver_start (record { actor = Client c; number = next_in (slice_get w.tables c) }) (asked op) (kept_at_beginning w.cluster c (handle_asked (asked op) (kept_by w.tables c))) ≡ Some driver) where
   abbrev kept : Kept
   kept = kept_at_beginning w.cluster c (handle_asked (asked op) (kept_by w.tables c))
 
   abbrev call : CallId
   call = record { actor = Client c; number = next_in (slice_get w.tables c) }
 
-  -- as the machine has it, and as the world does
-  abbrev state : CallState
-  state = record { call = call; op = op; kept = kept; steps = []; created = None; snapshot = None }
+  abbrev began : Beginning
+  began = record { kept = kept; driver = driver }
 
+  -- as the world has it, where it goes on
   abbrev hand : InHand
-  hand = record { call = call; op = op; driver = driver_start call (asked op) kept; iteration = room }
+  hand = record { call = call; op = op; driver = driver; iteration = room }
 
   abbrev t' : TableState
   t' = begun_with end (asked op) t
@@ -63,7 +64,7 @@ module _ (w : World) (c : ℕ) (op : Op) (t : TableState) (q : Option InHand) (e
   label = Began call op end
 
   abbrev later : History → History
-  later h = record h { kept = put_actor h.kept (Client c) kept; steps = put_actor h.steps (Client c) []; created = put_actor h.created (Client c) None }
+  later h = record h { beginnings = put_actor h.beginnings (Client c) began; steps = put_actor h.steps (Client c) []; created = put_actor h.created (Client c) None }
 
   nexts : (h : History) (a : ActorName) → put_actor (machine_of w h).next (Client c) ((machine_of w h).next (Client c) + 1) a ≡ next_of w'.tables a
   nexts h (Client d) = field_put w c t t' table next_in (next_in (slice_get w.tables c) + 1) (ap (λ o. next_in o + 1) table) d
@@ -73,29 +74,30 @@ module _ (w : World) (c : ℕ) (op : Op) (t : TableState) (q : Option InHand) (e
   keeps h (Client d) = field_put w c t t' table kept_in (ended_at_once end (asked op) (kept_by w.tables c)) (ap (λ o. ended_at_once end (asked op) (kept_in o)) table) d
   keeps h (Node r) = refl
 
-  hand_left : (end : Option Outcome) → left end state ≡ shown_hand kept [] None (left end hand)
-  hand_left None = refl
-  hand_left (Some o) = refl
+  -- and as the machine does
+  hand_left : (end : Option Outcome) → (end ≡ None → driver_start call (asked op) kept ≡ Some driver) → call_begun end call op kept ≡ shown_hand began [] None (left end hand)
+  hand_left None driven = driven_begun call op kept driver (driven refl)
+  hand_left (Some o) driven = refl
 
-  hands : (h : History) (a : ActorName) → put_actor (machine_of w h).in_hand (Client c) (left end state) a ≡ hand_of (later h) w'.hands a
+  hands : (h : History) (a : ActorName) → put_actor (machine_of w h).in_hand (Client c) (call_begun end call op kept) a ≡ hand_of (later h) w'.hands a
   hands h (Client d) =
-      ap (λ o. cond (d == c) o (shown_hand (h.kept (Client d)) (h.steps (Client d)) (h.created (Client d)) (hand_at w.hands d))) (hand_left end)
-      ∙ begun_hand_case (d == c) kept (h.kept (Client d)) (h.steps (Client d)) (h.created (Client d)) (left end hand) (slice_get w.hands d)
-      ∙ ap (λ o. shown_hand (put_actor h.kept (Client c) kept (Client d)) (put_actor h.steps (Client c) [] (Client d)) (put_actor h.created (Client c) None (Client d)) (or_none o)) (sym (get_set w.hands c (left end hand) q d there))
+      ap (λ o. cond (d == c) o (shown_hand (h.beginnings (Client d)) (h.steps (Client d)) (h.created (Client d)) (hand_at w.hands d))) (hand_left end driven)
+      ∙ begun_hand_case (d == c) began (h.beginnings (Client d)) (h.steps (Client d)) (h.created (Client d)) (left end hand) (slice_get w.hands d)
+      ∙ ap (λ o. shown_hand (put_actor h.beginnings (Client c) began (Client d)) (put_actor h.steps (Client c) [] (Client d)) (put_actor h.created (Client c) None (Client d)) (or_none o)) (sym (get_set w.hands c (left end hand) q d there))
   hands h (Node r) = refl
 
   after_is : (h : History) → after (machine_of w h) label ≡ machine_of w' (later h)
   after_is h = λ i. record (machine_of w' (later h)) { next = λ a. nexts h a i; tables = λ a. keeps h a i; in_hand = λ a. hands h a i }
 
-  one_fits : (end : Option Outcome) → (end ≡ None → room ≡ room_for (asked op) kept.room) → FitsHand kept [] (left end hand)
+  one_fits : (end : Option Outcome) → (end ≡ None → room ≡ room_for (asked op) kept.room) → FitsHand began [] (left end hand)
   one_fits None took = (refl, took refl)
   one_fits (Some o) took = tt
 
   fits_later : (h : History) → HistoryFits w h → HistoryFits w' (later h)
   fits_later h fits = record {
     replicas = fits.replicas;
-    hands = λ d. subst (λ o. FitsHand (put_actor h.kept (Client c) kept (Client d)) (put_actor h.steps (Client c) [] (Client d)) (or_none o)) (sym (get_set w.hands c (left end hand) q d there))
-        (begun_fits_case (d == c) kept (h.kept (Client d)) (h.steps (Client d)) (left end hand) (slice_get w.hands d) (one_fits end took) (fits.hands d));
+    hands = λ d. subst (λ o. FitsHand (put_actor h.beginnings (Client c) began (Client d)) (put_actor h.steps (Client c) [] (Client d)) (or_none o)) (sym (get_set w.hands c (left end hand) q d there))
+        (begun_fits_case (d == c) began (h.beginnings (Client d)) (h.steps (Client d)) (left end hand) (slice_get w.hands d) (one_fits end took) (fits.hands d));
   }
 
   begin_due : (h : History) → IsDue (machine_of w h) label
@@ -103,7 +105,7 @@ module _ (w : World) (c : ℕ) (op : Op) (t : TableState) (q : Option InHand) (e
     client = within;
     built = built;
     number = refl;
-    none_in_hand = ap (shown_hand (h.kept (Client c)) (h.steps (Client c)) (h.created (Client c))) free;
+    none_in_hand = ap (shown_hand (h.beginnings (Client c)) (h.steps (Client c)) (h.created (Client c))) free;
     may = may;
     answer = answers;
   }
@@ -118,7 +120,7 @@ module _ (w : World) (c : ℕ) (op : Op) (t : TableState) (q : Option InHand) (e
 pub begin_done : (w : World) (c : ℕ) (op own said : Op) (number : ℕ) (handle : Option HandleView) (live : Bool) (due end : Option Outcome) (declared : Room) (room : Option KeptIds) (tables : List TableState) (driver : Driver) (hands : List (Option InHand)) →
     c < 100 → c < length w.tables → c < length w.hands → hand_at w.hands c ≡ None → IsBuilt op → MayBegin w.cluster c (asked op) → own ≡ op → said ≡ op → number ≡ next_in (slice_get w.tables c) → handle ≡ handle_asked (asked op) (kept_by w.tables c) →
     live ≡ is_live_client c w.cluster → due ≡ begin_end live handle (asked op) → IsBeginEnd (asked op) due end → declared ≡ room_at w.cluster (ckpt_of_handle handle) → (end ≡ None → room ≡ room_for (asked op) declared) →
-    tables ≡ at_client c (begun_with end (asked op)) w.tables → driver ≡ driver_start (record { actor = Client c; number = number }) (asked op) (kept_at_beginning w.cluster c handle) →
+    tables ≡ at_client c (begun_with end (asked op)) w.tables → (end ≡ None → driver_start (record { actor = Client c; number = number }) (asked op) (kept_at_beginning w.cluster c handle) ≡ Some driver) →
     hands ≡ slice_set w.hands c (left end (record { call = record { actor = Client c; number = number }; op = own; driver = driver; iteration = room })) → Does w (record w { tables = tables; hands = hands }) (Began (record { actor = Client c; number = number }) said end)
 begin_done w c op own said number handle live due end declared room tables driver hands within table there free built may own_is said_is number_is handle_is live_is due_is answers declared_is took tables_are driver_is hands_are =
     let ask : Ask = asked op in
@@ -130,9 +132,9 @@ begin_done w c op own said number handle live due end declared room tables drive
     let e : begin_end (is_live_client c w.cluster) found ask ≡ due = (λ i. begin_end (sym live_is i) (f i) ask) ∙ sym due_is in
     let own_answers = subst (λ (o : Option Outcome). IsBeginEnd ask o end) (sym e) answers in
     let own_took = λ (goes : end ≡ None). took goes ∙ ap (room_for ask) (declared_is ∙ ap (λ o. room_at w.cluster (ckpt_of_handle o)) (sym f)) in
-    let d : driver_start (record { actor = Client c; number = next_in (slice_get w.tables c) }) ask (kept_at_beginning w.cluster c found) ≡ driver = (λ i. driver_start (record { actor = Client c; number = n i }) ask (kept_at_beginning w.cluster c (f i))) ∙ sym driver_is in
-    let g : slice_set w.hands c (left end (record { call = record { actor = Client c; number = next_in (slice_get w.tables c) }; op = op; driver = driver_start (record { actor = Client c; number = next_in (slice_get w.tables c) }) ask (kept_at_beginning w.cluster c found); iteration = room })) ≡ hands
-    = (λ i. slice_set w.hands c (left end (record { call = record { actor = Client c; number = n i }; op = sym own_is i; driver = d i; iteration = room }))) ∙ sym hands_are in
+    let own_driven = λ (goes : end ≡ None). (λ i. driver_start (record { actor = Client c; number = n i }) ask (kept_at_beginning w.cluster c (f i))) ∙ driver_is goes in
+    let g : slice_set w.hands c (left end (record { call = record { actor = Client c; number = next_in (slice_get w.tables c) }; op = op; driver = driver; iteration = room })) ≡ hands
+    = (λ i. slice_set w.hands c (left end (record { call = record { actor = Client c; number = n i }; op = sym own_is i; driver = driver; iteration = room }))) ∙ sym hands_are in
     let b : slice_set w.tables c (begun_with end ask t.0) ≡ tables = ap (table_changed c (begun_with end ask) w.tables) (sym t.1) ∙ sym tables_are in
     subst (λ (y : List TableState × List (Option InHand) × ℕ × Op). Does w (record w { tables = y.0; hands = y.1 }) (Began (record { actor = Client c; number = y.2 }) y.3 end))
-    (λ i. (b i, g i, n i, sym said_is i)) (begin_does w c op t.0 q.0 end room within built may t.1 q.1 free own_answers own_took)
+    (λ i. (b i, g i, n i, sym said_is i)) (begin_does w c op t.0 q.0 end room driver within built may t.1 q.1 free own_answers own_took own_driven)

@@ -26,3 +26,8 @@ ended_hands hands c (Some e) hand within free ended =
 pub none_where_false : {E : Type 0} (end : Option E) → is_some end ≡ false → end ≡ None
 none_where_false None goes = refl
 none_where_false (Some e) goes = absurd (let e : true ≡ false = goes in cc)
+
+-- and what is there is not
+pub none_is_not_some : {E : Type 0} (end : Option E) → is_some end ≡ true → end ≡ None → ⊥
+none_is_not_some None ended none = let e : false ≡ true = ended in cc e
+none_is_not_some (Some e) ended none = cc none

@@ -19,24 +19,13 @@ use Rattle.world_core.specs.Shows.{Does, hand_at}
 use Rattle.ckpt_machine.specs.Runs.{last}
 use Rattle.world_core.specs.Runs.{IsRunTo, MayHappen, Happens, Answers, AnswersBegin, AnswersStep, IsStepOf, IsIdleWord, GoesOn, KeepsOthers}
 use Rattle.world_core.specs.StepsLeft.{left_of, ComesNearer}
-use Rattle.world_core.specs.Happenings.{ComesNow, IsAnswered, IsStep, BeginsOrSays}
+use Rattle.world_core.specs.Happenings.{IsAnswered, IsStep, BeginsOrSays}
 use Rattle.std.proofs.lemmas.Bool.{eq-eqb}
 use Rattle.cluster_record.proofs.Places.{get_set, there_is, tests_differ}
 use Rattle.ckpt_machine.proofs.Facts.{facts}
 use Rattle.ckpt_machine.proofs.RunLaws.{run_has}
 use Rattle.world_core.proofs.Moving.{shown-moment}
 use Rattle.world_core.proofs.Running.{goes_on, nearer}
-use Rattle.world_core.proofs.Words.{cluster_is_empty}
-
--- ---- what comes
-
-pub comes_now : (w : World) (log : List Label) (event : Event) → MayHappen w log event → ComesNow w event
-comes_now w log (happenings.Nodes n) may = (may.comes.0, may.comes.1, cluster_is_empty w (subst (IsRunTo w) may.comes.2 may.run))
-comes_now w log (happenings.Begin (Client c) op) may = may.comes
-comes_now w log (happenings.Begin (Node r) op) may = absurd may.comes.0
-comes_now w log (happenings.Step who finish) may = may.comes
-comes_now w log (happenings.At t) may = may.comes
-comes_now w log (happenings.Show k) may = tt
 
 -- ---- the calls in hand after it
 

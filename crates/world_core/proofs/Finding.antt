@@ -1,30 +1,84 @@
--- The replica that a request finds, a reservation aside.
-use Rattle.std.proofs.Common.{◌≡◌, ◌≢◌, ℕ, ◌<◌, Bool, true, false, List, length, refl, sym, ap, subst, ◌∙◌, cond}
-use Rattle.std.specs.Prelude.{Option, Some, None, ◌==◌, IsSomeAnd, slice_index}
+-- What a due request finds on its node: for all but a reservation the replica that the machine has there.
+use Rattle.std.proofs.Common.{◌≡◌, ℕ, ◌<◌, ◌==◌, Bool, true, false, not, cond, List, length, refl, sym, ap, subst, ◌∙◌}
+use Rattle.std.specs.Prelude.{Option, Some, None, IsSome, IsSomeAnd, slice_index}
+use Rattle.std.specs.Option.{option_and_then}
 use Rattle.ckpt_types.specs.declared.identities.ActorName.TheVariants.{Client}
 use Rattle.ckpt_types.specs.declared.identities.CallId.{CallId}
 use Rattle.node_msgs.specs.declared.requests.Request.{Request}
 use Rattle.node_msgs.specs.declared.requests.Request.TheVariants.{Reserve}
+use Rattle.node_msgs.specs.declared.requests.Request.TheVariants as requests
+use Rattle.node_msgs.specs.declared.next.Next.{Next}
 use Rattle.node_msgs.specs.declared.next.Next.TheVariants.{Serve}
-use Rattle.world_core.specs.declared.hands.InHand.{InHand}
+use Rattle.cluster_record.specs.DueActive.{request_by}
+use Rattle.cluster_record.specs.declared.calls.ActiveKind.{ActiveKind}
+use Rattle.cluster_record.specs.declared.calls.ActiveKind.TheVariants as kinds
 use Rattle.cluster_record.specs.declared.entries.Entry.{Entry}
-use Rattle.ckpt_machine.specs.Replicas.{Replica}
-use Rattle.ckpt_machine.specs.Replicas.{Slot}
+use Rattle.replica.specs.Replicas.{Replica}
+use Rattle.stage_slot.specs.Slots.{Slot}
+use Rattle.world_core.specs.declared.hands.InHand.{InHand}
 use Rattle.world_core.specs.declared.world.World.{World}
-use Rattle.cluster_record.specs.RecordState.{entry_of, complete_of}
+use Rattle.cluster_record.specs.RecordState.{RecordState, entry_of, complete_of, no_nodes}
 use Rattle.node_msgs.specs.Requests.{ckpt_of}
-use Rattle.ckpt_machine.specs.Serving.{replica_in, IsReadyFor}
+use Rattle.node_core.specs.Nodes.{replica_served, where_seen}
+use Rattle.node_core.specs.Seen.{record_seen, entry_seen, is_complete, is_complete_in}
+use Rattle.node_core.specs.Fitting.{IsReadyFor}
+use Rattle.world_core.specs.Nodes.{node_at, replica_in}
+use Rattle.ckpt_machine.specs.Drivers.{Driver, Rooms}
+use Rattle.ckpt_machine.specs.Drivers as drivers
 use Rattle.ckpt_machine.specs.Driving.{driver_next}
-use Rattle.ckpt_machine.specs.Machine.{Machine, Effect}
-use Rattle.ckpt_machine.specs.Steps.{seen_by, seen_at, seen_slot, due}
+use Rattle.ckpt_machine.specs.Machine.{Machine, Effect, ReplicaState, CallState}
+use Rattle.ckpt_machine.specs.Tables.{handle_asked}
+use Rattle.ckpt_machine.specs.Steps.{seen_by, seen_at, seen_slot, due, room_in}
+use Rattle.cluster_record.specs.LookUps.{declared_in}
+use Rattle.ckpt_types.specs.Asks.{asked, update_of}
+use Rattle.ckpt_types.specs.declared.update.Update.{Update}
+use Rattle.client_handles.specs.ClientState.{ClientState, iteration_at}
+use Rattle.client_handles.specs.declared.handle_view.HandleView.{HandleView}
+use Rattle.section_iter.specs.KeptIds.{KeptIds}
+use Rattle.section_iter.specs.Room.{room_declared, IsRoomFor}
+use Rattle.world_core.specs.TableState.{kept_by}
 use Rattle.world_core.specs.Happenings.{rooms_at}
 use Rattle.ckpt_machine.specs.Facts.{Facts, IsServable}
-use Rattle.world_core.specs.Shows.{HistoryFits, FitsReplica, History, machine_of, shown_replica, shown_slot, where_complete, hand_at}
-use Rattle.world_core.proofs.Held.{state_in, in_hand_is, due_is}
+use Rattle.world_core.specs.Shows.{HistoryFits, FitsReplica, HasCount, History, machine_of, shown_replica, shown_slot, where_complete, complete_replica, room_for, tables_of, hand_at}
+use Rattle.ckpt_machine.proofs.NextOf.{OfAsked, next_of}
+use Rattle.world_core.proofs.Carrying.{GoesToReplica, IsOfCall}
+use Rattle.world_core.proofs.Held.{state_in, in_hand_is, actor_is, iteration_is, due_is}
+use Rattle.world_core.proofs.IterationSteps.{TablesReady, goes_on_with, asked_is, room_for_declared}
+use Rattle.world_core.proofs.Recording.{zero_there}
 
-seen_same : (o : CallId) (p : Option Slot) → seen_slot (shown_slot o p) ≡ p
-seen_same o None = refl
-seen_same o (Some slot) = refl
+-- ---- what may be due
+
+-- a reservation, or what goes to a replica
+abbrev pub IsReservationOr : Request → Type 0
+IsReservationOr (Reserve k) = Unit {0}
+IsReservationOr request = GoesToReplica request
+
+abbrev AsksSo : Next → Type 0
+AsksSo (Serve r request) = IsReservationOr request
+AsksSo next = Unit {0}
+
+kind_goes : (call : CallId) (k : ℕ) (kind : ActiveKind) → IsReservationOr (request_by call k kind)
+kind_goes call k kinds.Apply = tt
+kind_goes call k (kinds.Weak n) = tt
+kind_goes call k kinds.Read = tt
+kind_goes call k kinds.Status = tt
+kind_goes call k (kinds.Iterate choice) = tt
+kind_goes call k kinds.Next = tt
+
+asked_goes : (x : Driver) → OfAsked AsksSo x
+asked_goes (drivers.Update u) = (λ r t. tt, λ r. tt)
+asked_goes (drivers.Active a) = λ r. kind_goes a.call a.ckpt a.kind
+asked_goes x = tt
+
+-- no call claims what is staged, or withdraws it
+pub next_goes : (R : RecordState) (room : Rooms) (x : Driver) (r : ℕ) (request : Request) → driver_next R room x ≡ Serve r request → IsReservationOr request
+next_goes R room x r request e = subst AsksSo e (next_of AsksSo (λ o. tt) (λ step. tt) (λ r k. tt) R room x (asked_goes x))
+
+-- ---- the replica that is there
+
+seen_same : (o : CallId) (n : ℕ) (p : Option Slot) → HasCount n p → seen_slot n (shown_slot o p) ≡ p
+seen_same o n None counts = refl
+seen_same o n (Some slot) counts = λ i. Some (record slot { count = sym counts i })
 
 -- the replica that a due request finds
 pub record There (k c : ℕ) (e : Option Entry) (E : List Effect) (o : CallId) (y : Option Replica) (P : Replica → Type 0) : Type 0 where
@@ -45,8 +99,9 @@ there k c (Some e) E o y P fits some = by_test (c == 0) refl y fits some where
   by_test true t y fits some = absurd some
   by_test false t None fits some = absurd some
   by_test false t (Some x) fits some =
-      let same : record { ckpt = k; attributes = e.attributes; sections = x.sections; count = length E; generation = x.generation; slot = seen_slot (shown_slot o x.slot) } ≡ x
-      = λ i. record { ckpt = sym fits.0 i; attributes = sym fits.1 i; sections = x.sections; count = fits.2 i; generation = x.generation; slot = seen_same o x.slot i } in
+      let slot : seen_slot (length E) (shown_slot o x.slot) ≡ x.slot = ap (λ n. seen_slot n (shown_slot o x.slot)) fits.2 ∙ seen_same o x.count x.slot fits.3 in
+      let same : record { ckpt = k; attributes = e.attributes; sections = x.sections; count = length E; generation = x.generation; slot = seen_slot (length E) (shown_slot o x.slot) } ≡ x
+      = λ i. record { ckpt = sym fits.0 i; attributes = sym fits.1 i; sections = x.sections; count = fits.2 i; generation = x.generation; slot = slot i } in
       record {
         replica = x;
         entry = e;
@@ -59,13 +114,20 @@ there k c (Some e) E o y P fits some = by_test (c == 0) refl y fits some where
         holds = subst P same some;
       }
 
--- what is no reservation is asked of a replica, and its answer is that replica's
+-- ---- what the node itself sees of it
 
-servable : (m : Machine) (r : ℕ) (request : Request) → ((k : ℕ) → request ≢ Reserve k) → IsServable m r request → IsSomeAnd (seen_at m (ckpt_of request) r) (IsReadyFor request)
-servable m r (Reserve k) other h = absurd (other k refl)
-servable m r request other h = h
+complete_where : (r : ℕ) (e : Option Entry) → (slice_index (complete_of e) r == 0) ≡ false → is_complete_in (entry_seen r e) ≡ true
+complete_where r None t = let z : (slice_index no_nodes r == 0) ≡ true = ap (λ n. n == 0) (zero_there r) in absurd (let bad : true ≡ false = sym z ∙ t in cc bad)
+complete_where r (Some e) t = ap not t
 
-module _ (w : World) (h : History) (c r : ℕ) (request : Request) (hand : InHand) (other : (k : ℕ) → request ≢ Reserve k) (facts : Facts (machine_of w h)) (fits : HistoryFits w h) (held : hand_at w.hands c ≡ Some hand) (next : driver_next w.cluster (rooms_at w c) hand.driver ≡ Serve r request) where
+-- ---- for a request that is due
+
+-- what goes to a replica is asked of one that is ready for it
+servable : (m : Machine) (r : ℕ) (request : Request) → GoesToReplica request → IsServable m r request → IsSomeAnd (seen_at m (ckpt_of request) r) (IsReadyFor request)
+servable m r (Reserve k) goes h = absurd goes
+servable m r request goes h = h
+
+module _ (w : World) (h : History) (c r : ℕ) (request : Request) (hand : InHand) (facts : Facts (machine_of w h)) (fits : HistoryFits w h) (held : hand_at w.hands c ≡ Some hand) (next : driver_next w.cluster (rooms_at w c) hand.driver ≡ Serve r request) where
   abbrev m : Machine
   m = machine_of w h
 
@@ -80,10 +142,68 @@ module _ (w : World) (h : History) (c r : ℕ) (request : Request) (hand : InHan
   pub ready : (r < 8) × IsServable m r request
   ready = facts.ready (Client c) (state_in h c hand) r request (in_hand_is w h c hand held) due_here
 
-  -- the node has the replica
-  pub found : There k (slice_index (complete_of (entry_of k w.cluster.entries)) r) (entry_of k w.cluster.entries) (h.effects k r) (h.origins k r) (replica_in w.nodes k r) (IsReadyFor request)
-  found = there k (slice_index (complete_of (entry_of k w.cluster.entries)) r) (entry_of k w.cluster.entries) (h.effects k r) (h.origins k r) (replica_in w.nodes k r) (IsReadyFor request) (fits.replicas k r) (servable m r request other ready.1)
+  module _ (goes : GoesToReplica request) where
+    -- the node has the replica
+    pub found : There k (slice_index (complete_of (entry_of k w.cluster.entries)) r) (entry_of k w.cluster.entries) (h.effects k r) (h.origins k r) (replica_in w.nodes k r) (IsReadyFor request)
+    found = there k (slice_index (complete_of (entry_of k w.cluster.entries)) r) (entry_of k w.cluster.entries) (h.effects k r) (h.origins k r) (replica_in w.nodes k r) (IsReadyFor request) (fits.replicas k r) (servable m r request goes ready.1)
 
-  -- as the machine has it
-  pub seen_is : seen_at m k r ≡ replica_in w.nodes k r
-  seen_is = found.seen ∙ sym found.is
+    pub complete_is : complete_replica w.cluster w.nodes k r ≡ Some found.replica
+    complete_is = ap (λ b. cond b None (replica_in w.nodes k r)) found.complete ∙ found.is
+
+    -- by the record it is complete for it, and serves with it
+    pub seen_complete : is_complete (record_seen w.cluster k r) ≡ true
+    seen_complete = complete_where r (entry_of k w.cluster.entries) found.complete
+
+    pub served_is : replica_served w.cluster (node_at w.nodes r) k ≡ Some found.replica
+    served_is = ap (λ b. where_seen b (replica_in w.nodes k r)) seen_complete ∙ found.is
+
+    pub shown : m.replicas k r ≡ shown_replica (h.effects k r) (h.origins k r) (Some found.replica)
+    shown = ap (shown_replica (h.effects k r) (h.origins k r)) complete_is
+
+-- ---- what is the call's own
+
+-- what follows from something is there where that is
+from_there : {X Y : Type 0} (f : X → Option Y) (o : Option X) → IsSome (option_and_then f o) → IsSome o
+from_there f None there = absurd (cc there)
+from_there f (Some x) there = refl
+
+shown_update : (u : Update) (o : CallId) (p : Option Slot) → IsSomeAnd (shown_slot o p) (λ slot. slot.update ≡ u) → IsSomeAnd p (λ slot. slot.update ≡ u)
+shown_update u o None own = absurd own
+shown_update u o (Some slot) own = own
+
+module _ (w : World) (h : History) (c r : ℕ) (hand : InHand) (facts : Facts (machine_of w h)) (fits : HistoryFits w h) (held : hand_at w.hands c ≡ Some hand) where
+  abbrev M : Machine
+  M = machine_of w h
+
+  abbrev s : CallState
+  s = state_in h c hand
+
+  abbrev kept : ClientState
+  kept = kept_by w.tables c
+
+  -- the iteration that it starts or with which it goes on
+  pub tables_ready : (request : Request) → due M s ≡ Serve r request → TablesReady request M s hand kept
+  tables_ready (requests.Iterate call k choice) is =
+      let starting = facts.starts (Client c) s r call k choice (in_hand_is w h c hand held) is in
+      (starting, iteration_is w h c hand held fits ∙ ap (λ a. room_for a s.kept.room) starting.asks)
+  tables_ready (requests.Next call k) is =
+      let going = facts.goes_on (Client c) s r call k (in_hand_is w h c hand held) is in
+      let caller = actor_is w h c hand held facts in
+      goes_on_with (asked hand.op) kept going.iteration going.asks going.within
+      (from_there _ (iteration_at going.iteration kept) (subst (λ (o : Option HandleView). IsSome o) (λ i. handle_asked (going.asks i) (tables_of w.tables (caller i))) going.handle))
+      (facts.rest (Client c))
+  tables_ready request is = tt
+
+  -- and what else of its own it uses at a replica
+  pub of_call : (request : Request) → due M s ≡ Serve r request → (E : List Effect) (o : CallId) (x : Replica) (e : Entry) → entry_of (ckpt_of request) w.cluster.entries ≡ Some e → x.attributes ≡ e.attributes → M.replicas (ckpt_of request) r ≡ shown_replica E o (Some x) → IsOfCall request hand kept x
+  of_call (requests.Commit call k) is E o x e at same is_shown =
+      let own = facts.commits (Client c) s r call k (in_hand_is w h c hand held) is in
+      shown_update (update_of hand.op) o x.slot (subst (λ (y : Option ReplicaState). IsSomeAnd y (λ x. IsSomeAnd x.slot (λ slot. slot.update ≡ update_of hand.op))) is_shown own)
+  of_call (requests.Iterate call k choice) is E o x e at same is_shown =
+      let ready = tables_ready (requests.Iterate call k choice) is in
+      let room : room_declared x.attributes ≡ s.kept.room = ap room_declared same ∙ sym (ready.0.room ∙ ap (λ o. room_in (declared_in o)) at) in
+      subst (λ (o : Option KeptIds). IsSomeAnd o (λ it. IsRoomFor x.attributes it.room)) (sym ready.1) (subst (IsRoomFor x.attributes) room (room_for_declared x.attributes))
+  of_call (requests.Next call k) is E o x e at same is_shown =
+      let ready = tables_ready (requests.Next call k) is in
+      subst (λ (o : Option KeptIds). IsSome o) (sym (asked_is (asked hand.op) kept ready)) refl
+  of_call request is E o x e at same is_shown = tt

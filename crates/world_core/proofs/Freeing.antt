@@ -8,13 +8,16 @@ use Rattle.cluster_record.specs.declared.entries.Entry.{Entry}
 use Rattle.cluster_record.specs.Places.{find_key, list_or}
 use Rattle.cluster_record.specs.RecordState.{RecordState, entry_of, complete_of}
 use Rattle.run_labels.specs.declared.labels.Label.{Label}
-use Rattle.ckpt_machine.specs.Replicas.{Replica}
+use Rattle.replica.specs.Replicas.{Replica}
 use Rattle.world_core.specs.declared.world.World.{World}
-use Rattle.world_core.specs.Freeing.{is_there, freed}
+use Rattle.node_core.specs.Nodes.{is_there}
+use Rattle.world_core.specs.Freeing.{freed}
 use Rattle.ckpt_machine.specs.Machine.{Machine}
 use Rattle.world_core.specs.LiveRooms.{LiveHaveRoom}
 use Rattle.world_core.specs.Holding.{replicas_on, IsReservation, IsHeld, HoldsOnlyWhatStands}
-use Rattle.ckpt_machine.specs.Serving.{replica_key, replica_in, opened_replica}
+use Rattle.node_core.specs.Nodes.{replica_key}
+use Rattle.world_core.specs.Nodes.{replica_in}
+use Rattle.replica.specs.Replicas.{opened_replica}
 use Rattle.ckpt_machine.specs.Facts.{Facts}
 use Rattle.world_core.specs.Shows.{History, shown_replica, shown_reservation, where_complete, where_not_complete, complete_replica, reserved_in, machine_of, FitsReplica, HistoryFits, Shows, Does}
 use Rattle.ckpt_machine.specs.Steps.{IsDue, after}

@@ -11,12 +11,13 @@ use Rattle.ckpt_machine.specs.Drivers.{Driver}
 use Rattle.ckpt_machine.specs.Drivers as drivers
 use Rattle.cluster_record.specs.declared.calls.Making.{Making}
 use Rattle.cluster_record.specs.declared.entries.Entry.{Entry}
-use Rattle.ckpt_machine.specs.Replicas.{Replica}
+use Rattle.replica.specs.Replicas.{Replica}
 use Rattle.world_core.specs.declared.world.World.{World}
 use Rattle.cluster_record.specs.Places.{change_key}
 use Rattle.cluster_record.specs.Calls.{client_of}
 use Rattle.cluster_record.specs.RecordState.{RecordState, identity_of, entry_of, named, stays, referred, made_with, new_entry, created_as, opened, finished, undone, has_references, idle_from, unreferred, released_all, unnamed, unlinked, retaining, is_call_of, departed, swept}
-use Rattle.ckpt_machine.specs.Serving.{replica_in, opened_replica}
+use Rattle.world_core.specs.Nodes.{replica_in}
+use Rattle.replica.specs.Replicas.{opened_replica}
 use Rattle.world_core.specs.RecordAfter.{once_change, event_change, event_after}
 use Rattle.cluster_record.specs.DueOnce.{OneStep}
 use Rattle.cluster_record.specs.DueOnce as once

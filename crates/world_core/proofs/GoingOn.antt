@@ -1,35 +1,17 @@
 -- An iteration that goes on: it is lent, and kept again with what stands behind the section that was given.
-use Rattle.std.proofs.Common.{◌≡◌, ℕ, ◌<◌, ◌≤◌, ◌==◌, Bool, true, false, cond, List, [], ◌∷◌, Option, Some, None, IsSome, Ok, Err, slice_index, refl, sym, ap, ◌∙◌, arith}
-use Rattle.std.specs.Option.{option_and_then, ok_or}
+use Rattle.std.proofs.Common.{◌≡◌, ℕ, ◌<◌, ◌≤◌, ◌==◌, Bool, true, false, cond, List, [], ◌∷◌, Option, Some, None, Ok, slice_index, refl, sym, ap, ◌∙◌, arith}
+use Rattle.std.specs.Option.{option_and_then}
 use Rattle.std.proofs.lemmas.Bool.{eqb-true, ne_eqb}
 use Rattle.std.proofs.lemmas.Option.{none-some, same_Some}
-use Rattle.ckpt_types.specs.declared.ais_error.AisError.{AisError}
-use Rattle.ckpt_types.specs.declared.ais_error.AisError.TheVariants.{BadHandle}
 use Rattle.ckpt_types.specs.Reads.{NextGiven}
 use Rattle.section_iter.specs.KeptIds.{KeptIds}
 use Rattle.section_iter.specs.Next.{kept_after}
-use Rattle.client_handles.specs.ClientState.{ClientState, iteration_number, iteration_at, kept_at, kept_iteration, with_kept, keeping, lent, returned, NoneLent, IsValid}
+use Rattle.client_handles.specs.ClientState.{ClientState, iteration_number, kept_at, kept_iteration, with_kept, keeping, lent, returned, IsValid}
 use Rattle.client_handles.specs.Numbered.{numbered, RiseWithin}
 use Rattle.client_handles.specs.declared.begun.BegunIteration.{BegunIteration}
 use Rattle.client_handles.proofs.IterationLaws.{kept_iteration-Ok}
-use Rattle.client_handles.proofs.NumberedLaws.{numbered-All}
 use Rattle.ckpt_types.specs.Asks.{Next}
 use Rattle.ckpt_machine.specs.Tables.{with_next, gone_on}
-
--- ---- the iteration is there
-
--- where one is there, and something is kept of it, no error is told
-kept_told : (o : Option BegunIteration) → IsSome o → ((it : BegunIteration) → o ≡ Some it → IsSome it.kept) → (error : AisError) → Err error ≡ ok_or (option_and_then (λ (it : BegunIteration). it.kept) o) BadHandle → ⊥
-kept_told None there kept error told = cc
-kept_told (Some it) there kept error told = not_told it.kept (kept it refl) error told where
-  not_told : (k : Option KeptIds) → IsSome k → (error : AisError) → Err error ≡ ok_or k BadHandle → ⊥
-  not_told None some error told = cc
-  not_told (Some kept) some error told = cc
-
--- where a place stands for an iteration and none is lent, it is handed out
-pub kept_iteration-there : (place : ℕ) (s : ClientState) (error : AisError) → NoneLent s → IsSome (iteration_at place s) → Err error ≡ kept_iteration place s → ⊥
-kept_iteration-there place s error none there told =
-    kept_told (iteration_at place s) there (λ it found. numbered-All iteration_number (λ (x : BegunIteration). IsSome x.kept) (slice_index s.iteration_places place) s.iterations it none found) error told
 
 -- ---- lent and kept again
 

@@ -1,7 +1,7 @@
 -- The calls in hand, of which only the first are in the list: one looked up, one set, and the list made longer.
 use Rattle.std.proofs.Common.{◌≡◌, ◌≢◌, ℕ, zero, suc, ◌-◌, ◌<◌, ◌≤◌, List, [], ◌∷◌, ◌++◌, length, Option, Some, None, refl, sym, ap, ◌∙◌, arith, length-append}
 use Rattle.std.specs.Prelude.{replicate, slice_set}
-use Rattle.std.proofs.lemmas.List.{append_assoc, length-set, length-replicate}
+use Rattle.std.proofs.lemmas.List.{append_assoc, length-set}
 use Rattle.cluster_record.specs.Places.{or_none}
 use Rattle.world_core.specs.declared.hands.InHand.{InHand}
 use Rattle.world_core.specs.HandsView.{hands_in}
@@ -44,10 +44,6 @@ hands_in-longer list few =
     ap (λ n. list ++ None ∷ [] ++ replicate n None) less
     ∙ append_assoc list (None ∷ []) (replicate (100 - length list - 1) None)
     ∙ ap (λ xs. list ++ xs) (one_hand_of (100 - length list) (omega arith))
-
--- a hundred in all
-pub length-hands_in : (list : List (Option InHand)) → length list ≤ 100 → length (hands_in list) ≡ 100
-length-hands_in list few = length-append list (replicate (100 - length list) None) ∙ omega (arith, length-replicate {A = Option InHand} (100 - length list) None)
 
 -- ---- as they are seen
 

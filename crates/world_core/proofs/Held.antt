@@ -1,17 +1,13 @@
 -- The call in hand of a client, as the machine that is shown has it.
 use Rattle.std.proofs.Common.{◌≡◌, ℕ, List, ◌∷◌, refl, sym, ap, subst, ◌∙◌}
-use Rattle.std.specs.Prelude.{Option, Some, None, slice_get}
+use Rattle.std.specs.Prelude.{Option, Some, None}
 use Rattle.std.proofs.lemmas.Option.{same_Some}
 use Rattle.ckpt_types.specs.declared.identities.ActorName.TheVariants.{Client}
 use Rattle.ckpt_types.specs.declared.answers.Outcome.{Outcome}
-use Rattle.ckpt_types.specs.declared.identities.CallId.{CallId}
-use Rattle.ckpt_types.specs.declared.operation.Op.{Op}
 use Rattle.node_msgs.specs.declared.next.Next.{Next}
-use Rattle.client_handles.specs.declared.handle_view.HandleView.{HandleView}
 use Rattle.world_core.specs.declared.hands.InHand.{InHand}
 use Rattle.world_core.specs.declared.world.World.{World}
-use Rattle.cluster_record.specs.Calls.{number_of, left}
-use Rattle.world_core.specs.TableState.{TableState}
+use Rattle.cluster_record.specs.Calls.{left}
 use Rattle.cluster_record.specs.StepDone.{StepDone, counting}
 use Rattle.cluster_record.specs.DueOpen.{OpenState, create_taken, reserve_taken, open_taken_by}
 use Rattle.cluster_record.specs.DueUpdate.{UpdateState, stage_taken, commit_taken, update_taken_by}
@@ -24,28 +20,28 @@ use Rattle.ckpt_machine.specs.Drivers as drivers
 use Rattle.ckpt_machine.specs.Driving.{driver_next, driver_taken}
 use Rattle.world_core.specs.HandSteps.{hand_taken}
 use Rattle.world_core.specs.Happenings.{rooms_at, IsNext}
-use Rattle.ckpt_machine.specs.Machine.{Machine, CallState}
+use Rattle.ckpt_machine.specs.Machine.{CallState}
 use Rattle.ckpt_types.specs.Asks.{asked}
 use Rattle.ckpt_machine.specs.Tables.{rooms_in}
 use Rattle.ckpt_machine.specs.Steps.{due, driver_of}
 use Rattle.ckpt_machine.specs.Facts.{Facts}
-use Rattle.world_core.specs.Shows.{IsShown, History, HistoryFits, FitsHand, room_for, machine_of, tables_of, hand_at, shown_hand}
+use Rattle.world_core.specs.Shows.{History, HistoryFits, FitsHand, room_for, machine_of, tables_of, hand_at, shown_hand}
 
 -- the call with its history
 abbrev pub state_in : History → ℕ → InHand → CallState
-state_in h c hand = record { call = hand.call; op = hand.op; kept = h.kept (Client c); steps = h.steps (Client c); created = h.created (Client c); snapshot = None }
+state_in h c hand = record { call = hand.call; op = hand.op; kept = (h.beginnings (Client c)).kept; begun = (h.beginnings (Client c)).driver; steps = h.steps (Client c); created = h.created (Client c); snapshot = None }
 
 module _ (w : World) (h : History) (c : ℕ) (hand : InHand) (held : hand_at w.hands c ≡ Some hand) where
   pub in_hand_is : (machine_of w h).in_hand (Client c) ≡ Some (state_in h c hand)
-  in_hand_is = ap (shown_hand (h.kept (Client c)) (h.steps (Client c)) (h.created (Client c))) held
+  in_hand_is = ap (shown_hand (h.beginnings (Client c)) (h.steps (Client c)) (h.created (Client c))) held
 
   -- it is where its steps have led it
   pub driver_is : HistoryFits w h → hand.driver ≡ driver_of (state_in h c hand)
-  driver_is fits = (subst (FitsHand (h.kept (Client c)) (h.steps (Client c))) held (fits.hands c)).0
+  driver_is fits = (subst (FitsHand (h.beginnings (Client c)) (h.steps (Client c))) held (fits.hands c)).0
 
   -- with the room that it took for an iteration
-  pub iteration_is : HistoryFits w h → hand.iteration ≡ room_for (asked hand.op) (h.kept (Client c)).room
-  iteration_is fits = (subst (FitsHand (h.kept (Client c)) (h.steps (Client c))) held (fits.hands c)).1
+  pub iteration_is : HistoryFits w h → hand.iteration ≡ room_for (asked hand.op) (h.beginnings (Client c)).kept.room
+  iteration_is fits = (subst (FitsHand (h.beginnings (Client c)) (h.steps (Client c))) held (fits.hands c)).1
 
   -- it is the client's
   pub actor_is : Facts (machine_of w h) → hand.call.actor ≡ Client c
@@ -61,16 +57,6 @@ module _ (w : World) (h : History) (c : ℕ) (hand : InHand) (held : hand_at w.h
 -- what is next for the call, is next for the one that is found in hand
 pub next_for : (w : World) (c : ℕ) (n : Next) (hand : InHand) → hand_at w.hands c ≡ Some hand → IsNext w c n → driver_next w.cluster (rooms_at w c) hand.driver ≡ n
 next_for w c n hand held next = ap (λ (h : InHand). driver_next w.cluster (rooms_at w c) h.driver) (same_Some hand next.hand (sym held ∙ next.held)) ∙ next.next_is
-
--- the call in hand of a client is the client's
-pub caller_is : (w : World) (c : ℕ) (hand : InHand) → hand_at w.hands c ≡ Some hand → IsShown w → hand.call.actor ≡ Client c
-caller_is w c hand held shown = actor_is w shown.shows.history c hand held (subst Facts shown.shows.same shown.facts)
-
--- what the machine's facts say of the call in hand, holds of it in the world
-pub call_fact : (w : World) (c : ℕ) (hand : InHand) (P : CallId → Op → Type 0) → hand_at w.hands c ≡ Some hand → (shown : IsShown w) → ((s : CallState) → shown.state.in_hand (Client c) ≡ Some s → P s.call s.op) → P hand.call hand.op
-call_fact w c hand P held shown fact =
-    let h = shown.shows.history in
-    fact (state_in h c hand) (ap (λ (m : Machine). m.in_hand (Client c)) shown.shows.same ∙ in_hand_is w h c hand held)
 
 -- ---- a call that is told of a step
 
@@ -106,14 +92,14 @@ taken-counting n d (drivers.Active a) = refl
 
 -- it goes on with it, or has ended
 pub left_shown : (h : History) (c : ℕ) (hand : InHand) (done : StepDone) (n : ℕ) (made : Option (List ℕ)) (end : Option Outcome) →
-    left end (record (state_in h c hand) { steps = counting n done ∷ h.steps (Client c); created = made }) ≡ shown_hand (h.kept (Client c)) (counting n done ∷ h.steps (Client c)) made (left end (hand_taken done hand))
+    left end (record (state_in h c hand) { steps = counting n done ∷ h.steps (Client c); created = made }) ≡ shown_hand (h.beginnings (Client c)) (counting n done ∷ h.steps (Client c)) made (left end (hand_taken done hand))
 left_shown h c hand done n made None = refl
 left_shown h c hand done n made (Some o) = refl
 
-pub left_fits : (h : History) (c : ℕ) (hand : InHand) (done : StepDone) (n : ℕ) (end : Option Outcome) → FitsHand (h.kept (Client c)) (h.steps (Client c)) (Some hand) → FitsHand (h.kept (Client c)) (counting n done ∷ h.steps (Client c)) (left end (hand_taken done hand))
+pub left_fits : (h : History) (c : ℕ) (hand : InHand) (done : StepDone) (n : ℕ) (end : Option Outcome) → FitsHand (h.beginnings (Client c)) (h.steps (Client c)) (Some hand) → FitsHand (h.beginnings (Client c)) (counting n done ∷ h.steps (Client c)) (left end (hand_taken done hand))
 left_fits h c hand done n None fits = (sym (taken-counting n done hand.driver) ∙ ap (driver_taken (counting n done)) fits.0, fits.1)
 left_fits h c hand done n (Some o) fits = tt
 
 -- what holds of the hands holds of the one in hand
-pub hand_fits : (w : World) (h : History) (c : ℕ) (hand : InHand) → hand_at w.hands c ≡ Some hand → HistoryFits w h → FitsHand (h.kept (Client c)) (h.steps (Client c)) (Some hand)
-hand_fits w h c hand held fits = subst (FitsHand (h.kept (Client c)) (h.steps (Client c))) held (fits.hands c)
+pub hand_fits : (w : World) (h : History) (c : ℕ) (hand : InHand) → hand_at w.hands c ≡ Some hand → HistoryFits w h → FitsHand (h.beginnings (Client c)) (h.steps (Client c)) (Some hand)
+hand_fits w h c hand held fits = subst (FitsHand (h.beginnings (Client c)) (h.steps (Client c))) held (fits.hands c)

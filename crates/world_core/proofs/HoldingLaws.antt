@@ -1,15 +1,29 @@
 -- What follows from it that the nodes hold only what stands, and how it is shown.
-use Rattle.std.proofs.Common.{◌≡◌, ◌⊎◌, inl, inr, ℕ, zero, suc, ◌≤◌, true, false, cond, List, [], length, refl, sym, ap, subst, ◌∙◌, arith}
+use Rattle.std.proofs.Common.{◌≡◌, ◌≢◌, ◌⊎◌, inl, inr, ℕ, zero, suc, ◌<◌, ◌≤◌, Bool, true, false, cond, List, [], ◌∷◌, ◌++◌, length, refl, sym, ap, subst, ◌∙◌, arith}
 use Rattle.std.specs.Prelude.{Option, Some, None, IsSomeAnd, not, ◌==◌, nat_lt, replicate, slice_get, slice_set, slice_index}
-use Rattle.std.proofs.lemmas.Bool.{and_parts}
+use Rattle.std.proofs.lemmas.Bool.{and_parts, eqb-true}
+use Rattle.std.proofs.lemmas.Option.{same_Some}
+use Rattle.ckpt_types.specs.declared.answers.Answer.TheVariants as answers
+use Rattle.node_msgs.specs.declared.replies.Reply.{Reply}
+use Rattle.node_msgs.specs.declared.replies.Reply.TheVariants as replies
+use Rattle.node_msgs.specs.declared.requests.Request.{Request}
+use Rattle.node_msgs.specs.declared.requests.Request.TheVariants.{Commit, Reserve}
+use Rattle.node_msgs.specs.Requests.{ckpt_of}
 use Rattle.cluster_record.specs.declared.entries.Entry.{Entry}
-use Rattle.cluster_record.specs.Places.{list_or}
+use Rattle.cluster_record.specs.Places.{find_key, change_key, list_or}
 use Rattle.cluster_record.specs.RecordState.{RecordState, entry_of, is_up}
-use Rattle.ckpt_machine.specs.Replicas.{Replica}
+use Rattle.replica.specs.Replicas.{Replica}
 use Rattle.world_core.specs.Holding.{replicas_on, IsReservation, IsHeld, HoldsOnlyWhatStands}
-use Rattle.ckpt_machine.specs.Serving.{replica_key, replica_in, opened_replica}
-use Rattle.cluster_record.proofs.Places.{get_set}
-use Rattle.ckpt_machine.proofs.OnceByKey.{counted, found_in, found_once}
+use Rattle.node_core.specs.Nodes.{NodeState, replica_key, replicas_after, reserved_for, with_reserved, replicas_reserved}
+use Rattle.node_core.specs.Payloads.{Payload}
+use Rattle.node_core.specs.Seen.{record_seen, entry_seen, is_complete, is_complete_in}
+use Rattle.node_core.specs.Serving.{replica_after}
+use Rattle.ckpt_machine.specs.Facts.{IsReservable}
+use Rattle.world_core.specs.Nodes.{node_at, nodes_after, replica_in}
+use Rattle.replica.specs.Replicas.{committed, opened_replica}
+use Rattle.stage_slot.specs.Slots.{Slot}
+use Rattle.cluster_record.proofs.Places.{find_changed, find_pushed, get_set, not_changed, there_is}
+use Rattle.ckpt_machine.proofs.OnceByKey.{counted, counted-change_key, counted-push, found_in, found_once}
 
 -- ---- what a node finds of a checkpoint
 
@@ -65,6 +79,137 @@ pub once_set : (nodes : List (List Replica)) (r : ℕ) (xs new : List Replica) �
 once_set nodes r xs new is few all q k =
     subst (λ (o : Option (List Replica)). counted replica_key k (list_or o) ≤ 1) (sym (get_set nodes r new xs q is))
     (elim (q == r) as (λ b. counted replica_key k (list_or (cond b (Some new) (slice_get nodes q))) ≤ 1) [ true ↦ few k | false ↦ all q k ])
+
+-- ---- a request that a node has served
+
+-- it changes no replica's checkpoint
+pub after_key : (request : Request) (p : Payload) (x : Replica) → replica_key (replica_after request p x) ≡ replica_key x
+after_key (Commit call k) p x = by_slot x.slot where
+  by_slot : (o : Option Slot) → replica_key (committed x o) ≡ replica_key x
+  by_slot None = refl
+  by_slot (Some slot) = refl
+after_key request p x = refl
+
+-- what is no reservation changes the one replica, where the node is complete for it
+pub replicas_served : (R : RecordState) (n : NodeState) (request : Request) (p : Payload) (reply : Reply) → ((k : ℕ) → request ≢ Reserve k) →
+    replicas_after R n request p reply ≡ cond (is_complete (record_seen R (ckpt_of request) n.number)) (change_key replica_key (ckpt_of request) (replica_after request p) n.replicas) n.replicas
+replicas_served R n (Reserve k) p reply other = absurd (other k refl)
+replicas_served R n request p reply other = refl
+
+-- a node that sees itself complete is so in the entry
+pub complete_entry : (R : RecordState) (k r : ℕ) → is_complete (record_seen R k r) ≡ true → (e : Entry) × (entry_of k R.entries ≡ Some e) × ((slice_index e.complete r == 0) ≡ false)
+complete_entry R k r complete = by_entry (entry_of k R.entries) refl complete where
+  by_test : (b : Bool) → not b ≡ true → b ≡ false
+  by_test true e = absurd cc
+  by_test false e = refl
+
+  by_entry : (o : Option Entry) → entry_of k R.entries ≡ o → is_complete_in (entry_seen r o) ≡ true → (e : Entry) × (entry_of k R.entries ≡ Some e) × ((slice_index e.complete r == 0) ≡ false)
+  by_entry None there complete = absurd cc
+  by_entry (Some e) there complete = (e, there, by_test (slice_index e.complete r == 0) complete)
+
+module _ (R : RecordState) (nodes : List (List Replica)) (holds : HoldsOnlyWhatStands R nodes) (r : ℕ) (xs : List Replica) (at : slice_get nodes r ≡ Some xs) where
+  -- what the node finds is held
+  found_held : (j : ℕ) (y : Replica) → find_key replica_key j xs ≡ Some y → IsHeld R r y × (y.ckpt ≡ j)
+  found_held j y found = held_at R nodes holds j r y (ap (λ (o : Option (List Replica)). find_key replica_key j (list_or o)) at ∙ found)
+
+  found_once_there : (j : ℕ) → counted replica_key j xs ≤ 1
+  found_once_there j = subst (λ (o : Option (List Replica)). counted replica_key j (list_or o) ≤ 1) at (holds.once r j)
+
+  -- with other replicas, each of which is held, and none of them twice, the nodes hold only what stands
+  pub holds_set : (new : List Replica) → ((j : ℕ) (y : Replica) → find_key replica_key j new ≡ Some y → IsHeld R r y) → ((j : ℕ) → counted replica_key j new ≤ 1) → HoldsOnlyWhatStands R (slice_set nodes r new)
+  holds_set new each once = holds_by_key R (slice_set nodes r new)
+      (λ j q y found. by_place (q == r) j q y refl (ap (λ (o : Option (List Replica)). find_key replica_key j (list_or o)) (sym (get_set nodes r new xs q at)) ∙ found))
+      (once_set nodes r xs new at once holds.once) where
+        by_place : (b : Bool) (j q : ℕ) (y : Replica) → (q == r) ≡ b → find_key replica_key j (list_or (cond b (Some new) (slice_get nodes q))) ≡ Some y → IsHeld R q y
+        by_place true j q y test found = subst (λ (q : ℕ). IsHeld R q y) (sym (eqb-true q r test)) (each j y found)
+        by_place false j q y test found = (held_at R nodes holds j q y found).0
+
+  -- with the same ones
+  holds_as_it_was : HoldsOnlyWhatStands R (slice_set nodes r xs)
+  holds_as_it_was = holds_set xs (λ j y found. (found_held j y found).0) found_once_there
+
+  -- with one of them changed, of a checkpoint for which the node is complete
+  holds_changed : (k : ℕ) (e : Entry) (f : Replica → Replica) → ((x : Replica) → replica_key (f x) ≡ replica_key x) → entry_of k R.entries ≡ Some e → (slice_index e.complete r == 0) ≡ false → HoldsOnlyWhatStands R (slice_set nodes r (change_key replica_key k f xs))
+  holds_changed k e f same there complete = by_found (find_key replica_key k xs) refl where
+    held_after : (x : Replica) → find_key replica_key k xs ≡ Some x → IsHeld R r (f x)
+    held_after x is =
+        let (held, key) = found_held k x is in
+        record {
+          up = held.up;
+          stands = subst (λ (o : Option Entry). IsSomeAnd o (λ e. (slice_index e.complete r ≡ slice_index R.up r) ⊎ IsReservation e r (f x))) (sym (ap (λ j. entry_of j R.entries) (same x ∙ key) ∙ there))
+              (elim (standing R nodes holds k r e x there (ap (λ (o : Option (List Replica)). find_key replica_key k (list_or o)) at ∙ is)) [
+                | inl as_up ↦ inl as_up
+                | inr reservation ↦ absurd (let none : (slice_index e.complete r == 0) ≡ true = ap (λ n. n == 0) reservation.not_complete in cc)
+              ]);
+        }
+
+    by_test : (b : Bool) (x : Replica) (j : ℕ) (y : Replica) → find_key replica_key k xs ≡ Some x → cond b (Some (f x)) (find_key replica_key j xs) ≡ Some y → IsHeld R r y
+    by_test true x j y is found = subst (IsHeld R r) (same_Some (f x) y found) (held_after x is)
+    by_test false x j y is found = (found_held j y found).0
+
+    by_found : (o : Option Replica) → find_key replica_key k xs ≡ o → HoldsOnlyWhatStands R (slice_set nodes r (change_key replica_key k f xs))
+    by_found None is = subst (λ (ys : List Replica). HoldsOnlyWhatStands R (slice_set nodes r ys)) (sym (not_changed replica_key k f xs is)) holds_as_it_was
+    by_found (Some x) is = holds_set (change_key replica_key k f xs)
+        (λ j y found. by_test (j == k) x j y is (sym (find_changed replica_key k f same xs x j is) ∙ found))
+        (λ j. subst (λ (n : ℕ). n ≤ 1) (sym (counted-change_key replica_key k j f same xs)) (found_once_there j))
+
+  -- with one reserved for a checkpoint in the making, unless there is one
+  holds_reserved : (k : ℕ) (e : Entry) → entry_of k R.entries ≡ Some e → IsReservable R r e → HoldsOnlyWhatStands R (slice_set nodes r (with_reserved (find_key replica_key k xs) (opened_replica k e.attributes e.made) xs))
+  holds_reserved k e there can = by_found (find_key replica_key k xs) refl where
+    new : Replica
+    new = opened_replica k e.attributes e.made
+
+    held_new : IsHeld R r new
+    held_new = record {
+      up = can.up;
+      stands = subst (λ (o : Option Entry). IsSomeAnd o (λ e. (slice_index e.complete r ≡ slice_index R.up r) ⊎ IsReservation e r new)) (sym there) (inr (record { making = can.making; not_complete = can.not_complete; opening = refl }));
+    }
+
+    by_test : (b : Bool) (j : ℕ) (y : Replica) → cond b (Some new) (find_key replica_key j xs) ≡ Some y → IsHeld R r y
+    by_test true j y found = subst (IsHeld R r) (same_Some new y found) held_new
+    by_test false j y found = (found_held j y found).0
+
+    by_found : (o : Option Replica) → find_key replica_key k xs ≡ o → HoldsOnlyWhatStands R (slice_set nodes r (with_reserved o new xs))
+    by_found None is = holds_set (xs ++ new ∷ [])
+        (λ j y found. by_test (j == k) j y (sym (find_pushed replica_key k xs new j refl is) ∙ found))
+        (counted-push replica_key xs new is found_once_there)
+    by_found (Some x) is = holds_as_it_was
+
+  -- what a reservation asks: the checkpoint is in the making, and the node is not complete for it
+  by_entry : (k : ℕ) (o : Option Entry) → entry_of k R.entries ≡ o → IsSomeAnd o (IsReservable R r) → HoldsOnlyWhatStands R (slice_set nodes r (reserved_for o k xs))
+  by_entry k None there can = holds_as_it_was
+  by_entry k (Some e) there can = holds_reserved k e there can
+
+  by_reply : (k : ℕ) (reply : Reply) → IsSomeAnd (entry_of k R.entries) (IsReservable R r) → HoldsOnlyWhatStands R (slice_set nodes r (replicas_reserved R k reply xs))
+  by_reply k (replies.Done answers.Nothing) can = by_entry k (entry_of k R.entries) refl can
+  by_reply k reply can = holds_as_it_was
+
+  by_complete : (request : Request) (p : Payload) (b : Bool) → is_complete (record_seen R (ckpt_of request) r) ≡ b → HoldsOnlyWhatStands R (slice_set nodes r (cond b (change_key replica_key (ckpt_of request) (replica_after request p) xs) xs))
+  by_complete request p true complete =
+      let (e, there, test) = complete_entry R (ckpt_of request) r complete in
+      holds_changed (ckpt_of request) e (replica_after request p) (after_key request p) there test
+  by_complete request p false complete = holds_as_it_was
+
+  served_there : (request : Request) (p : Payload) (reply : Reply) → ((k : ℕ) → request ≡ Reserve k → IsSomeAnd (entry_of k R.entries) (IsReservable R r)) → (other : ((k : ℕ) → request ≢ Reserve k) ⊎ ((k : ℕ) × (request ≡ Reserve k))) → HoldsOnlyWhatStands R (nodes_after R nodes r request p reply)
+  served_there request p reply can (inl other) =
+      subst (λ (ys : List Replica). HoldsOnlyWhatStands R (slice_set nodes r ys))
+      (ap (λ (o : Option (List Replica)). cond (is_complete (record_seen R (ckpt_of request) r)) (change_key replica_key (ckpt_of request) (replica_after request p) (list_or o)) (list_or o)) (sym at) ∙ sym (replicas_served R (node_at nodes r) request p reply other))
+      (by_complete request p (is_complete (record_seen R (ckpt_of request) r)) refl)
+  served_there request p reply can (inr own) =
+      let (k, is) = own in
+      subst (λ (q : Request). HoldsOnlyWhatStands R (nodes_after R nodes r q p reply)) (sym is)
+      (subst (λ (ys : List Replica). HoldsOnlyWhatStands R (slice_set nodes r ys)) (ap (λ (o : Option (List Replica)). replicas_reserved R k reply (list_or o)) (sym at)) (by_reply k reply (can k is)))
+
+-- a request is a reservation, or it is none
+reserves_or_not : (request : Request) → ((k : ℕ) → request ≢ Reserve k) ⊎ ((k : ℕ) × (request ≡ Reserve k))
+reserves_or_not (Reserve k) = inr (k, refl)
+reserves_or_not request = inl (λ k e. cc e)
+
+-- whatever a node has answered to whatever request, the nodes hold only what stands, as before; a reservation is of what can be reserved
+pub holds_served : (R : RecordState) (nodes : List (List Replica)) (r : ℕ) (request : Request) (p : Payload) (reply : Reply) → HoldsOnlyWhatStands R nodes → r < length nodes → ((k : ℕ) → request ≡ Reserve k → IsSomeAnd (entry_of k R.entries) (IsReservable R r)) → HoldsOnlyWhatStands R (nodes_after R nodes r request p reply)
+holds_served R nodes r request p reply holds within can =
+    let (xs, at) = there_is nodes r within in
+    served_there R nodes holds r xs at request p reply can (reserves_or_not request)
 
 -- ---- nodes without replicas
 

@@ -1,73 +1,88 @@
--- A step that starts an iteration of a client, and one that goes on with it.
-use Rattle.std.proofs.Common.{◌≡◌, ℕ, ◌<◌, arith, ℤ, true, false, List, [], Option, Some, None, IsSome, refl, sym, ap, subst, ◌∙◌}
-use Rattle.std.specs.Prelude.{IsSomeAnd, slice_set}
-use Rattle.std.specs.Option.{option_and_then}
-use Rattle.std.proofs.lemmas.Option.{same_Some}
-use Rattle.ckpt_types.specs.declared.answers.Answer.{Answer}
+-- What a served step makes of the tables of its client: a started iteration is there, and one that was lent is back.
+use Rattle.std.proofs.Common.{◌≡◌, ℕ, zero, suc, ◌-◌, ◌^◌, ◌<◌, arith, ℤ, true, cond, List, [], ◌∷◌, Option, Some, None, IsSome, Ok, refl, sym, ap, subst, ◌∙◌}
+use Rattle.std.specs.Prelude.{slice_get, slice_set}
+use Rattle.std.specs.Option.{option_and_then, option_map, ok_or}
+use Rattle.std.proofs.lemmas.Bool.{eq-eqb}
+use Rattle.ckpt_types.specs.declared.ais_error.AisError.TheVariants.{BadHandle}
 use Rattle.ckpt_types.specs.declared.answers.Answer.TheVariants as answers
 use Rattle.ckpt_types.specs.declared.answers.Outcome.{Outcome}
-use Rattle.ckpt_types.specs.declared.answers.Outcome.TheVariants as outcomes
 use Rattle.ckpt_types.specs.declared.attributes.CreationAttributes.{CreationAttributes}
 use Rattle.ckpt_types.specs.declared.identities.ActorName.TheVariants.{Client}
-use Rattle.ckpt_types.specs.declared.identities.CallId.{CallId}
 use Rattle.ckpt_types.specs.declared.operation.Op.{Op}
 use Rattle.ckpt_types.specs.declared.sections.Choice.{Choice}
-use Rattle.ckpt_types.specs.Reads.{NextGiven}
+use Rattle.ckpt_types.specs.Limits.{places_max}
+use Rattle.ckpt_types.specs.Reads.{NextGiven, given, chosen}
+use Rattle.ckpt_types.specs.Asks.{Ask, asked, IsBuilt}
+use Rattle.ckpt_types.specs.Asks as asks
+use Rattle.client_handles.specs.ClientState.{ClientState, iteration_number, iteration_at, kept_at, kept_iteration, handle_at, has_iteration_room, NoneLent, IsValid}
+use Rattle.client_handles.specs.declared.begun.BegunIteration.{BegunIteration}
+use Rattle.client_handles.proofs.IterationLaws.{IsLent-lent}
+use Rattle.client_handles.proofs.LentLaws.{IsNotLent-none}
+use Rattle.client_handles.proofs.NumberedLaws.{numbered-All}
+use Rattle.section_iter.specs.KeptIds.{KeptIds}
+use Rattle.section_iter.specs.Next.{kept_after}
+use Rattle.section_iter.specs.Room.{room_declared, IsRoomFor}
+use Rattle.section_iter.specs.declared.room.Room.{Room}
 use Rattle.node_msgs.specs.declared.replies.Reply.{Reply}
 use Rattle.node_msgs.specs.declared.replies.Reply.TheVariants as replies
 use Rattle.node_msgs.specs.declared.requests.Request.{Request}
 use Rattle.node_msgs.specs.declared.requests.Request.TheVariants as requests
-use Rattle.node_msgs.specs.declared.next.Next.TheVariants.{Serve}
-use Rattle.run_labels.specs.declared.details.Details.{Details}
-use Rattle.run_labels.specs.declared.details.Details.TheVariants as beside
-use Rattle.ckpt_types.specs.declared.words.OpWord.{OpWord}
-use Rattle.node_msgs.specs.declared.steps.Verb.TheVariants as verbs
-use Rattle.node_msgs.specs.declared.steps.StepReply.{StepReply}
-use Rattle.node_msgs.specs.declared.steps.StepReply.TheVariants as words
-use Rattle.run_labels.specs.declared.labels.Label.{Label}
-use Rattle.run_labels.specs.declared.labels.Label.TheVariants.{Stepped}
-use Rattle.ckpt_types.specs.OpWord.{word_of_op}
-use Rattle.section_iter.specs.KeptIds.{KeptIds}
-use Rattle.section_iter.specs.Room.{room_declared, IsRoomFor}
-use Rattle.section_iter.specs.declared.room.Room.{Room}
-use Rattle.client_handles.specs.ClientState.{ClientState, handle_at, iteration_at, kept_at, has_iteration_room}
-use Rattle.client_handles.specs.declared.handle_view.HandleView.{HandleView}
-use Rattle.ckpt_machine.specs.Drivers.{Driver}
-use Rattle.ckpt_machine.specs.Drivers as drivers
-use Rattle.world_core.specs.declared.hands.InHand.{InHand}
-use Rattle.ckpt_machine.specs.Replicas.{Replica}
-use Rattle.world_core.specs.declared.world.World.{World}
-use Rattle.cluster_record.specs.Calls.{left}
-use Rattle.world_core.specs.TableState.{TableState, kept_by, with_client, at_client}
-use Rattle.world_core.specs.IterationPlaces.{gone_on_place}
-use Rattle.ckpt_types.specs.Asks.{Ask, asked, IsBuilt}
-use Rattle.ckpt_types.specs.Asks as asks
-use Rattle.ckpt_machine.specs.Tables.{choice_of, handle_asked, ids_of, kept_asked, started, with_iteration, with_next, gone_on}
-use Rattle.ckpt_machine.specs.Serving.{record_seen, replica_in, reply_at, details_at, next_reply, next_reply_at, next_details, given_at, chosen_at}
-use Rattle.node_msgs.specs.Steps.{word_of}
-use Rattle.cluster_record.specs.StepDone.{StepDone, done_of}
-use Rattle.ckpt_machine.specs.Driving.{driver_next, driver_taken, driver_end}
-use Rattle.world_core.specs.HandSteps.{hand_taken, hand_end}
-use Rattle.world_core.specs.Happenings.{rooms_at, IsNext, IsStep}
+use Rattle.replica.specs.Replicas.{Replica}
+use Rattle.cluster_record.proofs.Places.{get_set}
+use Rattle.node_core.specs.Seen.{RecordSeen}
+use Rattle.node_core.specs.Payloads.{Payload}
+use Rattle.node_core.specs.Serving.{reply_of}
+use Rattle.node_core.specs.Serving as serving
+use Rattle.ckpt_machine.specs.Facts.{IsStarting}
 use Rattle.ckpt_machine.specs.Machine.{Machine, CallState, no_tables}
-use Rattle.ckpt_machine.specs.Steps.{due, room_in, changed, driver_of, seen_at, ended_details, ids_asked, with_tables}
-use Rattle.cluster_record.specs.LookUps.{declared_in}
-use Rattle.ckpt_machine.specs.Facts.{IsActive, IsStarting, IsGoingOn}
-use Rattle.world_core.specs.Shows.{Does, IsShown, History, machine_of, tables_of, room_for, hand_at}
-use Rattle.world_core.proofs.CallSteps.{IsKnown, known, IsShownBehind, step_before}
-use Rattle.world_core.proofs.Finding as finding
-use Rattle.world_core.proofs.Freeing.{does_before}
-use Rattle.world_core.proofs.Held.{state_in, in_hand_is, actor_is, driver_is, iteration_is, next_for}
-use Rattle.ckpt_machine.proofs.ClientTables.{same_tables}
+use Rattle.ckpt_machine.specs.Steps.{with_tables}
+use Rattle.ckpt_machine.specs.Tables.{choice_of, ids_of, kept_asked, started, with_iteration, gone_on}
+use Rattle.world_core.specs.declared.hands.InHand.{InHand}
+use Rattle.world_core.specs.declared.world.World.{World}
+use Rattle.world_core.specs.Lending.{IsGoingOnWith, IsOutOf, IsValidFor, come_back, iteration_lent, lending, hands_lending, tables_lending, tables_keeping, without_room, CanLend, CanKeep}
+use Rattle.cluster_record.specs.Calls.{left}
+use Rattle.cluster_record.specs.StepDone.{StepDone}
+use Rattle.world_core.specs.HandSteps.{hand_taken, end_by}
+use Rattle.cluster_record.specs.RecordState.{RecordState}
+use Rattle.world_core.specs.LiveRooms.{LiveHaveRoom}
+use Rattle.world_core.specs.Shows.{History, machine_of, hand_at}
+use Rattle.world_core.specs.TableState.{TableState, kept_in, kept_by, with_client, table_changed, at_client}
+use Rattle.world_core.proofs.GoingOn.{gone_on-told}
 use Rattle.world_core.proofs.LiveRooms.{rooms_client}
-use Rattle.world_core.proofs.OpenRoom.{iterate_room}
+use Rattle.world_core.proofs.Maps.{hand_set}
+use Rattle.world_core.proofs.RequestRows.{tables_moved}
 use Rattle.world_core.proofs.TableFields.{change_is}
-use Rattle.world_core.proofs.Told.{told_world}
 
--- ---- what a client keeps, by what is asked
+-- ---- a table that is changed twice
+
+set_twice : {X : Type 0} (xs : List X) (i : ℕ) (a b : X) → slice_set (slice_set xs i a) i b ≡ slice_set xs i b
+set_twice [] i a b = refl
+set_twice (x ∷ xs) zero a b = refl
+set_twice (x ∷ xs) (suc i) a b = ap (λ ys. x ∷ ys) (set_twice xs i a b)
+
+module _ (c : ℕ) (tables : List TableState) where
+  got_back : (t u : TableState) → slice_get tables c ≡ Some t → slice_get (slice_set tables c u) c ≡ Some u
+  got_back t u is = get_set tables c u t c is ∙ ap (λ b. cond b (Some u) (slice_get tables c)) (eq-eqb c c refl)
+
+  -- is changed by both at once
+  at_twice : (f g : TableState → TableState) (o : Option TableState) → slice_get tables c ≡ o → at_client c g (table_changed c f tables o) ≡ table_changed c (λ t. g (f t)) tables o
+  at_twice f g None is = ap (table_changed c g tables) is
+  at_twice f g (Some t) is = ap (table_changed c g (slice_set tables c (f t))) (got_back t (f t) is) ∙ set_twice tables c (f t) (g (f t))
+
+  -- alike, where both changes make the same of what is there
+  at_same : (f g : ClientState → ClientState) → f (kept_by tables c) ≡ g (kept_by tables c) → (o : Option TableState) → slice_get tables c ≡ o → table_changed c (with_client f) tables o ≡ table_changed c (with_client g) tables o
+  at_same f g same None is = refl
+  at_same f g same (Some t) is = let e : f t.client ≡ g t.client = ap (λ o. f (kept_in o)) (sym is) ∙ same ∙ ap (λ o. g (kept_in o)) is in λ i. slice_set tables c (record t { client = e i })
+
+  -- what a client keeps is changed, where it has a table
+  kept_changed : (f : ClientState → ClientState) (o : Option TableState) → slice_get tables c ≡ o → (o ≡ None → f no_tables ≡ no_tables) → kept_by (table_changed c (with_client f) tables o) c ≡ f (kept_by tables c)
+  kept_changed f None is none = ap kept_in is ∙ sym (none refl) ∙ ap (λ o. f (kept_in o)) (sym is)
+  kept_changed f (Some t) is none = ap kept_in (got_back t (with_client f t) is) ∙ ap (λ o. f (kept_in o)) (sym is)
+
+-- ---- an iteration starts
 
 -- the room that the attributes declare is for all of it
-room_for_declared : (a : CreationAttributes) → IsRoomFor a (room_declared a)
+pub room_for_declared : (a : CreationAttributes) → IsRoomFor a (room_declared a)
 room_for_declared a = record { sections = omega arith; bytes = omega arith }
 
 -- who keeps nothing starts nothing, as no place stands for a handle
@@ -82,321 +97,160 @@ starts_by ask iteration place chosen time choice room chosen_by asks choice_is =
     ∙ (λ i t. with_iteration iteration (handle_at place t) (record { ids = chosen_by (sym choice_is i); room = room }) t)
     ∙ ap (λ a. started a room (λ other. chosen_by choice)) (sym asks)
 
--- where nothing is given, nothing changes
-gives_none : (place : ℕ) (kept : Option KeptIds) (t : ClientState) → with_next place kept None t ≡ t
-gives_none place None t = refl
-gives_none place (Some kept) t = refl
-
--- what follows from something is there where that is
-from_there : {X Y : Type 0} (f : X → Option Y) (o : Option X) → IsSome (option_and_then f o) → IsSome o
-from_there f None there = absurd (cc there)
-from_there f (Some x) there = refl
-
--- ---- an iteration is started
-
--- a call to the active ends by any answer
-active_end : (op : Op) (d : StepDone) (answer : Answer) (x : Driver) → IsActive x → Some (outcomes.Done answer) ≡ driver_end op d (replies.Done answer) (driver_taken d x)
-active_end op d answer (drivers.Active a) is = refl
-active_end op d answer (drivers.Once x) is = absurd is
-active_end op d answer (drivers.Open o) is = absurd is
-active_end op d answer (drivers.Update u) is = absurd is
-
-module _ (w : World) (c r : ℕ) (call : CallId) (k : ℕ) (choice : Choice) (hand : InHand) (held : hand_at w.hands c ≡ Some hand) (next : IsNext w c (Serve r (requests.Iterate call k choice))) where
-  abbrev request : Request
-  request = requests.Iterate call k choice
-
-  abbrev next_is : driver_next w.cluster (rooms_at w c) hand.driver ≡ Serve r request
-  next_is = next_for w c (Serve r request) hand held next
-
-  other : (j : ℕ) → request ≡ requests.Reserve j → ⊥
-  other j e = cc e
-
-  -- what the replica gives to it
-  abbrev chosen_by : Choice → List (List ℕ)
-  chosen_by choice = chosen_at choice w.cluster.moment (replica_in w.nodes k r)
-
-  abbrev starts_now : KeptIds → ClientState → ClientState
-  starts_now it = started (asked hand.op) it.room (λ other. chosen_by choice)
-
-  -- the world in which its client has it, the call being in hand still
-  abbrev started_world : KeptIds → World
-  started_world it = record w { tables = at_client c (with_client (starts_now it)) w.tables }
-
-  abbrev end : Option Outcome
-  end = Some (outcomes.Done answers.Nothing)
-
-  module _ (h : History) (known_is : IsKnown w h) where
-    abbrev m : Machine
-    m = machine_of w h
-
-    abbrev s : CallState
-    s = state_in h c hand
-
-    due_here : due m s ≡ Serve r request
-    due_here = finding.due_here w h c r request hand other known_is.facts known_is.fits held next_is
-
-    -- the node has the replica
-    seen_is : seen_at m k r ≡ replica_in w.nodes k r
-    seen_is = finding.seen_is w h c r request hand other known_is.facts known_is.fits held next_is
-
-    start_node : r < 8
-    start_node = (finding.ready w h c r request hand other known_is.facts known_is.fits held next_is).0
-
-    -- what the facts say of it
-    starting : IsStarting m s k choice
-    starting = known_is.facts.starts (Client c) s r call k choice (in_hand_is w h c hand held) due_here
-
-    -- the room that it took
-    taken : hand.iteration ≡ Some (record { ids = []; room = s.kept.room })
-    taken = iteration_is w h c hand held known_is.fits ∙ ap (λ a. room_for a s.kept.room) starting.asks
-
-    room_same : (it : KeptIds) → hand.iteration ≡ Some it → s.kept.room ≡ it.room
-    room_same it has = sym (ap (λ (x : KeptIds). x.room) (same_Some it _ (sym has ∙ taken)))
-
-    -- which is for all identifiers that the replica may give
-    start_room : (it : KeptIds) → hand.iteration ≡ Some it → IsSomeAnd (replica_in w.nodes k r) (λ x. IsRoomFor x.attributes it.room)
-    start_room it has =
-        let f = finding.found w h c r request hand other known_is.facts known_is.fits held next_is in
-        let room : room_declared f.replica.attributes ≡ it.room = ap room_declared f.attributes ∙ sym (starting.room ∙ ap (λ o. room_in (declared_in o)) f.at) ∙ room_same it has in
-        let fits : IsRoomFor f.replica.attributes it.room = subst (IsRoomFor f.replica.attributes) room (room_for_declared f.replica.attributes) in
-        subst (λ (o : Option Replica). IsSomeAnd o (λ x. IsRoomFor x.attributes it.room)) (sym f.is) fits
-
-    -- the machine starts what the code does
-    start_change : (it : KeptIds) → hand.iteration ≡ Some it → changed m s verbs.Iter (Some k) (Some r) words.Ok ≡ machine_of (started_world it) h
-    start_change it has =
-        (λ i. with_tables (actor_is w h c hand held known_is.facts i) (started (asked hand.op) (room_same it has i) (λ choice. chosen_at choice w.cluster.moment (seen_is i))) m)
-        ∙ ap (λ f. with_tables (Client c) f m) (starts_by (asked hand.op) starting.iteration starting.place starting.chosen starting.time choice it.room chosen_by starting.asks starting.choice_is)
-        ∙ change_is w h c (starts_now it) (λ none. starts_none (asked hand.op) it.room (λ other. chosen_by choice))
-
-    is_started : (it : KeptIds) → hand.iteration ≡ Some it → IsShownBehind w c hand held (started_world it) (λ h. h) verbs.Iter (Some k) (Some r) words.Ok end beside.Nothing (Serve r request) h
-    is_started it has =
-        let there = (finding.found w h c r request hand other known_is.facts known_is.fits held next_is).seen in
-        record {
-          done = record {
-            answer = replies.Done answers.Nothing;
-            may = sym (ap (reply_at request hand.op (record_seen w.cluster k)) there);
-            verb = refl;
-            ckpt = refl;
-            node = refl;
-            reply = refl;
-            details = sym (ap (details_at request hand.op (record_seen w.cluster k)) there);
-            end = active_end hand.op (done_of w.cluster verbs.Iter (Some k) (Some r) words.Ok) answers.Nothing (driver_of s) starting.active;
-          };
-          change = start_change it has;
-          fits = record { replicas = known_is.fits.replicas; hands = known_is.fits.hands };
-        }
-
-  -- its operation is one that is built
-  pub started_built : IsShown w → IsBuilt hand.op
-  started_built shown = let h = shown.shows.history in (known w shown).facts.built (Client c) (state_in h c hand) (in_hand_is w h c hand held)
-
-  -- its node is one of eight
-  pub started_node : IsShown w → r < 8
-  started_node shown = start_node shown.shows.history (known w shown)
-
-  -- it has room in hand, for all identifiers that are declared
-  pub room_is : (shown : IsShown w) (its : Option KeptIds) → hand.iteration ≡ its → its ≡ Some (record { ids = []; room = (shown.shows.history.kept (Client c)).room })
-  room_is shown its is = sym is ∙ taken shown.shows.history (known w shown)
-
-  pub started_room : IsShown w → (it : KeptIds) → hand.iteration ≡ Some it → IsSomeAnd (replica_in w.nodes k r) (λ x. IsRoomFor x.attributes it.room)
-  started_room shown = start_room shown.shows.history (known w shown)
-
-  -- and its client has room for it
-  pub started_free : has_iteration_room (kept_by w.tables c) ≡ true
-  started_free = iterate_room w.cluster (rooms_at w c) hand.driver r call k choice next_is
-
-  started_does : (it : KeptIds) → hand.iteration ≡ Some it → Does w (record (started_world it) { hands = slice_set w.hands c None }) (Stepped hand.call (word_of_op hand.op) verbs.Iter (Some k) (Some r) words.Ok end beside.Nothing)
-  started_does it has =
-      does_before w (record (started_world it) { hands = slice_set w.hands c None }) (Stepped hand.call (word_of_op hand.op) verbs.Iter (Some k) (Some r) words.Ok end beside.Nothing)
-      (step_before w c hand held (started_world it) (λ h. h) verbs.Iter (Some k) (Some r) words.Ok end beside.Nothing (Serve r request) next_is held (λ h. refl) (λ h known_is. is_started h known_is it has))
-      (λ m s f. s.holds)
-      (λ m s f. rooms_client w w.cluster c (starts_now it) s.rooms)
-
-  -- the start of an iteration, with the parts as the code names them
-  pub start_is : (it : KeptIds) (now : ℤ) (ids : List (List ℕ)) (tables : List TableState) (hands : List (Option InHand)) (word : OpWord) →
-      hand.iteration ≡ Some it → now ≡ w.cluster.moment → ids ≡ chosen_at choice now (replica_in w.nodes k r) → tables ≡ at_client c (with_client (started (asked hand.op) it.room (λ other. ids))) w.tables → hands ≡ slice_set w.hands c None → word ≡ word_of_op hand.op →
-      IsStep c w (record w { tables = tables; hands = hands }) (Stepped hand.call word verbs.Iter (Some k) (Some r) words.Ok end beside.Nothing)
-  start_is it now ids tables hands word it_is now_is ids_are tables_are hands_are word_is =
-      let moved : at_client c (with_client (starts_now it)) w.tables ≡ tables
-      = ap (λ ids. at_client c (with_client (started (asked hand.op) it.room (λ other. ids))) w.tables) (ap (λ n. chosen_at choice n (replica_in w.nodes k r)) (sym now_is) ∙ sym ids_are) ∙ sym tables_are in
-      record {
-        hand = hand;
-        held = held;
-        op = word;
-        verb = verbs.Iter;
-        ckpt = Some k;
-        node = Some r;
-        reply = words.Ok;
-        end = end;
-        details = beside.Nothing;
-        label_is = refl;
-        next = hand;
-        same_call = refl;
-        same_op = refl;
-        hands = hands_are;
-        does = subst (λ (y : List TableState × List (Option InHand) × OpWord). Does w (record w { tables = y.0; hands = y.1 }) (Stepped hand.call y.2 verbs.Iter (Some k) (Some r) words.Ok end beside.Nothing)) (λ i. (moved i, sym hands_are i, sym word_is i)) (started_does it it_is);
-      }
-
 -- ---- an iteration goes on
 
-module _ (w : World) (c r : ℕ) (call : CallId) (k : ℕ) (hand : InHand) (held : hand_at w.hands c ≡ Some hand) (next : IsNext w c (Serve r (requests.Next call k))) where
-  abbrev going_request : Request
-  going_request = requests.Next call k
+-- a call goes on with an iteration that is there
+pub record GoesOnWith (ask : Ask) (t : ClientState) : Type 0 where
+  pub place : ℕ
+  pub asks : ask ≡ asks.Next place
+  pub within : place < places_max
+  pub stands : IsSome (iteration_at place t)
+  pub kept : KeptIds
+  pub kept_is : kept_at place t ≡ Some kept
+  pub none_lent : NoneLent t
 
-  abbrev going_next : driver_next w.cluster (rooms_at w c) hand.driver ≡ Serve r going_request
-  going_next = next_for w c (Serve r going_request) hand held next
+there_is_one : {X : Type 0} (o : Option X) → IsSome o → (x : X) × (o ≡ Some x)
+there_is_one None some = absurd (cc some)
+there_is_one (Some x) some = (x, refl)
 
-  no_reserve : (j : ℕ) → going_request ≡ requests.Reserve j → ⊥
-  no_reserve j e = cc e
+pub goes_on_with : (ask : Ask) (t : ClientState) (place : ℕ) → ask ≡ asks.Next place → place < places_max → IsSome (iteration_at place t) → NoneLent t → GoesOnWith ask t
+goes_on_with ask t place asks within stands none =
+    let (it, is) = there_is_one (iteration_at place t) stands in
+    let (kept, keeps) = there_is_one it.kept (numbered-All iteration_number (λ (x : BegunIteration). IsSome x.kept) _ t.iterations it none is) in
+    record { place = place; asks = asks; within = within; stands = stands; kept = kept; kept_is = ap (option_and_then (λ (x : BegunIteration). x.kept)) is ∙ keeps; none_lent = none }
 
-  abbrev y : Option Replica
-  y = replica_in w.nodes k r
+module _ (ask : Ask) (t : ClientState) (goes : GoesOnWith ask t) where
+  told : Ok goes.kept ≡ kept_iteration goes.place t
+  told = sym (ap (λ o. ok_or o BadHandle) goes.kept_is)
 
-  module _ (h : History) (known_is : IsKnown w h) where
-    abbrev mn : Machine
-    mn = machine_of w h
+  -- it may go out
+  pub going_out : IsGoingOnWith ask t
+  going_out = subst (λ a. IsGoingOnWith a t) (sym goes.asks) (goes.within, goes.stands, IsNotLent-none goes.place t goes.none_lent)
 
-    abbrev sn : CallState
-    sn = state_in h c hand
+  pub asked_is : kept_asked ask t ≡ Some goes.kept
+  asked_is = ap (λ a. kept_asked a t) goes.asks ∙ goes.kept_is
 
-    caller : hand.call.actor ≡ Client c
-    caller = actor_is w h c hand held known_is.facts
+  -- and is out then
+  pub is_out : IsOutOf ask (lending ask t)
+  is_out = subst (λ a. IsOutOf a (lending a t)) (sym goes.asks) (goes.within, IsLent-lent goes.place t goes.kept told)
 
-    seen_next : seen_at mn k r ≡ y
-    seen_next = finding.seen_is w h c r going_request hand no_reserve known_is.facts known_is.fits held going_next
+  -- back again, it has gone on
+  pub back_is : IsValid t → (g : Option NextGiven) → come_back ask (kept_after goes.kept g) (lending ask t) ≡ gone_on ask g t
+  back_is valid g = subst (λ a. come_back a (kept_after goes.kept g) (lending a t) ≡ gone_on a g t) (sym goes.asks) (gone_on-told goes.place goes.kept g t valid told)
 
-    next_node : r < 8
-    next_node = (finding.ready w h c r going_request hand no_reserve known_is.facts known_is.fits held going_next).0
+-- who keeps nothing has lent nothing
+pub lends_none : (ask : Ask) → lending ask no_tables ≡ no_tables
+lends_none (asks.Next place) = refl
+lends_none ask = refl
 
-    -- what the facts say of it: its operation, and that its iteration goes over a handle
-    goes : IsGoingOn mn sn
-    goes = known_is.facts.goes_on (Client c) sn r call k (in_hand_is w h c hand held) (finding.due_here w h c r going_request hand no_reserve known_is.facts known_is.fits held going_next)
+goes_none : (ask : Ask) (g : Option NextGiven) → gone_on ask g no_tables ≡ no_tables
+goes_none (asks.Next place) g = refl
+goes_none ask g = refl
 
-    -- so its place stands for an iteration
-    stands : IsSome (iteration_at goes.iteration (kept_by w.tables c))
-    stands = from_there _ (iteration_at goes.iteration (kept_by w.tables c)) (subst (λ (o : Option HandleView). IsSome o) (λ i. handle_asked (goes.asks i) (tables_of w.tables (caller i))) goes.handle)
+-- ---- what the machine and the world have then
 
-  -- its operation names a place
-  pub going_place : IsShown w → (o : Option ℕ) → o ≡ gone_on_place (asked hand.op) → o ≡ None → ⊥
-  going_place shown o is none = let going = goes shown.shows.history (known w shown) in let e : None ≡ Some going.iteration = sym none ∙ is ∙ ap gone_on_place going.asks in cc e
+-- what a step relies on that starts an iteration, or goes on with one
+abbrev pub TablesReady : Request → Machine → CallState → InHand → ClientState → Type 0
+TablesReady (requests.Iterate call k choice) m s hand t = IsStarting m s k choice × (hand.iteration ≡ Some (record { ids = []; room = s.kept.room }))
+TablesReady (requests.Next call k) m s hand t = GoesOnWith (asked hand.op) t
+TablesReady request m s hand t = Unit {0}
 
-  -- its node is one of eight
-  pub going_node : IsShown w → r < 8
-  going_node shown = next_node shown.shows.history (known w shown)
+-- where one starts there is room for it
+abbrev pub HasIterationRoom : Request → ClientState → Type 0
+HasIterationRoom (requests.Iterate call k choice) t = has_iteration_room t ≡ true
+HasIterationRoom request t = Unit {0}
 
-  module _ (place : ℕ) (named : Some place ≡ gone_on_place (asked hand.op)) where
-    place_same : (h : History) (known_is : IsKnown w h) → (goes h known_is).iteration ≡ place
-    place_same h known_is = let going = goes h known_is in same_Some going.iteration place (sym (named ∙ ap gone_on_place going.asks))
+module _ (w : World) (h : History) (m : Machine) (s : CallState) (c : ℕ) (hand : InHand) (actor : s.call.actor ≡ Client c) (op : s.op ≡ hand.op) (ids : List (List ℕ)) (seen : RecordSeen) (x : Replica) where
+  abbrev kept : ClientState
+  kept = kept_by w.tables c
 
-    -- the place is one of 100
-    pub going_within : IsShown w → place < 100
-    going_within shown = let h = shown.shows.history in subst (λ n. n < 100) (place_same h (known w shown)) (goes h (known w shown)).within
+  -- the world with these tables
+  abbrev over : List TableState → Machine
+  over tables = machine_of (record w { tables = tables }) h
 
-    -- and stands for an iteration
-    pub going_there : IsShown w → IsSome (iteration_at place (kept_by w.tables c))
-    going_there shown = let h = shown.shows.history in subst (λ n. IsSome (iteration_at n (kept_by w.tables c))) (place_same h (known w shown)) (stands h (known w shown))
+  iterate_move : (k : ℕ) (choice : Choice) → IsStarting m s k choice → hand.iteration ≡ Some (record { ids = []; room = s.kept.room }) →
+      with_tables s.call.actor (started (asked s.op) s.kept.room (λ choice. chosen choice seen.moment x.sections)) (machine_of w h) ≡
+      over (at_client c (with_client (started (asked hand.op) s.kept.room (λ other. chosen choice seen.moment x.sections))) w.tables)
+  iterate_move k choice starting taken =
+      (λ i. with_tables (actor i) (started (asked s.op) s.kept.room (λ choice. chosen choice seen.moment x.sections)) (machine_of w h))
+      ∙ ap (λ f. with_tables (Client c) f (machine_of w h)) (starts_by (asked s.op) starting.iteration starting.place starting.chosen starting.time choice s.kept.room (λ choice. chosen choice seen.moment x.sections) starting.asks starting.choice_is)
+      ∙ ap (λ o. with_tables (Client c) (started (asked o) s.kept.room (λ other. chosen choice seen.moment x.sections)) (machine_of w h)) op
+      ∙ change_is w h c (started (asked hand.op) s.kept.room (λ other. chosen choice seen.moment x.sections)) (λ none. starts_none (asked hand.op) s.kept.room (λ other. chosen choice seen.moment x.sections))
 
-    -- what it keeps, and what comes next of that
-    abbrev ids_kept : List (List ℕ)
-    ids_kept = ids_of (kept_at place (kept_by w.tables c))
-
+  module _ (goes : GoesOnWith (asked hand.op) kept) (valid : IsValid kept) (ids_are : ids ≡ goes.kept.ids) where
     abbrev gives : Option NextGiven
-    gives = given_at ids_kept w.cluster.moment y
+    gives = given goes.kept.ids seen.moment x.sections
 
-    abbrev reply : Reply
-    reply = next_reply_at ids_kept w.cluster.moment y
+    next_move : with_tables s.call.actor (gone_on (asked s.op) (given ids seen.moment x.sections)) (machine_of w h) ≡
+        over (at_client c (with_client (come_back (asked hand.op) (kept_after goes.kept gives))) (at_client c (with_client (lending (asked hand.op))) w.tables))
+    next_move =
+        (λ i. with_tables (actor i) (gone_on (asked (op i)) (given (ids_are i) seen.moment x.sections)) (machine_of w h))
+        ∙ change_is w h c (gone_on (asked hand.op) gives) (λ none. goes_none (asked hand.op) gives)
+        ∙ sym (ap over (at_twice c w.tables (with_client (lending (asked hand.op))) (with_client (come_back (asked hand.op) (kept_after goes.kept gives))) (slice_get w.tables c) refl
+        ∙ at_same c w.tables (λ t. come_back (asked hand.op) (kept_after goes.kept gives) (lending (asked hand.op) t)) (gone_on (asked hand.op) gives) (back_is (asked hand.op) kept goes valid gives) (slice_get w.tables c) refl))
 
-    abbrev step_done : Reply → StepDone
-    step_done reply = done_of w.cluster verbs.Next (Some k) (Some r) (word_of reply)
+  -- what is lent comes back so, by the request
+  pub tables_move : (request : Request) (p : Payload) (reply : Reply) → TablesReady request m s hand kept → IsValidFor request kept → ids ≡ ids_of (kept_asked (asked hand.op) kept) → reply ≡ reply_of request p seen x →
+      tables_moved request s ids seen.moment x.sections (machine_of w h) ≡ over (tables_keeping request c hand.op reply (serving.iteration_behind request seen (Some x) (iteration_lent request hand kept)) (tables_lending request c hand.op w.tables))
+  tables_move (requests.Iterate call k choice) p reply ready valid same is =
+      iterate_move k choice ready.0 ready.1
+      ∙ ap (λ it. over (tables_keeping (requests.Iterate call k choice) c hand.op (replies.Done answers.Nothing) (serving.iteration_behind (requests.Iterate call k choice) seen (Some x) it) w.tables)) (sym ready.1)
+      ∙ ap (λ a. over (tables_keeping (requests.Iterate call k choice) c hand.op a (serving.iteration_behind (requests.Iterate call k choice) seen (Some x) hand.iteration) w.tables)) (sym is)
+  tables_move (requests.Next call k) p reply ready valid same is =
+      next_move ready valid (same ∙ ap ids_of (asked_is (asked hand.op) kept ready))
+      ∙ ap (λ it. over (tables_keeping (requests.Next call k) c hand.op reply (serving.iteration_behind (requests.Next call k) seen (Some x) it) (tables_lending (requests.Next call k) c hand.op w.tables))) (sym (asked_is (asked hand.op) kept ready))
+  tables_move request p reply ready valid same is = refl
 
-    abbrev end_by : Reply → Option Outcome
-    end_by reply = driver_end hand.op (step_done reply) reply (driver_taken (step_done reply) hand.driver)
+-- as much room is taken then
+pub rooms_moved : (w : World) (R : RecordState) (c : ℕ) (op : Op) (request : Request) (reply : Reply) (it : Option KeptIds) → LiveHaveRoom R w.tables → LiveHaveRoom R (tables_keeping request c op reply it (tables_lending request c op w.tables))
+rooms_moved w R c op (requests.Iterate call k choice) (replies.Done answer) (Some it) rooms = rooms_client w R c (started (asked op) it.room (λ choice. it.ids)) rooms
+rooms_moved w R c op (requests.Iterate call k choice) (replies.Done answer) None rooms = rooms
+rooms_moved w R c op (requests.Iterate call k choice) reply it rooms = rooms
+rooms_moved w R c op (requests.Next call k) reply (Some it) rooms = rooms_client (record w { tables = at_client c (with_client (lending (asked op))) w.tables }) R c (come_back (asked op) it) (rooms_client w R c (lending (asked op)) rooms)
+rooms_moved w R c op (requests.Next call k) reply None rooms = rooms_client w R c (lending (asked op)) rooms
+rooms_moved w R c op request reply it rooms = rooms
 
-    abbrev moves_on : ClientState → ClientState
-    moves_on = gone_on (asks.Next place) gives
+-- what the step asks of the tables
 
-    -- the world in which it has gone on, the call being in hand still
-    abbrev going_world : World
-    going_world = record w { tables = at_client c (with_client moves_on) w.tables }
+pub can_lend : (request : Request) (m : Machine) (s : CallState) (hand : InHand) (t : ClientState) → TablesReady request m s hand t → CanLend request hand.op t
+can_lend (requests.Next call k) m s hand t ready = going_out (asked hand.op) t ready
+can_lend request m s hand t ready = tt
 
-    module _ (h : History) (known_is : IsKnown w h) where
-      asks_next : asked hand.op ≡ asks.Next place
-      asks_next = (goes h known_is).asks ∙ ap asks.Next (place_same h known_is)
+pub can_keep : (request : Request) (m : Machine) (s : CallState) (c : ℕ) (hand : InHand) (tables : List TableState) → TablesReady request m s hand (kept_by tables c) → IsBuilt hand.op → HasIterationRoom request (kept_by tables c) → (kept_by tables c).last_iteration < 2 ^ 32 - 1 → CanKeep request hand.op (kept_by (tables_lending request c hand.op tables) c)
+can_keep (requests.Iterate call k choice) m s c hand tables ready built room number = (built, room, number)
+can_keep (requests.Next call k) m s c hand tables ready built room number =
+    subst (IsOutOf (asked hand.op)) (sym (kept_changed c tables (lending (asked hand.op)) (slice_get tables c) refl (λ none. lends_none (asked hand.op)))) (is_out (asked hand.op) (kept_by tables c) ready)
+can_keep request m s c hand tables ready built room number = tt
 
-      -- the identifiers that are asked for are the table's
-      ids_same : ids_asked (mn h known_is) (sn h known_is) ≡ ids_kept
-      ids_same = λ i. ids_of (kept_asked (asks_next i) (tables_of w.tables (caller h known_is i)))
+-- ---- the calls in hand
 
-      gives_same : given_at (ids_asked (mn h known_is) (sn h known_is)) w.cluster.moment (seen_at (mn h known_is) k r) ≡ gives
-      gives_same = λ i. given_at (ids_same i) w.cluster.moment (seen_next h known_is i)
+-- the call in hand while its iteration is lent
+abbrev pub hand_lent : Request → InHand → InHand
+hand_lent (requests.Iterate call k choice) hand = without_room hand
+hand_lent request hand = hand
 
-      -- in the machine its client's tables go on by what is given
-      moves_by : (g : Option NextGiven) → gives ≡ g → changed (mn h known_is) (sn h known_is) verbs.Next (Some k) (Some r) (word_of (next_reply g)) ≡ with_tables (Client c) (gone_on (asks.Next place) g) (mn h known_is)
-      moves_by None is = sym (same_tables (mn h known_is) (Client c) (gone_on (asks.Next place) None) (gives_none place (kept_at place (kept_by w.tables c)) (kept_by w.tables c)))
-      moves_by (Some n) is = λ i. with_tables (caller h known_is i) (gone_on (asks_next i) ((gives_same ∙ is) i)) (mn h known_is)
+-- a step that starts an iteration ends its call
+abbrev pub EndsIts : Request → Option Outcome → Type 0
+EndsIts (requests.Iterate call k choice) end = IsSome end
+EndsIts request end = Unit {0}
 
-      -- the node has the replica, so its reply is that of what is given
-      reply_of_given : (o : Option Replica) (x : Replica) → o ≡ Some x → next_reply_at ids_kept w.cluster.moment o ≡ next_reply (given_at ids_kept w.cluster.moment o)
-      reply_of_given o x is = ap (next_reply_at ids_kept w.cluster.moment) is ∙ ap (λ o. next_reply (given_at ids_kept w.cluster.moment o)) (sym is)
+module _ (c : ℕ) (hands : List (Option InHand)) (hand : InHand) (held : hand_at hands c ≡ Some hand) where
+  pub lent_held : (request : Request) → hand_at (hands_lending request c hands) c ≡ Some (hand_lent request hand)
+  lent_held (requests.Iterate call k choice) =
+      hand_set hands c hand (option_map without_room (hand_at hands c)) held c ∙ ap (λ b. cond b (option_map without_room (hand_at hands c)) (hand_at hands c)) (eq-eqb c c refl) ∙ ap (option_map without_room) held
+  lent_held request = held
 
-      next_change : changed (mn h known_is) (sn h known_is) verbs.Next (Some k) (Some r) (word_of reply) ≡ machine_of going_world h
-      next_change =
-          let f = finding.found w h c r going_request hand no_reserve known_is.facts known_is.fits held going_next in
-          ap (λ (a : Reply). changed (mn h known_is) (sn h known_is) verbs.Next (Some k) (Some r) (word_of a)) (reply_of_given y f.replica f.is)
-          ∙ moves_by gives refl
-          ∙ change_is w h c moves_on (λ none. refl)
+  -- so the room that was taken out of it does not matter
+  pub lent_left : (request : Request) (d : StepDone) (end : Option Outcome) → EndsIts request end → slice_set (hands_lending request c hands) c (left end (hand_taken d (hand_lent request hand))) ≡ slice_set hands c (left end (hand_taken d hand))
+  lent_left (requests.Iterate call k choice) d None ends = absurd (cc ends)
+  lent_left (requests.Iterate call k choice) d (Some end) ends = set_twice hands c (option_map without_room (hand_at hands c)) None
+  lent_left request d end ends = refl
 
-      is_gone_on : IsShownBehind w c hand held going_world (λ h. h) verbs.Next (Some k) (Some r) (word_of reply) (end_by reply) (ended_details (end_by reply) (next_details gives)) (Serve r going_request) h
-      is_gone_on = record {
-        done = record {
-          answer = reply;
-          may = λ i. next_reply_at (sym ids_same i) w.cluster.moment (sym (seen_next h known_is) i);
-          verb = refl;
-          ckpt = refl;
-          node = refl;
-          reply = refl;
-          details = ap (λ g. ended_details (end_by reply) (next_details g)) (sym gives_same);
-          end = ap (λ x. driver_end hand.op (step_done reply) reply (driver_taken (step_done reply) x)) (driver_is w h c hand held known_is.fits);
-        };
-        change = next_change;
-        fits = record { replicas = known_is.fits.replicas; hands = known_is.fits.hands };
-      }
+-- it has its operation and its driver
+pub lent_op : (request : Request) (hand : InHand) → (hand_lent request hand).op ≡ hand.op
+lent_op (requests.Iterate call k choice) hand = refl
+lent_op request hand = refl
 
-    abbrev going_label : Label
-    going_label = Stepped hand.call (word_of_op hand.op) verbs.Next (Some k) (Some r) (word_of reply) (end_by reply) (ended_details (end_by reply) (next_details gives))
-
-    next_does : Does w (told_world going_world c hand (step_done reply) (end_by reply)) going_label
-    next_does =
-        does_before w (told_world going_world c hand (step_done reply) (end_by reply)) going_label
-        (step_before w c hand held going_world (λ h. h) verbs.Next (Some k) (Some r) (word_of reply) (end_by reply) (ended_details (end_by reply) (next_details gives)) (Serve r going_request) going_next held (λ h. refl) is_gone_on)
-        (λ m s f. s.holds)
-        (λ m s f. rooms_client w w.cluster c moves_on s.rooms)
-
-    -- an iteration goes on, with the parts as the code names them
-    pub goes_on_is : (now : ℤ) (tables : List TableState) (hands : List (Option InHand)) (word : OpWord) (said : StepReply) (answer : Reply) (end : Option Outcome) (told details : Details) → now ≡ w.cluster.moment → answer ≡ next_reply_at ids_kept now y → told ≡ next_details (given_at ids_kept now y) →
-        tables ≡ at_client c (with_client (gone_on (asks.Next place) (given_at ids_kept now y))) w.tables → end ≡ hand_end (step_done answer) answer (hand_taken (step_done answer) hand) → hands ≡ slice_set w.hands c (left end (hand_taken (step_done answer) hand)) → word ≡ word_of_op hand.op → said ≡ word_of answer →
-        details ≡ ended_details end told → IsStep c w (record w { tables = tables; hands = hands }) (Stepped hand.call word verbs.Next (Some k) (Some r) said end details)
-    goes_on_is now tables hands word said answer end told details now_is answer_is told_are tables_are end_is hands_are word_is said_is details_are =
-        let a : reply ≡ answer = ap (λ n. next_reply_at ids_kept n y) (sym now_is) ∙ sym answer_is in
-        let e : end_by reply ≡ end = ap end_by a ∙ sym end_is in
-        let d : ended_details (end_by reply) (next_details gives) ≡ details = (λ i. ended_details (e i) ((ap (λ n. next_details (given_at ids_kept n y)) (sym now_is) ∙ sym told_are) i)) ∙ sym details_are in
-        let t : at_client c (with_client moves_on) w.tables ≡ tables = ap (λ n. at_client c (with_client (gone_on (asks.Next place) (given_at ids_kept n y))) w.tables) (sym now_is) ∙ sym tables_are in
-        let g : slice_set w.hands c (left (end_by reply) (hand_taken (step_done reply) hand)) ≡ hands = (λ i. slice_set w.hands c (left (e i) (hand_taken (step_done (a i)) hand))) ∙ sym hands_are in
-        record {
-          hand = hand;
-          held = held;
-          op = word;
-          verb = verbs.Next;
-          ckpt = Some k;
-          node = Some r;
-          reply = said;
-          end = end;
-          details = details;
-          label_is = refl;
-          next = hand_taken (step_done answer) hand;
-          same_call = refl;
-          same_op = refl;
-          hands = hands_are;
-          does = subst (λ (z : List TableState × List (Option InHand) × OpWord × StepReply × Option Outcome × Details). Does w (record w { tables = z.0; hands = z.1 }) (Stepped hand.call z.2 verbs.Next (Some k) (Some r) z.3 z.4 z.5))
-              (λ i. (t i, g i, sym word_is i, (ap word_of a ∙ sym said_is) i, e i, d i)) next_does;
-        }
+pub lent_end : (request : Request) (hand : InHand) (d : StepDone) (reply : Reply) → end_by d reply (hand_lent request hand) ≡ end_by d reply hand
+lent_end (requests.Iterate call k choice) hand d reply = refl
+lent_end request hand d reply = refl

@@ -14,8 +14,9 @@ use Rattle.cluster_record.specs.RecordState.{entry_of, complete_of}
 use Rattle.ckpt_machine.specs.Complete.{with_replica, replicas_from}
 use Rattle.ckpt_machine.specs.Listing.{slot_listed, section_listed, replica_listed, listing_made, listing_of, listing_at}
 use Rattle.ckpt_machine.specs.Machine.{Machine, Effect, ReplicaState}
-use Rattle.ckpt_machine.specs.Replicas.{Replica, Slot}
-use Rattle.ckpt_machine.specs.Serving.{replica_in}
+use Rattle.replica.specs.Replicas.{Replica}
+use Rattle.stage_slot.specs.Slots.{Slot}
+use Rattle.world_core.specs.Nodes.{replica_in}
 use Rattle.world_core.specs.declared.world.World.{World}
 use Rattle.world_core.specs.Happenings.{TellsReplicas}
 use Rattle.world_core.specs.Listing.{kept_slot_listed, kept_replica_listed, kept_listed, node_listed, nodes_listed, made_listed, entry_listed, world_listing}

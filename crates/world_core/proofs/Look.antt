@@ -10,7 +10,7 @@ use Rattle.node_msgs.specs.declared.next.Next.TheVariants.{Event, End}
 use Rattle.node_msgs.specs.declared.next.RecordStep.TheVariants.{Undo}
 use Rattle.node_msgs.specs.declared.steps.StepReply.{StepReply}
 use Rattle.node_msgs.specs.declared.steps.Verb.TheVariants as verbs
-use Rattle.run_labels.specs.declared.details.Details.TheVariants as beside
+use Rattle.node_msgs.specs.declared.details.Details.TheVariants as beside
 use Rattle.run_labels.specs.declared.labels.Label.{Label}
 use Rattle.run_labels.specs.declared.labels.Label.TheVariants.{Stepped}
 use Rattle.ckpt_types.specs.declared.words.OpWord.{OpWord}
@@ -25,9 +25,8 @@ use Rattle.ckpt_types.specs.Asks.{asked}
 use Rattle.ckpt_machine.specs.Drivers.{Driver, Rooms}
 use Rattle.ckpt_machine.specs.Drivers as drivers
 use Rattle.ckpt_machine.specs.Driving.{driver_next, making_in}
-use Rattle.ckpt_machine.specs.Machine.{Machine, CallState}
-use Rattle.ckpt_machine.specs.Serving.{replica_in}
-use Rattle.ckpt_machine.specs.Steps.{changed, driver_of, without_making, look_word}
+use Rattle.world_core.specs.Nodes.{replica_in}
+use Rattle.ckpt_machine.specs.Steps.{changed, without_making, look_word}
 use Rattle.ckpt_machine.specs.Tables.{closing}
 use Rattle.ckpt_machine.proofs.Deadlines.{in_time-cases}
 use Rattle.ckpt_machine.proofs.OwnMaking.{making_there}
@@ -38,7 +37,7 @@ use Rattle.world_core.specs.Happenings.{rooms_at}
 use Rattle.world_core.specs.Settling.{looked, without_making_of}
 use Rattle.world_core.specs.Shows.{IsShown, Does, History, machine_of, hand_at}
 use Rattle.world_core.specs.TableState.{TableState}
-use Rattle.world_core.proofs.CallSteps.{IsKnown, known, known_by, behind_step, IsShownBehind, step_before}
+use Rattle.world_core.proofs.CallSteps.{IsKnown, known, known_by, behind_step, step_before}
 use Rattle.world_core.proofs.Freeing.{freed_world, does_before, does_freed, holds_freed}
 use Rattle.world_core.proofs.Going.{unmade_goes}
 use Rattle.world_core.proofs.Held.{state_in, in_hand_is, driver_is, actor_is}

@@ -5,23 +5,17 @@ use Rattle.std.proofs.lemmas.Bool.{eqb-true}
 use Rattle.ckpt_types.specs.declared.identities.ActorName.{ActorName}
 use Rattle.ckpt_types.specs.declared.identities.ActorName.TheVariants.{Client, Node}
 use Rattle.ckpt_types.specs.declared.identities.CallId.{CallId}
-use Rattle.ckpt_types.specs.declared.operation.Op.{Op}
-use Rattle.node_msgs.specs.declared.requests.Request.{Request}
-use Rattle.node_msgs.specs.declared.requests.Request.TheVariants.{Commit}
 use Rattle.world_core.specs.declared.hands.InHand.{InHand}
 use Rattle.cluster_record.specs.declared.entries.Entry.{Entry}
-use Rattle.ckpt_machine.specs.Replicas.{Replica}
-use Rattle.ckpt_machine.specs.Replicas.{Slot}
+use Rattle.replica.specs.Replicas.{Replica}
 use Rattle.cluster_record.specs.Calls.{put_actor}
-use Rattle.cluster_record.specs.Places.{find_key, change_key, list_or, or_none, put, put2}
+use Rattle.cluster_record.specs.Places.{list_or, or_none, put2}
 use Rattle.cluster_record.specs.RecordState.{RecordState, entry_of, complete_of}
-use Rattle.node_msgs.specs.Requests.{ckpt_of}
-use Rattle.ckpt_machine.specs.Serving.{replica_key, replica_in, replica_after, committed, served}
+use Rattle.world_core.specs.Nodes.{replica_in}
 use Rattle.cluster_record.specs.StepDone.{StepDone}
-use Rattle.ckpt_machine.specs.Driving.{Kept}
 use Rattle.ckpt_machine.specs.Machine.{Effect}
-use Rattle.world_core.specs.Shows.{History, shown_replica, shown_reservation, shown_hand, where_complete, where_not_complete, complete_replica, reserved_in, hand_at, hand_of, FitsReplica, FitsHand}
-use Rattle.cluster_record.proofs.Places.{find_changed, get_set}
+use Rattle.world_core.specs.Shows.{Beginning, History, shown_replica, shown_reservation, shown_hand, where_complete, where_not_complete, complete_replica, reserved_in, hand_at, hand_of, FitsReplica, FitsHand}
+use Rattle.cluster_record.proofs.Places.{get_set}
 
 -- ---- tests of places
 
@@ -54,28 +48,6 @@ node_case true true y f xs new o s e = e
 node_case false true y f xs new o s e = e ∙ ap f (sym (s refl))
 node_case true false y f xs new o s e = refl
 node_case false false y f xs new o s e = refl
-
-pub after_key : (request : Request) (op : Op) (x : Replica) → replica_key (replica_after request op x) ≡ replica_key x
-after_key (Commit call k) op x = by_slot x.slot where
-  by_slot : (o : Option Slot) → replica_key (committed x o) ≡ replica_key x
-  by_slot None = refl
-  by_slot (Some slot) = refl
-after_key request op x = refl
-
--- after a request to one node, the replica of each checkpoint on each node
-pub served_at : (nodes : List (List Replica)) (r : ℕ) (request : Request) (op : Op) (x : Replica) → replica_in nodes (ckpt_of request) r ≡ Some x →
-    (j q : ℕ) → replica_in (served nodes r request op) j q ≡ cond ((j == ckpt_of request) && (q == r)) (Some (replica_after request op x)) (replica_in nodes j q)
-served_at nodes r request op x is j q =
-    let there = slice_there (slice_get nodes r) (find_key replica_key (ckpt_of request)) x refl is in
-    let xs = there.0 in
-    let at : find_key replica_key (ckpt_of request) xs ≡ Some x = ap (λ o. find_key replica_key (ckpt_of request) (list_or o)) (sym there.1) ∙ is in
-    let new = change_key replica_key (ckpt_of request) (replica_after request op) xs in
-    let set : served nodes r request op ≡ slice_set nodes r new = ap (λ o. slice_set nodes r (change_key replica_key (ckpt_of request) (replica_after request op) (list_or o))) there.1 in
-    let got : slice_get (slice_set nodes r new) q ≡ cond (q == r) (Some new) (slice_get nodes q) = get_set nodes r new xs q there.1 in
-    ap (λ ns. replica_in ns j q) set ∙ ap (λ o. find_key replica_key j (list_or o)) got
-    ∙ node_case (j == ckpt_of request) (q == r) (Some (replica_after request op x)) (find_key replica_key j) xs new (slice_get nodes q)
-    (λ e. ap (λ q. list_or (slice_get nodes q)) (eqb-true q r e) ∙ ap list_or there.1)
-    (find_changed replica_key (ckpt_of request) (replica_after request op) (after_key request op) xs x j at)
 
 -- ---- the replicas, changed at one place where the node is complete
 
@@ -142,7 +114,7 @@ none_case false p o = refl
 pub hand_set : (hands : List (Option InHand)) (c : ℕ) (h : InHand) (p : Option InHand) → hand_at hands c ≡ Some h → (d : ℕ) → hand_at (slice_set hands c p) d ≡ cond (d == c) p (hand_at hands d)
 hand_set hands c h p is d = let t = there_in_some (slice_get hands c) h is in ap or_none (get_set hands c p t.0 d t.1) ∙ none_case (d == c) p (slice_get hands d)
 
-hand_case : (b : Bool) (k l : Kept) (new old : List StepDone) (made before : Option (List ℕ)) (p o : Option InHand) → (b ≡ true → k ≡ l) → cond b (shown_hand l new made p) (shown_hand k old before o) ≡ shown_hand k (cond b new old) (cond b made before) (cond b p o)
+hand_case : (b : Bool) (k l : Beginning) (new old : List StepDone) (made before : Option (List ℕ)) (p o : Option InHand) → (b ≡ true → k ≡ l) → cond b (shown_hand l new made p) (shown_hand k old before o) ≡ shown_hand k (cond b new old) (cond b made before) (cond b p o)
 hand_case true k l new old made before p o e = ap (λ k. shown_hand k new made p) (sym (e refl))
 hand_case false k l new old made before p o e = refl
 
@@ -152,19 +124,19 @@ with_steps h c steps created = record h { steps = put_actor h.steps (Client c) s
 
 -- the calls in hand, where client c's is another now
 pub put_hand : (h : History) (hands : List (Option InHand)) (c : ℕ) (old : InHand) (p : Option InHand) (new : List StepDone) (made : Option (List ℕ)) → hand_at hands c ≡ Some old →
-    (a : ActorName) → put_actor (hand_of h hands) (Client c) (shown_hand (h.kept (Client c)) new made p) a ≡ hand_of (with_steps h c new made) (slice_set hands c p) a
+    (a : ActorName) → put_actor (hand_of h hands) (Client c) (shown_hand (h.beginnings (Client c)) new made p) a ≡ hand_of (with_steps h c new made) (slice_set hands c p) a
 put_hand h hands c old p new made is (Client d) =
-    hand_case (d == c) (h.kept (Client d)) (h.kept (Client c)) new (h.steps (Client d)) made (h.created (Client d)) p (hand_at hands d) (λ e. ap (λ d. h.kept (Client d)) (eqb-true d c e))
-    ∙ ap (shown_hand (h.kept (Client d)) (put_actor h.steps (Client c) new (Client d)) (put_actor h.created (Client c) made (Client d))) (sym (hand_set hands c old p is d))
+    hand_case (d == c) (h.beginnings (Client d)) (h.beginnings (Client c)) new (h.steps (Client d)) made (h.created (Client d)) p (hand_at hands d) (λ e. ap (λ d. h.beginnings (Client d)) (eqb-true d c e))
+    ∙ ap (shown_hand (h.beginnings (Client d)) (put_actor h.steps (Client c) new (Client d)) (put_actor h.created (Client c) made (Client d))) (sym (hand_set hands c old p is d))
 put_hand h hands c old p new made is (Node r) = refl
 
-fits_hand_case : (b : Bool) (k l : Kept) (new old : List StepDone) (p o : Option InHand) → (b ≡ true → k ≡ l) → FitsHand l new p → FitsHand k old o → FitsHand k (cond b new old) (cond b p o)
-fits_hand_case true k l new old p o e h g = subst (λ (k : Kept). FitsHand k new p) (sym (e refl)) h
+fits_hand_case : (b : Bool) (k l : Beginning) (new old : List StepDone) (p o : Option InHand) → (b ≡ true → k ≡ l) → FitsHand l new p → FitsHand k old o → FitsHand k (cond b new old) (cond b p o)
+fits_hand_case true k l new old p o e h g = subst (λ (k : Beginning). FitsHand k new p) (sym (e refl)) h
 fits_hand_case false k l new old p o e h g = g
 
 -- and how they fit
 pub fits_hand : (h : History) (hands : List (Option InHand)) (c : ℕ) (old : InHand) (p : Option InHand) (new : List StepDone) → hand_at hands c ≡ Some old →
-    FitsHand (h.kept (Client c)) new p → ((d : ℕ) → FitsHand (h.kept (Client d)) (h.steps (Client d)) (hand_at hands d)) → (d : ℕ) → FitsHand (h.kept (Client d)) (put_actor h.steps (Client c) new (Client d)) (hand_at (slice_set hands c p) d)
+    FitsHand (h.beginnings (Client c)) new p → ((d : ℕ) → FitsHand (h.beginnings (Client d)) (h.steps (Client d)) (hand_at hands d)) → (d : ℕ) → FitsHand (h.beginnings (Client d)) (put_actor h.steps (Client c) new (Client d)) (hand_at (slice_set hands c p) d)
 fits_hand h hands c old p new is one all d =
-    subst (FitsHand (h.kept (Client d)) (put_actor h.steps (Client c) new (Client d))) (sym (hand_set hands c old p is d))
-    (fits_hand_case (d == c) (h.kept (Client d)) (h.kept (Client c)) new (h.steps (Client d)) p (hand_at hands d) (λ e. ap (λ d. h.kept (Client d)) (eqb-true d c e)) one (all d))
+    subst (FitsHand (h.beginnings (Client d)) (put_actor h.steps (Client c) new (Client d))) (sym (hand_set hands c old p is d))
+    (fits_hand_case (d == c) (h.beginnings (Client d)) (h.beginnings (Client c)) new (h.steps (Client d)) p (hand_at hands d) (λ e. ap (λ d. h.beginnings (Client d)) (eqb-true d c e)) one (all d))

@@ -20,8 +20,8 @@ use Rattle.ckpt_types.specs.Asks.{Ask, asked}
 use Rattle.ckpt_types.specs.Asks as asks
 use Rattle.ckpt_machine.specs.Facts.{Facts}
 use Rattle.ckpt_machine.specs.Machine.{Machine, ReplicaState, CallState}
-use Rattle.ckpt_machine.specs.Replicas.{Replica}
-use Rattle.ckpt_machine.specs.Serving.{replica_in}
+use Rattle.replica.specs.Replicas.{Replica}
+use Rattle.world_core.specs.Nodes.{replica_in}
 use Rattle.ckpt_machine.specs.Steps.{on_ok, on_look, without_making, at_some, change_replica, created_for, retained_for, changed, step_of, after}
 use Rattle.world_core.specs.declared.hands.InHand.{InHand}
 use Rattle.world_core.specs.declared.world.Event.{Event}

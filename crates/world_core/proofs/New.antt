@@ -6,11 +6,12 @@ use Rattle.ckpt_types.specs.declared.identities.ActorName.TheVariants.{Client, N
 use Rattle.ckpt_types.specs.declared.identities.CallId.{CallId}
 use Rattle.world_core.specs.declared.world.World.{World}
 use Rattle.cluster_record.specs.RecordState.{entry_of, is_live_client}
-use Rattle.ckpt_machine.specs.Driving.{Kept}
-use Rattle.ckpt_machine.specs.Serving.{replica_in}
+use Rattle.cluster_record.specs.DueOnce.{Leave}
+use Rattle.ckpt_machine.specs.Drivers.{Once}
+use Rattle.world_core.specs.Nodes.{replica_in}
 use Rattle.ckpt_machine.specs.Machine.{empty_cluster, no_tables}
 use Rattle.ckpt_machine.specs.Steps.{room_in}
-use Rattle.world_core.specs.Shows.{History, Shows, HistoryFits, FitsReplica, FitsHand, machine_of, complete_replica, hand_of, next_of, reserved_in, shown_hand, shown_replica, tables_of, where_complete}
+use Rattle.world_core.specs.Shows.{Beginning, History, Shows, HistoryFits, FitsReplica, FitsHand, machine_of, complete_replica, hand_of, next_of, reserved_in, shown_hand, shown_replica, tables_of, where_complete}
 use Rattle.world_core.specs.Runs.{IsNew, IsRunTo}
 use Rattle.world_core.proofs.HoldingLaws.{nothing_held}
 use Rattle.world_core.proofs.Recording.{zero_there}
@@ -19,11 +20,11 @@ use Rattle.world_core.proofs.Recording.{zero_there}
 abbrev no_call : CallId
 no_call = record { actor = Client 0; number = 0 }
 
-abbrev none_kept : Kept
-none_kept = record { ckpt = None; room = room_in None; node = 0; moment = pos 0 }
+abbrev none_has_begun : Beginning
+none_has_begun = record { kept = record { ckpt = None; room = room_in None; node = 0; moment = pos 0 }; driver = Once Leave }
 
 abbrev nothing : History
-nothing = record { effects = λ k r. []; origins = λ k r. no_call; kept = λ a. none_kept; steps = λ a. []; created = λ a. None }
+nothing = record { effects = λ k r. []; origins = λ k r. no_call; beginnings = λ a. none_has_begun; steps = λ a. []; created = λ a. None }
 
 module _ (w : World) (new : IsNew w) where
   no_replica : (k r : ℕ) → complete_replica w.cluster w.nodes k r ≡ None
@@ -38,7 +39,7 @@ module _ (w : World) (new : IsNew w) where
   nexts (Node r) = refl
 
   hands : (a : ActorName) → None ≡ hand_of nothing w.hands a
-  hands (Client c) = sym (ap (shown_hand none_kept [] None) (new.hands c))
+  hands (Client c) = sym (ap (shown_hand none_has_begun [] None) (new.hands c))
   hands (Node r) = refl
 
   shows_nothing : empty_cluster ≡ machine_of w nothing
@@ -60,7 +61,7 @@ module _ (w : World) (new : IsNew w) where
   fits_nothing : HistoryFits w nothing
   fits_nothing = record {
     replicas = λ k r. subst (FitsReplica k (entry_of k w.cluster.entries) []) (sym (no_replica k r)) tt;
-    hands = λ c. subst (FitsHand none_kept []) (sym (new.hands c)) tt;
+    hands = λ c. subst (FitsHand none_has_begun []) (sym (new.hands c)) tt;
   }
 
   none_live : (c : ℕ) → is_live_client c w.cluster ≡ true → ⊥

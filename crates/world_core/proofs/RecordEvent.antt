@@ -1,6 +1,6 @@
 -- A step of the record, whatever the step: done, or refused by the record or for the memory that it takes.
-use Rattle.std.proofs.Common.{◌≡◌, inl, inr, ℕ, true, false, List, refl, sym, ap, subst, ◌∙◌}
-use Rattle.std.specs.Prelude.{Option, Some, None, IsSome, IsSomeAnd, slice_get, slice_set, slice_index}
+use Rattle.std.proofs.Common.{◌≡◌, inl, inr, ℕ, true, false, refl, sym, ap, subst, ◌∙◌}
+use Rattle.std.specs.Prelude.{Option, Some, None, IsSome, IsSomeAnd, slice_get, slice_set}
 use Rattle.ckpt_types.specs.declared.answers.Outcome.{Outcome}
 use Rattle.ckpt_types.specs.declared.identities.ActorName.{ActorName}
 use Rattle.ckpt_types.specs.declared.identities.ActorName.TheVariants.{Client}
@@ -11,7 +11,7 @@ use Rattle.node_msgs.specs.declared.steps.Verb.{Verb}
 use Rattle.node_msgs.specs.declared.steps.StepReply.{StepReply}
 use Rattle.node_msgs.specs.declared.steps.StepReply.TheVariants as words
 use Rattle.node_msgs.specs.Steps.{event_verb}
-use Rattle.run_labels.specs.declared.details.Details.TheVariants as beside
+use Rattle.node_msgs.specs.declared.details.Details.TheVariants as beside
 use Rattle.run_labels.specs.declared.labels.Label.{Label}
 use Rattle.run_labels.specs.declared.labels.Label.TheVariants.{Stepped}
 use Rattle.ckpt_types.specs.OpWord.{word_of_op}
@@ -28,10 +28,10 @@ use Rattle.ckpt_types.specs.Asks as asks
 use Rattle.ckpt_machine.specs.Drivers.{Driver}
 use Rattle.ckpt_machine.specs.Drivers as drivers
 use Rattle.ckpt_machine.specs.Driving.{driver_next, event_ckpt, event_node, event_end, event_refusal}
-use Rattle.ckpt_machine.specs.Facts.{Facts, IsEventReady, IsFinishable}
+use Rattle.ckpt_machine.specs.Facts.{IsEventReady, IsFinishable}
 use Rattle.ckpt_machine.specs.Machine.{Machine, CallState, no_tables}
 use Rattle.ckpt_machine.specs.Steps.{Told, IsDone, IsRecordAnswer, at_some, changed, created_for, retained_for, driver_of, record_step, with_closed, with_given, with_record, with_tables}
-use Rattle.ckpt_machine.specs.Serving.{replica_in}
+use Rattle.world_core.specs.Nodes.{replica_in}
 use Rattle.ckpt_machine.specs.Tables.{handle_given, closing}
 use Rattle.ckpt_machine.proofs.AskedFor.{DrivesFor, state_drives}
 use Rattle.world_core.specs.declared.hands.InHand.{InHand}
@@ -225,7 +225,7 @@ module _ (w : World) (c : ℕ) (step : RecordStep) (hand : InHand) (held : hand_
     shown_done : event_refusal w.cluster step hand.driver ≡ None → CanSettle c hand.op step w.tables → IsShownBehind w c hand held (settled_world w c hand step) (with_effects w) verb k r words.Ok end beside.Nothing (Event step) h
     shown_done granted can = record {
       done = told_so words.Ok end (subst (λ o. IsRecordAnswer o step (parts words.Ok end)) (sym granted) (inl (refl, refl)));
-      change = change_done m s hand.driver step ready (subst (DrivesFor s.call (asked s.op)) (sym driver) (state_drives s.call s.op s.kept s.steps))
+      change = change_done m s hand.driver step ready (subst (DrivesFor s.call (asked s.op)) (sym driver) (state_drives s (is.facts.driven (Client c) s (in_hand_is w h c hand held))))
           ∙ ap (tables_after s step k) (record_is w h R goes up)
           ∙ settles (record w { cluster = R }) (with_effects w h) c s (actor_is w h c hand held is.facts) step k can;
       fits = let f = record_fits w h R goes up is.fits in record { replicas = f.replicas; hands = f.hands };
@@ -252,9 +252,9 @@ module _ (w : World) (c : ℕ) (step : RecordStep) (hand : InHand) (held : hand_
     client = ap number_of (actor_is w shown.shows.history c hand held (known w shown).facts)
 
     by_driver : (step : RecordStep) (x : Driver) → IsEventReady (machine_of w shown.shows.history) its x step → (step ≡ events.Enter → room_is_taken (slice_get w.tables c) ≡ true) → EntersWithRoom hand.call x w.tables
-    by_driver events.Enter (drivers.Once (once.Enter r)) ready roomy = subst (λ d. room_is_taken (slice_get w.tables d) ≡ true) (sym client) (roomy refl)
-    by_driver step (drivers.Once (once.Enter r)) ready roomy = absurd ready
-    by_driver step x ready roomy = tt
+    by_driver events.Enter (drivers.Once (once.Enter r)) _ roomy = subst (λ d. room_is_taken (slice_get w.tables d) ≡ true) (sym client) (roomy refl)
+    by_driver step (drivers.Once (once.Enter r)) asks roomy = absurd asks
+    by_driver step x _ roomy = tt
 
   -- the step is done, and the nodes are freed of what is gone
   pub event_does : event_refusal w.cluster step hand.driver ≡ None → CanSettle c hand.op step w.tables → EntersWithRoom hand.call hand.driver w.tables →

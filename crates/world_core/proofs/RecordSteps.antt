@@ -1,5 +1,5 @@
 -- What a step of the record that is next for a call in hand asks of the world, and what it makes of it.
-use Rattle.std.proofs.Common.{◌≡◌, ℕ, true, false, List, refl, sym, ap, subst, ◌∙◌}
+use Rattle.std.proofs.Common.{◌≡◌, ℕ, true, false, List, refl, sym, ap, ◌∙◌}
 use Rattle.std.specs.Prelude.{Option, Some, None, Result, Ok, Err, is_err, OnOk, OnErr, IsSome, slice_get, slice_set}
 use Rattle.ckpt_types.specs.declared.answers.Outcome.{Outcome}
 use Rattle.ckpt_types.specs.declared.identities.ActorName.{ActorName}
@@ -11,7 +11,7 @@ use Rattle.node_msgs.specs.declared.steps.Verb.{Verb}
 use Rattle.node_msgs.specs.declared.steps.StepReply.{StepReply}
 use Rattle.node_msgs.specs.declared.steps.StepReply.TheVariants as words
 use Rattle.node_msgs.specs.Steps.{event_verb}
-use Rattle.run_labels.specs.declared.details.Details.TheVariants as beside
+use Rattle.node_msgs.specs.declared.details.Details.TheVariants as beside
 use Rattle.run_labels.specs.declared.labels.Label.TheVariants.{Stepped}
 use Rattle.ckpt_types.specs.declared.words.OpWord.{OpWord}
 use Rattle.ckpt_types.specs.OpWord.{word_of_op}
@@ -24,7 +24,7 @@ use Rattle.ckpt_machine.specs.Drivers.{Driver}
 use Rattle.ckpt_machine.specs.Drivers as drivers
 use Rattle.ckpt_machine.specs.Driving.{driver_next, event_ckpt, event_node, event_end, event_refusal}
 use Rattle.ckpt_machine.specs.Facts.{IsEventReady}
-use Rattle.ckpt_machine.specs.Replicas.{Replica}
+use Rattle.replica.specs.Replicas.{Replica}
 use Rattle.ckpt_machine.specs.Tables.{rooms_in}
 use Rattle.world_core.specs.declared.hands.InHand.{InHand}
 use Rattle.world_core.specs.declared.world.World.{World}

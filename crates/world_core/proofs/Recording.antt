@@ -3,10 +3,11 @@ use Rattle.std.proofs.Common.{◌≡◌, ◌⊎◌, inl, inr, ℕ, zero, suc, Bo
 use Rattle.std.specs.Prelude.{Option, Some, None, ◌==◌, slice_index, if◌then◌else◌}
 use Rattle.ckpt_types.specs.declared.identities.CallId.{CallId}
 use Rattle.cluster_record.specs.declared.entries.Entry.{Entry}
-use Rattle.ckpt_machine.specs.Replicas.{Replica}
+use Rattle.replica.specs.Replicas.{Replica}
 use Rattle.world_core.specs.declared.world.World.{World}
 use Rattle.cluster_record.specs.RecordState.{RecordState, entry_of, complete_of, no_nodes}
-use Rattle.ckpt_machine.specs.Serving.{replica_in, opened_replica}
+use Rattle.world_core.specs.Nodes.{replica_in}
+use Rattle.replica.specs.Replicas.{opened_replica}
 use Rattle.ckpt_machine.specs.Machine.{Effect}
 use Rattle.ckpt_machine.specs.Steps.{opened_state, replica_under, reservation_under, with_record}
 use Rattle.world_core.specs.Shows.{History, HistoryFits, FitsReplica, machine_of, shown_replica, shown_reservation, where_complete, where_not_complete}
@@ -75,7 +76,7 @@ record_fits_case up k None (Some f) r E y goes fits = subst (λ (b : Bool). Fits
 record_fits_case up k (Some e) (Some f) r E y goes fits = by_node goes.2 where
   at : (x : Option Replica) → FitsReplica k (Some e) E x → FitsReplica k (Some f) E x
   at None fits = tt
-  at (Some x) fits = (fits.0, fits.1 ∙ sym goes.0, fits.2)
+  at (Some x) fits = (fits.0, fits.1 ∙ sym goes.0, fits.2, fits.3)
 
   by_tests : (b a : Bool) → b ≡ a → FitsReplica k (Some e) E (cond a None y) → FitsReplica k (Some f) (cond a [] E) (cond b None y)
   by_tests true a s fits = tt
@@ -89,7 +90,7 @@ record_fits_case up k (Some e) (Some f) r E y goes fits = by_node goes.2 where
 
   by_node : NodeGoes k e f r y → FitsReplica k (Some f) (cond (slice_index e.complete r == 0) [] E) (cond (slice_index f.complete r == 0) None y)
   by_node (inl same) = by_tests (slice_index f.complete r == 0) (slice_index e.complete r == 0) (ap (λ n. n == 0) same) fits
-  by_node (inr new) = newly (slice_index f.complete r == 0) (slice_index e.complete r == 0) (test_zero (slice_index e.complete r) new.0) (subst (FitsReplica k (Some f) []) (sym new.2) (refl, refl, refl))
+  by_node (inr new) = newly (slice_index f.complete r == 0) (slice_index e.complete r == 0) (test_zero (slice_index e.complete r) new.0) (subst (FitsReplica k (Some f) []) (sym new.2) (refl, refl, refl, tt))
 
 -- ---- the reservations
 

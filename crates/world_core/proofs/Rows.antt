@@ -16,6 +16,7 @@ use Rattle.ckpt_types.specs.declared.operation.Op.TheVariants as ops
 use Rattle.ckpt_types.specs.declared.sections.SectionState.TheVariants.{Valid}
 use Rattle.ckpt_types.specs.declared.update.IoElement.{IoElement}
 use Rattle.ckpt_types.specs.declared.update.Update.TheVariants as updates
+use Rattle.ckpt_types.specs.Asks.{asked, update_of}
 use Rattle.ckpt_types.specs.Limits.{wr_all_replicas, checkpoint_read, checkpoint_write, checkpoint_create, release, major_max, minor_answered, end_of_time}
 use Rattle.ckpt_types.specs.Sections.{Section}
 use Rattle.node_msgs.specs.declared.next.Next.{Next}
@@ -26,25 +27,29 @@ use Rattle.node_msgs.specs.declared.requests.Request.TheVariants as requests
 use Rattle.node_msgs.specs.declared.steps.StepReply.TheVariants as words
 use Rattle.node_msgs.specs.declared.steps.Verb.{Verb}
 use Rattle.node_msgs.specs.declared.steps.Verb.TheVariants as verbs
-use Rattle.run_labels.specs.declared.details.Details.TheVariants as beside
+use Rattle.node_msgs.specs.declared.details.Details.TheVariants as beside
 use Rattle.run_labels.specs.declared.labels.Label.{Label}
 use Rattle.run_labels.specs.declared.labels.Label.TheVariants as labels
 use Rattle.ckpt_types.specs.OpWord.{word_of_op}
 use Rattle.ckpt_types.specs.declared.words.OpWord.{OpWord}
 use Rattle.client_handles.specs.declared.handle_view.HandleView.{HandleView}
 use Rattle.cluster_record.specs.declared.entries.Entry.{Entry}
+use Rattle.cluster_record.specs.DueOnce.{Leave}
 use Rattle.cluster_record.specs.StepDone.{StepDone}
 use Rattle.cluster_record.specs.RecordState.{RecordState, empty_record, named}
-use Rattle.ckpt_machine.specs.Replicas.{Replica}
-use Rattle.ckpt_machine.specs.Drivers.{Driver}
-use Rattle.ckpt_machine.specs.Driving.{driver_end, event_refusal}
+use Rattle.replica.specs.Replicas.{Replica}
+use Rattle.ckpt_machine.specs.Drivers.{Driver, Once}
+use Rattle.ckpt_machine.specs.Driving.{Kept, driver_start, driver_end, event_refusal}
 use Rattle.ckpt_machine.specs.Guards.{Allowed, IsAllowedStep, Row}
 use Rattle.world_core.specs.Holding.{HoldsOnlyWhatStands}
 use Rattle.ckpt_machine.specs.Machine.{Machine, Applied, ReplicaState, CallState, empty_cluster, no_tables}
 use Rattle.ckpt_machine.specs.Runs.{IsRun, last}
 use Rattle.world_core.specs.declared.world.World.{World}
 use Rattle.world_core.specs.Shows.{Shows}
-use Rattle.ckpt_machine.specs.Serving.{record_seen, reply_at, details_at, replica_after, opened_replica}
+use Rattle.node_core.specs.Payloads.{no_payload, update_alone}
+use Rattle.node_core.specs.Seen.{record_seen}
+use Rattle.node_core.specs.Serving.{reply_at, details_at, replica_after}
+use Rattle.replica.specs.Replicas.{opened_replica}
 use Rattle.ckpt_machine.specs.Steps.{Told, IsDue, after, driver_of, due, kept_at_beginning, asked_handle, seen_at, with_tables}
 use Rattle.std.proofs.lemmas.Option.{same_Some}
 use Rattle.ckpt_machine.proofs.NodeLists.{is_up-none}
@@ -108,8 +113,17 @@ five = comes_up ∷ begins 1 starts ∷ example_enters ∷ begins 2 (ops.Unlink 
 abbrev in_hand : Machine → Option CallState
 in_hand m = m.in_hand (Client 0)
 
+-- what drives a call, or a leaving where nothing does
+abbrev driver_or : Option Driver → Driver
+driver_or None = Once Leave
+driver_or (Some x) = x
+
+-- a call behind its beginning, with what it keeps
+abbrev begun_state : CallId → Op → Kept → CallState
+begun_state call op kept = record { call = call; op = op; kept = kept; begun = driver_or (driver_start call (asked op) kept); steps = []; created = None; snapshot = None }
+
 abbrev example_begun : Machine → ℕ → Op → CallState
-example_begun m n op = record { call = c0 n; op = op; kept = kept_at_beginning m.cluster 0 (asked_handle m (Client 0) op); steps = []; created = None; snapshot = None }
+example_begun m n op = begun_state (c0 n) op (kept_at_beginning m.cluster 0 (asked_handle m (Client 0) op))
 
 abbrev example_started : Machine
 example_started = last (comes_up ∷ begins 1 starts ∷ [])
@@ -192,8 +206,8 @@ log_staged = begins 3 (writes 0 (codes "abc")) ∷ steps 3 (writes 0 (codes "abc
 abbrev log_written : List Label
 log_written = log_staged ++ ends 3 (writes 0 (codes "abc")) verbs.Commit (Some 1) (Some 0) (Done answers.Nothing) ∷ []
 
-abbrev staged : Machine
-staged = last (log_opened ++ log_staged)
+abbrev staged_once : Machine
+staged_once = last (log_opened ++ log_staged)
 
 abbrev example_written : Machine
 example_written = last (log_opened ++ log_written)
@@ -201,7 +215,7 @@ example_written = last (log_opened ++ log_written)
 abbrev sections_of : Machine → Option (List Section)
 sections_of m = option_map (λ (x : ReplicaState). x.sections) (m.replicas 1 0)
 
-pub a_stage_leaves_the_sections : sections_of staged ≡ Some (section [] ∷ [])
+pub a_stage_leaves_the_sections : sections_of staged_once ≡ Some (section [] ∷ [])
 a_stage_leaves_the_sections = refl
 
 pub a_commit_writes_them : example_written.replicas 1 0 ≡ Some (record { sections = section (codes "abc") ∷ []; effects = Applied (c0 3) (updates.Write (into [] 0 (codes "abc") ∷ [])) (pos 0) ∷ []; generation = 1; slot = None; marks = None })
@@ -235,7 +249,7 @@ an_answer_with_its_stage_is_not_allowed allowed =
 abbrev example_retained : Machine
 example_retained = last (log_opened ++ log_written ++ begins 4 (ops.Retain 0 (pos 5)) ∷ ends 4 (ops.Retain 0 (pos 5)) verbs.Retain (Some 1) None (Done answers.Nothing) ∷ [])
 
-pub status_after_both : details_at (requests.Status 1) (ops.Status 0) (record_seen example_retained.cluster 1) (seen_at example_retained 1 0)
+pub status_after_both : details_at (requests.Status 1) no_payload (record_seen example_retained.cluster 1 0) (seen_at example_retained 1 0)
     ≡ beside.Status (record { attributes = record (sized 16 1) { retention_duration = pos 5 }; number_of_sections = 1; memory_used = 3 })
 status_after_both = refl
 
@@ -342,10 +356,10 @@ a_and_b = record { ckpt = 1; attributes = sized 16 2; sections = named_section (
 abbrev three : Op
 three = ops.Write 0 (updates.Write (into (codes "a") 0 (codes "X") ∷ into (codes "b") 0 (codes "Y") ∷ into (codes "c") 0 (codes "Z") ∷ []))
 
-pub the_replica_refuses_with_the_index : reply_at (requests.Stage (c0 3) 1 (pos 0)) three (record_seen example_opened.cluster 1) (Some a_and_b) ≡ replies.Refused errors.NotExist 2
+pub the_replica_refuses_with_the_index : reply_at (requests.Stage (c0 3) 1 (pos 0)) (update_alone (update_of three)) (record_seen example_opened.cluster 1 0) (Some a_and_b) ≡ replies.Refused errors.NotExist 2
 the_replica_refuses_with_the_index = refl
 
-pub it_stays_as_it_was : replica_after (requests.Stage (c0 3) 1 (pos 0)) three a_and_b ≡ a_and_b
+pub it_stays_as_it_was : replica_after (requests.Stage (c0 3) 1 (pos 0)) (update_alone (update_of three)) a_and_b ≡ a_and_b
 it_stays_as_it_was = refl
 
 pub the_call_tells_the_index : (d : StepDone) (x : Driver) → driver_end three d (replies.Refused errors.NotExist 2) x ≡ Some (Refused errors.NotExist (Index 2))
@@ -367,7 +381,7 @@ in_the_making = last log_making
 
 -- c1's call, begun then or later
 abbrev c1_begins : Machine → Op → CallState
-c1_begins m op = record { call = c1 2; op = op; kept = kept_at_beginning m.cluster 1 (asked_handle m (Client 1) op); steps = []; created = None; snapshot = None }
+c1_begins m op = begun_state (c1 2) op (kept_at_beginning m.cluster 1 (asked_handle m (Client 1) op))
 
 pub of_what_is_in_the_making_the_record_is_asked : due in_the_making (c1_begins in_the_making (opens 0 ck)) ≡ Event events.Open
 of_what_is_in_the_making_the_record_is_asked = refl

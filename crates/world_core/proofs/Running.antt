@@ -6,7 +6,7 @@ use Rattle.std.proofs.lemmas.Option.{same_Some}
 use Rattle.ckpt_types.specs.declared.answers.Outcome.{Outcome}
 use Rattle.ckpt_types.specs.declared.identities.ActorName.TheVariants.{Client}
 use Rattle.ckpt_types.specs.declared.identities.CallId.{CallId}
-use Rattle.run_labels.specs.declared.details.Details.{Details}
+use Rattle.node_msgs.specs.declared.details.Details.{Details}
 use Rattle.ckpt_types.specs.declared.words.OpWord.{OpWord}
 use Rattle.node_msgs.specs.declared.steps.Verb.{Verb}
 use Rattle.node_msgs.specs.declared.steps.StepReply.{StepReply}

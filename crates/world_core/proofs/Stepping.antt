@@ -1,42 +1,66 @@
 -- The steps of a call in hand, with the call that the code finds there.
-use Rattle.std.proofs.Common.{◌≡◌, ◌≢◌, ℕ, ◌<◌, List, length, refl, sym, ap, subst, ◌∙◌}
-use Rattle.std.specs.Prelude.{Option, Some, None, IsSomeAnd, slice_set}
+use Rattle.std.proofs.Common.{◌≡◌, ◌≢◌, ℕ, ◌-◌, ◌^◌, ◌<◌, Bool, false, List, length, refl, sym, ap, subst, ◌∙◌}
+use Rattle.std.specs.Prelude.{Option, Some, None, IfSome, IsSome, IsSomeAnd, slice_set}
+use Rattle.ckpt_types.specs.declared.answers.Answer.{Answer}
+use Rattle.ckpt_types.specs.declared.answers.Answer.TheVariants as answers
 use Rattle.ckpt_types.specs.declared.answers.Outcome.{Outcome}
+use Rattle.ckpt_types.specs.declared.identities.ActorName.TheVariants.{Client}
+use Rattle.ckpt_types.specs.declared.operation.Op.{Op}
+use Rattle.ckpt_types.specs.Attributes.{is_malformed}
 use Rattle.node_msgs.specs.declared.requests.Request.{Request}
 use Rattle.node_msgs.specs.declared.requests.Request.TheVariants.{Reserve}
+use Rattle.node_msgs.specs.declared.requests.Request.TheVariants as requests
 use Rattle.node_msgs.specs.declared.replies.Reply.{Reply}
+use Rattle.node_msgs.specs.declared.replies.Reply.TheVariants as replies
 use Rattle.node_msgs.specs.declared.next.Next.TheVariants.{Serve, End}
-use Rattle.run_labels.specs.declared.details.Details.{Details}
-use Rattle.run_labels.specs.declared.details.Details.TheVariants as beside
+use Rattle.node_msgs.specs.declared.details.Details.{Details}
+use Rattle.node_msgs.specs.declared.details.Details.TheVariants as beside
 use Rattle.ckpt_types.specs.declared.words.OpWord.{OpWord}
 use Rattle.node_msgs.specs.declared.steps.Verb.{Verb}
 use Rattle.node_msgs.specs.declared.steps.Verb.TheVariants as verbs
 use Rattle.node_msgs.specs.declared.steps.StepReply.{StepReply}
 use Rattle.run_labels.specs.declared.labels.Label.TheVariants.{Stepped}
 use Rattle.ckpt_types.specs.OpWord.{word_of_op}
+use Rattle.client_handles.specs.ClientState.{ClientState}
 use Rattle.world_core.specs.declared.hands.InHand.{InHand}
-use Rattle.ckpt_machine.specs.Replicas.{RecordSeen}
-use Rattle.ckpt_machine.specs.Replicas.{Replica}
+use Rattle.replica.specs.Replicas.{Replica}
 use Rattle.world_core.specs.declared.world.World.{World}
+use Rattle.cluster_record.specs.declared.entries.Entry.{Entry}
 use Rattle.cluster_record.specs.Calls.{left}
-use Rattle.cluster_record.specs.RecordState.{entry_of}
+use Rattle.cluster_record.specs.Places.{find_key}
+use Rattle.cluster_record.specs.RecordState.{RecordState, entry_of}
+use Rattle.cluster_record.specs.StepDone.{StepDone}
 use Rattle.node_msgs.specs.Requests.{ckpt_of}
-use Rattle.ckpt_machine.specs.Serving.{record_seen, replica_in, reply_at, details_at, served, IsReadyAt}
-use Rattle.world_core.specs.Reserving.{IsReservedAt}
 use Rattle.node_msgs.specs.Steps.{verb_of, word_of}
-use Rattle.world_core.specs.HandSteps.{hand_taken, hand_end}
-use Rattle.ckpt_machine.specs.Driving.{driver_next, making_in}
+use Rattle.node_core.specs.declared.lent.Lent.{Lent}
+use Rattle.node_core.specs.Fitting.{HasCountLeft, RequestFits, ReplicaFits, IsReadyFor}
+use Rattle.node_core.specs.Nodes.{NodeState, MayReply, replica_key, replica_served, seen_from}
+use Rattle.node_core.specs.Payloads.{Payload}
+use Rattle.node_core.specs.Seen.{record_seen, is_complete}
+use Rattle.node_core.specs.Serving.{reply_at}
+use Rattle.ckpt_machine.specs.Drivers.{Driver}
+use Rattle.ckpt_machine.specs.Drivers as drivers
+use Rattle.ckpt_machine.specs.Driving.{driver_next, driver_taken, driver_end, making_in}
+use Rattle.ckpt_machine.specs.Facts.{Facts, IsActive, IsReservable, IsServable}
+use Rattle.ckpt_machine.specs.Machine.{Machine, CallState}
+use Rattle.ckpt_machine.specs.Steps.{due, driver_of, ended_details, look_word}
+use Rattle.world_core.specs.Nodes.{node_at, replica_in}
+use Rattle.world_core.specs.Lending.{IsLentBy, IsValidFor, CanLend, CanKeep, iteration_lent, tables_lending}
+use Rattle.world_core.specs.HandSteps.{hand_taken, served_done}
 use Rattle.world_core.specs.Settling.{looked, without_making_of}
-use Rattle.world_core.specs.TableState.{TableState}
-use Rattle.ckpt_machine.specs.Steps.{ended_details, look_word}
-use Rattle.ckpt_machine.specs.Facts.{IsReservable}
-use Rattle.world_core.specs.Shows.{Does, IsShown, HasNumbersLeft, hand_at}
+use Rattle.world_core.specs.TableState.{TableState, kept_by}
+use Rattle.world_core.specs.Shows.{Does, IsShown, HasNumbersLeft, History, HistoryFits, machine_of, hand_at}
 use Rattle.world_core.specs.Happenings.{rooms_at, IsNext, IsStep}
-use Rattle.world_core.proofs.Held.{next_for}
+use Rattle.world_core.proofs.CallSteps.{IsKnown, known}
+use Rattle.world_core.proofs.Carrying.{GoesToReplica, Carries, IsOfCall, payload_with, has_lent}
+use Rattle.world_core.proofs.Finding.{IsReservationOr, next_goes}
+use Rattle.world_core.proofs.Finding as finding
+use Rattle.world_core.proofs.Held.{state_in, in_hand_is, driver_is, next_for}
+use Rattle.world_core.proofs.IterationSteps.{TablesReady, HasIterationRoom, EndsIts, can_lend, can_keep}
 use Rattle.world_core.proofs.Look.{look_done}
-use Rattle.world_core.proofs.Reserve.{reserve_ready, reserved_hands, reserve_does}
-use Rattle.world_core.proofs.PlainRequests.{IsPlain}
-use Rattle.world_core.proofs.Serve.{served_step, reply_in, details_in, end_with, serve_does, serve_node, serve_ready}
+use Rattle.world_core.proofs.OpenRoom.{iterate_room}
+use Rattle.world_core.proofs.Reserve.{reserve_does}
+use Rattle.world_core.proofs.Serve.{its_done, its_end, its_details, served_world, served_label, serve_does}
 
 -- what is there is not none
 pub some_held : (o : Option InHand) (hand : InHand) → o ≡ Some hand → o ≢ None
@@ -75,47 +99,154 @@ look_is w c o hand making tables hands word reply shown held next making_is tabl
     step_told c w (without_making_of making (record w { tables = tables; hands = hands })) hand hand word verbs.Look None None reply (Some o) beside.Nothing held refl refl
     (unmade_hands making (record w { tables = tables; hands = hands }) ∙ hands_is) (look_done w c o hand held (next_for w c (End o) hand held next) making tables hands word reply shown making_is tables_are hands_is word_is reply_is)
 
--- a step that a node serves
-module _ (w : World) (c r : ℕ) (request : Request) (hand : InHand) (held : hand_at w.hands c ≡ Some hand) (next : IsNext w c (Serve r request)) (plain : IsPlain request) where
+-- ---- a step that a node serves
+
+-- a reservation is of a checkpoint whose attributes passed their check
+well_formed_there : (R : RecordState) (r : ℕ) (o : Option Entry) → IsSomeAnd o (IsReservable R r) → IsSomeAnd o (λ e. is_malformed e.attributes ≡ false)
+well_formed_there R r None can = absurd can
+well_formed_there R r (Some e) can = can.well_formed
+
+fits_by : (request : Request) (m : Machine) (r : ℕ) (n : NodeState) (lent : Lent) → IsReservationOr request → IsServable m r request →
+    (GoesToReplica request → ReplicaFits (is_complete (seen_from m.cluster n (ckpt_of request))) request lent (find_key replica_key (ckpt_of request) n.replicas)) → RequestFits m.cluster n request lent
+fits_by (Reserve k) m r n lent goes servable fits = well_formed_there m.cluster r (entry_of k m.cluster.entries) servable
+fits_by request m r n lent goes servable fits = fits goes
+
+count_left : (request : Request) (x : Replica) → x.count < 2 ^ 64 - 1 → HasCountLeft request x
+count_left (requests.Stage call k t) x room = room
+count_left request x room = tt
+
+has_own_place : (request : Request) (w : World) (c r : ℕ) (x : Driver) → driver_next w.cluster (rooms_at w c) x ≡ Serve r request → HasIterationRoom request (kept_by w.tables c)
+has_own_place (requests.Iterate call k choice) w c r x next = iterate_room w.cluster (rooms_at w c) x r call k choice next
+has_own_place request w c r x next = tt
+
+-- a call to the active ends by any answer
+active_ends : (op : Op) (d : StepDone) (answer : Answer) (x : Driver) → IsActive x → IsSome (driver_end op d (replies.Done answer) (driver_taken d x))
+active_ends op d answer (drivers.Active a) is = refl
+active_ends op d answer (drivers.Once x) is = absurd is
+active_ends op d answer (drivers.Open o) is = absurd is
+active_ends op d answer (drivers.Update u) is = absurd is
+
+-- so one that starts an iteration has ended
+ends_by : (request : Request) (w : World) (h : History) (c r : ℕ) (hand : InHand) (p : Payload) (reply : Reply) (known_is : IsKnown w h) (held : hand_at w.hands c ≡ Some hand) → driver_next w.cluster (rooms_at w c) hand.driver ≡ Serve r request → MayReply w.cluster (node_at w.nodes r) request p reply → EndsIts request (its_end w c r request hand p reply)
+ends_by (requests.Iterate call k choice) w h c r hand p reply known_is held next may =
+    let request = requests.Iterate call k choice in
+    let served = finding.served_is w h c r request hand known_is.facts known_is.fits held next tt in
+    let due_here = finding.due_here w h c r request hand known_is.facts known_is.fits held next in
+    let starting = known_is.facts.starts (Client c) (state_in h c hand) r call k choice (in_hand_is w h c hand held) due_here in
+    let done : reply ≡ replies.Done answers.Nothing = may ∙ ap (reply_at request p (record_seen w.cluster k r)) served in
+    subst (λ (z : Reply × Driver). IsSome (driver_end hand.op (served_done w.cluster request r z.0) z.0 (driver_taken (served_done w.cluster request r z.0) z.1)))
+    (λ i. (sym done i, sym (driver_is w h c hand held known_is.fits) i)) (active_ends hand.op (served_done w.cluster request r (replies.Done answers.Nothing)) answers.Nothing (driver_of (state_in h c hand)) starting.active)
+ends_by request w h c r hand p reply known_is held next may = tt
+
+-- a node does what is due
+does_by : (request : Request) (w : World) (c r : ℕ) (hand : InHand) (p : Payload) (reply : Reply) → IsReservationOr request → hand_at w.hands c ≡ Some hand → driver_next w.cluster (rooms_at w c) hand.driver ≡ Serve r request → Carries request p (payload_with hand (kept_by w.tables c)) →
+    MayReply w.cluster (node_at w.nodes r) request p reply → IsValidFor request (kept_by w.tables c) → r < length w.nodes → Does w (served_world w c r request hand p reply) (served_label w c r request hand p reply)
+does_by (Reserve k) w c r hand p reply goes held next carries may valid within = reserve_does w c r k hand p reply held next may within
+does_by request w c r hand p reply goes held next carries may valid within = serve_does w c r request hand p reply goes held next carries may valid
+
+module _ (w : World) (c r : ℕ) (request : Request) (hand : InHand) (held : hand_at w.hands c ≡ Some hand) (next : IsNext w c (Serve r request)) where
+  abbrev kept : ClientState
+  kept = kept_by w.tables c
+
   abbrev its_next : driver_next w.cluster (rooms_at w c) hand.driver ≡ Serve r request
   its_next = next_for w c (Serve r request) hand held next
 
-  pub node_there : IsShown w → r < 8
-  node_there = serve_node w c r request hand plain held its_next
+  goes : IsReservationOr request
+  goes = next_goes w.cluster (rooms_at w c) hand.driver r request its_next
 
-  pub node_ready : IsShown w → HasNumbersLeft w → IsReadyAt request (replica_in w.nodes (ckpt_of request) r)
-  node_ready = serve_ready w c r request hand plain held its_next
+  -- what is lent, with the iteration that goes with the request
+  abbrev pub with_iteration : Lent → Lent
+  with_iteration lent = record lent { iteration = iteration_lent request hand kept }
 
-  pub serve_is : (sight : RecordSeen) (nodes : List (List Replica)) (hands : List (Option InHand)) (word : OpWord) (verb : Verb) (k : ℕ) (said : StepReply) (reply : Reply) (end : Option Outcome) (details : Details) →
-      sight ≡ record_seen w.cluster (ckpt_of request) → reply ≡ reply_at request hand.op sight (replica_in w.nodes (ckpt_of request) r) → details ≡ ended_details end (details_at request hand.op sight (replica_in w.nodes (ckpt_of request) r)) → nodes ≡ served w.nodes r request hand.op →
-      end ≡ hand_end (served_step w request r reply) reply (hand_taken (served_step w request r reply) hand) → hands ≡ slice_set w.hands c (left end (hand_taken (served_step w request r reply) hand)) →
-      word ≡ word_of_op hand.op → verb ≡ verb_of request → k ≡ ckpt_of request → said ≡ word_of reply → IsStep c w (record w { nodes = nodes; hands = hands }) (Stepped hand.call word verb (Some k) (Some r) said end details)
-  serve_is sight nodes hands word verb k said reply end details sight_is reply_is details_is nodes_is end_is hands_is word_is verb_is k_is said_is =
-      let y = replica_in w.nodes (ckpt_of request) r in
-      let its_reply = reply_in w r request hand in
-      let a : its_reply ≡ reply = ap (λ sight. reply_at request hand.op sight y) (sym sight_is) ∙ sym reply_is in
-      let e : end_with w r request hand its_reply ≡ end = ap (end_with w r request hand) a ∙ sym end_is in
-      let p : ended_details (end_with w r request hand its_reply) (details_in w r request hand) ≡ details = (λ i. ended_details (e i) (details_at request hand.op (sym sight_is i) y)) ∙ sym details_is in
-      let g : slice_set w.hands c (left (end_with w r request hand its_reply) (hand_taken (served_step w request r its_reply) hand)) ≡ hands
-      = (λ i. slice_set w.hands c (left (e i) (hand_taken (served_step w request r (a i)) hand))) ∙ sym hands_is in
-      step_told c w (record w { nodes = nodes; hands = hands }) hand (hand_taken (served_step w request r reply) hand) word verb (Some k) (Some r) said end details held refl refl hands_is
-      (subst (λ (y : List (List Replica) × List (Option InHand) × OpWord × Verb × ℕ × StepReply × Option Outcome × Details). Does w (record w { nodes = y.0; hands = y.1 }) (Stepped hand.call y.2 y.3 (Some y.4) (Some r) y.5 y.6 y.7))
-      (λ i. (sym nodes_is i, g i, sym word_is i, sym verb_is i, sym k_is i, (ap word_of a ∙ sym said_is) i, e i, p i)) (serve_does w c r request hand plain held its_next))
+  module _ (shown : IsShown w) where
+    abbrev h : History
+    h = shown.shows.history
 
--- a step in which a node is asked to take the storage of a replica
-module _ (w : World) (c r k : ℕ) (next : IsNext w c (Serve r (Reserve k))) where
-  pub reserve_asks : IsShown w → (r < 8) × IsSomeAnd (entry_of k w.cluster.entries) (IsReservable w.cluster r)
-  reserve_asks = reserve_ready w c r k next.hand next.held next.next_is
+    abbrev m : Machine
+    m = machine_of w h
 
-  pub reserve_is : (mid : World) (reply : Reply) (hand : InHand) (hands : List (Option InHand)) (word : OpWord) (said : StepReply) (end : Option Outcome) → r < length w.nodes → IsReservedAt r k w mid reply → hand_at mid.hands c ≡ Some hand →
-      end ≡ hand_end (served_step mid (Reserve k) r reply) reply (hand_taken (served_step mid (Reserve k) r reply) hand) → hands ≡ slice_set mid.hands c (left end (hand_taken (served_step mid (Reserve k) r reply) hand)) → word ≡ word_of_op hand.op → said ≡ word_of reply →
-      IsStep c w (record mid { hands = hands }) (Stepped hand.call word verbs.Reserve (Some k) (Some r) said end beside.Nothing)
-  reserve_is mid reply hand hands word said end within done held end_is hands_is word_is said_is =
-      let same = reserved_hands w mid r k reply done in
-      let here = ap (λ hands. hand_at hands c) (sym same) ∙ held in
-      let taken = hand_taken (served_step mid (Reserve k) r reply) hand in
-      let its_end = hand_end (served_step mid (Reserve k) r reply) reply taken in
-      let then_hands : slice_set mid.hands c (left its_end taken) ≡ hands = ap (λ end. slice_set mid.hands c (left end taken)) (sym end_is) ∙ sym hands_is in
-      let does = subst (λ (y : List (Option InHand) × OpWord × StepReply × Option Outcome). Does w (record mid { hands = y.0 }) (Stepped hand.call y.1 verbs.Reserve (Some k) (Some r) y.2 y.3 beside.Nothing))
-      (λ i. (then_hands i, sym word_is i, sym said_is i, sym end_is i)) (reserve_does w c r k hand here (next_for w c (Serve r (Reserve k)) hand here next) mid reply within done) in
-      step_told c w (record mid { hands = hands }) hand taken word verbs.Reserve (Some k) (Some r) said end beside.Nothing here refl refl (hands_is ∙ ap (λ hands. slice_set hands c (left end taken)) same) does
+    abbrev s : CallState
+    s = state_in h c hand
+
+    abbrev facts : Facts m
+    facts = (known w shown).facts
+
+    abbrev fitting : HistoryFits w h
+    fitting = (known w shown).fits
+
+    due_here : due m s ≡ Serve r request
+    due_here = finding.due_here w h c r request hand facts fitting held its_next
+
+    ready : TablesReady request m s hand kept
+    ready = finding.tables_ready w h c r hand facts fitting held request due_here
+
+    -- what the step asks: its node is one of eight
+    pub node_there : r < 8
+    node_there = (finding.ready w h c r request hand facts fitting held its_next).0
+
+    -- its iteration may go out
+    pub lends : CanLend request hand.op kept
+    lends = can_lend request m s hand kept ready
+
+    -- and come back
+    pub keeps : HasNumbersLeft w → CanKeep request hand.op (kept_by (tables_lending request c hand.op w.tables) c)
+    keeps room = can_keep request m s c hand w.tables ready (facts.built (Client c) s (in_hand_is w h c hand held)) (has_own_place request w c r hand.driver its_next) (room.iterations c)
+
+    -- THE STEP
+    told_so : (p : Payload) (reply : Reply) → Does w (served_world w c r request hand p reply) (served_label w c r request hand p reply) → IsStep c w (served_world w c r request hand p reply) (served_label w c r request hand p reply)
+    told_so p reply does =
+        step_told c w (served_world w c r request hand p reply) hand (hand_taken (its_done w c r request hand p reply) hand) (word_of_op hand.op) (verb_of request) (Some (ckpt_of request)) (Some r) (word_of reply) (its_end w c r request hand p reply) (ended_details (its_end w c r request hand p reply) (its_details w c r request hand p reply))
+        held refl refl refl does
+
+    pub serve_is : (p : Payload) (reply : Reply) → Carries request p (payload_with hand kept) → MayReply w.cluster (node_at w.nodes r) request p reply → IsValidFor request kept → r < length w.nodes →
+        IsStep c w (served_world w c r request hand p reply) (served_label w c r request hand p reply)
+    serve_is p reply carries may valid within = told_so p reply (does_by request w c r hand p reply goes held its_next carries may valid within)
+
+    pub ends_its : (p : Payload) (reply : Reply) → MayReply w.cluster (node_at w.nodes r) request p reply → EndsIts request (its_end w c r request hand p reply)
+    ends_its p reply may = ends_by request w h c r hand p reply (known w shown) held its_next may
+
+    -- where the request goes to a replica
+    module _ (to : GoesToReplica request) where
+      abbrev pub its_replica : Replica
+      its_replica = (finding.found w h c r request hand facts fitting held its_next to).replica
+
+      -- the node serves it with that one
+      pub its_served : replica_served w.cluster (node_at w.nodes r) (ckpt_of request) ≡ Some its_replica
+      its_served = finding.served_is w h c r request hand facts fitting held its_next to
+
+      pub its_ready : IsReadyFor request its_replica
+      its_ready = (finding.found w h c r request hand facts fitting held its_next to).holds
+
+      pub its_there : IsSome (replica_served w.cluster (node_at w.nodes r) (ckpt_of request))
+      its_there = subst (λ (o : Option Replica). IsSome o) (sym its_served) refl
+
+      pub its_may : IsSomeAnd (replica_served w.cluster (node_at w.nodes r) (ckpt_of request)) (IsReadyFor request)
+      its_may = subst (λ (o : Option Replica). IsSomeAnd o (IsReadyFor request)) (sym its_served) its_ready
+
+      -- which has the call's own
+      pub its_own : IsOfCall request hand kept its_replica
+      its_own =
+          let f = finding.found w h c r request hand facts fitting held its_next to in
+          finding.of_call w h c r hand facts fitting held request due_here (h.effects (ckpt_of request) r) (h.origins (ckpt_of request) r) f.replica f.entry f.at f.attributes (finding.shown w h c r request hand facts fitting held its_next to)
+
+      -- and a number left for an update
+      pub its_room : HasNumbersLeft w → IfSome (replica_in w.nodes (ckpt_of request) r) (λ x. x.count < 2 ^ 64 - 1)
+      its_room room =
+          subst (λ (o : Option Replica). IfSome o (λ x. x.count < 2 ^ 64 - 1)) (sym (finding.found w h c r request hand facts fitting held its_next to).is)
+          (room.updates (ckpt_of request) r its_replica (finding.complete_is w h c r request hand facts fitting held its_next to))
+
+      pub answered_is : (p : Payload) (reply : Reply) → Carries request p (payload_with hand kept) → MayReply w.cluster (node_at w.nodes r) request p reply → IsValidFor request kept →
+          IsStep c w (served_world w c r request hand p reply) (served_label w c r request hand p reply)
+      answered_is p reply carries may valid = told_so p reply (serve_does w c r request hand p reply to held its_next carries may valid)
+
+    -- the request may come, with what is lent
+    pub fits_lent : HasNumbersLeft w → (lent : Lent) → IsLentBy hand.op request lent → RequestFits w.cluster (node_at w.nodes r) request (with_iteration lent)
+    fits_lent room lent is = fits_by request m r (node_at w.nodes r) (with_iteration lent) goes (finding.ready w h c r request hand facts fitting held its_next).1 to_replica where
+      to_replica : GoesToReplica request → ReplicaFits (is_complete (record_seen w.cluster (ckpt_of request) r)) request (with_iteration lent) (replica_in w.nodes (ckpt_of request) r)
+      to_replica to =
+          subst (λ (z : Bool × Option Replica). ReplicaFits z.0 request (with_iteration lent) z.1)
+          (λ i. (sym (finding.seen_complete w h c r request hand facts fitting held its_next to) i, sym (finding.found w h c r request hand facts fitting held its_next to).is i)) (record {
+            ready = its_ready to;
+            room = count_left request (its_replica to) (room.updates (ckpt_of request) r (its_replica to) (finding.complete_is w h c r request hand facts fitting held its_next to));
+            beside = has_lent request hand kept lent (its_replica to) is (its_own to);
+          })

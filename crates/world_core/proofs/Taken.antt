@@ -2,7 +2,7 @@
 use Rattle.std.proofs.Common.{◌≡◌, ℕ, ◌+◌, ◌<◌, true, cond, Option, Some, IsSome, Result, Ok, Err, sym, ap, subst, ◌∙◌, arith}
 use Rattle.ckpt_types.specs.declared.calls.Count.{Count}
 use Rattle.ckpt_types.specs.declared.open_flags.OpenFlags.{OpenFlags}
-use Rattle.client_handles.specs.ClientState.{ClientState, handle_numbered, has_handle_room, taken_number, taken, bound, NoneLent, IsValid}
+use Rattle.client_handles.specs.ClientState.{ClientState, handle_numbered, has_handle_room, taken_number, taken, bound, IsValid}
 use Rattle.client_handles.specs.declared.handle_view.HandleView.{HandleView}
 use Rattle.client_handles.proofs.ClientLaws.{IsValid-taken, IsValid-bound, handle_numbered-taken}
 
@@ -25,7 +25,3 @@ module _ (id : ℕ) (flags : OpenFlags) (creation_flags : ℕ) (s : ClientState)
   pub IsValid-taken_bound : (place : ℕ) (final : ClientState) → place < 100 → final ≡ bound place number after → IsValid final
   IsValid-taken_bound place final within final_is =
       subst IsValid (sym (final_is ∙ ap (bound place number) after_is)) (IsValid-bound place number (taken id flags creation_flags s) within (omega (arith, number_is)) (IsValid-taken id flags creation_flags s room is))
-
--- and where no iteration was lent, none is
-pub NoneLent-taken_bound : (id : ℕ) (flags : OpenFlags) (creation_flags : ℕ) (s : ClientState) (number : ℕ) (after : ClientState) → after ≡ taken id flags creation_flags s → (place : ℕ) (final : ClientState) → final ≡ bound place number after → NoneLent s → NoneLent final
-NoneLent-taken_bound id flags creation_flags s number after after_is place final final_is none = subst NoneLent (sym (final_is ∙ ap (bound place number) after_is)) none

@@ -6,7 +6,6 @@ use Rattle.ckpt_types.specs.declared.identities.ActorName.TheVariants.{Client}
 use Rattle.world_core.specs.declared.hands.InHand.{InHand}
 use Rattle.world_core.specs.declared.world.World.{World}
 use Rattle.cluster_record.specs.Calls.{put_actor, left}
-use Rattle.cluster_record.specs.Places.{put}
 use Rattle.cluster_record.specs.StepDone.{StepDone, counting}
 use Rattle.ckpt_machine.specs.Machine.{Machine}
 use Rattle.world_core.specs.HandSteps.{hand_taken}

@@ -1,63 +1,31 @@
 -- The labels that answer without a call: the words in place of a call, and the first nodes coming up.
-use Rattle.std.proofs.Common.{◌≡◌, ℕ, ◌<◌, ◌≤◌, Bool, true, false, [], refl, sym, ap, subst, ◌∙◌}
+use Rattle.std.proofs.Common.{◌≡◌, ℕ, ◌<◌, ◌≤◌, Bool, true, false, refl, sym, ap, subst, ◌∙◌}
 use Rattle.std.specs.Prelude.{◌≢◌, Option, Some, None}
 use Rattle.ckpt_types.specs.declared.identities.ActorName.TheVariants.{Client, Node}
 use Rattle.ckpt_types.specs.declared.identities.Who.{Who}
 use Rattle.ckpt_types.specs.declared.identities.Who.TheVariants.{Actor, Call}
 use Rattle.ckpt_types.specs.Limits.{nodes_max}
-use Rattle.ckpt_types.specs.declared.words.OpWord.{OpWord}
-use Rattle.ckpt_types.specs.declared.words.OpWord.TheVariants as opwords
-use Rattle.run_labels.specs.declared.words.LineWord.{LineWord}
-use Rattle.run_labels.specs.declared.words.LineWord.TheVariants as linewords
-use Rattle.run_labels.specs.declared.words.Said.{Said}
-use Rattle.run_labels.specs.declared.words.Said.TheVariants.{Busy, Idle, Live, Down}
+use Rattle.run_labels.specs.declared.words.Said.TheVariants.{Idle}
 use Rattle.run_labels.specs.declared.labels.Label.TheVariants.{Word, Nodes}
 use Rattle.world_core.specs.declared.hands.InHand.{InHand}
 use Rattle.cluster_record.specs.declared.entries.Entry.{Entry}
 use Rattle.world_core.specs.declared.world.World.{World}
-use Rattle.cluster_record.specs.RecordState.{RecordState, entry_of, is_live_client, is_up, brought_up, empty_record}
+use Rattle.cluster_record.specs.RecordState.{RecordState, entry_of, brought_up, empty_record}
 use Rattle.ckpt_machine.specs.Machine.{Machine}
-use Rattle.ckpt_machine.specs.Steps.{IsSaid, IsWord, after}
+use Rattle.ckpt_machine.specs.Steps.{IsWord, after}
 use Rattle.world_core.specs.Shows.{Does, History, machine_of, hand_at, shown_hand, where_not_complete, reserved_in}
-use Rattle.world_core.specs.Runs.{IsRunTo, step_word, HasNothingToStep}
+use Rattle.world_core.specs.Runs.{step_word, HasNothingToStep}
 use Rattle.world_core.specs.Happenings.{IsIdle, NamesNoClient}
 use Rattle.world_core.proofs.HoldingLaws.{held_by_none}
 
--- a word leaves the world as it is
-word_done : (w : World) (c : ℕ) (word : LineWord) (said : Said) → ((h : History) → IsSaid (machine_of w h) (Client c) word said) → Does w w (Word (Actor (Client c)) word said)
-word_done w c word said is = record {
-  due_is = λ m s f. subst (λ m. IsSaid m (Client c) word said) (sym s.same) (is s.history);
-  shows = λ m s f. s;
-}
-
 -- a client's call in hand, as the machine has it: none where there is none
 pub none_in_hand : (w : World) (h : History) (c : ℕ) → hand_at w.hands c ≡ None → (machine_of w h).in_hand (Client c) ≡ None
-none_in_hand w h c free = ap (shown_hand (h.kept (Client c)) (h.steps (Client c)) (h.created (Client c))) free
+none_in_hand w h c free = ap (shown_hand (h.beginnings (Client c)) (h.steps (Client c)) (h.created (Client c))) free
 
 -- and else one
-pub words_in_hand : (h : History) (c : ℕ) (o : Option InHand) → o ≢ None → shown_hand (h.kept (Client c)) (h.steps (Client c)) (h.created (Client c)) o ≢ None
+pub words_in_hand : (h : History) (c : ℕ) (o : Option InHand) → o ≢ None → shown_hand (h.beginnings (Client c)) (h.steps (Client c)) (h.created (Client c)) o ≢ None
 words_in_hand h c None held none = held refl
 words_in_hand h c (Some hand) held none = absurd (cc none)
-
--- a line of a client that has a call in hand
-pub busy_done : (w : World) (c : ℕ) (op : OpWord) → hand_at w.hands c ≢ None → Does w w (Word (Actor (Client c)) (linewords.Op op) Busy)
-busy_done w c op held = word_done w c (linewords.Op op) Busy (λ h. words_in_hand h c (hand_at w.hands c) held)
-
--- an Initialize of a client that is live
-pub live_done : (w : World) (c : ℕ) (op : OpWord) → op ≡ opwords.Client → hand_at w.hands c ≡ None → is_live_client c w.cluster ≡ true → Does w w (Word (Actor (Client c)) (linewords.Op op) Live)
-live_done w c op is free live = subst (λ (op : OpWord). Does w w (Word (Actor (Client c)) (linewords.Op op) Live)) (sym is) (word_done w c (linewords.Op opwords.Client) Live (λ h. (none_in_hand w h c free, live)))
-
--- an Initialize on a node that is not up
-pub down_done : (w : World) (c r : ℕ) (op : OpWord) → op ≡ opwords.Client → hand_at w.hands c ≡ None → is_live_client c w.cluster ≡ false → r < nodes_max → is_up r w.cluster ≡ false → Does w w (Word (Actor (Client c)) (linewords.Op op) Down)
-down_done w c r op is free live below up =
-    subst (λ (op : OpWord). Does w w (Word (Actor (Client c)) (linewords.Op op) Down)) (sym is) (word_done w c (linewords.Op opwords.Client) Down (λ h. (none_in_hand w h c free, live, (r, below, up))))
-
--- a `step` or `finish` line of a client that has no call in hand
-pub idle_done : (w : World) (c : ℕ) (finish : Bool) (word : LineWord) → word ≡ step_word finish → hand_at w.hands c ≡ None → Does w w (Word (Actor (Client c)) word Idle)
-idle_done w c finish word is free = subst (λ (word : LineWord). Does w w (Word (Actor (Client c)) word Idle)) (sym is) (word_done w c (step_word finish) Idle (said finish)) where
-  said : (finish : Bool) (h : History) → IsSaid (machine_of w h) (Client c) (step_word finish) Idle
-  said true h = none_in_hand w h c free
-  said false h = none_in_hand w h c free
 
 -- a `step` or `finish` line of a node or an asynchronous operation
 pub idle_of_none : (w : World) (who : Who) (finish : Bool) → NamesNoClient who → Does w w (Word who (step_word finish) Idle)
@@ -81,10 +49,6 @@ is_idle_of_none w who finish none = record { none = nothing who none; word = (re
   nothing (Call call) none = tt
 
 -- ---- the first nodes come up
-
--- with no label yet the record is the empty one
-pub cluster_is_empty : (w : World) → IsRunTo w [] → w.cluster ≡ empty_record
-cluster_is_empty w to = sym (ap (λ (m : Machine). m.cluster) to.shows.same)
 
 none_under : (e : Option Entry) (r : ℕ) (x y : Option ℕ) → e ≡ None → where_not_complete e r x ≡ where_not_complete e r y
 none_under None r x y is = refl

@@ -9,7 +9,7 @@ use Rattle.ckpt_types.specs.declared.operation.Op.{Op}
 use Rattle.ckpt_types.specs.Limits.{client_numbers, nodes_max}
 use Rattle.node_msgs.specs.declared.next.Next.{Next}
 use Rattle.run_labels.specs.Kept.{KeptLabels}
-use Rattle.run_labels.specs.declared.details.Details.{Details}
+use Rattle.node_msgs.specs.declared.details.Details.{Details}
 use Rattle.run_labels.specs.declared.labels.Label.{Label}
 use Rattle.run_labels.specs.declared.labels.Label.TheVariants as labels
 use Rattle.node_msgs.specs.declared.steps.StepReply.{StepReply}

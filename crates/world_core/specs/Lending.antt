@@ -1,72 +1,109 @@
--- What a call lends to a request, and what it gets back.
-use Rattle.std.specs.Prelude.{◌≡◌, ℕ, ◌≤◌, List, [], length, sum_by, Option, Some, None, IsSome}
-use Rattle.ckpt_types.specs.declared.answers.Answer.TheVariants as answers
+-- What a call lends to a request, and what becomes of the iteration that travels beside it.
+use Rattle.std.specs.Option.{option_map}
+use Rattle.std.specs.Prelude.{◌≡◌, ℕ, ◌-◌, ◌^◌, ◌<◌, List, Option, Some, None, IsSome, true, slice_get, slice_set}
+use Rattle.ckpt_types.specs.Limits.{places_max}
 use Rattle.ckpt_types.specs.declared.operation.Op.{Op}
-use Rattle.ckpt_types.specs.declared.update.NewId.{NewId}
-use Rattle.ckpt_types.specs.declared.update.NewId.TheVariants.{Given, Generated}
-use Rattle.ckpt_types.specs.declared.update.ReadElement.{ReadElement}
-use Rattle.ckpt_types.specs.declared.update.Update.{Update}
-use Rattle.ckpt_types.specs.declared.update.Update.TheVariants as updates
-use Rattle.ckpt_types.specs.declared.sections.CheckpointDescriptor.{CheckpointDescriptor}
-use Rattle.ckpt_types.specs.declared.sections.SectionDescriptor.{SectionDescriptor}
-use Rattle.ckpt_types.specs.Buffer.{Buffer}
-use Rattle.ckpt_types.specs.Limits.{generated_id_bytes}
+use Rattle.ckpt_types.specs.Asks.{Ask, asked, update_of, elements_of, IsBuilt}
+use Rattle.ckpt_types.specs.Asks as asks
+use Rattle.section_iter.specs.KeptIds.{KeptIds}
+use Rattle.client_handles.specs.ClientState.{ClientState, iteration_at, has_iteration_room, lent, returned, IsLent, IsNotLent, IsValid}
+use Rattle.cluster_record.specs.Places.{or_none}
 use Rattle.node_msgs.specs.declared.requests.Request.{Request}
 use Rattle.node_msgs.specs.declared.requests.Request.TheVariants as requests
 use Rattle.node_msgs.specs.declared.replies.Reply.{Reply}
 use Rattle.node_msgs.specs.declared.replies.Reply.TheVariants as replies
-use Rattle.run_labels.specs.declared.details.Details.{Details}
-use Rattle.run_labels.specs.declared.details.Details.TheVariants as beside
-use Rattle.world_core.specs.declared.nodes.Lent.{Lent}
-use Rattle.ckpt_types.specs.Asks.{update_of, elements_of}
+use Rattle.node_core.specs.declared.lent.Lent.{Lent}
+use Rattle.node_core.specs.Lending.{HasRoomToRead, HasRoomToTell}
+use Rattle.ckpt_machine.specs.Tables.{kept_asked, started}
+use Rattle.world_core.specs.declared.hands.InHand.{InHand}
+use Rattle.world_core.specs.TableState.{TableState, with_client, at_client}
 
--- how many bytes the elements of a read ask for at most
-abbrev pub bytes_asked : List ReadElement → ℕ
-bytes_asked elements = sum_by (λ e. e.len) elements
+-- ---- what is made before the step
 
--- the elements, and an empty buffer with room for what they may give
-pub record IsLentRead (elements : List ReadElement) (lent : Lent) : Type 0 where
-  pub vector : lent.vector ≡ Some elements
-  pub empty : lent.read.pieces ≡ []
-  pub places : length elements ≤ lent.read.spare_pieces
-  pub bytes : bytes_asked elements ≤ lent.read.spare_bytes
+-- the elements of a read, with an empty buffer that has room for what they may give
+pub record IsLentRead (op : Op) (lent : Lent) : Type 0 where
+  pub vector : lent.vector ≡ Some (elements_of op)
+  pub room : HasRoomToRead (elements_of op) lent.read
 
--- how long the identifier of a new section is
-abbrev pub id_length : NewId → ℕ
-id_length (Given id) = length id
-id_length Generated = generated_id_bytes
+-- a share of the call's update, room for the identifier that its commit tells, what a read wants, a place for a status, or one for a section
+abbrev pub IsLentBy : Op → Request → Lent → Type 0
+IsLentBy op (requests.Stage call k t) lent = lent.update ≡ Some (update_of op)
+IsLentBy op (requests.Commit call k) lent = HasRoomToTell (update_of op) lent.read
+IsLentBy op (requests.Read k) lent = IsLentRead op lent
+IsLentBy op (requests.Status k) lent = IsSome lent.status
+IsLentBy op (requests.Next call k) lent = IsSome lent.section
+IsLentBy op request lent = Unit {0}
 
--- a creation is lent an empty buffer with room for the identifier that it tells
-pub record IsLentId (new : NewId) (read : Buffer) : Type 0 where
-  pub empty : read.pieces ≡ []
-  pub places : 1 ≤ read.spare_pieces
-  pub bytes : id_length new ≤ read.spare_bytes
+-- ---- an iteration
 
--- a commit of a creation is lent room for the identifier that it tells; any other commit needs none
-abbrev pub IsLentFor : Update → Buffer → Type 0
-IsLentFor (updates.Create new expiration bytes) read = IsLentId new read
-IsLentFor update read = Unit {0}
+-- the iteration of a place is there, and not lent
+abbrev pub IsGoingOnWith : Ask → ClientState → Type 0
+IsGoingOnWith (asks.Next iteration) t = (iteration < places_max) × IsSome (iteration_at iteration t) × IsNotLent iteration t
+IsGoingOnWith ask t = ⊥
 
--- a commit is lent room for what it tells, a read its elements and a buffer, and a status a place for it
-abbrev pub HasLent : Request → Op → Lent → Type 0
-HasLent (requests.Commit call k) op lent = IsLentFor (update_of op) lent.read
-HasLent (requests.Read k) op lent = IsLentRead (elements_of op) lent
-HasLent (requests.Status k) op lent = IsSome lent.status
-HasLent request op lent = Unit {0}
+-- the iteration of a place is out
+abbrev pub IsOutOf : Ask → ClientState → Type 0
+IsOutOf (asks.Next iteration) t = (iteration < places_max) × IsLent iteration t
+IsOutOf ask t = ⊥
 
--- the status that came back from the active, as it is told beside the answer
-abbrev pub status_told : Option CheckpointDescriptor → Details
-status_told None = beside.Nothing
-status_told (Some status) = beside.Status status
+-- the one that goes with a request: the room that the call has in hand for one that starts, or the one with which it goes on
+abbrev pub iteration_lent : Request → InHand → ClientState → Option KeptIds
+iteration_lent (requests.Iterate call k choice) h t = h.iteration
+iteration_lent (requests.Next call k) h t = kept_asked (asked h.op) t
+iteration_lent request h t = None
 
--- what is told beside the answer of a reply, from what was lent
-abbrev pub details_told : Reply → Lent → Details
-details_told (replies.Done answers.Pieces) lent = beside.Pieces lent.read.pieces
-details_told (replies.Done answers.Created) lent = beside.Pieces lent.read.pieces
-details_told (replies.Done answers.Status) lent = status_told lent.status
-details_told reply lent = beside.Nothing
+-- the call in hand has no room of its own any more
+abbrev pub without_room : InHand → InHand
+without_room h = record h { iteration = None }
 
--- and where an iteration goes on
-abbrev pub section_told : Reply → SectionDescriptor → Details
-section_told (replies.Done answers.Section) section = beside.Section section
-section_told reply section = beside.Nothing
+-- the calls in hand without the iteration that goes with a request
+abbrev pub hands_lending : Request → ℕ → List (Option InHand) → List (Option InHand)
+hands_lending (requests.Iterate call k choice) c hands = slice_set hands c (option_map without_room (or_none (slice_get hands c)))
+hands_lending request c hands = hands
+
+-- the iteration with which a call goes on is out
+abbrev pub lending : Ask → ClientState → ClientState
+lending (asks.Next iteration) t = lent iteration t
+lending ask t = t
+
+-- the tables without the iteration that goes with a request
+abbrev pub tables_lending : Request → ℕ → Op → List TableState → List TableState
+tables_lending (requests.Next call k) c op tables = at_client c (with_client (lending (asked op))) tables
+tables_lending request c op tables = tables
+
+-- an iteration that was started is the client's from then on
+abbrev pub tables_started : ℕ → Op → Reply → Option KeptIds → List TableState → List TableState
+tables_started c op (replies.Done answer) (Some kept) tables = at_client c (with_client (started (asked op) kept.room (λ choice. kept.ids))) tables
+tables_started c op reply kept tables = tables
+
+-- one that went on comes back to its place
+abbrev pub come_back : Ask → KeptIds → ClientState → ClientState
+come_back (asks.Next iteration) kept t = returned iteration kept t
+come_back ask kept t = t
+
+-- the tables with it there again
+abbrev pub tables_returned : ℕ → Op → Option KeptIds → List TableState → List TableState
+tables_returned c op (Some kept) tables = at_client c (with_client (come_back (asked op) kept)) tables
+tables_returned c op None tables = tables
+
+-- the tables behind the reply to a request, with the iteration that came back with it
+abbrev pub tables_keeping : Request → ℕ → Op → Reply → Option KeptIds → List TableState → List TableState
+tables_keeping (requests.Iterate call k choice) c op reply kept tables = tables_started c op reply kept tables
+tables_keeping (requests.Next call k) c op reply kept tables = tables_returned c op kept tables
+tables_keeping request c op reply kept tables = tables
+
+-- what a client keeps is valid, where an iteration of it goes out
+abbrev pub IsValidFor : Request → ClientState → Type 0
+IsValidFor (requests.Next call k) t = IsValid t
+IsValidFor request t = Unit {0}
+
+-- an iteration that goes out is in its place
+abbrev pub CanLend : Request → Op → ClientState → Type 0
+CanLend (requests.Next call k) op t = IsGoingOnWith (asked op) t
+CanLend request op t = Unit {0}
+
+-- an iteration that comes back is out, and one that starts has a free place
+abbrev pub CanKeep : Request → Op → ClientState → Type 0
+CanKeep (requests.Iterate call k choice) op t = IsBuilt op × (has_iteration_room t ≡ true) × (t.last_iteration < 2 ^ 32 - 1)
+CanKeep (requests.Next call k) op t = IsOutOf (asked op) t
+CanKeep request op t = Unit {0}

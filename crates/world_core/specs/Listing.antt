@@ -8,8 +8,9 @@ use Rattle.run_labels.specs.declared.shown.ShownSlot.TheVariants as slots
 use Rattle.cluster_record.specs.declared.entries.Entry.{Entry}
 use Rattle.cluster_record.specs.RecordState.{entry_of}
 use Rattle.ckpt_machine.specs.Listing.{is_active, section_listed}
-use Rattle.ckpt_machine.specs.Replicas.{Replica, Slot}
-use Rattle.ckpt_machine.specs.Serving.{replica_in}
+use Rattle.replica.specs.Replicas.{Replica}
+use Rattle.stage_slot.specs.Slots.{Slot}
+use Rattle.world_core.specs.Nodes.{replica_in}
 use Rattle.world_core.specs.declared.world.World.{World}
 
 -- the call that owns the slot

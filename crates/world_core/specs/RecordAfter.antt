@@ -1,5 +1,4 @@
 -- What a step of a call makes of the record, by what drives the call.
-use Rattle.std.specs.Prelude.{ℕ}
 use Rattle.ckpt_types.specs.declared.identities.CallId.{CallId}
 use Rattle.node_msgs.specs.declared.next.RecordStep.{RecordStep}
 use Rattle.cluster_record.specs.Calls.{client_of}

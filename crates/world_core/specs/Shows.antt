@@ -9,13 +9,14 @@ use Rattle.run_labels.specs.declared.labels.Label.{Label}
 use Rattle.client_handles.specs.ClientState.{ClientState}
 use Rattle.world_core.specs.declared.hands.InHand.{InHand}
 use Rattle.cluster_record.specs.declared.entries.Entry.{Entry}
-use Rattle.ckpt_machine.specs.Replicas.{Replica}
-use Rattle.ckpt_machine.specs.Replicas.{Slot}
+use Rattle.ckpt_machine.specs.Drivers.{Driver}
+use Rattle.replica.specs.Replicas.{Replica}
+use Rattle.stage_slot.specs.Slots.{Slot}
 use Rattle.world_core.specs.declared.world.World.{World}
 use Rattle.cluster_record.specs.Places.{or_none}
 use Rattle.cluster_record.specs.RecordState.{RecordState, entry_of, complete_of}
 use Rattle.world_core.specs.TableState.{TableState, next_in, kept_by}
-use Rattle.ckpt_machine.specs.Serving.{replica_in}
+use Rattle.world_core.specs.Nodes.{replica_in}
 use Rattle.world_core.specs.Holding.{HoldsOnlyWhatStands}
 use Rattle.world_core.specs.LiveRooms.{LiveHaveRoom}
 use Rattle.cluster_record.specs.StepDone.{StepDone}
@@ -28,13 +29,18 @@ use Rattle.ckpt_machine.specs.Steps.{IsDue, after}
 
 -- ---- what the machine keeps and the code does not
 
--- the effects and the origins of replicas, and what each call in hand kept of its beginning and of its steps, with the identifier that its commits have made
+-- what a call kept at its beginning, and what drove it then
+pub record Beginning : Type 0 where
+  pub kept : Kept
+  pub driver : Driver
+
+-- the effects and the origins of replicas, and the beginning and the steps of each call in hand, with the identifier that its commits have made
 pub record History : Type 0 where
   -- by checkpoint and node
   pub effects : ℕ → ℕ → List Effect
   pub origins : ℕ → ℕ → CallId
   -- by actor, for its call in hand
-  pub kept : ActorName → Kept
+  pub beginnings : ActorName → Beginning
   pub steps : ActorName → List StepDone
   pub created : ActorName → Option (List ℕ)
 
@@ -91,13 +97,13 @@ abbrev pub hand_at : List (Option InHand) → ℕ → Option InHand
 hand_at hands c = or_none (slice_get hands c)
 
 -- a call in hand as the machine has it: with what it kept of its beginning, and with its steps
-abbrev pub shown_hand : Kept → List StepDone → Option (List ℕ) → Option InHand → Option CallState
-shown_hand kept steps created None = None
-shown_hand kept steps created (Some h) = Some (record { call = h.call; op = h.op; kept = kept; steps = steps; created = created; snapshot = None })
+abbrev pub shown_hand : Beginning → List StepDone → Option (List ℕ) → Option InHand → Option CallState
+shown_hand began steps created None = None
+shown_hand began steps created (Some h) = Some (record { call = h.call; op = h.op; kept = began.kept; begun = began.driver; steps = steps; created = created; snapshot = None })
 
 -- the call that an actor has in hand, as the machine has it; no node has one yet
 abbrev pub hand_of : History → List (Option InHand) → ActorName → Option CallState
-hand_of h hands (Client c) = shown_hand (h.kept (Client c)) (h.steps (Client c)) (h.created (Client c)) (hand_at hands c)
+hand_of h hands (Client c) = shown_hand (h.beginnings (Client c)) (h.steps (Client c)) (h.created (Client c)) (hand_at hands c)
 hand_of h hands (Node r) = None
 
 -- ---- the machine's state, as the world shows it with a history
@@ -121,10 +127,15 @@ abbrev pub HasAttributes : Option Entry → Replica → Type 0
 HasAttributes None x = Unit {0}
 HasAttributes (Some e) x = x.attributes ≡ e.attributes
 
--- a complete replica has its checkpoint's number and attributes, and counts its effects
+-- a slot has the count that the replica has
+abbrev pub HasCount : ℕ → Option Slot → Type 0
+HasCount count None = Unit {0}
+HasCount count (Some slot) = slot.count ≡ count
+
+-- a complete replica has its checkpoint's number and attributes, counts its effects, and what is staged on it has its count
 abbrev pub FitsReplica : ℕ → Option Entry → List Effect → Option Replica → Type 0
 FitsReplica k e effects None = Unit {0}
-FitsReplica k e effects (Some x) = (x.ckpt ≡ k) × HasAttributes e x × (length effects ≡ x.count)
+FitsReplica k e effects (Some x) = (x.ckpt ≡ k) × HasAttributes e x × (length effects ≡ x.count) × HasCount x.count x.slot
 
 -- the room that a call has in hand for an iteration
 abbrev pub room_for : Ask → Room → Option KeptIds
@@ -132,14 +143,14 @@ room_for (asks.Iterate iteration place chosen time) room = Some (record { ids = 
 room_for ask room = None
 
 -- a call is where its steps have led it
-abbrev pub FitsHand : Kept → List StepDone → Option InHand → Type 0
-FitsHand kept steps None = Unit {0}
-FitsHand kept steps (Some h) = (h.driver ≡ driver_state h.call h.op kept steps) × (h.iteration ≡ room_for (asked h.op) kept.room)
+abbrev pub FitsHand : Beginning → List StepDone → Option InHand → Type 0
+FitsHand began steps None = Unit {0}
+FitsHand began steps (Some h) = (h.driver ≡ driver_state began.driver steps) × (h.iteration ≡ room_for (asked h.op) began.kept.room)
 
 -- the history fits the world: replicas have as many effects as they count, and calls are where their steps have led them
 pub record HistoryFits (w : World) (h : History) : Type 0 where
   pub replicas : (k r : ℕ) → FitsReplica k (entry_of k w.cluster.entries) (h.effects k r) (complete_replica w.cluster w.nodes k r)
-  pub hands : (c : ℕ) → FitsHand (h.kept (Client c)) (h.steps (Client c)) (hand_at w.hands c)
+  pub hands : (c : ℕ) → FitsHand (h.beginnings (Client c)) (h.steps (Client c)) (hand_at w.hands c)
 
 -- the machine's state is the world's, with some history that fits; the nodes have no other replicas, and the clients that are live have their room
 pub record Shows (w : World) (m : Machine) : Type 0 where

@@ -1,9 +1,8 @@
 -- How a table is kept.
 use Rattle.std.specs.Prelude.{Option, Some, None, is_some}
 use Rattle.std.specs.Global.{Box}
-use Rattle.client_handles.specs.ClientState.{ClientState}
+use Rattle.client_handles.specs.ClientState.{ClientState, IsValid}
 use Rattle.ckpt_machine.specs.Machine.{no_tables}
-use Rattle.world_core.specs.AtRest.{IsAtRest}
 use Rattle.world_core.specs.TableState.{TableState}
 use Rattle.world_core.specs.declared.tables.Table.TheInside.{Inside}
 
@@ -16,6 +15,6 @@ client_in (Some client) = client.value
 abbrev pub table_shown : Inside → TableState
 table_shown t = record { next = t.next; roomy = is_some t.client; client = client_in t.client }
 
--- what a client keeps is at rest between two calls, whether its room was taken or not
+-- what always holds of what a client keeps, whether its room was taken or not
 abbrev pub HasClient : Inside → Type 0
-HasClient t = IsAtRest (client_in t.client)
+HasClient t = IsValid (client_in t.client)

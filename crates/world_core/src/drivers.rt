@@ -1,12 +1,11 @@
 //! What drives a call: what it does next, and how it ends.
-ghost use Rattle.std.specs.Prelude.{◌≡◌, ◌-◌, ◌^◌, ◌<◌, Some, IfOk};
+ghost use Rattle.std.specs.Prelude.{◌≡◌, ◌-◌, ◌^◌, ◌<◌, Some, IfOk, IsSome};
 ghost use Rattle.ckpt_types.specs.Limits.{client_numbers, nodes_max};
 ghost use Rattle.node_msgs.specs.Requests.{ckpt_of};
 ghost use Rattle.node_msgs.specs.Steps.{verb_of, word_of, event_verb};
 ghost use Rattle.ckpt_machine.specs.Driving.{driver_next, driver_taken, driver_end, driver_start, on_kept, update_start, active_start, done_end, event_ckpt, event_node, event_end, event_refusal, making_in, opened_end, refusal_in, takes_memory, refused_cause};
 ghost use Rattle.cluster_record.specs.StepDone.{done_of, names_live};
 ghost use Rattle.cluster_record.specs.DueUpdate.{update_taken};
-ghost use Rattle.cluster_record.specs.DueOpen.{making_ckpt};
 ghost use Rattle.cluster_record.specs.Calls.{client_of};
 ghost use Rattle.cluster_record.specs.LookUps.{node_of_client};
 ghost use Rattle.cluster_record.specs.Places.{find_key};
@@ -79,15 +78,16 @@ impl Driver {
         Driver::by(DriverKind::Once(step))
     }
 
-    /// The driver of a call that begins now, on this handle if it names one that is there. The two share the
-    /// operation's name, if it has one.
+    /// The driver of a call that begins now and goes on, on this handle if it names one that is there. The two share
+    /// the operation's name, if it has one.
     pub fn start(
         call: CallId,
         op: &Op,
         handle: &Option<HandleView>,
         cluster: &Record,
     ) -> Result<Driver, AllocError>
-        ensures { IfOk result (λ driver. driver ≡ driver_start call (asked op.now) (kept_at_beginning cluster.now (client_of call) handle.now)) }
+        requires goes_on { IsSome (driver_start call (asked op.now) (kept_at_beginning cluster.now (client_of call) handle.now)) }
+        ensures { IfOk result (λ driver. driver_start call (asked op.now) (kept_at_beginning cluster.now (client_of call) handle.now) ≡ Some driver) }
     {
         match op {
             Op::Client(r, _, _) => Ok(Driver::once(OneStep::Enter(*r))),
@@ -119,7 +119,7 @@ impl Driver {
             Op::Retain(_, duration) => Ok(retain_start(*duration, ckpt_of_handle(handle))),
             Op::Unlink(name) => Ok(Driver::once(OneStep::Unlink(name.share()?))),
             Op::Finalize => Ok(Driver::once(OneStep::Leave)),
-            _ => Ok(Driver::once(OneStep::Enter(0))),
+            _ => unreachable!(),
         }
     }
 
@@ -280,39 +280,35 @@ fn refused_cause(op: &Op, index: u32) -> Cause
 }
 
 fn update_start(call: CallId, ckpt: Option<CkptId>) -> Driver
-    ensures { result ≡ update_start call ckpt }
+    requires { IsSome (update_start call ckpt) }
+    ensures { update_start call ckpt ≡ Some result }
 {
-    match ckpt {
-        None => Driver::once(OneStep::Enter(0)),
-        Some(ckpt) => Driver::by(DriverKind::Update(UpdateCall::begin(call, ckpt))),
-    }
+    let Some(ckpt) = ckpt else { unreachable!() };
+    Driver::by(DriverKind::Update(UpdateCall::begin(call, ckpt)))
 }
 
 fn active_start(call: CallId, kind: ActiveKind, ckpt: Option<CkptId>) -> Driver
-    ensures { result ≡ active_start call kind ckpt }
+    requires { IsSome (active_start call kind ckpt) }
+    ensures { active_start call kind ckpt ≡ Some result }
 {
-    match ckpt {
-        None => Driver::once(OneStep::Enter(0)),
-        Some(ckpt) => Driver::by(DriverKind::Active(ActiveCall::begin(call, ckpt, kind))),
-    }
+    let Some(ckpt) = ckpt else { unreachable!() };
+    Driver::by(DriverKind::Active(ActiveCall::begin(call, ckpt, kind)))
 }
 
 fn close_start(ckpt: Option<CkptId>) -> Driver
-    ensures { result ≡ on_kept ckpt (λ k. Once (Close k)) }
+    requires { IsSome (on_kept ckpt (λ k. Once (Close k))) }
+    ensures { on_kept ckpt (λ k. Once (Close k)) ≡ Some result }
 {
-    match ckpt {
-        None => Driver::once(OneStep::Enter(0)),
-        Some(ckpt) => Driver::once(OneStep::Close(ckpt)),
-    }
+    let Some(ckpt) = ckpt else { unreachable!() };
+    Driver::once(OneStep::Close(ckpt))
 }
 
 fn retain_start(duration: i64, ckpt: Option<CkptId>) -> Driver
-    ensures { result ≡ on_kept ckpt (λ k. Once (Retain k duration)) }
+    requires { IsSome (on_kept ckpt (λ k. Once (Retain k duration))) }
+    ensures { on_kept ckpt (λ k. Once (Retain k duration)) ≡ Some result }
 {
-    match ckpt {
-        None => Driver::once(OneStep::Enter(0)),
-        Some(ckpt) => Driver::once(OneStep::Retain(ckpt, duration)),
-    }
+    let Some(ckpt) = ckpt else { unreachable!() };
+    Driver::once(OneStep::Retain(ckpt, duration))
 }
 
 /// The checkpoint of a step of the record, before it is done.

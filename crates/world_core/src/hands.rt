@@ -1,16 +1,13 @@
-//! The calls in hand, and what they lend to the nodes.
-ghost use Rattle.std.specs.Prelude.{◌≡◌, ◌≢◌, ◌<◌, ◌≤◌, [], length, replicate, Some, None, is_some, IfOk, IfSome, IsSome, MatchOption, OnOk, slice_set, vec_capacity};
+//! The calls in hand.
+ghost use Rattle.std.specs.Prelude.{◌≡◌, ◌≢◌, ◌<◌, ◌≤◌, length, replicate, Some, None, is_some, IfOk, MatchOption, slice_set, vec_capacity};
 ghost use Rattle.ckpt_types.specs.OpWord.{word_of_op};
 ghost use Rattle.cluster_record.specs.Calls.{left};
 ghost use Rattle.node_msgs.specs.Requests.{ckpt_of};
-ghost use Rattle.ckpt_types.specs.Asks.{update_of, elements_of};
-ghost use Rattle.world_core.specs.Lending.{bytes_asked, IsLentRead, IsLentFor, HasLent};
-ghost use Rattle.ckpt_types.specs.declared.update.Update.TheVariants as updates;
 ghost use Rattle.ckpt_types.specs.declared.answers.Answer.TheVariants as answers;
 ghost use Rattle.node_msgs.specs.declared.replies.Reply.TheVariants as replies;
 ghost use Rattle.node_msgs.specs.declared.steps.StepReply.TheVariants as words;
 ghost use Rattle.node_msgs.specs.declared.steps.Verb.TheVariants as verbs;
-ghost use Rattle.world_core.specs.UpdateSteps.{IsUpdate, is_creation, ended_unless};
+ghost use Rattle.world_core.specs.UpdateSteps.{IsUpdate, ended_unless};
 ghost use Rattle.ckpt_types.specs.Limits.{client_numbers, nodes_max};
 ghost use Rattle.node_msgs.specs.Steps.{verb_of, word_of, event_verb};
 ghost use Rattle.cluster_record.specs.StepDone.{done_of};
@@ -19,26 +16,14 @@ ghost use Rattle.world_core.specs.HandsView.{hands_in};
 ghost use Rattle.world_core.specs.Shows.{hand_at};
 ghost use Rattle.world_core.specs.declared.hands.InHand.{InHand};
 
-use crate::begins::DECLARES_NOTHING;
 use crate::drivers::Driver;
-use crate::nodes::Lent;
-use ckpt_types::{
-    Apart, CLIENT_NUMBERS, CallId, CheckpointDescriptor, CkptId, GENERATED_ID_BYTES, NewId, NodeId,
-    Op, Outcome, ReadBuf, ReadElement, ReadVector, SharedReads, SharedUpdate, Update,
-};
+use ckpt_types::{CLIENT_NUMBERS, CallId, CkptId, NodeId, Op, Outcome};
 use cluster_record::Record;
 use node_msgs::{RecordStep, Reply, Request, StepReply};
 use run_labels::OpWord;
 use section_iter::Iteration;
 use std::alloc::{AllocError, Global};
 use std::marker::Model;
-
-/// What a place for a status has before the status is told.
-const NO_STATUS: CheckpointDescriptor = CheckpointDescriptor {
-    attributes: DECLARES_NOTHING,
-    number_of_sections: 0,
-    memory_used: 0,
-};
 
 /// A call that is begun and not ended.
 #[derive(Drop)]
@@ -79,19 +64,6 @@ impl InHand {
         ensures { result ≡ word_of_op self.now.op }
     {
         OpWord::of(&self.op)
-    }
-
-    /// Lends what travels beside a request of the call: a buffer with room for the identifier of a new section, a
-    /// share of its elements with a buffer that has room for what they may give, or a place for a status.
-    pub fn lend(&self, alloc: Global, request: &Request, lent: &mut Lent) -> Result<(), AllocError>
-        ensures { OnOk result (HasLent request.now self.now.op lent.new) }
-    {
-        match request {
-            Request::Commit(_, _) => lend_identifier(alloc, &self.op, lent),
-            Request::Read(_) => lend_read(alloc, &self.op, lent),
-            Request::Status(_) => lend_status(alloc, lent),
-            _ => Ok(()),
-        }
     }
 
     fn take(
@@ -138,6 +110,14 @@ impl InHand {
         ensures { self.new ≡ hand_taken (done_of cluster.now (event_verb step.now) ckpt node word) self.old }
     {
         self.driver.told(cluster, step, ckpt, node, word);
+    }
+
+    // The room that it has for an iteration is taken out of it.
+    fn lend(&mut self) -> Option<Iteration>
+        ensures lent { result ≡ self.old.iteration }
+        ensures new { self.new ≡ record self.old { iteration = None } }
+    {
+        self.iteration.take()
     }
 }
 
@@ -232,13 +212,13 @@ impl Hands {
         );
     }
 
-    /// A client's call is in hand no more, and is given to who ends it.
-    pub fn remove(&mut self, c: u8) -> Option<InHand>
+    /// The room that a client's call has for an iteration is taken out of it.
+    pub fn lend_iteration(&mut self, c: u8) -> Option<Iteration>
         requires { hand_at self.old c ≢ None }
-        ensures hand { result ≡ hand_at self.old c }
-        ensures new { self.new ≡ slice_set self.old c None }
+        ensures lent { (h : InHand) → hand_at self.old c ≡ Some h → result ≡ h.iteration }
+        ensures new { (h : InHand) → hand_at self.old c ≡ Some h → self.new ≡ slice_set self.old c (Some (record h { iteration = None })) }
     {
-        remove_at(&mut self.list, c as usize)
+        lend_at(&mut self.list, c as usize)
     }
 
     /// A client's call is in hand no more.
@@ -435,14 +415,23 @@ fn settle_told(
     }
 }
 
-fn remove_at(list: &mut Vec<Option<InHand>>, c: usize) -> Option<InHand>
+fn lend_at(list: &mut Vec<Option<InHand>>, c: usize) -> Option<Iteration>
     requires { hand_at list.old.items c ≢ None }
-    ensures hand { result ≡ hand_at list.old.items c }
-    ensures new { list.new.items ≡ slice_set list.old.items c None }
+    ensures lent { (h : InHand) → hand_at list.old.items c ≡ Some h → result ≡ h.iteration }
+    ensures new { (h : InHand) → hand_at list.old.items c ≡ Some h → list.new.items ≡ slice_set list.old.items c (Some (record h { iteration = None })) }
+    ensures len { length list.new.items ≡ length list.old.items }
     ensures capacity { vec_capacity list.new ≡ vec_capacity list.old }
 {
-    let slot = &mut list[c];
-    slot.take()
+    lend_of(&mut list[c])
+}
+
+fn lend_of(slot: &mut Option<InHand>) -> Option<Iteration>
+    requires { slot.old ≢ None }
+    ensures lent { (h : InHand) → slot.old ≡ Some h → result ≡ h.iteration }
+    ensures new { (h : InHand) → slot.old ≡ Some h → slot.new ≡ Some (record h { iteration = None }) }
+{
+    let Some(hand) = slot else { unreachable!() };
+    hand.lend()
 }
 
 fn clear_at(list: &mut Vec<Option<InHand>>, c: usize)
@@ -464,128 +453,4 @@ fn begin_at(list: &mut Vec<Option<InHand>>, c: usize, hand: InHand)
         unreachable!()
     }
     list[c] = Some(hand);
-}
-
-impl Lent {
-    /// Nothing is lent.
-    pub fn nothing(alloc: Global) -> Result<Lent, AllocError> {
-        Ok(Lent {
-            read: ReadBuf::reserve(alloc, 0, 0)?,
-            vector: None,
-            status: None,
-        })
-    }
-}
-
-fn lend_identifier(alloc: Global, op: &Op, lent: &mut Lent) -> Result<(), AllocError>
-    ensures { OnOk result (IsLentFor (update_of op.now) lent.new.read) }
-{
-    let Some(update) = update_in(op) else {
-        return Ok(());
-    };
-    reserve_id(alloc, update, &mut lent.read)
-}
-
-fn reserve_id(alloc: Global, update: &Update, read: &mut ReadBuf) -> Result<(), AllocError>
-    ensures { OnOk result (IsLentFor update.now read.new) }
-{
-    match update {
-        Update::Create(NewId::Given(id), _, _) => {
-            *read = ReadBuf::reserve(alloc, 1, id.as_slice().len())?;
-            Ok(())
-        }
-        Update::Create(NewId::Generated, _, _) => {
-            *read = ReadBuf::reserve(alloc, 1, GENERATED_ID_BYTES as usize)?;
-            Ok(())
-        }
-        _ => Ok(()),
-    }
-}
-
-/// The update that an operation asks for, if it asks for one.
-pub fn update_in(op: &Op) -> Option<&Update>
-    ensures { MatchOption result (update_of op.now ≡ updates.Nothing) (λ update. update_of op.now ≡ update.now) }
-{
-    match op {
-        Op::Create(_, update)
-        | Op::Delete(_, update)
-        | Op::Expire(_, update)
-        | Op::Write(_, update)
-        | Op::Over(_, update) => Some(update.value()),
-        _ => None,
-    }
-}
-
-/// Whether an operation asks for a new section.
-#[inline(always)]
-pub fn creates(op: &Op) -> bool
-    ensures { result ≡ is_creation (update_of op.now) }
-{
-    match update_in(op) {
-        Some(Update::Create(_, _, _)) => true,
-        _ => false,
-    }
-}
-
-fn lend_read(alloc: Global, op: &Op, lent: &mut Lent) -> Result<(), AllocError>
-    ensures { OnOk result (IsLentRead (elements_of op.now) lent.new) }
-{
-    let vector = share_elements(alloc, op)?;
-    lent.read = reserve_for(alloc, vector.value().as_slice())?;
-    lent.vector = Some(vector);
-    Ok(())
-}
-
-fn lend_status(alloc: Global, lent: &mut Lent) -> Result<(), AllocError>
-    ensures { OnOk result (IsSome lent.new.status) }
-{
-    lent.status = Some(Apart::new(alloc, NO_STATUS)?);
-    Ok(())
-}
-
-fn reserve_for(alloc: Global, elements: &[ReadElement]) -> Result<ReadBuf, AllocError>
-    ensures { IfOk result (λ read. read ≡ record { pieces = []; spare_pieces = length elements.now; spare_bytes = bytes_asked elements.now }) }
-{
-    let Some(bytes) = bytes_asked(elements) else {
-        return Err(AllocError);
-    };
-    ReadBuf::reserve(alloc, elements.len(), bytes)
-}
-
-// How many bytes the elements ask for at most, where that can be counted.
-fn bytes_asked(elements: &[ReadElement]) -> Option<usize>
-    ensures { IfSome result (λ n. n ≡ bytes_asked elements.now) }
-{
-    let mut total: u64 = 0;
-    for element in elements {
-        let Some(more) = total.checked_add(element.len) else {
-            return None;
-        };
-        total = more;
-    }
-    usize::try_from(total).ok()
-}
-
-/// A share of the update that an operation asks for.
-#[inline(always)]
-pub fn share_update(alloc: Global, op: &Op) -> Result<SharedUpdate, AllocError>
-    ensures { IfOk result (λ update. update ≡ update_of op.now) }
-{
-    match op {
-        Op::Create(_, update)
-        | Op::Delete(_, update)
-        | Op::Expire(_, update)
-        | Op::Write(_, update)
-        | Op::Over(_, update) => update.share(),
-        _ => SharedUpdate::new(alloc, Update::Nothing),
-    }
-}
-
-fn share_elements(alloc: Global, op: &Op) -> Result<SharedReads, AllocError>
-    ensures { IfOk result (λ elements. elements ≡ elements_of op.now) }
-{
-    match op {
-        Op::Read(_, elements) => elements.share(),
-        _ => SharedReads::new(alloc, ReadVector::from_vec(Vec::new(alloc))),
-    }
 }

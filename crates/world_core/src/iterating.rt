@@ -1,106 +1,107 @@
-//! The steps by which an iteration starts and goes on.
-ghost use Rattle.std.specs.Prelude.{◌≡◌, ◌<◌, ◌≤◌, OnOk, OnErr};
+//! How an iteration goes with a request, and comes back.
+ghost use Rattle.std.specs.Prelude.{◌≡◌, ◌≢◌, ◌<◌, None, Some};
 ghost use Rattle.ckpt_types.specs.Limits.{client_numbers};
-ghost use Rattle.node_msgs.specs.declared.next.Next.TheVariants as nexts;
-ghost use Rattle.node_msgs.specs.declared.requests.Request.TheVariants as requests;
-ghost use Rattle.world_core.specs.Shows.{IsShown, HasNumbersLeft};
-ghost use Rattle.world_core.specs.Happenings.{Adds, IsNext, IsStep};
+ghost use Rattle.ckpt_types.specs.Asks.{asked};
+ghost use Rattle.world_core.specs.declared.hands.InHand.{InHand};
+ghost use Rattle.ckpt_machine.specs.Tables.{kept_asked};
+ghost use Rattle.world_core.specs.Lending.{iteration_lent, hands_lending, lending, tables_lending, tables_keeping, come_back, CanLend, CanKeep, IsGoingOnWith, IsOutOf, IsValidFor};
+ghost use Rattle.client_handles.specs.ClientState.{IsValid};
+ghost use Rattle.world_core.specs.Shows.{hand_at};
+ghost use Rattle.world_core.specs.TableState.{kept_by, with_client, at_client};
 
 use crate::beginning::gone_on_place;
-use crate::hands::InHand;
-use crate::messages::{done, served};
-use crate::nodes::told_section;
+use crate::tables::Tables;
 use crate::world::World;
-use ckpt_types::{
-    Apart, CallId, Choice, CkptId, NodeId, SectionDescriptor, SectionId, SectionState,
-};
-use node_msgs::{Request, Verb};
-use run_labels::{OpWord, RunLog};
-use std::alloc::{AllocError, Global};
+use ckpt_types::Op;
+use node_core::Lent;
+use node_msgs::{Reply, Request};
+use section_iter::Iteration;
 
 impl World {
-    /// The call of a client starts an iteration, in the room that it took when it began. It takes no memory.
-    pub(crate) fn iterate_step(
-        &mut self,
-        c: u8,
-        r: NodeId,
-        asked: CallId,
-        ckpt: CkptId,
-        choice: Choice,
-        log: &mut RunLog,
-    )
-        requires next { IsNext self.old c (nexts.Serve r (requests.Iterate asked ckpt choice)) }
+    /// The iteration that goes with a request is lent: the room that the call took for one that starts, or the one
+    /// with which it goes on, out of its client's tables.
+    pub(crate) fn lend_iteration(&mut self, c: u8, request: &Request, lent: &mut Lent)
         requires client { c < client_numbers }
-        requires shown { IsShown self.old }
-        requires roomy { HasNumbersLeft self.old }
-        requires spare { 1 ≤ log.old.spare }
-        ensures { Adds log.old log.new (IsStep c self.old self.new) }
+        requires held { hand_at self.old.hands c ≢ None }
+        requires can { (h : InHand) → hand_at self.old.hands c ≡ Some h → CanLend request.now h.op (kept_by self.old.tables c) }
+        ensures valid { IsValidFor request.now (kept_by self.old.tables c) }
+        ensures world { (h : InHand) → hand_at self.old.hands c ≡ Some h → self.new ≡ record self.old { hands = hands_lending request.now c self.old.hands; tables = tables_lending request.now c h.op self.old.tables } }
+        ensures lent { (h : InHand) → hand_at self.old.hands c ≡ Some h → lent.new ≡ record lent.old { iteration = iteration_lent request.now h (kept_by self.old.tables c) } }
     {
-        let Some(hand) = self.hands.remove(c) else {
-            unreachable!()
+        lent.iteration = match request {
+            Request::Iterate(_, _, _) => self.hands.lend_iteration(c),
+            Request::Next(_, _) => self.lend_kept(c),
+            _ => None,
         };
-        let InHand {
-            call,
-            op,
-            driver: _,
-            iteration,
-        } = hand;
-        let word = OpWord::of(&op);
-        let Some(mut iteration) = iteration else {
-            unreachable!()
-        };
-        let now = self.cluster.now();
-        self.nodes.start(r, ckpt, &mut iteration, choice, now);
-        self.tables.start(c, &op, iteration);
-        log.push(done(call, word, Verb::Iter, ckpt, r));
     }
 
-    /// The call of a client goes on with an iteration. Want of memory for what its label tells of a section
-    /// leaves the world as it was.
-    pub(crate) fn next_step(
-        &mut self,
-        alloc: Global,
-        c: u8,
-        r: NodeId,
-        asked: CallId,
-        ckpt: CkptId,
-        log: &mut RunLog,
-    ) -> Result<(), AllocError>
-        requires next { IsNext self.old c (nexts.Serve r (requests.Next asked ckpt)) }
+    // The iteration with which the call of a client goes on is lent.
+    fn lend_kept(&mut self, c: u8) -> Option<Iteration>
         requires client { c < client_numbers }
-        requires shown { IsShown self.old }
-        requires spare { 1 ≤ log.old.spare }
-        ensures ok { OnOk result (Adds log.old log.new (IsStep c self.old self.new)) }
-        ensures err { OnErr result ((self.new ≡ self.old) × (log.new.labels ≡ log.old.labels)) }
+        requires held { hand_at self.old.hands c ≢ None }
+        requires can { (h : InHand) → hand_at self.old.hands c ≡ Some h → IsGoingOnWith (asked h.op) (kept_by self.old.tables c) }
+        ensures valid { IsValid (kept_by self.old.tables c) }
+        ensures lent { (h : InHand) → hand_at self.old.hands c ≡ Some h → result ≡ kept_asked (asked h.op) (kept_by self.old.tables c) }
+        ensures world { (h : InHand) → hand_at self.old.hands c ≡ Some h → self.new ≡ record self.old { tables = at_client c (with_client (lending (asked h.op))) self.old.tables } }
     {
-        let request = Request::Next(asked, ckpt);
         let Some(hand) = self.hands.find(c) else {
             unreachable!()
         };
-        let call = hand.call;
-        let op = hand.word();
-        let Some(place) = gone_on_place(&hand.op) else {
+        lend_from(&mut self.tables, c, &hand.op)
+    }
+
+    /// The iteration that came back with the reply to a request: one that was started is the client's from then on,
+    /// and one that went on comes back to its place.
+    pub(crate) fn keep_iteration(
+        &mut self,
+        c: u8,
+        request: &Request,
+        reply: &Reply,
+        iteration: Option<Iteration>,
+    )
+        requires client { c < client_numbers }
+        requires held { hand_at self.old.hands c ≢ None }
+        requires can { (h : InHand) → hand_at self.old.hands c ≡ Some h → CanKeep request.now h.op (kept_by self.old.tables c) }
+        ensures { (h : InHand) → hand_at self.old.hands c ≡ Some h → self.new ≡ record self.old { tables = tables_keeping request.now c h.op reply.now iteration self.old.tables } }
+    {
+        let Some(iteration) = iteration else {
+            return;
+        };
+        let Some(hand) = self.hands.find(c) else {
             unreachable!()
         };
-        let mut section = Apart::new(alloc, no_section())?;
-        let now = self.cluster.now();
-        let reply = self
-            .tables
-            .go_on(c, place, &self.nodes, r, ckpt, now, &mut section);
-        let end = self.hands.take(c, &self.cluster, r, &request, &reply);
-        let details = told_section(&end, &reply, section);
-        log.push(served(call, op, Verb::Next, ckpt, r, reply.word(), end, details));
-        Ok(())
+        match (request, reply) {
+            (Request::Iterate(_, _, _), Reply::Done(_)) => {
+                self.tables.start(c, &hand.op, iteration);
+            }
+            (Request::Next(_, _), _) => come_back(&mut self.tables, c, &hand.op, iteration),
+            _ => {}
+        }
     }
 }
 
-// A place for what is told of a section.
-fn no_section() -> SectionDescriptor {
-    SectionDescriptor {
-        id: SectionId::default(),
-        expiration: 0,
-        size: 0,
-        state: SectionState::Valid,
-        last_update: 0,
-    }
+// The iteration with which a call goes on is lent out of its place.
+fn lend_from(tables: &mut Tables, c: u8, op: &Op) -> Option<Iteration>
+    requires client { c < client_numbers }
+    requires can { IsGoingOnWith (asked op.now) (kept_by tables.old c) }
+    ensures lent { result ≡ kept_asked (asked op.now) (kept_by tables.old c) }
+    ensures valid { IsValid (kept_by tables.old c) }
+    ensures new { tables.new ≡ at_client c (with_client (lending (asked op.now))) tables.old }
+{
+    let Some(place) = gone_on_place(op) else {
+        unreachable!()
+    };
+    tables.lend_iteration(c, place)
+}
+
+// The iteration with which a call went on comes back to its place.
+fn come_back(tables: &mut Tables, c: u8, op: &Op, iteration: Iteration)
+    requires client { c < client_numbers }
+    requires out { IsOutOf (asked op.now) (kept_by tables.old c) }
+    ensures { tables.new ≡ at_client c (with_client (come_back (asked op.now) iteration)) tables.old }
+{
+    let Some(place) = gone_on_place(op) else {
+        unreachable!()
+    };
+    tables.return_iteration(c, place, iteration);
 }

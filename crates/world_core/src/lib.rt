@@ -4,15 +4,16 @@
 mod applying;
 mod beginning;
 mod begins;
+mod details;
 mod drivers;
 mod hands;
 mod iterating;
 mod kept_client;
+mod lending;
 mod messages;
 mod moments;
 mod nodes;
 mod one_step;
-mod replica;
 mod showing;
 mod steps;
 mod tables;

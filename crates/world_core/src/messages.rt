@@ -3,13 +3,13 @@ ghost use Rattle.std.specs.Prelude.{◌≡◌, Some, None};
 ghost use Rattle.ckpt_types.specs.declared.answers.Answer.TheVariants as answers;
 ghost use Rattle.ckpt_types.specs.declared.answers.Outcome.TheVariants.{Done};
 ghost use Rattle.node_msgs.specs.declared.steps.StepReply.TheVariants as words;
-ghost use Rattle.run_labels.specs.declared.details.Details.TheVariants as beside;
+ghost use Rattle.node_msgs.specs.declared.details.Details.TheVariants as beside;
 ghost use Rattle.run_labels.specs.declared.labels.Label.TheVariants as labels;
 ghost use Rattle.ckpt_machine.specs.Steps.{look_word};
 
 use ckpt_types::{Answer, CallId, CkptId, NodeId, Outcome};
-use node_msgs::{StepReply, Verb};
-use run_labels::{Details, Label, OpWord};
+use node_msgs::{Details, StepReply, Verb};
+use run_labels::{Label, OpWord};
 
 /// How a label tells an end that the record alone decides.
 pub fn look_word(end: &Outcome) -> StepReply
@@ -18,6 +18,32 @@ pub fn look_word(end: &Outcome) -> StepReply
     match end {
         Outcome::Done(_) => StepReply::Done,
         _ => StepReply::Refused,
+    }
+}
+
+/// The step of a call, told with what it is about, what was answered, and how the call ends by it.
+#[inline(always)]
+pub fn stepped(
+    call: CallId,
+    op: OpWord,
+    verb: Verb,
+    ckpt: Option<CkptId>,
+    node: Option<NodeId>,
+    reply: StepReply,
+    end: Option<Outcome>,
+    details: Details,
+) -> Label
+    ensures { result ≡ labels.Stepped call op verb ckpt node reply end details }
+{
+    Label::Stepped {
+        call,
+        op,
+        verb,
+        ckpt,
+        node,
+        reply,
+        end,
+        details,
     }
 }
 
@@ -35,16 +61,7 @@ pub fn served(
 ) -> Label
     ensures { result ≡ labels.Stepped call op verb (Some ckpt) (Some r) reply end details }
 {
-    Label::Stepped {
-        call,
-        op,
-        verb,
-        ckpt: Some(ckpt),
-        node: Some(r),
-        reply,
-        end,
-        details,
-    }
+    stepped(call, op, verb, Some(ckpt), Some(r), reply, end, details)
 }
 
 /// A node has done what a call asked, and the call goes on.

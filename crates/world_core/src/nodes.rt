@@ -1,57 +1,24 @@
-//! The nodes, each with its replicas, and what a request makes of them.
-ghost use Rattle.std.specs.Prelude.{◌≡◌, ◌≢◌, ℕ, ℤ, ◌<◌, ◌≤◌, [], ◌++◌, ◌∷◌, false, Option, Some, None, IfOk, IfSome, IsSomeAnd, MatchOption, OnOk, OnErr, filter, length, replicate, slice_get};
-ghost use Rattle.section_iter.specs.Next.{kept_after};
-ghost use Rattle.section_iter.specs.Room.{IsRoomFor};
-ghost use Rattle.ckpt_types.specs.Attributes.{is_malformed};
+//! The nodes n0 to n7, and the requests that they serve.
+ghost use Rattle.std.specs.Prelude.{◌≡◌, ◌-◌, ◌^◌, ◌<◌, [], None, Some, IfOk, IfSome, IsSome, IsSomeAnd, MatchOption, length, replicate};
 ghost use Rattle.ckpt_types.specs.Limits.{nodes_max};
-ghost use Rattle.cluster_record.specs.Places.{find_key, change_key, place_key};
 ghost use Rattle.node_msgs.specs.Requests.{ckpt_of};
 ghost use Rattle.node_msgs.specs.declared.requests.Request.TheVariants as requests;
-ghost use Rattle.ckpt_types.specs.declared.identities.CallId.{CallId};
-ghost use Rattle.world_core.specs.UpdateSteps.{stage_reply_at, staged_on, staged_at, commit_reply_at, committed_at};
-ghost use Rattle.ckpt_machine.specs.Serving.{committed, record_seen, replica_key, replica_after, replica_in, reply_at, details_at, served, IsReadyAt, opened_replica, with_reserved, reserved_at, chosen_at, given_at, next_details, next_reply_at};
-ghost use Rattle.world_core.specs.Freeing.{is_there, freed};
-ghost use Rattle.world_core.specs.Lending.{HasLent, details_told, status_told, section_told};
-ghost use Rattle.ckpt_machine.specs.Steps.{ended_details};
+ghost use Rattle.node_core.specs.Details.{details_told};
+ghost use Rattle.node_core.specs.Fitting.{RequestFits, IsReadyFor};
+ghost use Rattle.node_core.specs.Nodes.{MayReply, replica_served, seen_from};
+ghost use Rattle.node_core.specs.Payloads.{no_payload, payload_of, update_alone};
+ghost use Rattle.node_core.specs.Seen.{record_seen};
+ghost use Rattle.node_core.specs.Serving.{details_at, iteration_behind, reply_at};
+ghost use Rattle.world_core.specs.Freeing.{freed};
+ghost use Rattle.world_core.specs.Nodes.{node_at, nodes_after, nodes_shown, replica_in, StandByNumber};
 
-use crate::replica::Replica;
-use ckpt_types::{
-    Answer, Apart, CallId, CheckpointDescriptor, Choice, CkptId, CreationAttributes, Moment,
-    NODES_MAX, NodeId, Op, Outcome, Pieces, ReadBuf, SectionDescriptor, SharedReads, SharedUpdate,
-};
+use ckpt_types::{CallId, CkptId, Moment, NODES_MAX, NodeId, SharedUpdate};
 use cluster_record::Record;
+use node_core::{Lent, Node};
 use node_msgs::{Reply, Request};
-use run_labels::Details;
-use section_iter::Iteration;
-use section_store::Store;
+use replica::Replica;
 use std::alloc::{AllocError, Global};
 use std::marker::Model;
-
-/// What a call lends to a step that a node serves.
-#[derive(Drop)]
-pub struct Lent {
-    /// Where a read puts its pieces.
-    pub read: ReadBuf,
-    /// The elements of a read.
-    pub vector: Option<SharedReads>,
-    /// Where a status is told.
-    pub status: Option<Apart<CheckpointDescriptor>>,
-}
-
-/// The replicas on a node.
-#[derive(Drop)]
-pub struct Node {
-    replicas: Vec<Replica>,
-}
-
-impl Model for Node {
-    ghost use Rattle.std.specs.Prelude.{List};
-    ghost use Rattle.ckpt_machine.specs.Replicas.{Replica};
-
-    ghost Value = { List Replica };
-
-    ghost view = { λ node. node.replicas.items };
-}
 
 /// The nodes n0 to n7.
 #[derive(Drop)]
@@ -60,15 +27,16 @@ pub struct Nodes {
 }
 
 impl Model for Nodes {
-    ghost use Rattle.std.specs.Prelude.{List, length, ◌≡◌};
-    ghost use Rattle.ckpt_types.specs.Limits.{nodes_max};
-    ghost use Rattle.ckpt_machine.specs.Replicas.{Replica};
+    ghost use Rattle.std.specs.Prelude.{List};
+    ghost use Rattle.replica.specs.Replicas.{Replica};
 
     ghost Value = { List (List Replica) };
 
-    ghost view = { λ nodes. nodes.list.items };
+    ghost use Rattle.world_core.specs.Nodes.{nodes_shown, StandByNumber};
 
-    ghost invariant = { λ nodes. length nodes.list.items ≡ nodes_max };
+    ghost view = { λ nodes. nodes_shown nodes.list.items };
+
+    ghost invariant = { λ nodes. StandByNumber nodes.list.items };
 }
 
 impl Nodes {
@@ -81,417 +49,163 @@ impl Nodes {
         })
     }
 
-    /// The answer of a node to a request of a call with this operation, by what it sees of the record. What
-    /// travels beside the request is lent. It takes no memory.
+    /// The answer of a node to a request, by what it sees of the record. What travels beside the request is lent, and
+    /// what comes beside the reply stands in it. A reservation alone takes memory.
     pub fn serve(
         &mut self,
+        alloc: Global,
         r: NodeId,
+        seen: &Record,
         request: &Request,
-        op: &Op,
-        cluster: &Record,
         lent: &mut Lent,
     ) -> Reply
         requires node { r < nodes_max }
-        requires ready { IsReadyAt request.now (replica_in self.old (ckpt_of request.now) r) }
-        requires stages_none { (call : CallId) (k : ℕ) (t : ℤ) → request.now ≢ requests.Stage call k t }
-        requires lent { HasLent request.now op.now lent.old }
-        ensures reply { result ≡ reply_at request.now op.now (record_seen cluster.now (ckpt_of request.now)) (replica_in self.old (ckpt_of request.now) r) }
-        ensures new { self.new ≡ served self.old r request.now op.now }
-        ensures details { details_told result lent.new ≡ details_at request.now op.now (record_seen cluster.now (ckpt_of request.now)) (replica_in self.old (ckpt_of request.now) r) }
+        requires fits { RequestFits seen.now (node_at self.old r) request.now lent.old }
+        ensures reply { MayReply seen.now (node_at self.old r) request.now (payload_of lent.old) result }
+        ensures new { self.new ≡ nodes_after seen.now self.old r request.now (payload_of lent.old) result }
+        ensures details { details_told result lent.new ≡ details_at request.now (payload_of lent.old) (seen_from seen.now (node_at self.old r) (ckpt_of request.now)) (replica_served seen.now (node_at self.old r) (ckpt_of request.now)) }
+        ensures iteration { lent.new.iteration ≡ iteration_behind request.now (seen_from seen.now (node_at self.old r) (ckpt_of request.now)) (replica_served seen.now (node_at self.old r) (ckpt_of request.now)) lent.old.iteration }
+        ensures there { r < length self.old }
     {
-        serve_node(self.list.as_mut_slice(), r, request, op, cluster, lent)
+        serve_node(self.list.as_mut_slice(), alloc, r, seen, request, lent)
     }
 
-    /// A node stages an update of a call on the replica that it has of a checkpoint, at this moment. It takes no
-    /// memory.
+    /// A node stages an update of a call, as `serve` does. It takes no memory.
     #[inline(always)]
     pub fn stage(
         &mut self,
         r: NodeId,
+        seen: &Record,
         call: CallId,
         ckpt: CkptId,
-        update: SharedUpdate,
         moment: Moment,
+        update: SharedUpdate,
     ) -> Reply
-        requires { r < nodes_max }
-        ensures reply { result ≡ stage_reply_at update moment (replica_in self.old ckpt r) }
-        ensures new { self.new ≡ staged_at self.old r ckpt (record { owner = call; update = update; moment = moment }) }
+        requires node { r < nodes_max }
+        requires room { IfSome (replica_in self.old ckpt r) (λ x. x.count < 2 ^ 64 - 1) }
+        requires there { IsSome (replica_served seen.now (node_at self.old r) ckpt) }
+        ensures reply { result ≡ reply_at (requests.Stage call ckpt moment) (update_alone update) (record_seen seen.now ckpt r) (replica_served seen.now (node_at self.old r) ckpt) }
+        ensures new { self.new ≡ nodes_after seen.now self.old r (requests.Stage call ckpt moment) (update_alone update) result }
     {
-        stage_node(self.list.as_mut_slice(), r, call, ckpt, update, moment)
+        stage_node(
+            self.list.as_mut_slice(),
+            r,
+            seen,
+            call,
+            ckpt,
+            moment,
+            update,
+        )
     }
 
-    /// A node commits what a call has staged on the replica that it has of a checkpoint. It takes no memory.
+    /// A node commits what a call has staged there, as `serve` does, and tells no identifier. It takes no memory.
     #[inline(always)]
-    pub fn commit(&mut self, r: NodeId, call: CallId, ckpt: CkptId) -> Reply
+    pub fn commit(&mut self, r: NodeId, seen: &Record, call: CallId, ckpt: CkptId) -> Reply
         requires node { r < nodes_max }
-        requires ready { IsReadyAt (requests.Commit call ckpt) (replica_in self.old ckpt r) }
-        ensures reply { result ≡ commit_reply_at (replica_in self.old ckpt r) }
-        ensures new { self.new ≡ committed_at self.old r ckpt }
+        requires own { IsSomeAnd (replica_served seen.now (node_at self.old r) ckpt) (IsReadyFor (requests.Commit call ckpt)) }
+        ensures reply { result ≡ reply_at (requests.Commit call ckpt) no_payload (record_seen seen.now ckpt r) (replica_served seen.now (node_at self.old r) ckpt) }
+        ensures new { self.new ≡ nodes_after seen.now self.old r (requests.Commit call ckpt) no_payload result }
     {
-        commit_node(self.list.as_mut_slice(), r, call, ckpt)
+        commit_node(self.list.as_mut_slice(), r, seen, call, ckpt)
     }
 
-    /// The replica that a node has of a checkpoint gives what is chosen now to an iteration with room for it. It
-    /// takes no memory.
-    pub fn start(
-        &self,
-        r: NodeId,
-        ckpt: CkptId,
-        iteration: &mut Iteration,
-        choice: Choice,
-        now: Moment,
-    )
-        requires node { r < nodes_max }
-        requires room { IsSomeAnd (replica_in self.now ckpt r) (λ x. IsRoomFor x.attributes iteration.old.room) }
-        ensures { iteration.new ≡ record iteration.old { ids = chosen_at choice now (replica_in self.now ckpt r) } }
-    {
-        let Some(replica) = self.list[r as usize].find(ckpt) else {
-            unreachable!()
-        };
-        replica.start(iteration, choice, now);
-    }
-
-    /// The next section that the replica of a node gives to an iteration, which is told in the place for it. It
-    /// takes no memory.
-    pub fn next(
-        &self,
-        r: NodeId,
-        ckpt: CkptId,
-        iteration: &mut Iteration,
-        now: Moment,
-        out: &mut Apart<SectionDescriptor>,
-    ) -> Reply
-        requires node { r < nodes_max }
-        ensures reply { result ≡ next_reply_at iteration.old.ids now (replica_in self.now ckpt r) }
-        ensures details { section_told result out.new ≡ next_details (given_at iteration.old.ids now (replica_in self.now ckpt r)) }
-        ensures new { iteration.new ≡ kept_after iteration.old (given_at iteration.old.ids now (replica_in self.now ckpt r)) }
-    {
-        match self.list[r as usize].find(ckpt) {
-            None => Reply::NoReplica,
-            Some(replica) => replica.next(iteration, now, out),
-        }
-    }
-
-    /// The replica that a node keeps of a checkpoint, complete or reserved.
+    /// The replica that a node has of a checkpoint, complete or reserved.
     pub fn find(&self, r: NodeId, ckpt: CkptId) -> Option<&Replica>
         requires { r < nodes_max }
         ensures { MatchOption result (replica_in self.now ckpt r ≡ None) (λ replica. replica_in self.now ckpt r ≡ Some replica.now) }
     {
-        self.list[r as usize].find(ckpt)
-    }
-
-    /// A node takes all the storage of a replica, and opens it; what is reserved already stays.
-    pub fn reserve(
-        &mut self,
-        alloc: Global,
-        r: NodeId,
-        ckpt: CkptId,
-        attributes: &CreationAttributes,
-        made: Moment,
-    ) -> Result<(), AllocError>
-        requires node { r < nodes_max }
-        requires well_formed { is_malformed attributes.now ≡ false }
-        ensures ok { OnOk result (self.new ≡ reserved_at self.old r (opened_replica ckpt attributes.now made)) }
-        ensures err { OnErr result (self.new ≡ self.old) }
-        ensures there { r < length self.old }
-    {
-        reserve_node(self.list.as_mut_slice(), alloc, r, ckpt, attributes, made)
+        find_at(self.list.as_slice(), r, ckpt)
     }
 
     /// On all nodes the replicas go, complete or reserved, whose checkpoint has no entry in the record. It
     /// takes no memory.
-    pub fn free_gone(&mut self, cluster: &Record)
-        ensures { self.new ≡ freed cluster.now.entries self.old }
+    pub fn free_gone(&mut self, seen: &Record)
+        ensures { self.new ≡ freed seen.now.entries self.old }
     {
-        free_nodes(self.list.as_mut_slice(), cluster);
-    }
-}
-
-impl Node {
-    // Its replica of a checkpoint.
-    fn find(&self, ckpt: CkptId) -> Option<&Replica>
-        ensures { MatchOption result (find_key replica_key ckpt self.now ≡ None) (λ replica. find_key replica_key ckpt self.now ≡ Some replica.now) }
-    {
-        find_at(self.replicas.as_slice(), ckpt)
-    }
-
-    fn serve(&mut self, request: &Request, op: &Op, cluster: &Record, lent: &mut Lent) -> Reply
-        requires ready { IsReadyAt request.now (find_key replica_key (ckpt_of request.now) self.old) }
-        requires stages_none { (call : CallId) (k : ℕ) (t : ℤ) → request.now ≢ requests.Stage call k t }
-        requires lent { HasLent request.now op.now lent.old }
-        ensures reply { result ≡ reply_at request.now op.now (record_seen cluster.now (ckpt_of request.now)) (find_key replica_key (ckpt_of request.now) self.old) }
-        ensures new { self.new ≡ change_key replica_key (ckpt_of request.now) (replica_after request.now op.now) self.old }
-        ensures details { details_told result lent.new ≡ details_at request.now op.now (record_seen cluster.now (ckpt_of request.now)) (find_key replica_key (ckpt_of request.now) self.old) }
-    {
-        serve_at(self.replicas.as_mut_slice(), request, op, cluster, lent)
-    }
-
-    #[inline(always)]
-    fn stage(&mut self, call: CallId, ckpt: CkptId, update: SharedUpdate, moment: Moment) -> Reply
-        ensures reply { result ≡ stage_reply_at update moment (find_key replica_key ckpt self.old) }
-        ensures new { self.new ≡ change_key replica_key ckpt (staged_on (record { owner = call; update = update; moment = moment })) self.old }
-    {
-        stage_among(self.replicas.as_mut_slice(), call, ckpt, update, moment)
-    }
-
-    #[inline(always)]
-    fn commit(&mut self, call: CallId, ckpt: CkptId) -> Reply
-        requires { IsReadyAt (requests.Commit call ckpt) (find_key replica_key ckpt self.old) }
-        ensures reply { result ≡ commit_reply_at (find_key replica_key ckpt self.old) }
-        ensures new { self.new ≡ change_key replica_key ckpt (λ x. committed x x.slot) self.old }
-    {
-        commit_among(self.replicas.as_mut_slice(), call, ckpt)
-    }
-
-    fn reserve(
-        &mut self,
-        alloc: Global,
-        ckpt: CkptId,
-        attributes: &CreationAttributes,
-        made: Moment,
-    ) -> Result<(), AllocError>
-        requires { is_malformed attributes.now ≡ false }
-        ensures ok { OnOk result (self.new ≡ with_reserved (find_key replica_key ckpt self.old) (opened_replica ckpt attributes.now made) self.old) }
-        ensures err { OnErr result (self.new ≡ self.old) }
-    {
-        reserve_in(&mut self.replicas, alloc, ckpt, attributes, made)
-    }
-
-    // Its replicas of checkpoints that are gone go.
-    fn free_gone(&mut self, cluster: &Record)
-        ensures { self.new ≡ filter (is_there cluster.now.entries) self.old }
-    {
-        free_in(&mut self.replicas, cluster);
-    }
-}
-
-/// What the label of a step tells beside its end, where it ended its call: what came with the reply. It takes no
-/// memory.
-pub fn told_details(end: &Option<Outcome>, reply: &Reply, lent: Lent) -> Details
-    ensures { result ≡ ended_details end.now (details_told reply.now lent) }
-{
-    match (end, reply) {
-        (Some(_), Reply::Done(Answer::Pieces | Answer::Created)) => {
-            Details::Pieces(Pieces::from_buf(lent.read))
-        }
-        (Some(_), Reply::Done(Answer::Status)) => told_status(lent.status),
-        _ => Details::Nothing,
-    }
-}
-
-fn told_status(status: Option<Apart<CheckpointDescriptor>>) -> Details
-    ensures { result ≡ status_told status }
-{
-    match status {
-        None => Details::Nothing,
-        Some(status) => Details::Status(status),
-    }
-}
-
-/// What the label of a step tells beside its end, where an iteration gave this section. It takes no memory.
-pub fn told_section(
-    end: &Option<Outcome>,
-    reply: &Reply,
-    section: Apart<SectionDescriptor>,
-) -> Details
-    ensures { result ≡ ended_details end.now (section_told reply.now section) }
-{
-    match (end, reply) {
-        (Some(_), Reply::Done(Answer::Section)) => Details::Section(section),
-        _ => Details::Nothing,
+        free_nodes(self.list.as_mut_slice(), seen);
     }
 }
 
 fn new_nodes(alloc: Global) -> Result<Vec<Node>, AllocError>
-    ensures { IfOk result (λ nodes. nodes.items ≡ replicate nodes_max []) }
+    ensures shown { IfOk result (λ nodes. nodes_shown nodes.items ≡ replicate nodes_max []) }
+    ensures numbered { IfOk result (λ nodes. StandByNumber nodes.items) }
 {
     let mut nodes = Vec::with_capacity(alloc, NODES_MAX)?;
-    for _n in 0..NODES_MAX {
-        nodes.push(Node {
-            replicas: Vec::new(alloc),
-        })?;
+    for r in 0..NODES_MAX {
+        nodes.push(Node::new(alloc, r as NodeId)?)?;
     }
     Ok(nodes)
 }
 
-fn place_of(replicas: &[Replica], ckpt: CkptId) -> Option<usize>
-    ensures place { result ≡ place_key replica_key ckpt replicas.now }
-    ensures within { IfSome result (λ i. i < length replicas.now) }
-{
-    for i in 0..replicas.len() {
-        let replica = &replicas[i];
-        if replica.ckpt == ckpt {
-            return Some(i);
-        }
-    }
-    None
-}
-
-fn find_at(replicas: &[Replica], ckpt: CkptId) -> Option<&Replica>
-    ensures { MatchOption result (find_key replica_key ckpt replicas.now ≡ None) (λ replica. find_key replica_key ckpt replicas.now ≡ Some replica.now) }
-{
-    for replica in replicas {
-        if replica.ckpt == ckpt {
-            return Some(replica);
-        }
-    }
-    None
-}
-
-fn serve_at(
-    replicas: &mut [Replica],
+fn serve_node(
+    nodes: &mut [Node],
+    alloc: Global,
+    r: NodeId,
+    seen: &Record,
     request: &Request,
-    op: &Op,
-    cluster: &Record,
     lent: &mut Lent,
 ) -> Reply
-    requires ready { IsReadyAt request.now (find_key replica_key (ckpt_of request.now) replicas.old) }
-    requires stages_none { (call : CallId) (k : ℕ) (t : ℤ) → request.now ≢ requests.Stage call k t }
-    requires lent { HasLent request.now op.now lent.old }
-    ensures reply { result ≡ reply_at request.now op.now (record_seen cluster.now (ckpt_of request.now)) (find_key replica_key (ckpt_of request.now) replicas.old) }
-    ensures new { replicas.new ≡ change_key replica_key (ckpt_of request.now) (replica_after request.now op.now) replicas.old }
-    ensures details { details_told result lent.new ≡ details_at request.now op.now (record_seen cluster.now (ckpt_of request.now)) (find_key replica_key (ckpt_of request.now) replicas.old) }
+    requires numbered { StandByNumber nodes.old }
+    requires node { r < length nodes.old }
+    requires fits { RequestFits seen.now (node_at (nodes_shown nodes.old) r) request.now lent.old }
+    ensures numbered { StandByNumber nodes.new }
+    ensures reply { MayReply seen.now (node_at (nodes_shown nodes.old) r) request.now (payload_of lent.old) result }
+    ensures new { nodes_shown nodes.new ≡ nodes_after seen.now (nodes_shown nodes.old) r request.now (payload_of lent.old) result }
+    ensures details { details_told result lent.new ≡ details_at request.now (payload_of lent.old) (seen_from seen.now (node_at (nodes_shown nodes.old) r) (ckpt_of request.now)) (replica_served seen.now (node_at (nodes_shown nodes.old) r) (ckpt_of request.now)) }
+    ensures iteration { lent.new.iteration ≡ iteration_behind request.now (seen_from seen.now (node_at (nodes_shown nodes.old) r) (ckpt_of request.now)) (replica_served seen.now (node_at (nodes_shown nodes.old) r) (ckpt_of request.now)) lent.old.iteration }
 {
-    let Some(i) = place_of(replicas, request.ckpt()) else {
-        return Reply::NoReplica;
-    };
-    let replica = &mut replicas[i];
-    replica.serve(request, op, cluster, lent)
+    let node = &mut nodes[r as usize];
+    node.serve(alloc, seen, request, lent)
 }
 
 #[inline(always)]
 fn stage_node(
     nodes: &mut [Node],
     r: NodeId,
+    seen: &Record,
     call: CallId,
     ckpt: CkptId,
-    update: SharedUpdate,
     moment: Moment,
-) -> Reply
-    requires { r < length nodes.old }
-    ensures reply { result ≡ stage_reply_at update moment (replica_in nodes.old ckpt r) }
-    ensures new { nodes.new ≡ staged_at nodes.old r ckpt (record { owner = call; update = update; moment = moment }) }
-{
-    let node = &mut nodes[r as usize];
-    node.stage(call, ckpt, update, moment)
-}
-
-#[inline(always)]
-fn commit_node(nodes: &mut [Node], r: NodeId, call: CallId, ckpt: CkptId) -> Reply
-    requires node { r < length nodes.old }
-    requires ready { IsReadyAt (requests.Commit call ckpt) (replica_in nodes.old ckpt r) }
-    ensures reply { result ≡ commit_reply_at (replica_in nodes.old ckpt r) }
-    ensures new { nodes.new ≡ committed_at nodes.old r ckpt }
-{
-    let node = &mut nodes[r as usize];
-    node.commit(call, ckpt)
-}
-
-#[inline(always)]
-fn stage_among(
-    replicas: &mut [Replica],
-    call: CallId,
-    ckpt: CkptId,
     update: SharedUpdate,
-    moment: Moment,
 ) -> Reply
-    ensures reply { result ≡ stage_reply_at update moment (find_key replica_key ckpt replicas.old) }
-    ensures new { replicas.new ≡ change_key replica_key ckpt (staged_on (record { owner = call; update = update; moment = moment })) replicas.old }
+    requires numbered { StandByNumber nodes.old }
+    requires node { r < length nodes.old }
+    requires room { IfSome (replica_in (nodes_shown nodes.old) ckpt r) (λ x. x.count < 2 ^ 64 - 1) }
+    requires there { IsSome (replica_served seen.now (node_at (nodes_shown nodes.old) r) ckpt) }
+    ensures numbered { StandByNumber nodes.new }
+    ensures reply { result ≡ reply_at (requests.Stage call ckpt moment) (update_alone update) (record_seen seen.now ckpt r) (replica_served seen.now (node_at (nodes_shown nodes.old) r) ckpt) }
+    ensures new { nodes_shown nodes.new ≡ nodes_after seen.now (nodes_shown nodes.old) r (requests.Stage call ckpt moment) (update_alone update) result }
 {
-    let Some(i) = place_of(replicas, ckpt) else {
-        return Reply::NoReplica;
-    };
-    let replica = &mut replicas[i];
-    replica.stage(call, update, moment)
+    let node = &mut nodes[r as usize];
+    node.stage(seen, call, ckpt, moment, update)
 }
 
 #[inline(always)]
-fn commit_among(replicas: &mut [Replica], call: CallId, ckpt: CkptId) -> Reply
-    requires { IsReadyAt (requests.Commit call ckpt) (find_key replica_key ckpt replicas.old) }
-    ensures reply { result ≡ commit_reply_at (find_key replica_key ckpt replicas.old) }
-    ensures new { replicas.new ≡ change_key replica_key ckpt (λ x. committed x x.slot) replicas.old }
-{
-    let Some(i) = place_of(replicas, ckpt) else {
-        return Reply::NoReplica;
-    };
-    let replica = &mut replicas[i];
-    replica.commit();
-    Reply::Done(Answer::Nothing)
-}
-
-fn serve_node(
-    nodes: &mut [Node],
-    r: NodeId,
-    request: &Request,
-    op: &Op,
-    cluster: &Record,
-    lent: &mut Lent,
-) -> Reply
+fn commit_node(nodes: &mut [Node], r: NodeId, seen: &Record, call: CallId, ckpt: CkptId) -> Reply
+    requires numbered { StandByNumber nodes.old }
     requires node { r < length nodes.old }
-    requires ready { IsReadyAt request.now (replica_in nodes.old (ckpt_of request.now) r) }
-    requires stages_none { (call : CallId) (k : ℕ) (t : ℤ) → request.now ≢ requests.Stage call k t }
-    requires lent { HasLent request.now op.now lent.old }
-    ensures reply { result ≡ reply_at request.now op.now (record_seen cluster.now (ckpt_of request.now)) (replica_in nodes.old (ckpt_of request.now) r) }
-    ensures new { nodes.new ≡ served nodes.old r request.now op.now }
-    ensures details { details_told result lent.new ≡ details_at request.now op.now (record_seen cluster.now (ckpt_of request.now)) (replica_in nodes.old (ckpt_of request.now) r) }
+    requires own { IsSomeAnd (replica_served seen.now (node_at (nodes_shown nodes.old) r) ckpt) (IsReadyFor (requests.Commit call ckpt)) }
+    ensures numbered { StandByNumber nodes.new }
+    ensures reply { result ≡ reply_at (requests.Commit call ckpt) no_payload (record_seen seen.now ckpt r) (replica_served seen.now (node_at (nodes_shown nodes.old) r) ckpt) }
+    ensures new { nodes_shown nodes.new ≡ nodes_after seen.now (nodes_shown nodes.old) r (requests.Commit call ckpt) no_payload result }
 {
     let node = &mut nodes[r as usize];
-    node.serve(request, op, cluster, lent)
+    node.commit(seen, call, ckpt)
 }
 
-fn reserve_in(
-    replicas: &mut Vec<Replica>,
-    alloc: Global,
-    ckpt: CkptId,
-    attributes: &CreationAttributes,
-    made: Moment,
-) -> Result<(), AllocError>
-    requires { is_malformed attributes.now ≡ false }
-    ensures ok { OnOk result (replicas.new.items ≡ with_reserved (find_key replica_key ckpt replicas.old.items) (opened_replica ckpt attributes.now made) replicas.old.items) }
-    ensures err { OnErr result (replicas.new.items ≡ replicas.old.items) }
+fn find_at(nodes: &[Node], r: NodeId, ckpt: CkptId) -> Option<&Replica>
+    requires { r < length nodes.now }
+    ensures { MatchOption result (replica_in (nodes_shown nodes.now) ckpt r ≡ None) (λ replica. replica_in (nodes_shown nodes.now) ckpt r ≡ Some replica.now) }
 {
-    if place_of(replicas.as_slice(), ckpt).is_some() {
-        return Ok(());
-    }
-    replicas.reserve(1)?;
-    let replica = Replica::open(alloc, ckpt, attributes, made)?;
-    replicas.push_reserved(replica);
-    Ok(())
+    nodes[r as usize].replica(ckpt)
 }
 
-fn reserve_node(
-    nodes: &mut [Node],
-    alloc: Global,
-    r: NodeId,
-    ckpt: CkptId,
-    attributes: &CreationAttributes,
-    made: Moment,
-) -> Result<(), AllocError>
-    requires node { r < length nodes.old }
-    requires well_formed { is_malformed attributes.now ≡ false }
-    ensures ok { OnOk result (nodes.new ≡ reserved_at nodes.old r (opened_replica ckpt attributes.now made)) }
-    ensures err { OnErr result (nodes.new ≡ nodes.old) }
-{
-    let node = &mut nodes[r as usize];
-    node.reserve(alloc, ckpt, attributes, made)
-}
-
-fn stays(replica: &Replica, cluster: &Record) -> bool
-    ensures { result ≡ is_there cluster.now.entries replica.now }
-{
-    cluster.entry(replica.ckpt).is_some()
-}
-
-fn free_in(replicas: &mut Vec<Replica>, cluster: &Record)
-    ensures { replicas.new.items ≡ filter (is_there cluster.now.entries) replicas.old.items }
-{
-    replicas.retain(|replica| stays(replica, cluster));
-}
-
-fn free_nodes(nodes: &mut [Node], cluster: &Record)
-    ensures { nodes.new ≡ freed cluster.now.entries nodes.old }
+fn free_nodes(nodes: &mut [Node], seen: &Record)
+    requires { StandByNumber nodes.old }
+    ensures numbered { StandByNumber nodes.new }
+    ensures new { nodes_shown nodes.new ≡ freed seen.now.entries (nodes_shown nodes.old) }
 {
     for node in nodes.iter_mut() {
-        node.free_gone(cluster);
+        node.free_gone(seen);
     }
 }

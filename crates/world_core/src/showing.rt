@@ -4,13 +4,10 @@ ghost use Rattle.ckpt_types.specs.Reads.{description};
 ghost use Rattle.ckpt_types.specs.Sections.{section_of, present};
 ghost use Rattle.ckpt_types.specs.Limits.{listed_bytes_max, nodes_max};
 ghost use Rattle.ckpt_machine.specs.Listing.{is_active, section_listed};
-ghost use Rattle.ckpt_machine.specs.Serving.{replica_in};
-ghost use Rattle.world_core.specs.Listing.{kept_slot_listed, kept_replica_listed, kept_listed, node_listed, nodes_listed, made_listed, world_listing};
+ghost use Rattle.world_core.specs.Listing.{kept_slot_listed, kept_replica_listed, node_listed, nodes_listed, made_listed, world_listing};
 ghost use Rattle.world_core.specs.Happenings.{Adds, TellsReplicas};
-ghost use Rattle.world_core.specs.Shows.{IsShown};
 
 use crate::nodes::Nodes;
-use crate::replica::{Replica, Slot};
 use crate::world::World;
 use ckpt_types::{
     Bytes, CkptId, LISTED_BYTES_MAX, Moment, NODES_MAX, NodeId, SectionDescriptor, SectionRef,
@@ -18,10 +15,12 @@ use ckpt_types::{
 };
 use cluster_record::Entry;
 use moment_rules::expired;
+use replica::Replica;
 use run_labels::{
     Label, RunLog, ShownReplica, ShownReplicas, ShownSection, ShownSections, ShownSlot,
 };
 use section_store::Store;
+use stage_slot::Slot;
 use std::alloc::{AllocError, Global};
 
 impl World {
@@ -119,13 +118,13 @@ fn list_replica(
 ) -> Result<ShownReplica, AllocError>
     ensures { IfOk result (λ shown. shown ≡ kept_replica_listed now active r replica.now) }
 {
-    let sections = list_sections(alloc, &replica.store, now)?;
+    let sections = list_sections(alloc, replica.store(), now)?;
     Ok(ShownReplica {
         node: r,
         active: is_active(active, r),
-        generation: replica.generation,
-        count: replica.count,
-        slot: list_slot(&replica.slot),
+        generation: replica.generation(),
+        count: replica.count(),
+        slot: list_slot(replica.slot()),
         sections,
     })
 }
@@ -139,12 +138,12 @@ fn is_active(active: Option<NodeId>, r: NodeId) -> bool
     }
 }
 
-fn list_slot(slot: &Option<Slot>) -> ShownSlot
+fn list_slot(slot: &Slot) -> ShownSlot
     ensures { result ≡ kept_slot_listed slot.now }
 {
-    match slot {
+    match slot.owner() {
         None => ShownSlot::Free,
-        Some(slot) => ShownSlot::Held(slot.owner),
+        Some(owner) => ShownSlot::Held(owner),
     }
 }
 

@@ -15,9 +15,7 @@ ghost use Rattle.ckpt_machine.specs.Driving.{event_refusal};
 ghost use Rattle.world_core.specs.RecordReady.{IsRefusedWith};
 ghost use Rattle.world_core.specs.declared.hands.InHand.{InHand};
 ghost use Rattle.world_core.specs.LiveRooms.{room_is_taken};
-ghost use Rattle.world_core.specs.Reserving.{IsReservedAt};
 ghost use Rattle.world_core.specs.Runs.{step_word};
-ghost use Rattle.ckpt_machine.specs.Facts.{IsReservable};
 ghost use Rattle.world_core.specs.Shows.{IsShown, HasNumbersLeft, hand_at};
 ghost use Rattle.world_core.specs.Happenings.{Adds, IsNext, IsStep, IsIdle, NamesNoClient};
 ghost use Rattle.ckpt_types.specs.declared.identities.CallId.{CallId};
@@ -25,15 +23,16 @@ ghost use Rattle.ckpt_types.specs.declared.sections.Choice.{Choice};
 ghost use Rattle.ckpt_types.specs.Limits.{client_numbers, nodes_max};
 
 use crate::applying::apply;
+use crate::details::told_details;
 use crate::drivers::{DriverKind, event_ckpt, event_end, event_node, event_refusal};
-use crate::messages::{look_word, served};
-use crate::nodes::{Lent, told_details};
+use crate::lending::lent_by;
+use crate::messages::{look_word, served, stepped};
 use crate::tables::Tables;
 use crate::world::World;
-use ckpt_types::{ActorName, Answer, CkptId, NodeId, Op, Outcome, Who};
+use ckpt_types::{ActorName, CkptId, NodeId, Op, Outcome, Who};
 use cluster_record::Record;
-use node_msgs::{Next, RecordStep, Reply, Request, StepReply, Verb};
-use run_labels::{Details, Label, LineWord, RunLog, Said};
+use node_msgs::{Details, Next, RecordStep, Request, StepReply, Verb};
+use run_labels::{Label, LineWord, RunLog, Said};
 use std::alloc::{AllocError, Global};
 
 impl World {
@@ -62,14 +61,6 @@ impl World {
             return self.update_step(alloc, c, next, log);
         }
         match hand.driver.next(&self.cluster, &self.tables, c) {
-            Next::Serve(r, Request::Reserve(ckpt)) => self.reserve_step(alloc, c, r, ckpt, log),
-            Next::Serve(r, Request::Iterate(call, ckpt, choice)) => {
-                self.iterate_step(c, r, call, ckpt, choice, log);
-                Ok(())
-            }
-            Next::Serve(r, Request::Next(call, ckpt)) => {
-                self.next_step(alloc, c, r, call, ckpt, log)
-            }
             Next::Serve(r, request) => self.serve_step(alloc, c, r, &request, log),
             Next::Event(RecordStep::Enter) => {
                 self.enter_step(alloc, c, log);
@@ -95,43 +86,6 @@ impl World {
         log.push(idle_label(who, finish));
     }
 
-    // A node reserves the storage of a replica; where its memory is refused, the call goes on to undo.
-    fn reserve_step(
-        &mut self,
-        alloc: Global,
-        c: u8,
-        r: NodeId,
-        ckpt: CkptId,
-        log: &mut RunLog,
-    ) -> Result<(), AllocError>
-        requires next { IsNext self.old c (nexts.Serve r (requests.Reserve ckpt)) }
-        requires client { c < client_numbers }
-        requires shown { IsShown self.old }
-        requires spare { 1 ≤ log.old.spare }
-        ensures ok { OnOk result (Adds log.old log.new (IsStep c self.old self.new)) }
-        ensures err { OnErr result ((self.new ≡ self.old) × (log.new.labels ≡ log.old.labels)) }
-    {
-        let request = Request::Reserve(ckpt);
-        let reply = self.reserve(alloc, r, ckpt);
-        let Some(hand) = self.hands.find(c) else {
-            unreachable!()
-        };
-        let call = hand.call;
-        let op = hand.word();
-        let end = self.hands.take(c, &self.cluster, r, &request, &reply);
-        log.push(served(
-            call,
-            op,
-            Verb::Reserve,
-            ckpt,
-            r,
-            reply.word(),
-            end,
-            Details::Nothing,
-        ));
-        Ok(())
-    }
-
     /// A node answers a request of the call.
     #[inline(never)]
     pub(crate) fn serve_step(
@@ -143,10 +97,6 @@ impl World {
         log: &mut RunLog,
     ) -> Result<(), AllocError>
         requires next { IsNext self.old c (nexts.Serve r request.now) }
-        requires reserves_none { (k : ℕ) → request.now ≢ requests.Reserve k }
-        requires starts_none { (call : CallId) (k : ℕ) (choice : Choice) → request.now ≢ requests.Iterate call k choice }
-        requires goes_on_with_none { (call : CallId) (k : ℕ) → request.now ≢ requests.Next call k }
-        requires stages_none { (call : CallId) (k : ℕ) (t : ℤ) → request.now ≢ requests.Stage call k t }
         requires client { c < client_numbers }
         requires shown { IsShown self.old }
         requires roomy { HasNumbersLeft self.old }
@@ -159,11 +109,12 @@ impl World {
         };
         let call = hand.call;
         let op = hand.word();
-        let mut lent = Lent::nothing(alloc)?;
-        hand.lend(alloc, request, &mut lent)?;
+        let mut lent = lent_by(alloc, &hand.op, request)?;
+        self.lend_iteration(c, request, &mut lent);
         let reply = self
             .nodes
-            .serve(r, request, &hand.op, &self.cluster, &mut lent);
+            .serve(alloc, r, &self.cluster, request, &mut lent);
+        self.keep_iteration(c, request, &reply, lent.iteration.take());
         let end = self.hands.take(c, &self.cluster, r, request, &reply);
         let details = told_details(&end, &reply, lent);
         log.push(served(
@@ -253,16 +204,16 @@ impl World {
         let ckpt = event_ckpt(&self.cluster, &hand.driver, &step);
         let node = event_node(&hand.driver, &step);
         self.hands.clear(c);
-        log.push(Label::Stepped {
+        log.push(stepped(
             call,
             op,
-            verb: step.verb(),
+            step.verb(),
             ckpt,
             node,
             reply,
-            end: Some(end),
-            details: Details::Nothing,
-        });
+            Some(end),
+            Details::Nothing,
+        ));
     }
 
     // The call takes a step that the record does not refuse; where its memory is refused, the call ends. A client
@@ -294,16 +245,16 @@ impl World {
         self.hands
             .told(c, &self.cluster, &step, ckpt, node, StepReply::Ok, &end);
         self.nodes.free_gone(&self.cluster);
-        log.push(Label::Stepped {
+        log.push(stepped(
             call,
             op,
             verb,
             ckpt,
             node,
-            reply: StepReply::Ok,
+            StepReply::Ok,
             end,
-            details: Details::Nothing,
-        });
+            Details::Nothing,
+        ));
     }
 
     /// The record alone decides how the call ends; what it is making is undone.
@@ -324,16 +275,16 @@ impl World {
         settle_look(&mut self.tables, c, &hand.op, &end);
         self.hands.clear(c);
         self.unmake(making);
-        log.push(Label::Stepped {
+        log.push(stepped(
             call,
             op,
-            verb: Verb::Look,
-            ckpt: None,
-            node: None,
+            Verb::Look,
+            None,
+            None,
             reply,
-            end: Some(end),
-            details: Details::Nothing,
-        });
+            Some(end),
+            Details::Nothing,
+        ));
     }
 
     // What a call is making is undone, if it is making something; what is over goes too, and its replicas.
@@ -344,25 +295,6 @@ impl World {
             self.cluster.undo_create(ckpt);
             self.cluster.sweep();
             self.nodes.free_gone(&self.cluster);
-        }
-    }
-
-    // A node takes the storage of a replica of the checkpoint, which is in the making.
-    fn reserve(&mut self, alloc: Global, r: NodeId, ckpt: CkptId) -> Reply
-        requires node { r < nodes_max }
-        requires ready { IsSomeAnd (entry_of ckpt self.old.cluster.entries) (IsReservable self.old.cluster r) }
-        ensures reserved { IsReservedAt r ckpt self.old self.new result }
-        ensures there { r < length self.old.nodes }
-    {
-        let Some(entry) = self.cluster.entry(ckpt) else {
-            unreachable!()
-        };
-        match self
-            .nodes
-            .reserve(alloc, r, ckpt, &entry.attributes, entry.made)
-        {
-            Ok(()) => Reply::Done(Answer::Nothing),
-            Err(AllocError) => Reply::NoMemory,
         }
     }
 }

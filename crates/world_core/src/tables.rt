@@ -1,20 +1,16 @@
 //! What all clients keep: numbers, handles, iterations and places.
 ghost use Rattle.std.specs.Prelude.{◌≡◌, ◌-◌, ◌^◌, ◌<◌, true, IfOk, IsSome, IsSomeAnd, OnErr, OnOk, length, slice_get, slice_set, replicate};
-ghost use Rattle.ckpt_types.specs.Limits.{places_max, nodes_max, client_numbers};
-ghost use Rattle.client_handles.specs.ClientState.{handle_at, has_handle_room, has_iteration_room, iterated_at, iteration_at, kept_at, emptied, ended};
-ghost use Rattle.ckpt_types.specs.Asks.{asked, IsBuilt, Next};
-ghost use Rattle.ckpt_machine.specs.Serving.{replica_in, given_at, next_details, next_reply_at};
-ghost use Rattle.ckpt_machine.specs.Tables.{handle_asked, ids_of, handle_given, started, gone_on, closing, ended_at_once};
-ghost use Rattle.world_core.specs.Lending.{section_told};
+ghost use Rattle.ckpt_types.specs.Limits.{places_max, client_numbers};
+ghost use Rattle.client_handles.specs.ClientState.{handle_at, has_handle_room, has_iteration_room, iterated_at, iteration_at, kept_at, lent, returned, emptied, ended, IsLent, IsNotLent, IsValid};
+ghost use Rattle.ckpt_types.specs.Asks.{asked, IsBuilt};
+ghost use Rattle.ckpt_machine.specs.Tables.{handle_asked, handle_given, started, closing, ended_at_once};
 ghost use Rattle.world_core.specs.TableState.{next_in, kept_by, with_room, with_client, begun_with, at_client};
 ghost use Rattle.world_core.specs.NewTable.{new_table};
 ghost use Rattle.world_core.specs.Settling.{CanGive};
 
-use crate::kept_client::{close, end, give, go_on, leave, new_client, start};
-use crate::nodes::Nodes;
-use ckpt_types::{Apart, CLIENT_NUMBERS, CkptId, Moment, NodeId, Op, Outcome, SectionDescriptor};
+use crate::kept_client::{close, end, give, leave, lend, new_client, start, take_back};
+use ckpt_types::{CLIENT_NUMBERS, CkptId, Op, Outcome};
 use client_handles::{Client, HandleView};
-use node_msgs::Reply;
 use section_iter::Iteration;
 use std::alloc::{AllocError, Global};
 use std::marker::Model;
@@ -156,27 +152,31 @@ impl Table {
         }
     }
 
-    // The place's iteration goes on at the replica that a node has of a checkpoint.
-    fn go_on(
-        &mut self,
-        place: u8,
-        nodes: &Nodes,
-        r: NodeId,
-        ckpt: CkptId,
-        now: Moment,
-        out: &mut Apart<SectionDescriptor>,
-    ) -> Reply
+    // The iteration of a place is lent.
+    fn lend_iteration(&mut self, place: u8) -> Option<Iteration>
         requires place { place < places_max }
-        requires node { r < nodes_max }
         requires there { IsSome (iteration_at place self.old.client) }
-        ensures reply { result ≡ next_reply_at (ids_of (kept_at place self.old.client)) now (replica_in nodes.now ckpt r) }
-        ensures details { section_told result out.new ≡ next_details (given_at (ids_of (kept_at place self.old.client)) now (replica_in nodes.now ckpt r)) }
-        ensures new { self.new ≡ with_client (gone_on (Next place) (given_at (ids_of (kept_at place self.old.client)) now (replica_in nodes.now ckpt r))) self.old }
+        requires here { IsNotLent place self.old.client }
+        ensures lent { result ≡ kept_at place self.old.client }
+        ensures valid { IsValid self.old.client }
+        ensures new { self.new ≡ with_client (lent place) self.old }
     {
         let Some(client) = &mut self.client else {
             unreachable!()
         };
-        go_on(client, place, nodes, r, ckpt, now, out)
+        lend(client, place)
+    }
+
+    // The iteration of a place, which is lent, comes back.
+    fn return_iteration(&mut self, place: u8, iteration: Iteration)
+        requires place { place < places_max }
+        requires out { IsLent place self.old.client }
+        ensures { self.new ≡ with_client (returned place iteration) self.old }
+    {
+        let Some(client) = &mut self.client else {
+            unreachable!()
+        };
+        take_back(client, place, iteration);
     }
 
     // One call more, which has ended its iteration where it was to end one.
@@ -307,36 +307,27 @@ impl Tables {
         start_at(self.list.as_mut_slice(), c as usize, op, iteration);
     }
 
-    /// The iteration of a client's place goes on at the replica that a node has of a checkpoint: the next
-    /// section is told, and its identifier is put into the empty buffer. It takes no memory.
-    pub fn go_on(
-        &mut self,
-        c: u8,
-        place: u8,
-        nodes: &Nodes,
-        r: NodeId,
-        ckpt: CkptId,
-        now: Moment,
-        out: &mut Apart<SectionDescriptor>,
-    ) -> Reply
+    /// The iteration of a client's place is lent. The place goes on to stand for it.
+    pub fn lend_iteration(&mut self, c: u8, place: u8) -> Option<Iteration>
         requires client { c < client_numbers }
         requires place { place < places_max }
-        requires node { r < nodes_max }
         requires there { IsSome (iteration_at place (kept_by self.old c)) }
-        ensures reply { result ≡ next_reply_at (ids_of (kept_at place (kept_by self.old c))) now (replica_in nodes.now ckpt r) }
-        ensures details { section_told result out.new ≡ next_details (given_at (ids_of (kept_at place (kept_by self.old c))) now (replica_in nodes.now ckpt r)) }
-        ensures new { self.new ≡ at_client c (with_client (gone_on (Next place) (given_at (ids_of (kept_at place (kept_by self.old c))) now (replica_in nodes.now ckpt r)))) self.old }
+        requires here { IsNotLent place (kept_by self.old c) }
+        ensures lent { result ≡ kept_at place (kept_by self.old c) }
+        ensures valid { IsValid (kept_by self.old c) }
+        ensures new { self.new ≡ at_client c (with_client (lent place)) self.old }
     {
-        go_on_at(
-            self.list.as_mut_slice(),
-            c as usize,
-            place,
-            nodes,
-            r,
-            ckpt,
-            now,
-            out,
-        )
+        lend_at(self.list.as_mut_slice(), c as usize, place)
+    }
+
+    /// The iteration of a client's place, which is lent, comes back.
+    pub fn return_iteration(&mut self, c: u8, place: u8, iteration: Iteration)
+        requires client { c < client_numbers }
+        requires place { place < places_max }
+        requires out { IsLent place (kept_by self.old c) }
+        ensures { self.new ≡ at_client c (with_client (returned place iteration)) self.old }
+    {
+        return_at(self.list.as_mut_slice(), c as usize, place, iteration);
     }
 
     /// A client begins one call more, which has ended its iteration where it was to end one.
@@ -422,26 +413,27 @@ fn start_at(tables: &mut [Table], c: usize, op: &Op, iteration: Iteration)
     table.start(op, iteration);
 }
 
-fn go_on_at(
-    tables: &mut [Table],
-    c: usize,
-    place: u8,
-    nodes: &Nodes,
-    r: NodeId,
-    ckpt: CkptId,
-    now: Moment,
-    out: &mut Apart<SectionDescriptor>,
-) -> Reply
+fn lend_at(tables: &mut [Table], c: usize, place: u8) -> Option<Iteration>
     requires client { c < length tables.old }
     requires place { place < places_max }
-    requires node { r < nodes_max }
     requires there { IsSome (iteration_at place (kept_by tables.old c)) }
-    ensures reply { result ≡ next_reply_at (ids_of (kept_at place (kept_by tables.old c))) now (replica_in nodes.now ckpt r) }
-    ensures details { section_told result out.new ≡ next_details (given_at (ids_of (kept_at place (kept_by tables.old c))) now (replica_in nodes.now ckpt r)) }
-    ensures new { tables.new ≡ at_client c (with_client (gone_on (Next place) (given_at (ids_of (kept_at place (kept_by tables.old c))) now (replica_in nodes.now ckpt r)))) tables.old }
+    requires here { IsNotLent place (kept_by tables.old c) }
+    ensures lent { result ≡ kept_at place (kept_by tables.old c) }
+    ensures valid { IsValid (kept_by tables.old c) }
+    ensures new { tables.new ≡ at_client c (with_client (lent place)) tables.old }
 {
     let table = &mut tables[c];
-    table.go_on(place, nodes, r, ckpt, now, out)
+    table.lend_iteration(place)
+}
+
+fn return_at(tables: &mut [Table], c: usize, place: u8, iteration: Iteration)
+    requires client { c < length tables.old }
+    requires place { place < places_max }
+    requires out { IsLent place (kept_by tables.old c) }
+    ensures { tables.new ≡ at_client c (with_client (returned place iteration)) tables.old }
+{
+    let table = &mut tables[c];
+    table.return_iteration(place, iteration);
 }
 
 fn give_at(tables: &mut [Table], c: usize, op: &Op, ckpt: CkptId, creation_flags: u32)

@@ -5,7 +5,7 @@ ghost use Rattle.node_msgs.specs.declared.next.Next.TheVariants as nexts;
 ghost use Rattle.node_msgs.specs.declared.requests.Request.TheVariants as requests;
 ghost use Rattle.node_msgs.specs.Requests.{ckpt_of};
 ghost use Rattle.node_msgs.specs.Steps.{verb_of, word_of};
-ghost use Rattle.run_labels.specs.declared.details.Details.TheVariants as beside;
+ghost use Rattle.node_msgs.specs.declared.details.Details.TheVariants as beside;
 ghost use Rattle.run_labels.specs.declared.labels.Label.TheVariants as labels;
 ghost use Rattle.cluster_record.specs.Calls.{left};
 ghost use Rattle.drive_update.specs.UpdateStates.{IsOfUpdate};
@@ -15,12 +15,12 @@ ghost use Rattle.world_core.specs.Happenings.{Adds, IsNext, IsStep};
 ghost use Rattle.world_core.specs.Shows.{IsShown, HasNumbersLeft, hand_at};
 ghost use Rattle.world_core.specs.UpdateSteps.{IsUpdate};
 
-use crate::hands::{creates, share_update};
+use crate::lending::{creates, share_update};
 use crate::messages::{done, goes_on, served};
 use crate::world::World;
 use ckpt_types::{CallId, CkptId, Moment, NodeId};
-use node_msgs::{Next, Reply, Request, Verb};
-use run_labels::{Details, OpWord, RunLog};
+use node_msgs::{Details, Next, Reply, Request, Verb};
+use run_labels::{OpWord, RunLog};
 use std::alloc::{AllocError, Global};
 
 impl World {
@@ -85,7 +85,9 @@ impl World {
         let call = hand.call;
         let op = hand.word();
         let update = share_update(alloc, &hand.op)?;
-        let reply = self.nodes.stage(r, asked, ckpt, update, moment);
+        let reply = self
+            .nodes
+            .stage(r, &self.cluster, asked, ckpt, moment, update);
         let Reply::Done(_) = reply else {
             let request = Request::Stage(asked, ckpt, moment);
             self.refused_step(c, r, call, op, &request, &reply, log);
@@ -155,7 +157,7 @@ impl World {
         }
         let call = hand.call;
         let op = hand.word();
-        let reply = self.nodes.commit(r, asked, ckpt);
+        let reply = self.nodes.commit(r, &self.cluster, asked, ckpt);
         let Reply::Done(_) = reply else {
             let request = Request::Commit(asked, ckpt);
             self.refused_step(c, r, call, op, &request, &reply, log);

@@ -1,7 +1,6 @@
 use Rattle.std.proofs.Common.{◌≡◌, sym, subst}
-use Rattle.client_handles.specs.ClientState.{IsValid, NoneLent, ended}
+use Rattle.client_handles.specs.ClientState.{IsValid, ended}
 use Rattle.client_handles.proofs.ClientLaws.{IsValid-ended}
-use Rattle.client_handles.proofs.LentLaws.{NoneLent-ended}
 use Rattle.world_core.proofs.Ended.{ended-either}
 use Rattle.world_core.proofs.kept_client.end.Goals as goal
 
@@ -11,7 +10,4 @@ returns-clause-new c = ended-either c.args.place c.args.client.now c.end_iterati
 pub returns-clause-kept : goal.returns-clause-kept
 returns-clause-kept c =
     let made : c.end_iteration-ended.new.self ≡ ended c.args.place c.args.client.now = ended-either c.args.place c.args.client.now c.end_iteration-ended.new.self c.end_iteration-ended.result c.end_iteration-ended.ensures.answer c.end_iteration-ended.ensures.ended c.end_iteration-ended.ensures.unchanged in
-    record {
-      valid = subst IsValid (sym made) (IsValid-ended c.args.place c.args.client.now c.requires.valid);
-      none_lent = subst NoneLent (sym made) (NoneLent-ended c.args.place c.args.client.now c.requires.none_lent);
-    }
+    subst IsValid (sym made) (IsValid-ended c.args.place c.args.client.now c.requires)

@@ -1,6 +1,6 @@
-use Rattle.std.proofs.Common.{◌≡◌, []}
-use Rattle.std.specs.Prelude.{replicate}
+use Rattle.std.proofs.Common.{◌≡◌}
+use Rattle.world_core.proofs.Numbered.{nodes_from}
 use Rattle.world_core.proofs.nodes.new_nodes.Given as goal
 
-abbrev pub invariant-loop-n : goal.invariant-loop-n
-invariant-loop-n l = l.nodes.items ≡ replicate l._n []
+abbrev pub invariant-loop-r : goal.invariant-loop-r
+invariant-loop-r l = l.nodes.items ≡ nodes_from l.r

@@ -1,24 +1,38 @@
-use Rattle.std.proofs.Common.{sym, ap, ◌∙◌, List}
+use Rattle.std.proofs.Common.{sym, ap, subst, ◌∙◌}
 use Rattle.std.specs.Prelude.{slice_set}
-use Rattle.ckpt_machine.specs.Replicas.{Replica}
-use Rattle.cluster_record.specs.Places.{find_key, change_key}
 use Rattle.node_msgs.specs.Requests.{ckpt_of}
-use Rattle.ckpt_machine.specs.Serving.{record_seen, replica_key, reply_at, details_at, replica_after}
-use Rattle.cluster_record.proofs.AtKeys.{list_or-slice_get}
+use Rattle.node_core.specs.Fitting.{RequestFits}
+use Rattle.node_core.specs.Nodes.{NodeState, MayReply, replica_served, replicas_after, seen_from}
+use Rattle.node_core.specs.Payloads.{payload_of}
+use Rattle.node_core.specs.Serving.{details_at, iteration_behind}
+use Rattle.world_core.specs.Nodes.{nodes_shown, StandByNumber}
+use Rattle.world_core.proofs.Numbered.{node_is, numbered_set, shown_set}
 use Rattle.world_core.proofs.nodes.serve_node.Goals as goal
+
+pub serve-requires : goal.serve-requires
+serve-requires c =
+    record { fits = subst (λ (n : NodeState). RequestFits c.args.seen.now n c.args.request.now c.args.lent.now) (node_is c.args.nodes.now c.requires.numbered c.args.r c.index-nodes-r.result c.requires.node) c.requires.fits }
+
+pub returns-clause-numbered : goal.returns-clause-numbered
+returns-clause-numbered c =
+    subst StandByNumber (ap (slice_set c.args.nodes.now c.args.r) (sym c.serve.ensures.new)) (numbered_set c.args.nodes.now c.requires.numbered c.args.r c.index-nodes-r.result c.requires.node _)
 
 pub returns-clause-reply : goal.returns-clause-reply
 returns-clause-reply c =
-    c.serve.ensures.reply
-    ∙ ap (λ (xs : List Replica). reply_at c.args.request.now c.args.op.now (record_seen c.args.cluster.now (ckpt_of c.args.request.now)) (find_key replica_key (ckpt_of c.args.request.now) xs)) (sym (list_or-slice_get c.args.nodes.now c.args.r c.index-nodes-r.result c.requires.node))
+    subst (λ (n : NodeState). MayReply c.args.seen.now n c.args.request.now (payload_of c.args.lent.now) c.serve.result) (sym (node_is c.args.nodes.now c.requires.numbered c.args.r c.index-nodes-r.result c.requires.node)) c.serve.ensures.reply
 
 pub returns-clause-new : goal.returns-clause-new
 returns-clause-new c =
-    ap (slice_set c.args.nodes.now c.args.r)
-    (c.serve.ensures.new
-    ∙ ap (λ (xs : List Replica). change_key replica_key (ckpt_of c.args.request.now) (replica_after c.args.request.now c.args.op.now) xs) (sym (list_or-slice_get c.args.nodes.now c.args.r c.index-nodes-r.result c.requires.node)))
+    ap (λ (n : NodeState). nodes_shown (slice_set c.args.nodes.now c.args.r n)) c.serve.ensures.new
+    ∙ shown_set c.args.nodes.now c.requires.numbered c.args.r c.index-nodes-r.result c.requires.node _
+    ∙ ap (λ (n : NodeState). slice_set (nodes_shown c.args.nodes.now) c.args.r (replicas_after c.args.seen.now n c.args.request.now (payload_of c.args.lent.now) c.serve.result)) (sym (node_is c.args.nodes.now c.requires.numbered c.args.r c.index-nodes-r.result c.requires.node))
 
 pub returns-clause-details : goal.returns-clause-details
 returns-clause-details c =
     c.serve.ensures.details
-    ∙ ap (λ (xs : List Replica). details_at c.args.request.now c.args.op.now (record_seen c.args.cluster.now (ckpt_of c.args.request.now)) (find_key replica_key (ckpt_of c.args.request.now) xs)) (sym (list_or-slice_get c.args.nodes.now c.args.r c.index-nodes-r.result c.requires.node))
+    ∙ ap (λ (n : NodeState). details_at c.args.request.now (payload_of c.args.lent.now) (seen_from c.args.seen.now n (ckpt_of c.args.request.now)) (replica_served c.args.seen.now n (ckpt_of c.args.request.now))) (sym (node_is c.args.nodes.now c.requires.numbered c.args.r c.index-nodes-r.result c.requires.node))
+
+pub returns-clause-iteration : goal.returns-clause-iteration
+returns-clause-iteration c =
+    c.serve.ensures.iteration
+    ∙ ap (λ (n : NodeState). iteration_behind c.args.request.now (seen_from c.args.seen.now n (ckpt_of c.args.request.now)) (replica_served c.args.seen.now n (ckpt_of c.args.request.now)) c.args.lent.now.iteration) (sym (node_is c.args.nodes.now c.requires.numbered c.args.r c.index-nodes-r.result c.requires.node))

@@ -1,7 +1,6 @@
 use Rattle.client_handles.proofs.ClientLaws.{IsValid-new}
-use Rattle.client_handles.proofs.LentLaws.{NoneLent-new}
 use Rattle.ckpt_machine.specs.Machine.{no_tables}
 use Rattle.world_core.proofs.tables.Table.new.Goals as goal
 
 pub invariant_of-result : goal.invariant_of-result
-invariant_of-result c = record { valid = IsValid-new no_tables.callbacks; none_lent = NoneLent-new no_tables.callbacks }
+invariant_of-result c = IsValid-new no_tables.callbacks

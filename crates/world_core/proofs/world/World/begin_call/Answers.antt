@@ -1,16 +1,27 @@
 use Rattle.std.proofs.Common.{refl, sym, subst, ◌∙◌}
-use Rattle.std.specs.Prelude.{Option, None}
+use Rattle.std.specs.Prelude.{Option, None, IsSome}
 use Rattle.ckpt_types.specs.declared.answers.Outcome.{Outcome}
 use Rattle.ckpt_types.specs.declared.identities.ActorName.TheVariants.{Client}
 use Rattle.ckpt_types.specs.declared.identities.CallId.{CallId}
 use Rattle.world_core.specs.declared.hands.InHand.{InHand}
 use Rattle.ckpt_types.specs.Asks.{asked}
-use Rattle.ckpt_machine.specs.Driving.{driver_start}
-use Rattle.ckpt_machine.specs.Steps.{IsBeginEnd, room_at, kept_at_beginning}
+use Rattle.ckpt_machine.specs.Drivers.{Driver, Once}
+use Rattle.cluster_record.specs.DueOnce.{Leave}
+use Rattle.ckpt_machine.specs.Steps.{IsBeginEnd, room_at}
 use Rattle.ckpt_machine.specs.Tables.{ckpt_of_handle}
 use Rattle.world_core.proofs.Begin.{begin_done}
-use Rattle.world_core.proofs.Beginnings.{ended_hands, none_where_false}
+use Rattle.world_core.proofs.Beginnings.{ended_hands, none_where_false, none_is_not_some}
+use Rattle.ckpt_machine.proofs.Starting.{goes_on_begun, goes_on_driven}
 use Rattle.world_core.proofs.world.World.begin_call.Goals as goal
+
+-- a call that goes on is driven
+pub start-requires : goal.start-requires
+start-requires c =
+    let goes = none_where_false c.take_room-end.result.0 (sym c.is_some.ensures ∙ c.if-is_some.false) in
+    let ask = asked c.args.op in
+    let due = goes_on_begun ask c.begin_end-due.result c.take_room-end.result.0 c.take_room-end.ensures.end goes in
+    let (d, driven) = goes_on_driven c.args.self.now.cluster c.args.c c.is_live_client.result (record { actor = Client c.args.c; number = c.number.result }) c.handle_asked-handle.result ask c.requires.built (sym c.begin_end-due.ensures ∙ due) in
+    record { goes_on = subst (λ (o : Option Driver). IsSome o) (sym driven) refl }
 
 -- a call that is answered at once is never in hand
 pub returns-then-is_some-clause-ok : goal.returns-then-is_some-clause-ok
@@ -19,7 +30,7 @@ returns-then-is_some-clause-ok c =
     let call : CallId = record { actor = Client c.args.c; number = c.number.result } in
     let handle = c.handle_asked-handle.result in
     let end = c.take_room-end.result.0 in
-    let driver = driver_start call (asked c.args.op) (kept_at_beginning w.cluster c.args.c handle) in
+    let driver : Driver = Once Leave in
     let hand : InHand = record { call = call; op = c.args.op; driver = driver; iteration = c.take_room-end.result.1 } in
     let hands = ended_hands w.hands c.args.c end hand c.covers.ensures c.requires.none (sym c.is_some.ensures ∙ c.if-is_some.true) in
     record {
@@ -31,7 +42,7 @@ returns-then-is_some-clause-ok c =
             c.requires.client c.number.ensures.within c.covers.ensures c.requires.none c.requires.built c.requires.may
             refl refl c.number.ensures.value c.handle_asked-handle.ensures
             c.is_live_client.ensures c.begin_end-due.ensures c.take_room-end.ensures.end refl c.take_room-end.ensures.room c.begin.ensures
-            refl hands;
+            (λ goes. absurd (none_is_not_some end (sym c.is_some.ensures ∙ c.if-is_some.true) goes)) hands;
       };
     }
 
@@ -50,6 +61,6 @@ returns-clause-ok c =
             c.requires.client c.number.ensures.within c.begin-3.ensures.within c.requires.none c.requires.built c.requires.may
             c.in_ok-own.ensures refl c.number.ensures.value c.handle_asked-handle.ensures
             c.is_live_client.ensures c.begin_end-due.ensures (subst (λ (o : Option Outcome). IsBeginEnd (asked c.args.op) c.begin_end-due.result o) goes c.take_room-end.ensures.end) refl (λ none. c.take_room-end.ensures.room goes) c.begin-2.ensures
-            c.in_ok-driver.ensures c.begin-3.ensures.new;
+            (λ none. c.in_ok-driver.ensures) c.begin-3.ensures.new;
       };
     }

@@ -1,14 +1,15 @@
-use Rattle.std.proofs.Common.{◌≡◌, ℕ, Some, refl, sym, ap, subst, ◌∙◌}
+use Rattle.std.proofs.Common.{◌≡◌, Some, refl, sym, ap, subst, ◌∙◌}
 use Rattle.std.specs.Prelude.{Option, IsTrue}
 use Rattle.ckpt_types.specs.declared.answers.Outcome.{Outcome}
 use Rattle.ckpt_types.specs.declared.answers.Outcome.TheVariants.{NoMemory}
 use Rattle.node_msgs.specs.declared.steps.StepReply.TheVariants.{Memory}
+use Rattle.run_labels.specs.declared.labels.Label.{Label}
+use Rattle.world_core.specs.Happenings.{IsStep}
 use Rattle.world_core.specs.RecordReady.{IsRefusedWith}
 use Rattle.node_msgs.specs.declared.next.Next.TheVariants.{Event}
 use Rattle.ckpt_machine.specs.Driving.{event_refusal, takes_memory}
 use Rattle.world_core.specs.RecordAfter.{event_after}
 use Rattle.cluster_record.specs.RecordState.{RecordState}
-use Rattle.world_core.specs.Settling.{CanSettle}
 use Rattle.world_core.specs.Shows.{hand_at}
 use Rattle.world_core.proofs.Held.{next_for}
 use Rattle.world_core.proofs.RecordSteps.{can_settle, is_ready, when_ok, when_err, event_step}
@@ -48,6 +49,7 @@ returns c =
     record {
       label = _;
       labels = c.push.ensures.labels;
-      is = event_step w c.args.c c.args.step hand held next c.requires.shown c.apply.new.cluster c.free_gone.new.self c.settle.new.tables c.told.new.self c.word-op.result c.verb-verb.result c.event_ckpt-ckpt.result c.event_node-node.result c.event_end-end.result
-          (c.requires.granted hand held) c.requires.roomy c.requires.has_room record_is c.event_ckpt-ckpt.ensures c.event_node-node.ensures c.event_end-end.ensures c.settle.ensures c.told.ensures c.free_gone.ensures c.word-op.ensures c.verb-verb.ensures;
+      is = subst (λ (label : Label). IsStep c.args.c w (record w { cluster = c.apply.new.cluster; nodes = c.free_gone.new.self; tables = c.settle.new.tables; hands = c.told.new.self }) label) (sym c.stepped.ensures)
+          (event_step w c.args.c c.args.step hand held next c.requires.shown c.apply.new.cluster c.free_gone.new.self c.settle.new.tables c.told.new.self c.word-op.result c.verb-verb.result c.event_ckpt-ckpt.result c.event_node-node.result c.event_end-end.result
+          (c.requires.granted hand held) c.requires.roomy c.requires.has_room record_is c.event_ckpt-ckpt.ensures c.event_node-node.ensures c.event_end-end.ensures c.settle.ensures c.told.ensures c.free_gone.ensures c.word-op.ensures c.verb-verb.ensures);
     }

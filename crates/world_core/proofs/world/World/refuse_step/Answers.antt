@@ -1,5 +1,7 @@
-use Rattle.std.proofs.Common.{◌≡◌, Some}
+use Rattle.std.proofs.Common.{◌≡◌, Some, sym, subst}
 use Rattle.node_msgs.specs.declared.next.Next.TheVariants.{Event}
+use Rattle.run_labels.specs.declared.labels.Label.{Label}
+use Rattle.world_core.specs.Happenings.{IsStep}
 use Rattle.world_core.specs.Shows.{hand_at}
 use Rattle.world_core.proofs.Held.{next_for}
 use Rattle.world_core.proofs.RecordSteps.{refused_step}
@@ -14,6 +16,7 @@ returns c =
     record {
       label = _;
       labels = c.push.ensures.labels;
-      is = refused_step w c.args.c c.args.step hand held next c.requires.shown c.clear.new.self c.word-op.result c.verb.result c.event_ckpt-ckpt.result c.event_node-node.result c.args.reply c.args.end (c.requires.refused hand held) c.clear.ensures c.event_ckpt-ckpt.ensures
-          c.event_node-node.ensures c.word-op.ensures c.verb.ensures;
+      is = subst (λ (label : Label). IsStep c.args.c w (record w { hands = c.clear.new.self }) label) (sym c.stepped.ensures)
+          (refused_step w c.args.c c.args.step hand held next c.requires.shown c.clear.new.self c.word-op.result c.verb.result c.event_ckpt-ckpt.result c.event_node-node.result c.args.reply c.args.end (c.requires.refused hand held) c.clear.ensures c.event_ckpt-ckpt.ensures
+          c.event_node-node.ensures c.word-op.ensures c.verb.ensures);
     }

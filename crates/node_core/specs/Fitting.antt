@@ -1,0 +1,47 @@
+-- When a request may come to a node.
+use Rattle.std.specs.Prelude.{◌≡◌, ◌-◌, ◌^◌, ◌<◌, Option, IsSomeAnd, Bool, true, false}
+use Rattle.ckpt_types.specs.Attributes.{is_malformed}
+use Rattle.node_msgs.specs.declared.requests.Request.{Request}
+use Rattle.node_msgs.specs.declared.requests.Request.TheVariants as requests
+use Rattle.node_msgs.specs.Requests.{ckpt_of}
+use Rattle.stage_slot.specs.Slots.{IsOwnedBy}
+use Rattle.cluster_record.specs.Places.{find_key}
+use Rattle.cluster_record.specs.RecordState.{RecordState, entry_of}
+use Rattle.replica.specs.Replicas.{Replica}
+use Rattle.node_core.specs.declared.lent.Lent.{Lent}
+use Rattle.node_core.specs.Lending.{HasLent}
+use Rattle.node_core.specs.Nodes.{NodeState, replica_key, seen_from}
+use Rattle.node_core.specs.Seen.{is_complete}
+
+-- what a request asks of a replica: a commit and a withdrawal are of what the call has staged; what is not built may not come
+abbrev pub IsReadyFor : Request → Replica → Type 0
+IsReadyFor (requests.Stage call k t) x = Unit {0}
+IsReadyFor (requests.Claim call k owner) x = Unit {0}
+IsReadyFor (requests.Commit call k) x = IsOwnedBy call x.slot
+IsReadyFor (requests.Withdraw call k) x = IsOwnedBy call x.slot
+IsReadyFor (requests.Read k) x = Unit {0}
+IsReadyFor (requests.Status k) x = Unit {0}
+IsReadyFor (requests.Iterate call k choice) x = Unit {0}
+IsReadyFor (requests.Next call k) x = Unit {0}
+IsReadyFor request x = ⊥
+
+-- an update can be counted where it is staged
+abbrev pub HasCountLeft : Request → Replica → Type 0
+HasCountLeft (requests.Stage call k t) x = x.count < 2 ^ 64 - 1
+HasCountLeft request x = Unit {0}
+
+-- a replica can serve a request, with what is lent
+pub record CanServe (request : Request) (lent : Lent) (x : Replica) : Type 0 where
+  pub ready : IsReadyFor request x
+  pub room : HasCountLeft request x
+  pub beside : HasLent request lent x
+
+-- where the node is complete it has the replica, which can serve; where it is not, nothing is asked
+abbrev pub ReplicaFits : Bool → Request → Lent → Option Replica → Type 0
+ReplicaFits true request lent x = IsSomeAnd x (CanServe request lent)
+ReplicaFits false request lent x = Unit {0}
+
+-- a reservation is of a checkpoint that has an entry, whose attributes passed their check; all else goes to the replica
+abbrev pub RequestFits : RecordState → NodeState → Request → Lent → Type 0
+RequestFits R n (requests.Reserve k) lent = IsSomeAnd (entry_of k R.entries) (λ e. is_malformed e.attributes ≡ false)
+RequestFits R n request lent = ReplicaFits (is_complete (seen_from R n (ckpt_of request))) request lent (find_key replica_key (ckpt_of request) n.replicas)

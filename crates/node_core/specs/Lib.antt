@@ -1,0 +1,10 @@
+pub mod Changing
+pub mod Details
+pub mod Fitting
+pub mod Lending
+pub mod NodeView
+pub mod Nodes
+pub mod Payloads
+pub mod Seen
+pub mod Serving
+pub mod StageReplies

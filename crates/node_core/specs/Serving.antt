@@ -1,0 +1,156 @@
+-- What a node answers to a request, and what becomes of its one replica.
+use Rattle.std.specs.Prelude.{ℕ, List, [], ◌∷◌, Option, Some, None, Result, Ok, Err, Bool, if◌then◌else◌, ◌||◌, ℤ}
+use Rattle.ckpt_types.specs.declared.ais_error.AisError.TheVariants.{NoSections}
+use Rattle.ckpt_types.specs.declared.answers.Answer.{Answer}
+use Rattle.ckpt_types.specs.declared.answers.Answer.TheVariants as answers
+use Rattle.ckpt_types.specs.declared.attributes.CreationAttributes.{CreationAttributes}
+use Rattle.ckpt_types.specs.declared.identities.CallId.{CallId}
+use Rattle.ckpt_types.specs.declared.update.Update.{Update}
+use Rattle.ckpt_types.specs.declared.update.Update.TheVariants as updates
+use Rattle.ckpt_types.specs.Sections.{Section, present}
+use Rattle.ckpt_types.specs.Updates.{Refusal, new_id}
+use Rattle.ckpt_types.specs.Reads.{read, status, NextGiven, given, chosen, description}
+use Rattle.section_iter.specs.KeptIds.{KeptIds}
+use Rattle.section_iter.specs.Next.{kept_after}
+use Rattle.node_msgs.specs.declared.details.Details.{Details}
+use Rattle.node_msgs.specs.declared.details.Details.TheVariants as beside
+use Rattle.node_msgs.specs.declared.requests.Request.{Request}
+use Rattle.node_msgs.specs.declared.requests.Request.TheVariants as requests
+use Rattle.node_msgs.specs.declared.replies.Reply.{Reply}
+use Rattle.node_msgs.specs.declared.replies.Reply.TheVariants as replies
+use Rattle.stage_slot.specs.Slots.{Slot}
+use Rattle.replica.specs.Replicas.{Replica, staged, committed, withdrawn, outcome_on}
+use Rattle.cluster_record.specs.Calls.{same_call}
+use Rattle.node_core.specs.Payloads.{Payload}
+use Rattle.node_core.specs.Seen.{EntrySeen, RecordSeen}
+
+-- ---- stages, claims and commits
+
+-- done, or refused as the sections do
+abbrev pub done_or_refused : {A : Type 0} → Reply → Result A Refusal → Reply
+done_or_refused done (Ok x) = done
+done_or_refused done (Err why) = replies.Refused why.error why.index
+
+-- another slot holds the update off; else the sections decide
+abbrev pub stage_reply : Result (List Section) Refusal → Option Slot → Reply
+stage_reply after (Some slot) = replies.Held slot.owner
+stage_reply after None = done_or_refused (replies.Done answers.Nothing) after
+
+-- the caller claims its own slot, or that of the owner it names
+abbrev pub may_claim : CallId → CallId → Slot → Bool
+may_claim call owner slot = same_call slot.owner call || same_call slot.owner owner
+
+-- the count of the slot that is the caller's then; no slot stands, and the count of the replica; or a third call's slot
+abbrev pub claim_reply : CallId → CallId → ℕ → Option Slot → Reply
+claim_reply call owner count None = replies.Free count
+claim_reply call owner count (Some slot) = if may_claim call owner slot then replies.Claimed slot.count else replies.Held slot.owner
+
+-- the slot after a claim
+abbrev pub claimed_by : CallId → CallId → Option Slot → Option Slot
+claimed_by call owner None = None
+claimed_by call owner (Some slot) = if may_claim call owner slot then Some (record slot { owner = call }) else Some slot
+
+-- what an update that is done answers: a creation tells the identifier of its section
+abbrev pub update_answer : Update → Answer
+update_answer (updates.Create new expiration bytes) = answers.Created
+update_answer update = answers.Nothing
+
+-- so answers the commit of what is staged
+abbrev pub commit_answer : Option Slot → Answer
+commit_answer None = answers.Nothing
+commit_answer (Some slot) = update_answer slot.update
+
+-- the identifier that a creation at a moment makes over the sections before it
+abbrev pub made_id : Update → ℤ → List Section → Option (List ℕ)
+made_id (updates.Create new expiration bytes) t sections = Some (new_id new (present t sections))
+made_id update t sections = None
+
+-- an identifier, told beside an answer
+abbrev pub id_told : Option (List ℕ) → Details
+id_told None = beside.Nothing
+id_told (Some id) = beside.Pieces (id ∷ [])
+
+-- the identifier that an update makes, told so
+abbrev pub told_id : Update → ℤ → List Section → Details
+told_id update t sections = id_told (made_id update t sections)
+
+-- told by the replica that commits it
+abbrev pub slot_id : List Section → Option Slot → Details
+slot_id sections None = beside.Nothing
+slot_id sections (Some slot) = told_id slot.update slot.moment sections
+
+-- ---- reads and iterations
+
+-- the pieces that a read gives
+abbrev pub read_details : Result (List (List ℕ)) Refusal → Details
+read_details (Ok pieces) = beside.Pieces pieces
+read_details (Err why) = beside.Nothing
+
+-- an iteration gives a next section, or none is left
+abbrev pub next_reply : Option NextGiven → Reply
+next_reply None = replies.Refused NoSections 0
+next_reply (Some next) = replies.Done answers.Section
+
+-- what is told of that section
+abbrev pub next_details : Option NextGiven → Details
+next_details None = beside.Nothing
+next_details (Some next) = beside.Section (description next.section)
+
+-- the attributes of the checkpoint as they are now; where it is gone, those of the replica
+abbrev pub attributes_seen : Option EntrySeen → CreationAttributes → CreationAttributes
+attributes_seen None own = own
+attributes_seen (Some e) own = e.attributes
+
+-- ---- a request to one replica
+
+-- the answer of a replica that is complete
+abbrev pub reply_of : Request → Payload → RecordSeen → Replica → Reply
+reply_of (requests.Stage call k t) p seen x = stage_reply (outcome_on x p.update t) x.slot
+reply_of (requests.Claim call k owner) p seen x = claim_reply call owner x.count x.slot
+reply_of (requests.Commit call k) p seen x = replies.Done (commit_answer x.slot)
+reply_of (requests.Withdraw call k) p seen x = replies.Done answers.Nothing
+reply_of (requests.Read k) p seen x = done_or_refused (replies.Done answers.Pieces) (read p.elements seen.moment x.sections)
+reply_of (requests.Status k) p seen x = replies.Done answers.Status
+reply_of (requests.Iterate call k choice) p seen x = replies.Done answers.Nothing
+reply_of (requests.Next call k) p seen x = next_reply (given p.ids seen.moment x.sections)
+reply_of _ p seen x = replies.NoReplica
+
+-- and what the replica becomes
+abbrev pub replica_after : Request → Payload → Replica → Replica
+replica_after (requests.Stage call k t) p x = staged call p.update t x
+replica_after (requests.Claim call k owner) p x = record x { slot = claimed_by call owner x.slot }
+replica_after (requests.Commit call k) p x = committed x x.slot
+replica_after (requests.Withdraw call k) p x = withdrawn x
+replica_after _ p x = x
+
+-- what comes beside the answer: the pieces of a read, the identifier of a new section, the next section, or a status
+abbrev pub details_of : Request → Payload → RecordSeen → Replica → Details
+details_of (requests.Read k) p seen x = read_details (read p.elements seen.moment x.sections)
+details_of (requests.Commit call k) p seen x = slot_id x.sections x.slot
+details_of (requests.Status k) p seen x = beside.Status (status (attributes_seen seen.entry x.attributes) seen.moment x.sections)
+details_of (requests.Next call k) p seen x = next_details (given p.ids seen.moment x.sections)
+details_of _ p seen x = beside.Nothing
+
+-- what an iteration keeps behind the request: what it is given to begin with, or what stands behind the section that it gave
+abbrev pub iteration_of : Request → RecordSeen → Replica → KeptIds → KeptIds
+iteration_of (requests.Iterate call k choice) seen x kept = record kept { ids = chosen choice seen.moment x.sections }
+iteration_of (requests.Next call k) seen x kept = kept_after kept (given kept.ids seen.moment x.sections)
+iteration_of _ seen x kept = kept
+
+-- ---- a request to a node, by the replica for which it is complete
+
+-- NOT_EXIST where there is none
+abbrev pub reply_at : Request → Payload → RecordSeen → Option Replica → Reply
+reply_at request p seen None = replies.NoReplica
+reply_at request p seen (Some x) = reply_of request p seen x
+
+-- what comes beside the reply of a node
+abbrev pub details_at : Request → Payload → RecordSeen → Option Replica → Details
+details_at request p seen None = beside.Nothing
+details_at request p seen (Some x) = details_of request p seen x
+
+-- what an iteration keeps that is lent to it
+abbrev pub iteration_behind : Request → RecordSeen → Option Replica → Option KeptIds → Option KeptIds
+iteration_behind request seen None kept = kept
+iteration_behind request seen (Some x) None = None
+iteration_behind request seen (Some x) (Some kept) = Some (iteration_of request seen x kept)

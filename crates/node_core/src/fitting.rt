@@ -1,0 +1,165 @@
+//! Whether a request or a change may come to a node.
+ghost use Rattle.std.specs.Prelude.{◌≡◌, false, None, IsOk, IsSomeAnd, Decides};
+ghost use Rattle.ckpt_types.specs.Attributes.{is_malformed};
+ghost use Rattle.cluster_record.specs.Places.{find_key};
+ghost use Rattle.cluster_record.specs.RecordState.{entry_of};
+ghost use Rattle.stage_slot.specs.Slots.{IsOwnedBy};
+ghost use Rattle.replica.specs.Replicas.{outcome_on};
+ghost use Rattle.node_core.specs.Changing.{ChangeFits, TakesStage};
+ghost use Rattle.node_core.specs.Fitting.{IsReadyFor, HasCountLeft, CanServe, RequestFits};
+ghost use Rattle.node_core.specs.Nodes.{replica_key};
+
+use crate::lending::has_lent;
+use crate::lent::Lent;
+use crate::replicas::find_at;
+use crate::seen::is_complete;
+use ckpt_types::{CallId, CkptId, Moment, NodeId, SharedUpdate};
+use cluster_record::Record;
+use node_msgs::{NodeChange, Request};
+use replica::Replica;
+use stage_slot::Slot;
+
+/// Whether a request may come to a node of these replicas.
+pub(crate) fn fits_in(
+    replicas: &[Replica],
+    number: NodeId,
+    seen: &Record,
+    request: &Request,
+    lent: &Lent,
+) -> bool
+    ensures { Decides result (RequestFits seen.now (record { number = number; replicas = replicas.now }) request.now lent.now) }
+{
+    if let Request::Reserve(ckpt) = request {
+        return may_open(seen, *ckpt);
+    }
+    if !is_complete(seen, request.ckpt(), number) {
+        return true;
+    }
+    match find_at(replicas, request.ckpt()) {
+        None => false,
+        Some(replica) => can_serve(replica, request, lent),
+    }
+}
+
+/// Whether a change may come to a node of these replicas.
+pub(crate) fn change_fits_in(
+    replicas: &[Replica],
+    number: NodeId,
+    seen: &Record,
+    change: &NodeChange,
+    lent: &Lent,
+) -> bool
+    ensures { Decides result (ChangeFits seen.now (record { number = number; replicas = replicas.now }) change.now lent.now) }
+{
+    // Nothing here hangs on which node it is.
+    let _node = number;
+    match change {
+        NodeChange::Add(ckpt, _) => may_add(replicas, seen, *ckpt),
+        NodeChange::Stage(_, ckpt, moment) => may_stage(replicas, *ckpt, *moment, lent),
+        NodeChange::Lead(_, _) | NodeChange::Drop(_) | NodeChange::Clear => true,
+        _ => false,
+    }
+}
+
+// ---- the record
+
+// Whether a replica of a checkpoint may be made: it has an entry, whose attributes passed their check.
+fn may_open(seen: &Record, ckpt: CkptId) -> bool
+    ensures { Decides result (IsSomeAnd (entry_of ckpt seen.now.entries) (λ e. is_malformed e.attributes ≡ false)) }
+{
+    match seen.entry(ckpt) {
+        None => false,
+        Some(entry) => entry.attributes.check().is_ok(),
+    }
+}
+
+fn may_add(replicas: &[Replica], seen: &Record, ckpt: CkptId) -> bool
+    ensures { Decides result (IsSomeAnd (entry_of ckpt seen.now.entries) (λ e. is_malformed e.attributes ≡ false) × (find_key replica_key ckpt replicas.now ≡ None)) }
+{
+    if !may_open(seen, ckpt) {
+        return false;
+    }
+    find_at(replicas, ckpt).is_none()
+}
+
+// ---- the replica
+
+fn can_serve(replica: &Replica, request: &Request, lent: &Lent) -> bool
+    ensures { Decides result (CanServe request.now lent.now replica.now) }
+{
+    if !is_ready(replica, request) {
+        return false;
+    }
+    if !has_count_left(replica, request) {
+        return false;
+    }
+    has_lent(replica, request, lent)
+}
+
+fn is_ready(replica: &Replica, request: &Request) -> bool
+    ensures { Decides result (IsReadyFor request.now replica.now) }
+{
+    match request {
+        Request::Stage(_, _, _) | Request::Claim(_, _, _) => true,
+        Request::Read(_) | Request::Status(_) => true,
+        Request::Iterate(_, _, _) | Request::Next(_, _) => true,
+        Request::Commit(call, _) => owns(replica.slot(), *call),
+        Request::Withdraw(call, _) => owns(replica.slot(), *call),
+        _ => false,
+    }
+}
+
+fn owns(slot: &Slot, call: CallId) -> bool
+    ensures { Decides result (IsOwnedBy call slot.now) }
+{
+    match slot.kept() {
+        None => false,
+        Some(staged) => staged.owner == call,
+    }
+}
+
+fn has_count_left(replica: &Replica, request: &Request) -> bool
+    ensures { Decides result (HasCountLeft request.now replica.now) }
+{
+    match request {
+        Request::Stage(_, _, _) => replica.count() < u64::MAX,
+        _ => true,
+    }
+}
+
+fn may_stage(replicas: &[Replica], ckpt: CkptId, moment: Moment, lent: &Lent) -> bool
+    ensures { Decides result (IsSomeAnd (find_key replica_key ckpt replicas.now) (TakesStage lent.now moment)) }
+{
+    match find_at(replicas, ckpt) {
+        None => false,
+        Some(replica) => takes_stage(replica, moment, lent),
+    }
+}
+
+fn takes_stage(replica: &Replica, moment: Moment, lent: &Lent) -> bool
+    ensures { Decides result (TakesStage lent.now moment replica.now) }
+{
+    if !is_free(replica.slot()) {
+        return false;
+    }
+    if replica.count() == u64::MAX {
+        return false;
+    }
+    match &lent.update {
+        None => false,
+        Some(update) => admits(replica, update, moment),
+    }
+}
+
+fn is_free(slot: &Slot) -> bool
+    ensures { Decides result (slot.now ≡ None) }
+{
+    slot.kept().is_none()
+}
+
+fn admits(replica: &Replica, update: &SharedUpdate, moment: Moment) -> bool
+    ensures { Decides result (IsOk (outcome_on replica.now update.now moment)) }
+{
+    let store = replica.store();
+    update_rules::check(store.attributes(), store, update.value(), moment).is_ok()
+}

@@ -1,0 +1,133 @@
+//! Whether what a request uses is lent.
+ghost use Rattle.std.specs.Prelude.{◌≡◌, ◌≤◌, [], IsSome, IsSomeAnd, Decides, length};
+ghost use Rattle.section_iter.specs.Room.{IsRoomFor};
+ghost use Rattle.node_core.specs.Lending.{bytes_asked, id_length, HasRoomToRead, HasRoomForId, HasRoomToTell, HasRoomToCommit, HasLent};
+
+use crate::lent::Lent;
+use ckpt_types::{CreationAttributes, GENERATED_ID_BYTES, NewId, ReadBuf, ReadElement, Update};
+use node_msgs::Request;
+use replica::Replica;
+use section_iter::Iteration;
+use stage_slot::Slot;
+
+/// Whether what a request to a replica uses is lent.
+pub(crate) fn has_lent(replica: &Replica, request: &Request, lent: &Lent) -> bool
+    ensures { Decides result (HasLent request.now lent.now replica.now) }
+{
+    match request {
+        Request::Stage(_, _, _) => lent.update.is_some(),
+        Request::Commit(_, _) => has_room_to_commit(replica.slot(), &lent.read),
+        Request::Read(_) => has_read(lent),
+        Request::Status(_) => lent.status.is_some(),
+        Request::Iterate(_, _, _) => has_iteration(replica, lent),
+        Request::Next(_, _) => has_next(lent),
+        _ => true,
+    }
+}
+
+// ---- the identifier that a commit tells
+
+fn has_room_to_commit(slot: &Slot, read: &ReadBuf) -> bool
+    ensures { Decides result (HasRoomToCommit slot.now read.now) }
+{
+    match slot.kept() {
+        None => true,
+        Some(staged) => has_room_to_tell(staged.update.value(), read),
+    }
+}
+
+fn has_room_to_tell(update: &Update, read: &ReadBuf) -> bool
+    ensures { Decides result (HasRoomToTell update.now read.now) }
+{
+    match update {
+        Update::Create(new, _, _) => has_room(read, 1, id_length(new)),
+        _ => true,
+    }
+}
+
+fn id_length(new: &NewId) -> usize
+    ensures { result ≡ id_length new.now }
+{
+    match new {
+        NewId::Given(id) => id.as_slice().len(),
+        NewId::Generated => GENERATED_ID_BYTES as usize,
+    }
+}
+
+// Whether a buffer is empty and has room for so many pieces, with so many bytes in all.
+fn has_room(read: &ReadBuf, pieces: usize, bytes: usize) -> bool
+    ensures { Decides result ((read.now.pieces ≡ []) × (pieces ≤ read.now.spare_pieces) × (bytes ≤ read.now.spare_bytes)) }
+{
+    if read.len() != 0 {
+        return false;
+    }
+    let (places, room) = read.spare();
+    if places < pieces {
+        return false;
+    }
+    bytes <= room
+}
+
+// ---- the elements and the buffer of a read
+
+fn has_read(lent: &Lent) -> bool
+    ensures { Decides result (IsSomeAnd lent.now.vector (λ elements. HasRoomToRead elements lent.now.read)) }
+{
+    match &lent.vector {
+        None => false,
+        Some(vector) => has_room_for(vector.value().as_slice(), &lent.read),
+    }
+}
+
+fn has_room_for(elements: &[ReadElement], read: &ReadBuf) -> bool
+    ensures { Decides result (HasRoomToRead elements.now read.now) }
+{
+    if !has_room(read, elements.len(), 0) {
+        return false;
+    }
+    asks_at_most(elements, read.spare().1)
+}
+
+// Whether the elements ask for no more bytes than these.
+fn asks_at_most(elements: &[ReadElement], room: usize) -> bool
+    ensures { Decides result (bytes_asked elements.now ≤ room) }
+{
+    let mut left = room as u64;
+    for element in elements {
+        if element.len > left {
+            return false;
+        }
+        left -= element.len;
+    }
+    true
+}
+
+// ---- iterations
+
+fn has_iteration(replica: &Replica, lent: &Lent) -> bool
+    ensures { Decides result (IsSomeAnd lent.now.iteration (λ kept. IsRoomFor replica.now.attributes kept.room)) }
+{
+    match &lent.iteration {
+        None => false,
+        Some(iteration) => is_room_for(replica.store().attributes(), iteration),
+    }
+}
+
+fn is_room_for(attributes: &CreationAttributes, iteration: &Iteration) -> bool
+    ensures { Decides result (IsRoomFor attributes.now iteration.now.room) }
+{
+    let room = iteration.room();
+    if room.ids < attributes.max_sections {
+        return false;
+    }
+    attributes.max_section_id_size <= room.id_size
+}
+
+fn has_next(lent: &Lent) -> bool
+    ensures { Decides result (IsSome lent.now.iteration × IsSome lent.now.section) }
+{
+    if lent.iteration.is_none() {
+        return false;
+    }
+    lent.section.is_some()
+}

@@ -1,0 +1,43 @@
+//! What a caller lends to a step, so that the step takes no memory.
+ghost use Rattle.std.specs.Prelude.{◌≡◌, IfOk, None};
+
+use ckpt_types::{
+    Apart, CheckpointDescriptor, ReadBuf, SectionDescriptor, SharedReads, SharedUpdate,
+};
+use section_iter::Iteration;
+use std::alloc::{AllocError, Global};
+
+/// What travels beside a request, and what comes beside its reply.
+#[derive(Drop)]
+pub struct Lent {
+    /// Where a read puts its pieces, and a commit the identifier of a new section.
+    pub read: ReadBuf,
+    /// The elements of a read.
+    pub vector: Option<SharedReads>,
+    /// The update of a stage, which uses it up.
+    pub update: Option<SharedUpdate>,
+    /// The iteration that starts or goes on.
+    pub iteration: Option<Iteration>,
+    /// Where a status is told.
+    pub status: Option<Apart<CheckpointDescriptor>>,
+    /// Where the next section of an iteration is told.
+    pub section: Option<Apart<SectionDescriptor>>,
+}
+
+impl Lent {
+    /// Nothing is lent.
+    pub fn nothing(alloc: Global) -> Result<Lent, AllocError>
+        ensures update { IfOk result (λ lent. lent.update ≡ None) }
+        ensures vector { IfOk result (λ lent. lent.vector ≡ None) }
+        ensures iteration { IfOk result (λ lent. lent.iteration ≡ None) }
+    {
+        Ok(Lent {
+            read: ReadBuf::reserve(alloc, 0, 0)?,
+            vector: None,
+            update: None,
+            iteration: None,
+            status: None,
+            section: None,
+        })
+    }
+}

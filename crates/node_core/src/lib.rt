@@ -1,0 +1,17 @@
+//! A node: its replicas, and what a request and a step of the record make of them.
+#![tactic(auto)]
+
+mod changing;
+mod fitting;
+mod lending;
+mod lent;
+mod node;
+mod reads;
+mod replicas;
+mod reserving;
+mod seen;
+mod serving;
+mod updates;
+
+pub use lent::Lent;
+pub use node::Node;

@@ -1,0 +1,151 @@
+//! What a replica tells: reads, a status, and iterations.
+ghost use Rattle.std.specs.Prelude.{◌≡◌, ◌^◌, ◌<◌, ◌≤◌, [], None, Some, IsSome, IsSomeAnd, MatchOption, length};
+ghost use Rattle.ckpt_types.specs.declared.answers.Answer.TheVariants as answers;
+ghost use Rattle.ckpt_types.specs.Reads.{read, status, chosen, given};
+ghost use Rattle.section_iter.specs.Next.{kept_after};
+ghost use Rattle.section_iter.specs.Room.{IsRoomFor};
+ghost use Rattle.update_rules.specs.Told.{check_answer};
+ghost use Rattle.cluster_record.specs.RecordState.{entry_of};
+ghost use Rattle.node_msgs.specs.declared.replies.Reply.TheVariants as replies;
+ghost use Rattle.node_msgs.specs.declared.details.Details.TheVariants as beside;
+ghost use Rattle.node_core.specs.Details.{details_told, section_put};
+ghost use Rattle.node_core.specs.Lending.{bytes_asked, HasRoomToRead};
+ghost use Rattle.node_core.specs.Payloads.{elements_or, ids_or};
+ghost use Rattle.node_core.specs.Seen.{entry_seen};
+ghost use Rattle.node_core.specs.Serving.{done_or_refused, read_details, attributes_seen, next_reply, next_details};
+
+use crate::lent::Lent;
+use crate::seen::attributes_seen;
+use ckpt_types::{
+    AisError, Answer, Apart, Choice, CkptId, Moment, NodeId, ReadElement, SectionDescriptor,
+};
+use cluster_record::Record;
+use node_msgs::Reply;
+use replica::Replica;
+use section_iter::Iteration;
+use section_store::Store;
+use update_rules::Refused;
+
+pub(crate) fn read_lent(replica: &Replica, seen: &Record, lent: &mut Lent) -> Reply
+    requires { IsSomeAnd lent.old.vector (λ elements. HasRoomToRead elements lent.old.read) }
+    ensures reply { result ≡ done_or_refused (replies.Done answers.Pieces) (read (elements_or lent.old.vector) seen.now.moment replica.now.sections) }
+    ensures details { details_told result lent.new ≡ read_details (read (elements_or lent.old.vector) seen.now.moment replica.now.sections) }
+    ensures iteration { lent.new.iteration ≡ lent.old.iteration }
+{
+    let Some(vector) = lent.vector.take() else {
+        unreachable!()
+    };
+    read(replica.store(), vector.value().as_slice(), seen.now(), lent)
+}
+
+// Puts the pieces of a read into the empty buffer, or refuses it.
+fn read(store: &Store, elements: &[ReadElement], now: Moment, lent: &mut Lent) -> Reply
+    requires few { length elements.now < 2 ^ 32 }
+    requires empty { lent.old.read.pieces ≡ [] }
+    requires places { length elements.now ≤ lent.old.read.spare_pieces }
+    requires bytes { bytes_asked elements.now ≤ lent.old.read.spare_bytes }
+    ensures reply { result ≡ done_or_refused (replies.Done answers.Pieces) (read elements.now now store.now.sections) }
+    ensures details { details_told result lent.new ≡ read_details (read elements.now now store.now.sections) }
+    ensures iteration { lent.new.iteration ≡ lent.old.iteration }
+{
+    if let Err(refused) = check_read(store, elements, now) {
+        return Reply::Refused(refused.error, refused.index);
+    }
+    store.read_into(elements, now, &mut lent.read);
+    Reply::Done(Answer::Pieces)
+}
+
+fn check_read(store: &Store, elements: &[ReadElement], now: Moment) -> Result<(), Refused>
+    requires { length elements.now < 2 ^ 32 }
+    ensures { result ≡ check_answer (read elements.now now store.now.sections) }
+{
+    update_rules::check_read(store, elements, now)
+}
+
+// The attributes are those of the record, where it has the checkpoint: the replica's retention is as old as it is.
+pub(crate) fn status_lent(
+    replica: &Replica,
+    ckpt: CkptId,
+    number: NodeId,
+    seen: &Record,
+    lent: &mut Lent,
+) -> Reply
+    requires { IsSome lent.old.status }
+    ensures reply { result ≡ replies.Done answers.Status }
+    ensures details { details_told result lent.new ≡ beside.Status (status (attributes_seen (entry_seen number (entry_of ckpt seen.now.entries)) replica.now.attributes) seen.now.moment replica.now.sections) }
+    ensures iteration { lent.new.iteration ≡ lent.old.iteration }
+{
+    let Some(place) = &mut lent.status else {
+        unreachable!()
+    };
+    let mut status = replica.store().descriptor(seen.now());
+    status.attributes = attributes_seen(seen, ckpt, number, replica.store().attributes());
+    place.put(status);
+    Reply::Done(Answer::Status)
+}
+
+pub(crate) fn start_lent(replica: &Replica, choice: Choice, seen: &Record, lent: &mut Lent) -> Reply
+    requires { IsSomeAnd lent.old.iteration (λ kept. IsRoomFor replica.now.attributes kept.room) }
+    ensures reply { result ≡ replies.Done answers.Nothing }
+    ensures iteration { MatchOption lent.old.iteration (lent.new.iteration ≡ None) (λ kept. lent.new.iteration ≡ Some (record kept { ids = chosen choice seen.now.moment replica.now.sections })) }
+{
+    let Some(iteration) = &mut lent.iteration else {
+        unreachable!()
+    };
+    start(replica, iteration, choice, seen.now());
+    Reply::Done(Answer::Nothing)
+}
+
+// Gives what is chosen now to an iteration with room for it.
+fn start(replica: &Replica, iteration: &mut Iteration, choice: Choice, now: Moment)
+    requires { IsRoomFor replica.now.attributes iteration.old.room }
+    ensures { iteration.new ≡ record iteration.old { ids = chosen choice now replica.now.sections } }
+{
+    start_over(replica.store(), iteration, choice, now);
+}
+
+fn start_over(store: &Store, iteration: &mut Iteration, choice: Choice, now: Moment)
+    requires { IsRoomFor store.now.attributes iteration.old.room }
+    ensures { iteration.new ≡ record iteration.old { ids = chosen choice now store.now.sections } }
+{
+    // No more sections stand than were declared, with no longer identifiers.
+    let declared = store.attributes().max_sections;
+    prove!(declared <= iteration.room().ids);
+    iteration.start(store, choice, now);
+}
+
+pub(crate) fn next_lent(replica: &Replica, seen: &Record, lent: &mut Lent) -> Reply
+    requires iteration { IsSome lent.old.iteration }
+    requires section { IsSome lent.old.section }
+    ensures reply { result ≡ next_reply (given (ids_or lent.old.iteration) seen.now.moment replica.now.sections) }
+    ensures details { details_told result lent.new ≡ next_details (given (ids_or lent.old.iteration) seen.now.moment replica.now.sections) }
+    ensures iteration { MatchOption lent.old.iteration (lent.new.iteration ≡ None) (λ kept. lent.new.iteration ≡ Some (kept_after kept (given kept.ids seen.now.moment replica.now.sections))) }
+{
+    let Some(iteration) = &mut lent.iteration else {
+        unreachable!()
+    };
+    let Some(place) = &mut lent.section else {
+        unreachable!()
+    };
+    next(replica.store(), iteration, seen.now(), place)
+}
+
+// The next section of an iteration, which is told in the place for it.
+fn next(
+    store: &Store,
+    iteration: &mut Iteration,
+    now: Moment,
+    place: &mut Apart<SectionDescriptor>,
+) -> Reply
+    ensures reply { result ≡ next_reply (given iteration.old.ids now store.now.sections) }
+    ensures details { section_put result place.new ≡ next_details (given iteration.old.ids now store.now.sections) }
+    ensures new { iteration.new ≡ kept_after iteration.old (given iteration.old.ids now store.now.sections) }
+{
+    match iteration.next(store, now) {
+        Err(_) => Reply::Refused(AisError::NoSections, 0),
+        Ok(section) => {
+            place.put(section);
+            Reply::Done(Answer::Section)
+        }
+    }
+}

@@ -1,0 +1,124 @@
+//! What the replica answers with which a node serves a checkpoint, and what becomes of it.
+ghost use Rattle.std.specs.Prelude.{◌≡◌, ◌<◌, ◌-◌, ◌^◌, None, Some, IfSome, length, if◌then◌else◌};
+ghost use Rattle.cluster_record.specs.Places.{find_key, change_key, place_key};
+ghost use Rattle.node_msgs.specs.Requests.{ckpt_of};
+ghost use Rattle.node_msgs.specs.declared.requests.Request.TheVariants as requests;
+ghost use Rattle.stage_slot.specs.Slots.{IsOwnedBy};
+ghost use Rattle.node_core.specs.Details.{details_told};
+ghost use Rattle.node_core.specs.Fitting.{CanServe, ReplicaFits};
+ghost use Rattle.node_core.specs.Nodes.{replica_key, where_seen};
+ghost use Rattle.node_core.specs.Payloads.{payload_of, update_alone, no_payload};
+ghost use Rattle.node_core.specs.Seen.{record_seen, is_complete};
+ghost use Rattle.node_core.specs.Serving.{reply_of, reply_at, replica_after, details_of, details_at, iteration_behind};
+
+use crate::lent::Lent;
+use crate::reads::{next_lent, read_lent, start_lent, status_lent};
+use crate::replicas::place_of;
+use crate::seen::is_complete;
+use crate::updates::{claim, commit, commit_lent, stage, stage_lent, withdraw};
+use ckpt_types::{CallId, CkptId, Moment, NodeId, SharedUpdate};
+use cluster_record::Record;
+use node_msgs::{Reply, Request};
+use replica::Replica;
+
+// Where the replica stands with which the node serves a checkpoint.
+#[inline(always)]
+fn place_served(replicas: &[Replica], number: NodeId, seen: &Record, ckpt: CkptId) -> Option<usize>
+    ensures place { result ≡ (if is_complete (record_seen seen.now ckpt number) then place_key replica_key ckpt replicas.now else None) }
+    ensures within { IfSome result (λ i. i < length replicas.now) }
+{
+    if !is_complete(seen, ckpt, number) {
+        return None;
+    }
+    place_of(replicas, ckpt)
+}
+
+/// The answer to any request but a reservation.
+pub(crate) fn serve_in(
+    replicas: &mut [Replica],
+    number: NodeId,
+    seen: &Record,
+    request: &Request,
+    lent: &mut Lent,
+) -> Reply
+    requires { ReplicaFits (is_complete (record_seen seen.now (ckpt_of request.now) number)) request.now lent.old (find_key replica_key (ckpt_of request.now) replicas.old) }
+    ensures reply { result ≡ reply_at request.now (payload_of lent.old) (record_seen seen.now (ckpt_of request.now) number) (where_seen (is_complete (record_seen seen.now (ckpt_of request.now) number)) (find_key replica_key (ckpt_of request.now) replicas.old)) }
+    ensures new { replicas.new ≡ (if is_complete (record_seen seen.now (ckpt_of request.now) number) then change_key replica_key (ckpt_of request.now) (replica_after request.now (payload_of lent.old)) replicas.old else replicas.old) }
+    ensures details { details_told result lent.new ≡ details_at request.now (payload_of lent.old) (record_seen seen.now (ckpt_of request.now) number) (where_seen (is_complete (record_seen seen.now (ckpt_of request.now) number)) (find_key replica_key (ckpt_of request.now) replicas.old)) }
+    ensures iteration { lent.new.iteration ≡ iteration_behind request.now (record_seen seen.now (ckpt_of request.now) number) (where_seen (is_complete (record_seen seen.now (ckpt_of request.now) number)) (find_key replica_key (ckpt_of request.now) replicas.old)) lent.old.iteration }
+{
+    let Some(i) = place_served(replicas, number, seen, request.ckpt()) else {
+        return Reply::NoReplica;
+    };
+    let replica = &mut replicas[i];
+    answer(replica, number, seen, request, lent)
+}
+
+/// Stages an update of a call.
+#[inline(always)]
+pub(crate) fn stage_in(
+    replicas: &mut [Replica],
+    number: NodeId,
+    seen: &Record,
+    call: CallId,
+    ckpt: CkptId,
+    moment: Moment,
+    update: SharedUpdate,
+) -> Reply
+    requires { IfSome (where_seen (is_complete (record_seen seen.now ckpt number)) (find_key replica_key ckpt replicas.old)) (λ x. x.count < 2 ^ 64 - 1) }
+    ensures reply { result ≡ reply_at (requests.Stage call ckpt moment) (update_alone update) (record_seen seen.now ckpt number) (where_seen (is_complete (record_seen seen.now ckpt number)) (find_key replica_key ckpt replicas.old)) }
+    ensures new { replicas.new ≡ (if is_complete (record_seen seen.now ckpt number) then change_key replica_key ckpt (replica_after (requests.Stage call ckpt moment) (update_alone update)) replicas.old else replicas.old) }
+{
+    let Some(i) = place_served(replicas, number, seen, ckpt) else {
+        return Reply::NoReplica;
+    };
+    let replica = &mut replicas[i];
+    stage(replica, call, update, moment)
+}
+
+/// Commits what a call has staged.
+#[inline(always)]
+pub(crate) fn commit_in(
+    replicas: &mut [Replica],
+    number: NodeId,
+    seen: &Record,
+    call: CallId,
+    ckpt: CkptId,
+) -> Reply
+    requires { IfSome (where_seen (is_complete (record_seen seen.now ckpt number)) (find_key replica_key ckpt replicas.old)) (λ x. IsOwnedBy call x.slot) }
+    ensures reply { result ≡ reply_at (requests.Commit call ckpt) no_payload (record_seen seen.now ckpt number) (where_seen (is_complete (record_seen seen.now ckpt number)) (find_key replica_key ckpt replicas.old)) }
+    ensures new { replicas.new ≡ (if is_complete (record_seen seen.now ckpt number) then change_key replica_key ckpt (replica_after (requests.Commit call ckpt) no_payload) replicas.old else replicas.old) }
+{
+    let Some(i) = place_served(replicas, number, seen, ckpt) else {
+        return Reply::NoReplica;
+    };
+    let replica = &mut replicas[i];
+    commit(replica, call)
+}
+
+// The answer of a replica for which its node is complete.
+fn answer(
+    replica: &mut Replica,
+    number: NodeId,
+    seen: &Record,
+    request: &Request,
+    lent: &mut Lent,
+) -> Reply
+    requires { CanServe request.now lent.old replica.old }
+    ensures reply { result ≡ reply_of request.now (payload_of lent.old) (record_seen seen.now (ckpt_of request.now) number) replica.old }
+    ensures new { replica.new ≡ replica_after request.now (payload_of lent.old) replica.old }
+    ensures details { details_told result lent.new ≡ details_of request.now (payload_of lent.old) (record_seen seen.now (ckpt_of request.now) number) replica.old }
+    ensures iteration { lent.new.iteration ≡ iteration_behind request.now (record_seen seen.now (ckpt_of request.now) number) (Some replica.old) lent.old.iteration }
+{
+    match request {
+        Request::Stage(call, _, moment) => stage_lent(replica, *call, *moment, lent),
+        Request::Claim(call, _, owner) => claim(replica, *call, *owner),
+        Request::Commit(call, _) => commit_lent(replica, *call, lent),
+        Request::Withdraw(call, _) => withdraw(replica, *call),
+        Request::Read(_) => read_lent(replica, seen, lent),
+        Request::Status(ckpt) => status_lent(replica, *ckpt, number, seen, lent),
+        Request::Iterate(_, _, choice) => start_lent(replica, *choice, seen, lent),
+        Request::Next(_, _) => next_lent(replica, seen, lent),
+        _ => Reply::NoReplica,
+    }
+}

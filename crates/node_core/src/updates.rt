@@ -1,0 +1,154 @@
+//! What a replica makes of an update: stages, claims, commits and withdrawals.
+ghost use Rattle.std.specs.Prelude.{◌≡◌, ◌-◌, ◌^◌, ◌<◌, None, IsSome};
+ghost use Rattle.ckpt_types.specs.declared.answers.Answer.TheVariants as answers;
+ghost use Rattle.node_msgs.specs.declared.replies.Reply.TheVariants as replies;
+ghost use Rattle.stage_slot.specs.Slots.{IsOwnedBy};
+ghost use Rattle.replica.specs.Replicas.{outcome_on, staged, committed};
+ghost use Rattle.node_core.specs.Details.{details_told};
+ghost use Rattle.node_core.specs.Lending.{HasRoomToTell, HasRoomToCommit};
+ghost use Rattle.node_core.specs.Payloads.{update_or};
+ghost use Rattle.node_core.specs.Serving.{stage_reply, claim_reply, claimed_by, update_answer, commit_answer, told_id, slot_id};
+ghost use Rattle.node_core.specs.StageReplies.{reply_refused};
+
+use crate::lent::Lent;
+use ckpt_types::{Answer, CallId, Moment, NewId, SharedUpdate, Update};
+use node_msgs::Reply;
+use replica::{Replica, StageRefused};
+use section_store::Store;
+use stage_slot::{Claimed, Slot};
+
+/// Stages the update of a call at this moment, where no slot stands and the sections admit it.
+#[inline(always)]
+pub(crate) fn stage(
+    replica: &mut Replica,
+    call: CallId,
+    update: SharedUpdate,
+    moment: Moment,
+) -> Reply
+    requires { replica.old.count < 2 ^ 64 - 1 }
+    ensures reply { result ≡ stage_reply (outcome_on replica.old update moment) replica.old.slot }
+    ensures new { replica.new ≡ staged call update moment replica.old }
+{
+    match replica.stage(call, update, moment) {
+        Ok(()) => Reply::Done(Answer::Nothing),
+        Err(refused) => reply_refused(refused),
+    }
+}
+
+fn reply_refused(refused: StageRefused) -> Reply
+    ensures { result ≡ reply_refused refused }
+{
+    match refused {
+        StageRefused::Held(owner) => Reply::Held(owner),
+        StageRefused::Rules(refused) => Reply::Refused(refused.error, refused.index),
+    }
+}
+
+pub(crate) fn stage_lent(
+    replica: &mut Replica,
+    call: CallId,
+    moment: Moment,
+    lent: &mut Lent,
+) -> Reply
+    requires room { replica.old.count < 2 ^ 64 - 1 }
+    requires lent { IsSome lent.old.update }
+    ensures reply { result ≡ stage_reply (outcome_on replica.old (update_or lent.old.update) moment) replica.old.slot }
+    ensures new { replica.new ≡ staged call (update_or lent.old.update) moment replica.old }
+    ensures iteration { lent.new.iteration ≡ lent.old.iteration }
+{
+    let Some(update) = lent.update.take() else {
+        unreachable!()
+    };
+    stage(replica, call, update, moment)
+}
+
+pub(crate) fn claim(replica: &mut Replica, call: CallId, owner: CallId) -> Reply
+    ensures reply { result ≡ claim_reply call owner replica.old.count replica.old.slot }
+    ensures new { replica.new ≡ record replica.old { slot = claimed_by call owner replica.old.slot } }
+{
+    let count = replica.count();
+    match replica.claim(call, owner) {
+        Ok(Claimed::Slot(count)) => Reply::Claimed(count),
+        Ok(Claimed::Free) => Reply::Free(count),
+        Err(held) => Reply::Held(held.by),
+    }
+}
+
+/// Commits what the call has staged. It tells no identifier.
+#[inline(always)]
+pub(crate) fn commit(replica: &mut Replica, call: CallId) -> Reply
+    requires { IsOwnedBy call replica.old.slot }
+    ensures reply { result ≡ replies.Done (commit_answer replica.old.slot) }
+    ensures new { replica.new ≡ committed replica.old replica.old.slot }
+{
+    let answer = commit_answer(replica.slot());
+    replica.commit(call);
+    Reply::Done(answer)
+}
+
+#[inline(always)]
+fn commit_answer(slot: &Slot) -> Answer
+    ensures { result ≡ commit_answer slot.now }
+{
+    match slot.kept() {
+        None => Answer::Nothing,
+        Some(staged) => update_answer(staged.update.value()),
+    }
+}
+
+#[inline(always)]
+fn update_answer(update: &Update) -> Answer
+    ensures { result ≡ update_answer update.now }
+{
+    match update {
+        Update::Create(_, _, _) => Answer::Created,
+        _ => Answer::Nothing,
+    }
+}
+
+// A creation tells the identifier of its section, which is made over the sections before it.
+pub(crate) fn commit_lent(replica: &mut Replica, call: CallId, lent: &mut Lent) -> Reply
+    requires own { IsOwnedBy call replica.old.slot }
+    requires lent { HasRoomToCommit replica.old.slot lent.old.read }
+    ensures reply { result ≡ replies.Done (commit_answer replica.old.slot) }
+    ensures new { replica.new ≡ committed replica.old replica.old.slot }
+    ensures details { details_told (replies.Done (commit_answer replica.old.slot)) lent.new ≡ slot_id replica.old.sections replica.old.slot }
+    ensures iteration { lent.new.iteration ≡ lent.old.iteration }
+{
+    tell_slot(replica, lent);
+    commit(replica, call)
+}
+
+fn tell_slot(replica: &Replica, lent: &mut Lent)
+    requires { HasRoomToCommit replica.now.slot lent.old.read }
+    ensures details { details_told (replies.Done (commit_answer replica.now.slot)) lent.new ≡ slot_id replica.now.sections replica.now.slot }
+    ensures iteration { lent.new.iteration ≡ lent.old.iteration }
+{
+    if let Some(staged) = replica.slot().kept() {
+        tell_id(replica.store(), staged.update.value(), staged.moment, lent);
+    }
+}
+
+// A creation puts the identifier of its section into the empty buffer.
+fn tell_id(store: &Store, update: &Update, moment: Moment, lent: &mut Lent)
+    requires { HasRoomToTell update.now lent.old.read }
+    ensures details { details_told (replies.Done (update_answer update.now)) lent.new ≡ told_id update.now moment store.now.sections }
+    ensures iteration { lent.new.iteration ≡ lent.old.iteration }
+{
+    match update {
+        Update::Create(NewId::Given(id), _, _) => lent.read.push(id.as_slice()),
+        Update::Create(NewId::Generated, _, _) => {
+            lent.read.push(store.generated(moment).as_slice());
+        }
+        _ => {}
+    }
+}
+
+pub(crate) fn withdraw(replica: &mut Replica, call: CallId) -> Reply
+    requires { IsOwnedBy call replica.old.slot }
+    ensures reply { result ≡ replies.Done answers.Nothing }
+    ensures new { replica.new ≡ record replica.old { slot = None } }
+{
+    replica.withdraw(call);
+    Reply::Done(Answer::Nothing)
+}

@@ -1,0 +1,2 @@
+pub mod ReplicaView
+pub mod Replicas

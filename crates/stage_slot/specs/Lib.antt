@@ -1,0 +1,2 @@
+pub mod SlotView
+pub mod Slots

@@ -1,0 +1,141 @@
+-- For each request that a node serves but a reservation: what its row changes in the machine is what the node changes.
+use Rattle.std.proofs.Common.{◌≡◌, ℕ, ◌+◌, ℤ, List, ◌∷◌, [], ◌++◌, refl, sym, ap, ◌∙◌, length-append}
+use Rattle.std.specs.Prelude.{Option, Some, None, Result, Ok, Err}
+use Rattle.ckpt_types.specs.declared.identities.CallId.{CallId}
+use Rattle.ckpt_types.specs.declared.update.Update.{Update}
+use Rattle.ckpt_types.specs.Sections.{Section}
+use Rattle.ckpt_types.specs.Updates.{Refusal}
+use Rattle.ckpt_types.specs.Asks.{Ask, asked, update_of}
+use Rattle.ckpt_types.specs.Asks as asks
+use Rattle.ckpt_types.specs.Reads.{NextGiven, given, chosen}
+use Rattle.client_handles.specs.ClientState.{ClientState, kept_at}
+use Rattle.section_iter.specs.KeptIds.{KeptIds}
+use Rattle.node_msgs.specs.declared.requests.Request.{Request}
+use Rattle.node_msgs.specs.declared.requests.Request.TheVariants.{Reserve, Claim, Withdraw, Iterate, Next, Stage, Commit}
+use Rattle.node_msgs.specs.declared.steps.Verb.TheVariants as verbs
+use Rattle.node_msgs.specs.declared.steps.StepReply.TheVariants as words
+use Rattle.cluster_record.specs.declared.entries.Entry.{Entry}
+use Rattle.replica.specs.Replicas.{Replica, committed, slot_after_stage, staged_by, outcome_on}
+use Rattle.stage_slot.specs.Slots.{Slot, IsOwnedBy}
+use Rattle.cluster_record.specs.Places.{put2}
+use Rattle.cluster_record.specs.RecordState.{entry_of}
+use Rattle.node_msgs.specs.Requests.{ckpt_of}
+use Rattle.node_core.specs.Payloads.{Payload}
+use Rattle.node_core.specs.Seen.{record_seen}
+use Rattle.node_core.specs.Serving.{reply_of, replica_after, stage_reply, next_reply}
+use Rattle.node_core.specs.Fitting.{IsReadyFor}
+use Rattle.node_msgs.specs.Steps.{verb_of, word_of}
+use Rattle.ckpt_machine.specs.Machine.{Machine, Effect, Applied, ReplicaState, CallState}
+use Rattle.ckpt_machine.specs.Steps.{changed, change_replica, chosen_at, given_at, ids_asked, payload_due, seen_at, with_slot, with_committed, with_tables, staged_moment}
+use Rattle.ckpt_machine.specs.Tables.{started, with_next, gone_on}
+use Rattle.world_core.specs.Shows.{shown_replica, FitsReplica, HasCount}
+use Rattle.ckpt_machine.proofs.Calls.{IsOwn}
+use Rattle.ckpt_machine.proofs.ClientTables.{same_tables}
+use Rattle.world_core.proofs.Carrying.{GoesToReplica}
+use Rattle.world_core.proofs.Maps.{put2_same}
+
+-- the effects of the replica, and the origin of its slot, after a request
+
+abbrev pub effects_with : Option Slot → CallId → List Effect → List Effect
+effects_with None o E = E
+effects_with (Some slot) o E = E ++ Applied o slot.update slot.moment ∷ []
+
+abbrev pub effects_after : Request → Option Replica → CallId → List Effect → List Effect
+effects_after (Commit call k) (Some x) o E = effects_with x.slot o E
+effects_after request y o E = E
+
+abbrev pub origin_with : CallId → CallId → Option Slot → CallId
+origin_with call o None = call
+origin_with call o (Some slot) = o
+
+abbrev pub origin_after : Request → Option Replica → CallId → CallId
+origin_after (Stage call k t) (Some x) o = origin_with call o x.slot
+origin_after request y o = o
+
+-- what becomes of the tables of its client: an iteration starts, or goes on
+abbrev pub tables_moved : Request → CallState → List (List ℕ) → ℤ → List Section → Machine → Machine
+tables_moved (Iterate call k choice) s ids now sections m = with_tables s.call.actor (started (asked s.op) s.kept.room (λ choice. chosen choice now sections)) m
+tables_moved (Next call k) s ids now sections m = with_tables s.call.actor (gone_on (asked s.op) (given ids now sections)) m
+tables_moved request s ids now sections m = m
+
+-- where nothing is given, nothing changes
+gives_none : (place : ℕ) (kept : Option KeptIds) (t : ClientState) → with_next place kept None t ≡ t
+gives_none place None t = refl
+gives_none place (Some kept) t = refl
+
+pub gone_on_none : (ask : Ask) (t : ClientState) → gone_on ask None t ≡ t
+gone_on_none (asks.Next place) t = gives_none place (kept_at place t) t
+gone_on_none ask t = refl
+
+module _ (M : Machine) (s : CallState) (k r : ℕ) (E : List Effect) (o : CallId) (x : Replica) where
+  abbrev with : Option ReplicaState → Machine
+  with y = record M { replicas = put2 M.replicas k r y }
+
+  stays : (y : Option ReplicaState) → M.replicas k r ≡ y → M ≡ with y
+  stays y is = λ i. record M { replicas = sym (put2_same M.replicas k r y is) i }
+
+  stage_moves : (call : CallId) (t : ℤ) (p : Option Slot) (result : Result (List Section) Refusal) → M.replicas k r ≡ shown_replica E o (Some (record x { slot = p })) → call ≡ s.call → (p ≡ None → staged_moment M k ≡ t) →
+      changed M s verbs.Stage (Some k) (Some r) (word_of (stage_reply result p)) ≡ with (shown_replica E (origin_with call o p) (Some (record x { slot = slot_after_stage result (staged_by call (update_of s.op) t x) p })))
+  stage_moves call t (Some slot) result is own moment = stays (shown_replica E o (Some (record x { slot = Some slot }))) is
+  stage_moves call t None (Err why) is own moment = stays (shown_replica E o (Some (record x { slot = None }))) is
+  stage_moves call t None (Ok sections) is own moment =
+      let f = with_slot s.call (update_of s.op) (staged_moment M k) in
+      let X : ReplicaState = record { sections = x.sections; effects = E; generation = x.generation; slot = None; marks = None } in
+      ap (λ y. change_replica M k r y f) is ∙ (λ i. with (Some (with_slot (sym own i) (update_of s.op) (moment refl i) X)))
+
+  commit_moves : (p : Option Slot) (e : Entry) (call : CallId) → entry_of k M.cluster.entries ≡ Some e → x.attributes ≡ e.attributes → M.replicas k r ≡ shown_replica E o (Some (record x { slot = p })) → IsOwnedBy call p →
+      change_replica M k r (M.replicas k r) (with_committed (entry_of k M.cluster.entries)) ≡ with (shown_replica (effects_with p o E) o (Some (committed (record x { slot = p }) p)))
+  commit_moves None e call at same is owned = absurd owned
+  commit_moves (Some slot) e call at same is owned =
+      ap (λ y. change_replica M k r y (with_committed (entry_of k M.cluster.entries))) is
+      ∙ ap (λ f. change_replica M k r (shown_replica E o (Some (record x { slot = Some slot }))) (with_committed f)) at
+      ∙ ap (λ a. change_replica M k r (shown_replica E o (Some (record x { slot = Some slot }))) (with_committed (Some (record e { attributes = a })))) (sym same)
+
+  module _ (is : M.replicas k r ≡ shown_replica E o (Some x)) (seen : seen_at M k r ≡ Some x) where
+    abbrev whole : Machine
+    whole = with (shown_replica E o (Some x))
+
+    starts : changed M s verbs.Iter (Some k) (Some r) words.Ok ≡ with_tables s.call.actor (started (asked s.op) s.kept.room (λ choice. chosen choice M.cluster.moment x.sections)) whole
+    starts =
+        ap (λ y. with_tables s.call.actor (started (asked s.op) s.kept.room (λ choice. chosen_at choice M.cluster.moment y)) M) seen
+        ∙ ap (with_tables s.call.actor (started (asked s.op) s.kept.room (λ choice. chosen choice M.cluster.moment x.sections))) (stays (shown_replica E o (Some x)) is)
+
+    goes_on : (g : Option NextGiven) → given (ids_asked M s) M.cluster.moment x.sections ≡ g → changed M s verbs.Next (Some k) (Some r) (word_of (next_reply g)) ≡ with_tables s.call.actor (gone_on (asked s.op) g) whole
+    goes_on None given_is = stays (shown_replica E o (Some x)) is ∙ sym (same_tables whole s.call.actor (gone_on (asked s.op) None) (gone_on_none (asked s.op) (M.tables s.call.actor)))
+    goes_on (Some next) given_is =
+        ap (λ g. with_tables s.call.actor (gone_on (asked s.op) g) M) (ap (given_at (ids_asked M s) M.cluster.moment) seen ∙ given_is)
+        ∙ ap (with_tables s.call.actor (gone_on (asked s.op) (Some next))) (stays (shown_replica E o (Some x)) is)
+
+-- every row
+pub row_moves : (M : Machine) (s : CallState) (r : ℕ) (E : List Effect) (o : CallId) (x : Replica) (e : Entry) (request : Request) → GoesToReplica request → entry_of (ckpt_of request) M.cluster.entries ≡ Some e → x.attributes ≡ e.attributes →
+    M.replicas (ckpt_of request) r ≡ shown_replica E o (Some x) → seen_at M (ckpt_of request) r ≡ Some x → IsReadyFor request x → IsOwn s.call request → ((call : CallId) (k : ℕ) (t : ℤ) → request ≡ Stage call k t → x.slot ≡ None → staged_moment M k ≡ t) →
+    changed M s (verb_of request) (Some (ckpt_of request)) (Some r) (word_of (reply_of request (payload_due M s) (record_seen M.cluster (ckpt_of request) r) x))
+    ≡ tables_moved request s (ids_asked M s) M.cluster.moment x.sections (record M { replicas = put2 M.replicas (ckpt_of request) r (shown_replica (effects_after request (Some x) o E) (origin_after request (Some x) o) (Some (replica_after request (payload_due M s) x))) })
+row_moves M s r E o x e (Reserve k) goes at same is seen ready own moment = absurd goes
+row_moves M s r E o x e (Claim call k owner) goes at same is seen ready own moment = absurd goes
+row_moves M s r E o x e (Withdraw call k) goes at same is seen ready own moment = absurd goes
+row_moves M s r E o x e (Iterate call k choice) goes at same is seen ready own moment = starts M s k r E o x is seen
+row_moves M s r E o x e (Next call k) goes at same is seen ready own moment = goes_on M s k r E o x is seen (given (ids_asked M s) M.cluster.moment x.sections) refl
+row_moves M s r E o x e (Stage call k t) goes at same is seen ready own moment = stage_moves M s k r E o x call t x.slot (outcome_on x (update_of s.op) t) is own (λ n. moment call k t refl n)
+row_moves M s r E o x e (Commit call k) goes at same is seen ready own moment = commit_moves M s k r E o x x.slot e call at same is ready
+row_moves M s r E o x e request goes at same is seen ready own moment = stays M s (ckpt_of request) r E o x (shown_replica E o (Some x)) is
+
+-- and the replica still fits
+fits_commit : (k : ℕ) (e : Option Entry) (E : List Effect) (o : CallId) (x : Replica) (p : Option Slot) → FitsReplica k e E (Some (record x { slot = p })) → FitsReplica k e (effects_with p o E) (Some (committed (record x { slot = p }) p))
+fits_commit k e E o x None fits = fits
+fits_commit k None E o x (Some slot) fits = (fits.0, tt, length-append E (Applied o slot.update slot.moment ∷ []) ∙ ap (λ n. n + 1) fits.2, tt)
+fits_commit k (Some e) E o x (Some slot) fits = (fits.0, fits.1, length-append E (Applied o slot.update slot.moment ∷ []) ∙ ap (λ n. n + 1) fits.2, tt)
+
+staged_count : (call : CallId) (update : Update) (t : ℤ) (x : Replica) (result : Result (List Section) Refusal) (p : Option Slot) → HasCount x.count p → HasCount x.count (slot_after_stage result (staged_by call update t x) p)
+staged_count call update t x result (Some slot) has = has
+staged_count call update t x (Ok sections) None has = refl
+staged_count call update t x (Err why) None has = tt
+
+pub row_fits : (k : ℕ) (e : Option Entry) (E : List Effect) (o : CallId) (x : Replica) (request : Request) (p : Payload) → GoesToReplica request → FitsReplica k e E (Some x) → FitsReplica k e (effects_after request (Some x) o E) (Some (replica_after request p x))
+row_fits k e E o x (Reserve j) p goes fits = absurd goes
+row_fits k e E o x (Claim call j owner) p goes fits = absurd goes
+row_fits k e E o x (Withdraw call j) p goes fits = absurd goes
+row_fits k None E o x (Stage call j t) p goes fits = (fits.0, tt, fits.2, staged_count call p.update t x (outcome_on x p.update t) x.slot fits.3)
+row_fits k (Some e) E o x (Stage call j t) p goes fits = (fits.0, fits.1, fits.2, staged_count call p.update t x (outcome_on x p.update t) x.slot fits.3)
+row_fits k e E o x (Commit call j) p goes fits = fits_commit k e E o x x.slot fits
+row_fits k e E o x request p goes fits = fits

@@ -1,0 +1,33 @@
+-- The nodes of a world, each by its number.
+use Rattle.std.specs.Prelude.{◌≡◌, ℕ, List, length, map, Option, Some, slice_get, slice_set}
+use Rattle.ckpt_types.specs.Limits.{nodes_max}
+use Rattle.node_msgs.specs.declared.replies.Reply.{Reply}
+use Rattle.node_msgs.specs.declared.requests.Request.{Request}
+use Rattle.cluster_record.specs.Places.{find_key, list_or}
+use Rattle.cluster_record.specs.RecordState.{RecordState}
+use Rattle.replica.specs.Replicas.{Replica}
+use Rattle.node_core.specs.Nodes.{NodeState, replica_key, replicas_after}
+use Rattle.node_core.specs.Payloads.{Payload}
+
+-- the node of a number
+abbrev pub node_at : List (List Replica) → ℕ → NodeState
+node_at nodes r = record { number = r; replicas = list_or (slice_get nodes r) }
+
+-- the replica of a checkpoint on a node, complete or reserved
+abbrev pub replica_in : List (List Replica) → ℕ → ℕ → Option Replica
+replica_in nodes k r = find_key replica_key k (list_or (slice_get nodes r))
+
+-- the nodes after a request to one of them, which it answered so
+abbrev pub nodes_after : RecordState → List (List Replica) → ℕ → Request → Payload → Reply → List (List Replica)
+nodes_after R nodes r request p reply = slice_set nodes r (replicas_after R (node_at nodes r) request p reply)
+
+-- ---- how they are kept
+
+-- their replicas, from n0 on
+abbrev pub nodes_shown : List NodeState → List (List Replica)
+nodes_shown nodes = map (λ n. n.replicas) nodes
+
+-- eight nodes, each at the place of its number
+pub record StandByNumber (nodes : List NodeState) : Type 0 where
+  pub eight : length nodes ≡ nodes_max
+  pub numbers : (r : ℕ) (n : NodeState) → slice_get nodes r ≡ Some n → n.number ≡ r
