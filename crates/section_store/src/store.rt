@@ -1,6 +1,7 @@
 //! The store: each update, read and count of one replica's sections.
 ghost use Rattle.std.specs.Prelude.{◌≡◌, ◌+◌, ◌≤◌, ◌<◌, [], ◌∷◌, Ok, IfOk, IsOk, false, length, sum_by};
 ghost use Rattle.ckpt_types.specs.Attributes.{is_malformed};
+ghost use Rattle.ckpt_types.specs.declared.update.Update.TheVariants as updates;
 ghost use Rattle.ckpt_types.specs.Reads.{read, status};
 ghost use Rattle.ckpt_types.specs.Sections.{Fits, opening, default_section, present};
 ghost use Rattle.ckpt_types.specs.Updates.{outcome, element_written, elements_written, overwritten, section_created, section_deleted, expiration_set, generated_id};
@@ -86,6 +87,16 @@ impl Store {
             }
             Update::Nothing => {}
         }
+    }
+
+    /// Makes one element of a write, alone. It takes no memory.
+    pub fn apply_element(&mut self, element: &IoElement, now: Moment)
+        requires { IsOk (outcome self.old.attributes (updates.Write (element.now ∷ [])) now self.old.sections) }
+        ensures attributes { self.new.attributes ≡ self.old.attributes }
+        ensures sections { outcome self.old.attributes (updates.Write (element.now ∷ [])) now self.old.sections ≡ Ok self.new.sections }
+    {
+        self.drop_absent(now);
+        self.write_element(element, now);
     }
 
     /// Takes over the sections of another. It takes no memory.
