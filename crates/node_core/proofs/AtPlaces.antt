@@ -1,6 +1,6 @@
 -- The replica with which a node serves a checkpoint, by its place in the list.
 use Rattle.std.proofs.Common.{◌≡◌, ℕ, Bool, true, false, List, refl, sym, subst, ◌∙◌, cond}
-use Rattle.std.specs.Prelude.{Option, Some, None, IsSomeAnd, slice_set, slice_index_or}
+use Rattle.std.specs.Prelude.{Option, Some, None, IfSome, IsSomeAnd, slice_set, slice_index_or}
 use Rattle.cluster_record.specs.Places.{find_key, change_key, place_key}
 use Rattle.cluster_record.proofs.Places.{changes_at, changes_none}
 use Rattle.cluster_record.proofs.AtKeys.{element_at, none_at}
@@ -38,3 +38,18 @@ served_same false k f xs o from e = refl
 pub fits_at : (b : Bool) (request : Request) (lent : Lent) (k : ℕ) (xs : List Replica) (o : Option ℕ) → o ≡ place_served b k xs → (i : ℕ) (d : Replica) → o ≡ Some i → ReplicaFits b request lent (find_key replica_key k xs) → CanServe request lent (slice_index_or xs i d)
 fits_at true request lent k xs o from i d e fits = subst (λ (x : Option Replica). IsSomeAnd x (CanServe request lent)) (element_at replica_key k xs o from i d e) fits
 fits_at false request lent k xs o from i d e fits = absurd (let no_place : None ≡ Some i = sym from ∙ e in cc)
+
+-- ---- a replica that is known to be there
+
+module _ (k : ℕ) (xs : List Replica) (o : Option ℕ) (from : o ≡ place_key replica_key k xs) (P : Replica → Type 0) where
+  -- what holds of it holds of the one at its place
+  pub holds_at : (i : ℕ) (d : Replica) → o ≡ Some i → IsSomeAnd (find_key replica_key k xs) P → P (slice_index_or xs i d)
+  holds_at i d e there = subst (λ (x : Option Replica). IsSomeAnd x P) (element_at replica_key k xs o from i d e) there
+
+  -- it has a place
+  pub has_place : o ≡ None → IsSomeAnd (find_key replica_key k xs) P → ⊥
+  has_place e there = subst (λ (x : Option Replica). IsSomeAnd x P) (none_at replica_key k xs o from e) there
+
+  -- what holds of the one at its place holds of it
+  pub holds_of : (i : ℕ) (d : Replica) → o ≡ Some i → P (slice_index_or xs i d) → IfSome (find_key replica_key k xs) P
+  holds_of i d e holds = subst (λ (x : Option Replica). IfSome x P) (sym (element_at replica_key k xs o from i d e)) holds

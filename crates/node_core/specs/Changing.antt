@@ -6,7 +6,7 @@ use Rattle.node_msgs.specs.declared.changes.NodeChange.TheVariants as changes
 use Rattle.cluster_record.specs.declared.entries.Entry.{Entry}
 use Rattle.cluster_record.specs.Places.{find_key, change_key}
 use Rattle.cluster_record.specs.RecordState.{RecordState, entry_of}
-use Rattle.replica.specs.Replicas.{Replica, opened_replica, staged, outcome_on}
+use Rattle.replica.specs.Replicas.{Replica, opened_replica, staged, abandoned, outcome_on}
 use Rattle.node_core.specs.declared.lent.Lent.{Lent}
 use Rattle.node_core.specs.Nodes.{NodeState, replica_key}
 use Rattle.node_core.specs.Payloads.{Payload}
@@ -23,6 +23,7 @@ abbrev pub replicas_changed : RecordState → NodeChange → Payload → List Re
 replicas_changed R (changes.Add k generation) p xs = added_for (entry_of k R.entries) k generation xs
 replicas_changed R (changes.Stage call k t) p xs = change_key replica_key k (staged call p.update t) xs
 replicas_changed R (changes.Lead k generation) p xs = change_key replica_key k (λ x. record x { generation = generation }) xs
+replicas_changed R (changes.Break k) p xs = change_key replica_key k (λ x. abandoned x x.marks) xs
 replicas_changed R (changes.Drop k) p xs = filter (λ x. not (x.ckpt == k)) xs
 replicas_changed R changes.Clear p xs = []
 replicas_changed R change p xs = xs
@@ -41,6 +42,7 @@ IsAddition change = ⊥
 -- a replica can be staged on without a refusal
 pub record TakesStage (lent : Lent) (t : ℤ) (x : Replica) : Type 0 where
   pub free : x.slot ≡ None
+  pub unmarked : x.marks ≡ None
   pub room : x.count < 2 ^ 64 - 1
   pub fits : IsSomeAnd lent.update (λ update. IsOk (outcome_on x update t))
 
@@ -49,6 +51,7 @@ abbrev pub ChangeFits : RecordState → NodeState → NodeChange → Lent → Ty
 ChangeFits R n (changes.Add k generation) lent = IsSomeAnd (entry_of k R.entries) (λ e. is_malformed e.attributes ≡ false) × (find_key replica_key k n.replicas ≡ None)
 ChangeFits R n (changes.Stage call k t) lent = IsSomeAnd (find_key replica_key k n.replicas) (TakesStage lent t)
 ChangeFits R n (changes.Lead k generation) lent = Unit {0}
+ChangeFits R n (changes.Break k) lent = Unit {0}
 ChangeFits R n (changes.Drop k) lent = Unit {0}
 ChangeFits R n changes.Clear lent = Unit {0}
 ChangeFits R n change lent = ⊥

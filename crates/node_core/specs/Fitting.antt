@@ -1,10 +1,11 @@
 -- When a request may come to a node.
-use Rattle.std.specs.Prelude.{◌≡◌, ◌-◌, ◌^◌, ◌<◌, Option, IsSomeAnd, Bool, true, false}
+use Rattle.std.specs.Prelude.{◌≡◌, ◌-◌, ◌^◌, ◌<◌, Option, None, IsSomeAnd, Bool, true, false}
 use Rattle.ckpt_types.specs.Attributes.{is_malformed}
 use Rattle.node_msgs.specs.declared.requests.Request.{Request}
 use Rattle.node_msgs.specs.declared.requests.Request.TheVariants as requests
 use Rattle.node_msgs.specs.Requests.{ckpt_of}
 use Rattle.stage_slot.specs.Slots.{IsOwnedBy}
+use Rattle.weak_marks.specs.Marks.{IsMarkedBy, is_left_of}
 use Rattle.cluster_record.specs.Places.{find_key}
 use Rattle.cluster_record.specs.RecordState.{RecordState, entry_of}
 use Rattle.replica.specs.Replicas.{Replica}
@@ -13,22 +14,33 @@ use Rattle.node_core.specs.Lending.{HasLent}
 use Rattle.node_core.specs.Nodes.{NodeState, replica_key, seen_from}
 use Rattle.node_core.specs.Seen.{is_complete}
 
--- what a request asks of a replica: a commit and a withdrawal are of what the call has staged; what is not built may not come
+-- what a request asks of a replica: a stage meets no marks, and an update in one step or a weak write no slot; a commit and a withdrawal are of what the call has staged, and an element and the end of a weak write of what it has marked; what is not built may not come
 abbrev pub IsReadyFor : Request → Replica → Type 0
-IsReadyFor (requests.Stage call k t) x = Unit {0}
+IsReadyFor (requests.Stage call k t) x = x.marks ≡ None
 IsReadyFor (requests.Claim call k owner) x = Unit {0}
 IsReadyFor (requests.Commit call k) x = IsOwnedBy call x.slot
 IsReadyFor (requests.Withdraw call k) x = IsOwnedBy call x.slot
+IsReadyFor (requests.Apply call k) x = x.slot ≡ None
+IsReadyFor (requests.Mark call k) x = x.slot ≡ None
+IsReadyFor (requests.Element call k) x = IsMarkedBy call x.marks × (is_left_of x.marks ≡ true)
+IsReadyFor (requests.Unmark call k) x = IsMarkedBy call x.marks × (is_left_of x.marks ≡ false)
 IsReadyFor (requests.Read k) x = Unit {0}
 IsReadyFor (requests.Status k) x = Unit {0}
 IsReadyFor (requests.Iterate call k choice) x = Unit {0}
 IsReadyFor (requests.Next call k) x = Unit {0}
 IsReadyFor request x = ⊥
 
--- an update can be counted where it is staged
+-- an update can be counted where it is staged, applied or begun
 abbrev pub HasCountLeft : Request → Replica → Type 0
 HasCountLeft (requests.Stage call k t) x = x.count < 2 ^ 64 - 1
+HasCountLeft (requests.Apply call k) x = x.count < 2 ^ 64 - 1
+HasCountLeft (requests.Mark call k) x = x.count < 2 ^ 64 - 1
 HasCountLeft request x = Unit {0}
+
+-- an update can be staged on a replica: no marks stand, and it can be counted
+pub record TakesUpdate (x : Replica) : Type 0 where
+  pub unmarked : x.marks ≡ None
+  pub room : x.count < 2 ^ 64 - 1
 
 -- a replica can serve a request, with what is lent
 pub record CanServe (request : Request) (lent : Lent) (x : Replica) : Type 0 where

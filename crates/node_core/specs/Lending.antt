@@ -11,7 +11,7 @@ use Rattle.section_iter.specs.Room.{IsRoomFor}
 use Rattle.node_msgs.specs.declared.requests.Request.{Request}
 use Rattle.node_msgs.specs.declared.requests.Request.TheVariants as requests
 use Rattle.stage_slot.specs.Slots.{Slot}
-use Rattle.replica.specs.Replicas.{Replica}
+use Rattle.replica.specs.Replicas.{Replica, IsWrite}
 use Rattle.node_core.specs.declared.lent.Lent.{Lent}
 
 -- how many bytes the elements of a read ask for at most
@@ -45,10 +45,12 @@ abbrev pub HasRoomToCommit : Option Slot → Buffer → Type 0
 HasRoomToCommit None read = Unit {0}
 HasRoomToCommit (Some slot) read = HasRoomToTell slot.update read
 
--- what a request to a replica uses is lent: the update of a stage, room for the identifier that a commit tells, the elements and the buffer of a read, a place for a status, an iteration with room for all identifiers, and a place for the section that it gives
+-- what a request to a replica uses is lent: the update of a stage, of an update in one step, or of a weak write, room for the identifier that one in one step or a commit tells, the elements and the buffer of a read, a place for a status, an iteration with room for all identifiers, and a place for the section that it gives
 abbrev pub HasLent : Request → Lent → Replica → Type 0
 HasLent (requests.Stage call k t) lent x = IsSome lent.update
 HasLent (requests.Commit call k) lent x = HasRoomToCommit x.slot lent.read
+HasLent (requests.Apply call k) lent x = IsSomeAnd lent.update (λ update. HasRoomToTell update lent.read)
+HasLent (requests.Mark call k) lent x = IsSomeAnd lent.update IsWrite
 HasLent (requests.Read k) lent x = IsSomeAnd lent.vector (λ elements. HasRoomToRead elements lent.read)
 HasLent (requests.Status k) lent x = IsSome lent.status
 HasLent (requests.Iterate call k choice) lent x = IsSomeAnd lent.iteration (λ kept. IsRoomFor x.attributes kept.room)

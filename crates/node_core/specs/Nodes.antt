@@ -63,7 +63,7 @@ replicas_reserved R k reply xs = xs
 -- the replicas of a node after a request that was answered so
 abbrev pub replicas_after : RecordState → NodeState → Request → Payload → Reply → List Replica
 replicas_after R n (requests.Reserve k) p reply = replicas_reserved R k reply n.replicas
-replicas_after R n request p reply = if is_complete (seen_from R n (ckpt_of request)) then change_key replica_key (ckpt_of request) (replica_after request p) n.replicas else n.replicas
+replicas_after R n request p reply = if is_complete (seen_from R n (ckpt_of request)) then change_key replica_key (ckpt_of request) (replica_after request p (seen_from R n (ckpt_of request))) n.replicas else n.replicas
 
 -- the node after it
 abbrev pub node_after : RecordState → NodeState → Request → Payload → Reply → NodeState

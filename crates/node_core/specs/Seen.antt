@@ -2,7 +2,7 @@
 use Rattle.std.specs.Prelude.{ℕ, Option, Some, None, Bool, false, ◌==◌, not, ℤ, slice_index}
 use Rattle.ckpt_types.specs.declared.attributes.CreationAttributes.{CreationAttributes}
 use Rattle.cluster_record.specs.declared.entries.Entry.{Entry}
-use Rattle.cluster_record.specs.RecordState.{RecordState, entry_of}
+use Rattle.cluster_record.specs.RecordState.{RecordState, entry_of, attributes_now}
 
 -- of the entry of its checkpoint: what it declares, with the retention as it is set now; its generation; the moment of its making; and whether the node is complete for it
 pub record EntrySeen : Type 0 where
@@ -20,7 +20,7 @@ pub record RecordSeen : Type 0 where
 abbrev pub entry_seen : ℕ → Option Entry → Option EntrySeen
 entry_seen r None = None
 entry_seen r (Some e) = Some (record {
-  attributes = record e.attributes { retention_duration = e.retention };
+  attributes = attributes_now e;
   generation = e.generation;
   made = e.made;
   complete = not (slice_index e.complete r == 0);

@@ -18,8 +18,9 @@ use Rattle.node_msgs.specs.declared.requests.Request.{Request}
 use Rattle.node_msgs.specs.declared.requests.Request.TheVariants as requests
 use Rattle.node_msgs.specs.declared.replies.Reply.{Reply}
 use Rattle.node_msgs.specs.declared.replies.Reply.TheVariants as replies
-use Rattle.stage_slot.specs.Slots.{Slot}
-use Rattle.replica.specs.Replicas.{Replica, staged, committed, withdrawn, outcome_on}
+use Rattle.stage_slot.specs.Slots.{Slot, owner_of}
+use Rattle.weak_marks.specs.Marks.{Marked, call_of}
+use Rattle.replica.specs.Replicas.{Replica, staged, committed, withdrawn, applied, begun, element_done, ended, outcome_on}
 use Rattle.cluster_record.specs.Calls.{same_call}
 use Rattle.node_core.specs.Payloads.{Payload}
 use Rattle.node_core.specs.Seen.{EntrySeen, RecordSeen}
@@ -31,10 +32,14 @@ abbrev pub done_or_refused : {A : Type 0} → Reply → Result A Refusal → Rep
 done_or_refused done (Ok x) = done
 done_or_refused done (Err why) = replies.Refused why.error why.index
 
+-- the call that stands in its way holds it off; else it is done, or refused as the sections do
+abbrev pub reply_unless : {A : Type 0} → Option CallId → Reply → Result A Refusal → Reply
+reply_unless (Some holder) done after = replies.Held holder
+reply_unless None done after = done_or_refused done after
+
 -- another slot holds the update off; else the sections decide
 abbrev pub stage_reply : Result (List Section) Refusal → Option Slot → Reply
-stage_reply after (Some slot) = replies.Held slot.owner
-stage_reply after None = done_or_refused (replies.Done answers.Nothing) after
+stage_reply after slot = reply_unless (owner_of slot) (replies.Done answers.Nothing) after
 
 -- the caller claims its own slot, or that of the owner it names
 abbrev pub may_claim : CallId → CallId → Slot → Bool
@@ -79,6 +84,22 @@ abbrev pub slot_id : List Section → Option Slot → Details
 slot_id sections None = beside.Nothing
 slot_id sections (Some slot) = told_id slot.update slot.moment sections
 
+-- ---- updates in one step, and weak writes
+
+-- the marks of a weak write hold the update off; else the sections decide
+abbrev pub apply_reply : Update → Result (List Section) Refusal → Option Marked → Reply
+apply_reply update after marks = reply_unless (call_of marks) (replies.Done (update_answer update)) after
+
+-- the identifier of its section, told where the update is applied
+abbrev pub applied_id : Option Marked → Result (List Section) Refusal → Details → Details
+applied_id (Some marked) after told = beside.Nothing
+applied_id None (Ok sections) told = told
+applied_id None (Err why) told = beside.Nothing
+
+-- the marks of a weak write hold another off; else the sections decide
+abbrev pub mark_reply : Result (List Section) Refusal → Option Marked → Reply
+mark_reply after marks = reply_unless (call_of marks) (replies.Done answers.Nothing) after
+
 -- ---- reads and iterations
 
 -- the pieces that a read gives
@@ -109,6 +130,10 @@ reply_of (requests.Stage call k t) p seen x = stage_reply (outcome_on x p.update
 reply_of (requests.Claim call k owner) p seen x = claim_reply call owner x.count x.slot
 reply_of (requests.Commit call k) p seen x = replies.Done (commit_answer x.slot)
 reply_of (requests.Withdraw call k) p seen x = replies.Done answers.Nothing
+reply_of (requests.Apply call k) p seen x = apply_reply p.update (outcome_on x p.update seen.moment) x.marks
+reply_of (requests.Mark call k) p seen x = mark_reply (outcome_on x p.update seen.moment) x.marks
+reply_of (requests.Element call k) p seen x = replies.Done answers.Nothing
+reply_of (requests.Unmark call k) p seen x = replies.Done answers.Nothing
 reply_of (requests.Read k) p seen x = done_or_refused (replies.Done answers.Pieces) (read p.elements seen.moment x.sections)
 reply_of (requests.Status k) p seen x = replies.Done answers.Status
 reply_of (requests.Iterate call k choice) p seen x = replies.Done answers.Nothing
@@ -116,17 +141,22 @@ reply_of (requests.Next call k) p seen x = next_reply (given p.ids seen.moment x
 reply_of _ p seen x = replies.NoReplica
 
 -- and what the replica becomes
-abbrev pub replica_after : Request → Payload → Replica → Replica
-replica_after (requests.Stage call k t) p x = staged call p.update t x
-replica_after (requests.Claim call k owner) p x = record x { slot = claimed_by call owner x.slot }
-replica_after (requests.Commit call k) p x = committed x x.slot
-replica_after (requests.Withdraw call k) p x = withdrawn x
-replica_after _ p x = x
+abbrev pub replica_after : Request → Payload → RecordSeen → Replica → Replica
+replica_after (requests.Stage call k t) p seen x = staged call p.update t x
+replica_after (requests.Claim call k owner) p seen x = record x { slot = claimed_by call owner x.slot }
+replica_after (requests.Commit call k) p seen x = committed x x.slot
+replica_after (requests.Withdraw call k) p seen x = withdrawn x
+replica_after (requests.Apply call k) p seen x = applied p.update seen.moment x
+replica_after (requests.Mark call k) p seen x = begun call p.update seen.moment x
+replica_after (requests.Element call k) p seen x = element_done x x.marks
+replica_after (requests.Unmark call k) p seen x = ended x
+replica_after _ p seen x = x
 
 -- what comes beside the answer: the pieces of a read, the identifier of a new section, the next section, or a status
 abbrev pub details_of : Request → Payload → RecordSeen → Replica → Details
 details_of (requests.Read k) p seen x = read_details (read p.elements seen.moment x.sections)
 details_of (requests.Commit call k) p seen x = slot_id x.sections x.slot
+details_of (requests.Apply call k) p seen x = applied_id x.marks (outcome_on x p.update seen.moment) (told_id p.update seen.moment x.sections)
 details_of (requests.Status k) p seen x = beside.Status (status (attributes_seen seen.entry x.attributes) seen.moment x.sections)
 details_of (requests.Next call k) p seen x = next_details (given p.ids seen.moment x.sections)
 details_of _ p seen x = beside.Nothing

@@ -1,14 +1,14 @@
 //! A node's part of a step of the record.
 ghost use Rattle.std.specs.Prelude.{◌≡◌, IsSomeAnd};
 ghost use Rattle.cluster_record.specs.Places.{find_key, change_key};
-ghost use Rattle.replica.specs.Replicas.{staged};
+ghost use Rattle.replica.specs.Replicas.{abandoned, staged};
 ghost use Rattle.node_core.specs.Changing.{TakesStage};
 ghost use Rattle.node_core.specs.Nodes.{replica_key};
 ghost use Rattle.node_core.specs.Payloads.{update_or};
 
 use crate::lent::Lent;
 use crate::replicas::place_of;
-use crate::updates::stage_lent;
+use crate::serving::stage_in;
 use ckpt_types::{CallId, CkptId, Moment};
 use replica::Replica;
 
@@ -23,18 +23,11 @@ pub(crate) fn stage_at(
     requires { IsSomeAnd (find_key replica_key ckpt replicas.old) (TakesStage lent.old moment) }
     ensures { replicas.new ≡ change_key replica_key ckpt (staged call (update_or lent.old.update) moment) replicas.old }
 {
-    let Some(i) = place_of(replicas, ckpt) else {
-        return;
+    let Some(update) = lent.update.take() else {
+        unreachable!()
     };
-    let replica = &mut replicas[i];
-    stage_on(replica, call, moment, lent);
-}
-
-fn stage_on(replica: &mut Replica, call: CallId, moment: Moment, lent: &mut Lent)
-    requires { TakesStage lent.old moment replica.old }
-    ensures { replica.new ≡ staged call (update_or lent.old.update) moment replica.old }
-{
-    let _reply = stage_lent(replica, call, moment, lent);
+    // It refuses nothing here.
+    let _done = stage_in(replicas, call, ckpt, moment, update);
 }
 
 /// The replica of a checkpoint gets this generation.
@@ -46,4 +39,15 @@ pub(crate) fn lead_at(replicas: &mut [Replica], ckpt: CkptId, generation: u64)
     };
     let replica = &mut replicas[i];
     replica.lead(generation);
+}
+
+/// The weak write that is under way on the replica of a checkpoint is cut short.
+pub(crate) fn break_at(replicas: &mut [Replica], ckpt: CkptId)
+    ensures { replicas.new ≡ change_key replica_key ckpt (λ x. abandoned x x.marks) replicas.old }
+{
+    let Some(i) = place_of(replicas, ckpt) else {
+        return;
+    };
+    let replica = &mut replicas[i];
+    replica.weak_abandon();
 }

@@ -1,9 +1,10 @@
 //! Whether a request or a change may come to a node.
-ghost use Rattle.std.specs.Prelude.{◌≡◌, false, None, IsOk, IsSomeAnd, Decides};
+ghost use Rattle.std.specs.Prelude.{◌≡◌, ℕ, true, false, None, IsOk, IsSomeAnd, Decides};
 ghost use Rattle.ckpt_types.specs.Attributes.{is_malformed};
 ghost use Rattle.cluster_record.specs.Places.{find_key};
 ghost use Rattle.cluster_record.specs.RecordState.{entry_of};
 ghost use Rattle.stage_slot.specs.Slots.{IsOwnedBy};
+ghost use Rattle.weak_marks.specs.Marks.{IsMarkedBy, is_left_of};
 ghost use Rattle.replica.specs.Replicas.{outcome_on};
 ghost use Rattle.node_core.specs.Changing.{ChangeFits, TakesStage};
 ghost use Rattle.node_core.specs.Fitting.{IsReadyFor, HasCountLeft, CanServe, RequestFits};
@@ -18,6 +19,7 @@ use cluster_record::Record;
 use node_msgs::{NodeChange, Request};
 use replica::Replica;
 use stage_slot::Slot;
+use weak_marks::Marks;
 
 /// Whether a request may come to a node of these replicas.
 pub(crate) fn fits_in(
@@ -41,22 +43,20 @@ pub(crate) fn fits_in(
     }
 }
 
-/// Whether a change may come to a node of these replicas.
+/// Whether a change may come to a node of these replicas, whichever node it is.
 pub(crate) fn change_fits_in(
     replicas: &[Replica],
-    number: NodeId,
     seen: &Record,
     change: &NodeChange,
     lent: &Lent,
 ) -> bool
-    ensures { Decides result (ChangeFits seen.now (record { number = number; replicas = replicas.now }) change.now lent.now) }
+    ensures { (r : ℕ) → Decides result (ChangeFits seen.now (record { number = r; replicas = replicas.now }) change.now lent.now) }
 {
-    // Nothing here hangs on which node it is.
-    let _node = number;
     match change {
         NodeChange::Add(ckpt, _) => may_add(replicas, seen, *ckpt),
         NodeChange::Stage(_, ckpt, moment) => may_stage(replicas, *ckpt, *moment, lent),
-        NodeChange::Lead(_, _) | NodeChange::Drop(_) | NodeChange::Clear => true,
+        NodeChange::Lead(_, _) | NodeChange::Break(_) => true,
+        NodeChange::Drop(_) | NodeChange::Clear => true,
         _ => false,
     }
 }
@@ -100,9 +100,12 @@ fn is_ready(replica: &Replica, request: &Request) -> bool
     ensures { Decides result (IsReadyFor request.now replica.now) }
 {
     match request {
-        Request::Stage(_, _, _) | Request::Claim(_, _, _) => true,
-        Request::Read(_) | Request::Status(_) => true,
+        Request::Claim(_, _, _) | Request::Read(_) | Request::Status(_) => true,
         Request::Iterate(_, _, _) | Request::Next(_, _) => true,
+        Request::Stage(_, _, _) => is_unmarked(replica.marks()),
+        Request::Apply(_, _) | Request::Mark(_, _) => is_free(replica.slot()),
+        Request::Element(call, _) => is_midway(replica.marks(), *call),
+        Request::Unmark(call, _) => is_through(replica.marks(), *call),
         Request::Commit(call, _) => owns(replica.slot(), *call),
         Request::Withdraw(call, _) => owns(replica.slot(), *call),
         _ => false,
@@ -118,11 +121,50 @@ fn owns(slot: &Slot, call: CallId) -> bool
     }
 }
 
+// Whether no marks stand.
+fn is_unmarked(marks: &Marks) -> bool
+    ensures { Decides result (marks.now ≡ None) }
+{
+    marks.kept().is_none()
+}
+
+// Whether the weak write of a call is under way.
+fn marked(marks: &Marks, call: CallId) -> bool
+    ensures { Decides result (IsMarkedBy call marks.now) }
+{
+    match marks.kept() {
+        None => false,
+        Some(marked) => marked.call == call,
+    }
+}
+
+// Whether the weak write of a call has an element left.
+fn is_midway(marks: &Marks, call: CallId) -> bool
+    ensures { Decides result (IsMarkedBy call marks.now × (is_left_of marks.now ≡ true)) }
+{
+    if !marked(marks, call) {
+        return false;
+    }
+    marks.left()
+}
+
+// Whether all elements of the weak write of a call are done.
+fn is_through(marks: &Marks, call: CallId) -> bool
+    ensures { Decides result (IsMarkedBy call marks.now × (is_left_of marks.now ≡ false)) }
+{
+    if !marked(marks, call) {
+        return false;
+    }
+    !marks.left()
+}
+
 fn has_count_left(replica: &Replica, request: &Request) -> bool
     ensures { Decides result (HasCountLeft request.now replica.now) }
 {
     match request {
-        Request::Stage(_, _, _) => replica.count() < u64::MAX,
+        Request::Stage(_, _, _) | Request::Apply(_, _) | Request::Mark(_, _) => {
+            replica.count() < u64::MAX
+        }
         _ => true,
     }
 }
@@ -140,6 +182,9 @@ fn takes_stage(replica: &Replica, moment: Moment, lent: &Lent) -> bool
     ensures { Decides result (TakesStage lent.now moment replica.now) }
 {
     if !is_free(replica.slot()) {
+        return false;
+    }
+    if !is_unmarked(replica.marks()) {
         return false;
     }
     if replica.count() == u64::MAX {

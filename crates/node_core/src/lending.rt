@@ -1,6 +1,7 @@
 //! Whether what a request uses is lent.
-ghost use Rattle.std.specs.Prelude.{◌≡◌, ◌≤◌, [], IsSome, IsSomeAnd, Decides, length};
+ghost use Rattle.std.specs.Prelude.{◌≡◌, ◌≤◌, ◌^◌, [], IsSome, IsSomeAnd, MatchOption, Decides, length};
 ghost use Rattle.section_iter.specs.Room.{IsRoomFor};
+ghost use Rattle.replica.specs.Replicas.{IsWrite};
 ghost use Rattle.node_core.specs.Lending.{bytes_asked, id_length, HasRoomToRead, HasRoomForId, HasRoomToTell, HasRoomToCommit, HasLent};
 
 use crate::lent::Lent;
@@ -17,6 +18,8 @@ pub(crate) fn has_lent(replica: &Replica, request: &Request, lent: &Lent) -> boo
     match request {
         Request::Stage(_, _, _) => lent.update.is_some(),
         Request::Commit(_, _) => has_room_to_commit(replica.slot(), &lent.read),
+        Request::Apply(_, _) => has_told(lent),
+        Request::Mark(_, _) => has_write(lent),
         Request::Read(_) => has_read(lent),
         Request::Status(_) => lent.status.is_some(),
         Request::Iterate(_, _, _) => has_iteration(replica, lent),
@@ -25,7 +28,36 @@ pub(crate) fn has_lent(replica: &Replica, request: &Request, lent: &Lent) -> boo
     }
 }
 
-// ---- the identifier that a commit tells
+// ---- an update in one step, and a weak write
+
+fn has_told(lent: &Lent) -> bool
+    ensures { Decides result (IsSomeAnd lent.now.update (λ update. HasRoomToTell update lent.now.read)) }
+{
+    match &lent.update {
+        None => false,
+        Some(update) => has_room_to_tell(update.value(), &lent.read),
+    }
+}
+
+fn has_write(lent: &Lent) -> bool
+    ensures { Decides result (IsSomeAnd lent.now.update IsWrite) }
+{
+    match &lent.update {
+        None => false,
+        Some(update) => is_write(update.value()),
+    }
+}
+
+fn is_write(update: &Update) -> bool
+    ensures { Decides result (IsWrite update.now) }
+{
+    match update {
+        Update::Write(_) => true,
+        _ => false,
+    }
+}
+
+// ---- the identifier that an update tells
 
 fn has_room_to_commit(slot: &Slot, read: &ReadBuf) -> bool
     ensures { Decides result (HasRoomToCommit slot.now read.now) }
@@ -85,21 +117,25 @@ fn has_room_for(elements: &[ReadElement], read: &ReadBuf) -> bool
     if !has_room(read, elements.len(), 0) {
         return false;
     }
-    asks_at_most(elements, read.spare().1)
+    let room = read.spare().1;
+    match bytes_asked(elements) {
+        None => false,
+        Some(bytes) => bytes <= room,
+    }
 }
 
-// Whether the elements ask for no more bytes than these.
-fn asks_at_most(elements: &[ReadElement], room: usize) -> bool
-    ensures { Decides result (bytes_asked elements.now ≤ room) }
+/// How many bytes the elements of a read ask for at most; nothing where they are more than a buffer can have.
+pub fn bytes_asked(elements: &[ReadElement]) -> Option<usize>
+    ensures { MatchOption result (2 ^ 64 ≤ bytes_asked elements.now) (λ n. n ≡ bytes_asked elements.now) }
 {
-    let mut left = room as u64;
+    let mut total: u64 = 0;
     for element in elements {
-        if element.len > left {
-            return false;
-        }
-        left -= element.len;
+        let Some(more) = total.checked_add(element.len) else {
+            return None;
+        };
+        total = more;
     }
-    true
+    Some(total as usize)
 }
 
 // ---- iterations

@@ -10,11 +10,11 @@ use std::alloc::{AllocError, Global};
 /// What travels beside a request, and what comes beside its reply.
 #[derive(Drop)]
 pub struct Lent {
-    /// Where a read puts its pieces, and a commit the identifier of a new section.
+    /// Where a read puts its pieces, and an update the identifier of a new section.
     pub read: ReadBuf,
     /// The elements of a read.
     pub vector: Option<SharedReads>,
-    /// The update of a stage, which uses it up.
+    /// The update of a stage, of an update in one step or of a weak write, each of which uses it up.
     pub update: Option<SharedUpdate>,
     /// The iteration that starts or goes on.
     pub iteration: Option<Iteration>,

@@ -12,6 +12,9 @@ mod reserving;
 mod seen;
 mod serving;
 mod updates;
+mod weak_writes;
 
+pub use lending::bytes_asked;
 pub use lent::Lent;
 pub use node::Node;
+pub use updates::reply_refused;

@@ -1,17 +1,17 @@
 //! A node, and the requests that it serves.
-ghost use Rattle.std.specs.Prelude.{◌≡◌, ◌-◌, ◌^◌, ◌<◌, ℕ, [], IfOk, IfSome, MatchOption, None, Some, OnErr, OnOk, true};
+ghost use Rattle.std.specs.Prelude.{◌≡◌, [], IfOk, IfSome, IsSomeAnd, MatchOption, None, Some, OnErr, OnOk, true};
 ghost use Rattle.node_msgs.specs.Requests.{ckpt_of};
-ghost use Rattle.node_msgs.specs.declared.requests.Request.TheVariants as requests;
-ghost use Rattle.stage_slot.specs.Slots.{IsOwnedBy};
-ghost use Rattle.cluster_record.specs.Places.{find_key};
+ghost use Rattle.stage_slot.specs.Slots.{owner_of, IsOwnedBy};
+ghost use Rattle.replica.specs.Replicas.{answer_unless, committed, outcome_on, staged};
+ghost use Rattle.cluster_record.specs.Places.{find_key, change_key};
 ghost use Rattle.node_core.specs.Changing.{changed_node, ChangeFits, IsAddition};
 ghost use Rattle.node_core.specs.Details.{details_told};
-ghost use Rattle.node_core.specs.Fitting.{RequestFits};
+ghost use Rattle.node_core.specs.Fitting.{RequestFits, TakesUpdate};
 ghost use Rattle.node_core.specs.Nodes.{NodeState, replica_key, seen_from, replica_served, MayReply, node_after, freed_node};
-ghost use Rattle.node_core.specs.Payloads.{payload_of, update_alone, no_payload};
-ghost use Rattle.node_core.specs.Serving.{reply_at, details_at, iteration_behind};
+ghost use Rattle.node_core.specs.Payloads.{payload_of};
+ghost use Rattle.node_core.specs.Serving.{details_at, iteration_behind};
 
-use crate::changing::{lead_at, stage_at};
+use crate::changing::{break_at, lead_at, stage_at};
 use crate::fitting::{change_fits_in, fits_in};
 use crate::lent::Lent;
 use crate::replicas::{find_at, keep_others, keep_there};
@@ -20,7 +20,7 @@ use crate::serving::{commit_in, serve_in, stage_in};
 use ckpt_types::{CallId, CkptId, Moment, NodeId, SharedUpdate};
 use cluster_record::Record;
 use node_msgs::{NodeChange, Reply, Request};
-use replica::Replica;
+use replica::{Replica, StageRefused};
 use std::alloc::{AllocError, Global};
 use std::marker::Model;
 
@@ -82,39 +82,30 @@ impl Node {
         )
     }
 
-    /// Stages an update of a call, as `serve` does with the update that is lent.
+    /// The replica of a checkpoint stages an update of a call, as it does where `serve` asks for it.
     #[inline(always)]
     pub fn stage(
         &mut self,
-        seen: &Record,
         call: CallId,
         ckpt: CkptId,
         moment: Moment,
         update: SharedUpdate,
-    ) -> Reply
-        requires room { IfSome (replica_served seen.now self.old ckpt) (λ x. x.count < 2 ^ 64 - 1) }
-        ensures reply { result ≡ reply_at (requests.Stage call ckpt moment) (update_alone update) (seen_from seen.now self.old ckpt) (replica_served seen.now self.old ckpt) }
-        ensures new { self.new ≡ node_after seen.now self.old (requests.Stage call ckpt moment) (update_alone update) result }
+    ) -> Result<(), StageRefused>
+        requires there { IsSomeAnd (find_key replica_key ckpt self.old.replicas) TakesUpdate }
+        ensures answer { IfSome (find_key replica_key ckpt self.old.replicas) (λ x. result ≡ answer_unless (owner_of x.slot) (outcome_on x update moment)) }
+        ensures new { self.new ≡ record self.old { replicas = change_key replica_key ckpt (staged call update moment) self.old.replicas } }
     {
-        stage_in(
-            self.replicas.as_mut_slice(),
-            self.number,
-            seen,
-            call,
-            ckpt,
-            moment,
-            update,
-        )
+        stage_in(self.replicas.as_mut_slice(), call, ckpt, moment, update)
     }
 
-    /// Commits what a call has staged, as `serve` does, and tells no identifier.
+    /// The replica of a checkpoint commits what a call has staged there, as it does where `serve` asks for it, and no
+    /// identifier is told.
     #[inline(always)]
-    pub fn commit(&mut self, seen: &Record, call: CallId, ckpt: CkptId) -> Reply
-        requires own { IfSome (replica_served seen.now self.old ckpt) (λ x. IsOwnedBy call x.slot) }
-        ensures reply { result ≡ reply_at (requests.Commit call ckpt) no_payload (seen_from seen.now self.old ckpt) (replica_served seen.now self.old ckpt) }
-        ensures new { self.new ≡ node_after seen.now self.old (requests.Commit call ckpt) no_payload result }
+    pub fn commit(&mut self, call: CallId, ckpt: CkptId)
+        requires own { IsSomeAnd (find_key replica_key ckpt self.old.replicas) (λ x. IsOwnedBy call x.slot) }
+        ensures { self.new ≡ record self.old { replicas = change_key replica_key ckpt (λ x. committed x x.slot) self.old.replicas } }
     {
-        commit_in(self.replicas.as_mut_slice(), self.number, seen, call, ckpt)
+        commit_in(self.replicas.as_mut_slice(), call, ckpt);
     }
 
     /// Whether a request may come to the node, with what is lent.
@@ -150,6 +141,10 @@ impl Node {
                 lead_at(self.replicas.as_mut_slice(), *ckpt, *generation);
                 Ok(())
             }
+            NodeChange::Break(ckpt) => {
+                break_at(self.replicas.as_mut_slice(), *ckpt);
+                Ok(())
+            }
             NodeChange::Drop(ckpt) => {
                 keep_others(&mut self.replicas, *ckpt);
                 Ok(())
@@ -167,7 +162,7 @@ impl Node {
         ensures fits { result ≡ true → ChangeFits seen.now self.now change.now lent.now }
         ensures all { ChangeFits seen.now self.now change.now lent.now → result ≡ true }
     {
-        change_fits_in(self.replicas.as_slice(), self.number, seen, change, lent)
+        change_fits_in(self.replicas.as_slice(), seen, change, lent)
     }
 
     /// The replica that the node has of a checkpoint, complete or reserved.

@@ -1,5 +1,5 @@
 //! What a replica tells: reads, a status, and iterations.
-ghost use Rattle.std.specs.Prelude.{◌≡◌, ◌^◌, ◌<◌, ◌≤◌, [], None, Some, IsSome, IsSomeAnd, MatchOption, length};
+ghost use Rattle.std.specs.Prelude.{◌≡◌, ◌^◌, ◌<◌, ◌≤◌, ℕ, [], None, Some, IsSome, IsSomeAnd, MatchOption, length};
 ghost use Rattle.ckpt_types.specs.declared.answers.Answer.TheVariants as answers;
 ghost use Rattle.ckpt_types.specs.Reads.{read, status, chosen, given};
 ghost use Rattle.section_iter.specs.Next.{kept_after};
@@ -16,9 +16,7 @@ ghost use Rattle.node_core.specs.Serving.{done_or_refused, read_details, attribu
 
 use crate::lent::Lent;
 use crate::seen::attributes_seen;
-use ckpt_types::{
-    AisError, Answer, Apart, Choice, CkptId, Moment, NodeId, ReadElement, SectionDescriptor,
-};
+use ckpt_types::{AisError, Answer, Apart, Choice, CkptId, Moment, ReadElement, SectionDescriptor};
 use cluster_record::Record;
 use node_msgs::Reply;
 use replica::Replica;
@@ -63,23 +61,17 @@ fn check_read(store: &Store, elements: &[ReadElement], now: Moment) -> Result<()
 }
 
 // The attributes are those of the record, where it has the checkpoint: the replica's retention is as old as it is.
-pub(crate) fn status_lent(
-    replica: &Replica,
-    ckpt: CkptId,
-    number: NodeId,
-    seen: &Record,
-    lent: &mut Lent,
-) -> Reply
+pub(crate) fn status_lent(replica: &Replica, ckpt: CkptId, seen: &Record, lent: &mut Lent) -> Reply
     requires { IsSome lent.old.status }
     ensures reply { result ≡ replies.Done answers.Status }
-    ensures details { details_told result lent.new ≡ beside.Status (status (attributes_seen (entry_seen number (entry_of ckpt seen.now.entries)) replica.now.attributes) seen.now.moment replica.now.sections) }
+    ensures details { (r : ℕ) → details_told result lent.new ≡ beside.Status (status (attributes_seen (entry_seen r (entry_of ckpt seen.now.entries)) replica.now.attributes) seen.now.moment replica.now.sections) }
     ensures iteration { lent.new.iteration ≡ lent.old.iteration }
 {
     let Some(place) = &mut lent.status else {
         unreachable!()
     };
     let mut status = replica.store().descriptor(seen.now());
-    status.attributes = attributes_seen(seen, ckpt, number, replica.store().attributes());
+    status.attributes = attributes_seen(seen, ckpt, replica.store().attributes());
     place.put(status);
     Reply::Done(Answer::Status)
 }

@@ -1,5 +1,5 @@
 //! What a node sees of the record.
-ghost use Rattle.std.specs.Prelude.{◌≡◌, ◌==◌, not, slice_index};
+ghost use Rattle.std.specs.Prelude.{◌≡◌, ◌==◌, ℕ, not, slice_index};
 ghost use Rattle.node_core.specs.Seen.{record_seen, is_complete, entry_seen};
 ghost use Rattle.node_core.specs.Serving.{attributes_seen};
 ghost use Rattle.cluster_record.specs.RecordState.{entry_of, attributes_now};
@@ -29,17 +29,14 @@ fn has_node(complete: &[u32; NODES_MAX], number: NodeId) -> bool
     }
 }
 
-/// The attributes of a checkpoint as they are now; where it is gone, these.
+/// The attributes of a checkpoint as they are now, for whichever node it is; where the checkpoint is gone, these.
 pub(crate) fn attributes_seen(
     seen: &Record,
     ckpt: CkptId,
-    number: NodeId,
     own: &CreationAttributes,
 ) -> CreationAttributes
-    ensures { result ≡ attributes_seen (entry_seen number (entry_of ckpt seen.now.entries)) own.now }
+    ensures { (r : ℕ) → result ≡ attributes_seen (entry_seen r (entry_of ckpt seen.now.entries)) own.now }
 {
-    // Nothing here hangs on which node it is.
-    let _node = number;
     match seen.entry(ckpt) {
         None => *own,
         Some(entry) => attributes_now(entry),

@@ -1,13 +1,13 @@
 //! What the replica answers with which a node serves a checkpoint, and what becomes of it.
-ghost use Rattle.std.specs.Prelude.{◌≡◌, ◌<◌, ◌-◌, ◌^◌, None, Some, IfSome, length, if◌then◌else◌};
+ghost use Rattle.std.specs.Prelude.{◌≡◌, ◌<◌, None, Some, IfSome, IsSomeAnd, length, if◌then◌else◌};
 ghost use Rattle.cluster_record.specs.Places.{find_key, change_key, place_key};
 ghost use Rattle.node_msgs.specs.Requests.{ckpt_of};
-ghost use Rattle.node_msgs.specs.declared.requests.Request.TheVariants as requests;
-ghost use Rattle.stage_slot.specs.Slots.{IsOwnedBy};
+ghost use Rattle.stage_slot.specs.Slots.{owner_of, IsOwnedBy};
+ghost use Rattle.replica.specs.Replicas.{answer_unless, committed, outcome_on, staged};
 ghost use Rattle.node_core.specs.Details.{details_told};
-ghost use Rattle.node_core.specs.Fitting.{CanServe, ReplicaFits};
+ghost use Rattle.node_core.specs.Fitting.{CanServe, ReplicaFits, TakesUpdate};
 ghost use Rattle.node_core.specs.Nodes.{replica_key, where_seen};
-ghost use Rattle.node_core.specs.Payloads.{payload_of, update_alone, no_payload};
+ghost use Rattle.node_core.specs.Payloads.{payload_of};
 ghost use Rattle.node_core.specs.Seen.{record_seen, is_complete};
 ghost use Rattle.node_core.specs.Serving.{reply_of, reply_at, replica_after, details_of, details_at, iteration_behind};
 
@@ -15,11 +15,12 @@ use crate::lent::Lent;
 use crate::reads::{next_lent, read_lent, start_lent, status_lent};
 use crate::replicas::place_of;
 use crate::seen::is_complete;
-use crate::updates::{claim, commit, commit_lent, stage, stage_lent, withdraw};
+use crate::updates::{apply_lent, claim, commit_lent, stage_lent, withdraw};
+use crate::weak_writes::{element, mark_lent, unmark};
 use ckpt_types::{CallId, CkptId, Moment, NodeId, SharedUpdate};
 use cluster_record::Record;
 use node_msgs::{Reply, Request};
-use replica::Replica;
+use replica::{Replica, StageRefused};
 
 // Where the replica stands with which the node serves a checkpoint.
 #[inline(always)]
@@ -43,7 +44,7 @@ pub(crate) fn serve_in(
 ) -> Reply
     requires { ReplicaFits (is_complete (record_seen seen.now (ckpt_of request.now) number)) request.now lent.old (find_key replica_key (ckpt_of request.now) replicas.old) }
     ensures reply { result ≡ reply_at request.now (payload_of lent.old) (record_seen seen.now (ckpt_of request.now) number) (where_seen (is_complete (record_seen seen.now (ckpt_of request.now) number)) (find_key replica_key (ckpt_of request.now) replicas.old)) }
-    ensures new { replicas.new ≡ (if is_complete (record_seen seen.now (ckpt_of request.now) number) then change_key replica_key (ckpt_of request.now) (replica_after request.now (payload_of lent.old)) replicas.old else replicas.old) }
+    ensures new { replicas.new ≡ (if is_complete (record_seen seen.now (ckpt_of request.now) number) then change_key replica_key (ckpt_of request.now) (replica_after request.now (payload_of lent.old) (record_seen seen.now (ckpt_of request.now) number)) replicas.old else replicas.old) }
     ensures details { details_told result lent.new ≡ details_at request.now (payload_of lent.old) (record_seen seen.now (ckpt_of request.now) number) (where_seen (is_complete (record_seen seen.now (ckpt_of request.now) number)) (find_key replica_key (ckpt_of request.now) replicas.old)) }
     ensures iteration { lent.new.iteration ≡ iteration_behind request.now (record_seen seen.now (ckpt_of request.now) number) (where_seen (is_complete (record_seen seen.now (ckpt_of request.now) number)) (find_key replica_key (ckpt_of request.now) replicas.old)) lent.old.iteration }
 {
@@ -54,46 +55,37 @@ pub(crate) fn serve_in(
     answer(replica, number, seen, request, lent)
 }
 
-/// Stages an update of a call.
+/// The replica of a checkpoint stages an update of a call.
 #[inline(always)]
 pub(crate) fn stage_in(
     replicas: &mut [Replica],
-    number: NodeId,
-    seen: &Record,
     call: CallId,
     ckpt: CkptId,
     moment: Moment,
     update: SharedUpdate,
-) -> Reply
-    requires { IfSome (where_seen (is_complete (record_seen seen.now ckpt number)) (find_key replica_key ckpt replicas.old)) (λ x. x.count < 2 ^ 64 - 1) }
-    ensures reply { result ≡ reply_at (requests.Stage call ckpt moment) (update_alone update) (record_seen seen.now ckpt number) (where_seen (is_complete (record_seen seen.now ckpt number)) (find_key replica_key ckpt replicas.old)) }
-    ensures new { replicas.new ≡ (if is_complete (record_seen seen.now ckpt number) then change_key replica_key ckpt (replica_after (requests.Stage call ckpt moment) (update_alone update)) replicas.old else replicas.old) }
+) -> Result<(), StageRefused>
+    requires there { IsSomeAnd (find_key replica_key ckpt replicas.old) TakesUpdate }
+    ensures answer { IfSome (find_key replica_key ckpt replicas.old) (λ x. result ≡ answer_unless (owner_of x.slot) (outcome_on x update moment)) }
+    ensures new { replicas.new ≡ change_key replica_key ckpt (staged call update moment) replicas.old }
 {
-    let Some(i) = place_served(replicas, number, seen, ckpt) else {
-        return Reply::NoReplica;
+    let Some(i) = place_of(replicas, ckpt) else {
+        unreachable!()
     };
     let replica = &mut replicas[i];
-    stage(replica, call, update, moment)
+    replica.stage(call, update, moment)
 }
 
-/// Commits what a call has staged.
+/// The replica of a checkpoint commits what a call has staged there.
 #[inline(always)]
-pub(crate) fn commit_in(
-    replicas: &mut [Replica],
-    number: NodeId,
-    seen: &Record,
-    call: CallId,
-    ckpt: CkptId,
-) -> Reply
-    requires { IfSome (where_seen (is_complete (record_seen seen.now ckpt number)) (find_key replica_key ckpt replicas.old)) (λ x. IsOwnedBy call x.slot) }
-    ensures reply { result ≡ reply_at (requests.Commit call ckpt) no_payload (record_seen seen.now ckpt number) (where_seen (is_complete (record_seen seen.now ckpt number)) (find_key replica_key ckpt replicas.old)) }
-    ensures new { replicas.new ≡ (if is_complete (record_seen seen.now ckpt number) then change_key replica_key ckpt (replica_after (requests.Commit call ckpt) no_payload) replicas.old else replicas.old) }
+pub(crate) fn commit_in(replicas: &mut [Replica], call: CallId, ckpt: CkptId)
+    requires own { IsSomeAnd (find_key replica_key ckpt replicas.old) (λ x. IsOwnedBy call x.slot) }
+    ensures { replicas.new ≡ change_key replica_key ckpt (λ x. committed x x.slot) replicas.old }
 {
-    let Some(i) = place_served(replicas, number, seen, ckpt) else {
-        return Reply::NoReplica;
+    let Some(i) = place_of(replicas, ckpt) else {
+        unreachable!()
     };
     let replica = &mut replicas[i];
-    commit(replica, call)
+    replica.commit(call);
 }
 
 // The answer of a replica for which its node is complete.
@@ -106,7 +98,7 @@ fn answer(
 ) -> Reply
     requires { CanServe request.now lent.old replica.old }
     ensures reply { result ≡ reply_of request.now (payload_of lent.old) (record_seen seen.now (ckpt_of request.now) number) replica.old }
-    ensures new { replica.new ≡ replica_after request.now (payload_of lent.old) replica.old }
+    ensures new { replica.new ≡ replica_after request.now (payload_of lent.old) (record_seen seen.now (ckpt_of request.now) number) replica.old }
     ensures details { details_told result lent.new ≡ details_of request.now (payload_of lent.old) (record_seen seen.now (ckpt_of request.now) number) replica.old }
     ensures iteration { lent.new.iteration ≡ iteration_behind request.now (record_seen seen.now (ckpt_of request.now) number) (Some replica.old) lent.old.iteration }
 {
@@ -115,8 +107,12 @@ fn answer(
         Request::Claim(call, _, owner) => claim(replica, *call, *owner),
         Request::Commit(call, _) => commit_lent(replica, *call, lent),
         Request::Withdraw(call, _) => withdraw(replica, *call),
+        Request::Apply(_, _) => apply_lent(replica, seen.now(), lent),
+        Request::Mark(call, _) => mark_lent(replica, *call, seen.now(), lent),
+        Request::Element(call, _) => element(replica, *call),
+        Request::Unmark(call, _) => unmark(replica, *call),
         Request::Read(_) => read_lent(replica, seen, lent),
-        Request::Status(ckpt) => status_lent(replica, *ckpt, number, seen, lent),
+        Request::Status(ckpt) => status_lent(replica, *ckpt, seen, lent),
         Request::Iterate(_, _, choice) => start_lent(replica, *choice, seen, lent),
         Request::Next(_, _) => next_lent(replica, seen, lent),
         _ => Reply::NoReplica,

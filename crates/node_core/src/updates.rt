@@ -1,56 +1,31 @@
-//! What a replica makes of an update: stages, claims, commits and withdrawals.
-ghost use Rattle.std.specs.Prelude.{◌≡◌, ◌-◌, ◌^◌, ◌<◌, None, IsSome};
+//! What a replica makes of an update: stages, claims, commits and withdrawals, and updates in one step.
+ghost use Rattle.std.specs.Prelude.{◌≡◌, ◌-◌, ◌^◌, ◌<◌, None, IsSome, IsSomeAnd};
 ghost use Rattle.ckpt_types.specs.declared.answers.Answer.TheVariants as answers;
 ghost use Rattle.node_msgs.specs.declared.replies.Reply.TheVariants as replies;
 ghost use Rattle.stage_slot.specs.Slots.{IsOwnedBy};
-ghost use Rattle.replica.specs.Replicas.{outcome_on, staged, committed};
+ghost use Rattle.replica.specs.Replicas.{outcome_on, staged, committed, applied};
 ghost use Rattle.node_core.specs.Details.{details_told};
+ghost use Rattle.node_core.specs.Fitting.{TakesUpdate};
 ghost use Rattle.node_core.specs.Lending.{HasRoomToTell, HasRoomToCommit};
 ghost use Rattle.node_core.specs.Payloads.{update_or};
-ghost use Rattle.node_core.specs.Serving.{stage_reply, claim_reply, claimed_by, update_answer, commit_answer, told_id, slot_id};
-ghost use Rattle.node_core.specs.StageReplies.{reply_refused};
+ghost use Rattle.node_core.specs.Serving.{stage_reply, claim_reply, claimed_by, update_answer, commit_answer, told_id, slot_id, apply_reply, applied_id};
+ghost use Rattle.node_core.specs.StageReplies.{reply_refused, reply_told};
 
 use crate::lent::Lent;
-use ckpt_types::{Answer, CallId, Moment, NewId, SharedUpdate, Update};
+use ckpt_types::{Answer, CallId, Moment, NewId, Update};
 use node_msgs::Reply;
 use replica::{Replica, StageRefused};
 use section_store::Store;
 use stage_slot::{Claimed, Slot};
 
-/// Stages the update of a call at this moment, where no slot stands and the sections admit it.
-#[inline(always)]
-pub(crate) fn stage(
-    replica: &mut Replica,
-    call: CallId,
-    update: SharedUpdate,
-    moment: Moment,
-) -> Reply
-    requires { replica.old.count < 2 ^ 64 - 1 }
-    ensures reply { result ≡ stage_reply (outcome_on replica.old update moment) replica.old.slot }
-    ensures new { replica.new ≡ staged call update moment replica.old }
-{
-    match replica.stage(call, update, moment) {
-        Ok(()) => Reply::Done(Answer::Nothing),
-        Err(refused) => reply_refused(refused),
-    }
-}
-
-fn reply_refused(refused: StageRefused) -> Reply
-    ensures { result ≡ reply_refused refused }
-{
-    match refused {
-        StageRefused::Held(owner) => Reply::Held(owner),
-        StageRefused::Rules(refused) => Reply::Refused(refused.error, refused.index),
-    }
-}
-
+/// Stages the update that is lent.
 pub(crate) fn stage_lent(
     replica: &mut Replica,
     call: CallId,
     moment: Moment,
     lent: &mut Lent,
 ) -> Reply
-    requires room { replica.old.count < 2 ^ 64 - 1 }
+    requires takes { TakesUpdate replica.old }
     requires lent { IsSome lent.old.update }
     ensures reply { result ≡ stage_reply (outcome_on replica.old (update_or lent.old.update) moment) replica.old.slot }
     ensures new { replica.new ≡ staged call (update_or lent.old.update) moment replica.old }
@@ -59,7 +34,46 @@ pub(crate) fn stage_lent(
     let Some(update) = lent.update.take() else {
         unreachable!()
     };
-    stage(replica, call, update, moment)
+    reply_told(Answer::Nothing, replica.stage(call, update, moment))
+}
+
+/// Whether an update is staged, applied or begun, as a reply tells it.
+pub(crate) fn reply_told(answer: Answer, told: Result<(), StageRefused>) -> Reply
+    ensures { result ≡ reply_told answer told }
+{
+    match told {
+        Ok(()) => Reply::Done(answer),
+        Err(refused) => reply_refused(refused),
+    }
+}
+
+/// Why an update is not staged, applied or begun, as a reply tells it.
+pub fn reply_refused(refused: StageRefused) -> Reply
+    ensures { result ≡ reply_refused refused }
+{
+    match refused {
+        StageRefused::Held(holder) => Reply::Held(holder),
+        StageRefused::Rules(refused) => Reply::Refused(refused.error, refused.index),
+    }
+}
+
+/// Makes the update that is lent at once. A creation tells the identifier of its section, which is made over the
+/// sections before it.
+pub(crate) fn apply_lent(replica: &mut Replica, moment: Moment, lent: &mut Lent) -> Reply
+    requires room { replica.old.count < 2 ^ 64 - 1 }
+    requires free { replica.old.slot ≡ None }
+    requires lent { IsSomeAnd lent.old.update (λ update. HasRoomToTell update lent.old.read) }
+    ensures reply { result ≡ apply_reply (update_or lent.old.update) (outcome_on replica.old (update_or lent.old.update) moment) replica.old.marks }
+    ensures new { replica.new ≡ applied (update_or lent.old.update) moment replica.old }
+    ensures details { details_told result lent.new ≡ applied_id replica.old.marks (outcome_on replica.old (update_or lent.old.update) moment) (told_id (update_or lent.old.update) moment replica.old.sections) }
+    ensures iteration { lent.new.iteration ≡ lent.old.iteration }
+{
+    let Some(update) = lent.update.take() else {
+        unreachable!()
+    };
+    let update = update.value();
+    tell_id(replica.store(), update, moment, lent);
+    reply_told(update_answer(update), replica.apply_now(update, moment))
 }
 
 pub(crate) fn claim(replica: &mut Replica, call: CallId, owner: CallId) -> Reply
@@ -74,19 +88,7 @@ pub(crate) fn claim(replica: &mut Replica, call: CallId, owner: CallId) -> Reply
     }
 }
 
-/// Commits what the call has staged. It tells no identifier.
-#[inline(always)]
-pub(crate) fn commit(replica: &mut Replica, call: CallId) -> Reply
-    requires { IsOwnedBy call replica.old.slot }
-    ensures reply { result ≡ replies.Done (commit_answer replica.old.slot) }
-    ensures new { replica.new ≡ committed replica.old replica.old.slot }
-{
-    let answer = commit_answer(replica.slot());
-    replica.commit(call);
-    Reply::Done(answer)
-}
-
-#[inline(always)]
+// What the commit of a slot answers.
 fn commit_answer(slot: &Slot) -> Answer
     ensures { result ≡ commit_answer slot.now }
 {
@@ -96,7 +98,7 @@ fn commit_answer(slot: &Slot) -> Answer
     }
 }
 
-#[inline(always)]
+// What an update that is done answers.
 fn update_answer(update: &Update) -> Answer
     ensures { result ≡ update_answer update.now }
 {
@@ -116,7 +118,9 @@ pub(crate) fn commit_lent(replica: &mut Replica, call: CallId, lent: &mut Lent) 
     ensures iteration { lent.new.iteration ≡ lent.old.iteration }
 {
     tell_slot(replica, lent);
-    commit(replica, call)
+    let answer = commit_answer(replica.slot());
+    replica.commit(call);
+    Reply::Done(answer)
 }
 
 fn tell_slot(replica: &Replica, lent: &mut Lent)

@@ -1,20 +1,25 @@
 //! A replica: what may be done to it, and what becomes of it. It knows no message and no other replica.
-ghost use Rattle.std.specs.Prelude.{◌≡◌, ◌-◌, ◌^◌, ◌<◌, false, IfOk};
+ghost use Rattle.std.specs.Prelude.{◌≡◌, ◌≢◌, ◌+◌, ◌-◌, ◌^◌, ◌<◌, false, true, None, IfOk};
 ghost use Rattle.ckpt_types.specs.Attributes.{is_malformed};
 ghost use Rattle.stage_slot.specs.Slots.{owner_of, IsOwnedBy, IsClaim};
-ghost use Rattle.replica.specs.Replicas.{opened_replica, outcome_on, stage_answer, staged, committed, withdrawn};
+ghost use Rattle.update_rules.specs.Told.{check_answer};
+ghost use Rattle.weak_marks.specs.Marks.{call_of, is_left, is_left_of, IsMarkedBy};
+ghost use Rattle.replica.specs.Replicas.{opened_replica, outcome_on, answer_unless, staged, committed, withdrawn, applied, begun, element_done, elements_left, first_written, ended, abandoned, all_corrupted, IsWrite, CanGoOn};
 
-use ckpt_types::{CallId, CkptId, CreationAttributes, Held, Moment, SharedUpdate};
+use ckpt_types::{
+    CallId, CkptId, CreationAttributes, Held, IoElement, Moment, SharedUpdate, Update,
+};
 use section_store::Store;
 use stage_slot::{Claimed, Slot};
 use std::alloc::{AllocError, Global};
 use std::marker::Model;
 use update_rules::Refused;
+use weak_marks::{Marked, Marks};
 
-/// Why an update is not staged.
+/// Why an update is not staged, is not made at once, or does not begin.
 #[derive(Clone, Copy, Debug)]
 pub enum StageRefused {
-    /// The slot of this call stands.
+    /// The slot of this call stands, or its marks do.
     Held(CallId),
     /// The sections do not admit the update.
     Rules(Refused),
@@ -29,6 +34,7 @@ pub struct Replica {
     count: u64,
     generation: u64,
     slot: Slot,
+    marks: Marks,
 }
 
 impl Model for Replica {
@@ -36,11 +42,11 @@ impl Model for Replica {
 
     ghost Value = { Replica };
 
-    ghost use Rattle.replica.specs.ReplicaView.{replica_shown, IsSlotKept};
+    ghost use Rattle.replica.specs.ReplicaView.{replica_shown, KeepsAll};
 
     ghost view = { replica_shown };
 
-    ghost invariant = { IsSlotKept };
+    ghost invariant = { KeepsAll };
 }
 
 impl Replica {
@@ -61,6 +67,7 @@ impl Replica {
             count: 0,
             generation: 1,
             slot: Slot::empty(),
+            marks: Marks::empty(),
         })
     }
 
@@ -74,18 +81,14 @@ impl Replica {
         moment: Moment,
     ) -> Result<(), StageRefused>
         requires room { self.old.count < 2 ^ 64 - 1 }
-        ensures answer { result ≡ stage_answer (outcome_on self.old update moment) self.old.slot }
+        requires unmarked { self.old.marks ≡ None }
+        ensures answer { result ≡ answer_unless (owner_of self.old.slot) (outcome_on self.old update moment) }
         ensures new { self.new ≡ staged by update moment self.old }
     {
         if let Some(owner) = self.slot.owner() {
             return Err(StageRefused::Held(owner));
         }
-        if let Err(refused) = update_rules::check(
-            self.store.attributes(),
-            &self.store,
-            update.value(),
-            moment,
-        ) {
+        if let Err(refused) = self.check(update.value(), moment) {
             return Err(StageRefused::Rules(refused));
         }
         let Ok(()) = self.slot.stage(by, update, moment, self.count) else {
@@ -123,6 +126,100 @@ impl Replica {
         ensures { self.new ≡ withdrawn self.old }
     {
         self.slot.clear(by);
+    }
+
+    /// Makes an update at once, at this moment. Where the marks of a weak write stand, or the sections do not admit
+    /// the update, nothing changes, and the answer says which.
+    pub fn apply_now(&mut self, update: &Update, moment: Moment) -> Result<(), StageRefused>
+        requires room { self.old.count < 2 ^ 64 - 1 }
+        requires free { self.old.slot ≡ None }
+        ensures answer { result ≡ answer_unless (call_of self.old.marks) (outcome_on self.old update.now moment) }
+        ensures new { self.new ≡ applied update.now moment self.old }
+    {
+        self.admit(update, moment)?;
+        self.store.apply(update, moment);
+        self.count += 1;
+        Ok(())
+    }
+
+    /// The weak write of a call begins, whose elements are done one by one, all at this moment. Where marks stand, or
+    /// the sections do not admit the whole write, nothing changes, and the answer says which.
+    pub fn weak_begin(
+        &mut self,
+        by: CallId,
+        update: SharedUpdate,
+        moment: Moment,
+    ) -> Result<(), StageRefused>
+        requires write { IsWrite update }
+        requires room { self.old.count < 2 ^ 64 - 1 }
+        requires free { self.old.slot ≡ None }
+        ensures answer { result ≡ answer_unless (call_of self.old.marks) (outcome_on self.old update moment) }
+        ensures new { self.new ≡ begun by update moment self.old }
+    {
+        self.admit(update.value(), moment)?;
+        let Ok(()) = self.marks.begin(by, update, moment, self.generation) else {
+            unreachable!()
+        };
+        Ok(())
+    }
+
+    /// The next element of the weak write is done, alone.
+    pub fn weak_element(&mut self, by: CallId)
+        requires own { IsMarkedBy by self.old.marks }
+        requires left { is_left_of self.old.marks ≡ true }
+        ensures { self.new ≡ element_done self.old self.old.marks }
+    {
+        let Some(marked) = self.marks.kept() else {
+            unreachable!()
+        };
+        write_next(&mut self.store, marked);
+        let Some(_) = self.marks.element(by) else {
+            unreachable!()
+        };
+    }
+
+    /// The weak write, all of whose elements are done, counts, and its marks go.
+    pub fn weak_end(&mut self, by: CallId)
+        requires own { IsMarkedBy by self.old.marks }
+        requires done { is_left_of self.old.marks ≡ false }
+        ensures { self.new ≡ ended self.old }
+    {
+        self.count += 1;
+        self.marks.end(by);
+    }
+
+    /// The weak write that is under way ends with its call gone: each section that it writes is corrupted, where it
+    /// stands, the write counts, and its marks go. Where no marks stand, nothing changes.
+    pub fn weak_abandon(&mut self)
+        ensures { self.new ≡ abandoned self.old self.old.marks }
+    {
+        let Some(marked) = self.marks.kept() else {
+            return;
+        };
+        corrupt_all(&mut self.store, marked.elements());
+        self.count += 1;
+        self.marks = Marks::empty();
+    }
+
+    // Whether an update may be made at this moment without being staged, or what holds it off.
+    fn admit(&self, update: &Update, moment: Moment) -> Result<(), StageRefused>
+        ensures { result ≡ answer_unless (call_of self.now.marks) (outcome_on self.now update.now moment) }
+    {
+        if let Some(call) = self.marks.call() {
+            return Err(StageRefused::Held(call));
+        }
+        match self.check(update, moment) {
+            Ok(()) => Ok(()),
+            Err(refused) => Err(StageRefused::Rules(refused)),
+        }
+    }
+
+    // Whether the sections admit an update at a moment, or why not.
+    #[inline(always)]
+    fn check(&self, update: &Update, moment: Moment) -> Result<(), Refused>
+        ensures { result ≡ check_answer (outcome_on self.now update.now moment) }
+    {
+        update_rules::check(self.store.attributes(), &self.store, update, moment)
     }
 
     /// The replica has this generation from then on.
@@ -169,11 +266,55 @@ impl Replica {
         self.slot.owner()
     }
 
+    /// The weak write that is under way on it, and how far it is.
+    pub fn marks(&self) -> &Marks
+        ensures { result.now ≡ self.now.marks }
+    {
+        &self.marks
+    }
+
+    /// The call whose marks stand on it, where they do.
+    pub fn marked_by(&self) -> Option<CallId>
+        ensures { result ≡ call_of self.now.marks }
+    {
+        self.marks.call()
+    }
+
+    /// Whether marks stand with an element that is not done.
+    pub fn elements_left(&self) -> bool
+        ensures { result ≡ is_left_of self.now.marks }
+    {
+        self.marks.left()
+    }
+
     /// Its sections, and what they are declared to be.
     pub fn store(&self) -> &Store
         ensures sections { result.now.sections ≡ self.now.sections }
         ensures attributes { result.now.attributes ≡ self.now.attributes }
     {
         &self.store
+    }
+}
+
+// The next element of a weak write is done, alone, and those behind it can be done then.
+fn write_next(store: &mut Store, marked: &Marked)
+    requires left { is_left marked.now ≡ true }
+    requires fits { CanGoOn store.old.attributes marked.now store.old.sections }
+    ensures attributes { store.new.attributes ≡ store.old.attributes }
+    ensures first { first_written store.old.attributes marked.now.moment (elements_left marked.now) store.old.sections ≡ store.new.sections }
+    ensures rest { CanGoOn store.new.attributes (record marked.now { done = marked.now.done + 1 }) store.new.sections }
+{
+    let Some(element) = marked.next() else {
+        unreachable!()
+    };
+    store.apply_element(element, marked.moment);
+}
+
+// Each section that these elements write is corrupted, where it stands.
+fn corrupt_all(store: &mut Store, elements: &[IoElement])
+    ensures { store.new ≡ record store.old { sections = all_corrupted elements.now store.old.sections } }
+{
+    for element in elements {
+        store.corrupt(element.id.as_slice());
     }
 }

@@ -1,11 +1,13 @@
-//! A replica and a node at work: an update that is staged, taken over, dropped and committed, and what a node answers
-//! that is asked for a checkpoint that the record does not have.
-ghost use Rattle.std.specs.Prelude.{◌≡◌, true};
+//! A replica and a node at work: an update that is staged, taken over, dropped and committed, one that is done element by
+//! element, and what a node answers that is asked for a checkpoint that the record does not have.
+ghost use Rattle.std.specs.Prelude.{◌≡◌, true, IfOk};
 ghost use Rattle.stage_slot.specs.Slots.{IsOwnedBy};
+ghost use Rattle.weak_marks.specs.Marks.{IsMarkedBy};
+ghost use Rattle.replica.specs.Replicas.{IsWrite};
 
 use ckpt_types::{
-    ActorName, Bytes, CallId, CreationAttributes, IoElement, IoVector, Sections, SharedUpdate,
-    Update, WR_ALL_REPLICAS,
+    ActorName, Bytes, CallId, CreationAttributes, IoElement, IoVector, SectionState, Sections,
+    SharedUpdate, Update, WR_ALL_REPLICAS,
 };
 use cluster_record::Record;
 use node_core::{Lent, Node};
@@ -41,7 +43,9 @@ const THIRD: CallId = CallId {
 };
 
 /// A write of these bytes at the front of the default section.
-fn write(alloc: Global, bytes: &[u8]) -> Result<SharedUpdate, AllocError> {
+fn write(alloc: Global, bytes: &[u8]) -> Result<SharedUpdate, AllocError>
+    ensures { IfOk result IsWrite }
+{
     let element = IoElement {
         id: Bytes::default(),
         offset: 0,
@@ -59,6 +63,9 @@ fn stages(
 ) -> Result<bool, AllocError> {
     let update = write(alloc, bytes)?;
     if replica.count() == u64::MAX {
+        return Ok(false);
+    }
+    if replica.marks().kept().is_some() {
         return Ok(false);
     }
     Ok(replica.stage(by, update, 5).is_ok())
@@ -134,6 +141,114 @@ fn what_is_withdrawn_leaves_nothing(rt: HostRuntime) -> Result<(), Fail> {
     assert!(rt; !owns(&replica, FIRST));
     assert_eq!(rt; replica.count(), 0);
     assert!(rt; has_bytes(&replica, b""));
+    Ok(())
+}
+
+/// Begins a weak write, where one update more can be counted and nothing is staged. Whether it is under way.
+fn begins(
+    replica: &mut Replica,
+    alloc: Global,
+    by: CallId,
+    bytes: &[u8],
+) -> Result<bool, AllocError> {
+    let update = write(alloc, bytes)?;
+    if replica.count() == u64::MAX {
+        return Ok(false);
+    }
+    if replica.slot().kept().is_some() {
+        return Ok(false);
+    }
+    Ok(replica.weak_begin(by, update, 5).is_ok())
+}
+
+/// Makes a write at once, where one update more can be counted and nothing is staged. Whether it is made.
+fn applies(replica: &mut Replica, alloc: Global, bytes: &[u8]) -> Result<bool, AllocError> {
+    let update = write(alloc, bytes)?;
+    if replica.count() == u64::MAX {
+        return Ok(false);
+    }
+    if replica.slot().kept().is_some() {
+        return Ok(false);
+    }
+    Ok(replica.apply_now(update.value(), 5).is_ok())
+}
+
+/// Whether the marks are those of the call.
+fn is_marked(replica: &Replica, by: CallId) -> bool
+    ensures { result ≡ true → IsMarkedBy by replica.now.marks }
+{
+    match replica.marks().kept() {
+        None => false,
+        Some(marked) => marked.call == by,
+    }
+}
+
+/// Does the next element of the call's weak write, where one is left.
+fn does_element(replica: &mut Replica, by: CallId) -> bool {
+    if !is_marked(replica, by) {
+        return false;
+    }
+    if !replica.elements_left() {
+        return false;
+    }
+    replica.weak_element(by);
+    true
+}
+
+/// Ends the call's weak write, where no element is left.
+fn ends(replica: &mut Replica, by: CallId) -> bool {
+    if !is_marked(replica, by) {
+        return false;
+    }
+    if replica.elements_left() {
+        return false;
+    }
+    replica.weak_end(by);
+    true
+}
+
+/// Whether the replica has one section, and that is corrupted.
+fn is_corrupted(replica: &Replica) -> bool {
+    let store = replica.store();
+    if store.len() != 1 {
+        return false;
+    }
+    store.at(0).state == SectionState::Corrupted
+}
+
+#[test]
+fn a_weak_write_is_done_element_by_element(rt: HostRuntime) -> Result<(), Fail> {
+    let alloc = rt.alloc();
+    let mut replica = Replica::reserve(alloc, 1, &ONE, 2)?;
+    assert!(rt; begins(&mut replica, alloc, FIRST, b"ab")?);
+    assert!(rt; has_bytes(&replica, b""));
+    assert!(rt; !begins(&mut replica, alloc, SECOND, b"cd")?);
+    assert!(rt; !applies(&mut replica, alloc, b"ef")?);
+    assert!(rt; !ends(&mut replica, FIRST));
+    assert!(rt; does_element(&mut replica, FIRST));
+    assert!(rt; has_bytes(&replica, b"ab"));
+    assert_eq!(rt; replica.count(), 0);
+    assert!(rt; !does_element(&mut replica, FIRST));
+    assert!(rt; ends(&mut replica, FIRST));
+    assert_eq!(rt; replica.count(), 1);
+    assert!(rt; applies(&mut replica, alloc, b"c")?);
+    assert!(rt; has_bytes(&replica, b"cb"));
+    assert_eq!(rt; replica.count(), 2);
+    Ok(())
+}
+
+#[test]
+fn what_is_cut_short_is_corrupted(rt: HostRuntime) -> Result<(), Fail> {
+    let alloc = rt.alloc();
+    let mut replica = Replica::reserve(alloc, 1, &ONE, 2)?;
+    replica.weak_abandon();
+    assert!(rt; !is_corrupted(&replica));
+    assert!(rt; begins(&mut replica, alloc, FIRST, b"ab")?);
+    replica.weak_abandon();
+    assert!(rt; is_corrupted(&replica));
+    assert!(rt; has_bytes(&replica, b""));
+    assert_eq!(rt; replica.count(), 1);
+    assert!(rt; !is_marked(&replica, FIRST));
     Ok(())
 }
 

@@ -18,7 +18,7 @@ returns-in_default-clause-new c =
     let k = ckpt_of c.args.request.now in
     let seen = record_seen c.args.seen.now k c.args.number in
     let from = c.place_served.ensures.place ∙ ap (λ k. place_served (is_complete (record_seen c.args.seen.now k c.args.number)) k c.args.replicas.now) c.ckpt.ensures in
-    served_same (is_complete seen) k (replica_after c.args.request.now (payload_of c.args.lent.now)) c.args.replicas.now c.place_served.result from c.in_default.is
+    served_same (is_complete seen) k (replica_after c.args.request.now (payload_of c.args.lent.now) seen) c.args.replicas.now c.place_served.result from c.in_default.is
 
 pub returns-in_default-clause-details : goal.returns-in_default-clause-details
 returns-in_default-clause-details c =
@@ -54,7 +54,7 @@ returns-clause-new c =
     let k = ckpt_of c.args.request.now in
     let seen = record_seen c.args.seen.now k c.args.number in
     let from = c.place_served.ensures.place ∙ ap (λ k. place_served (is_complete (record_seen c.args.seen.now k c.args.number)) k c.args.replicas.now) c.ckpt.ensures in
-    served_changes (is_complete seen) k (replica_after c.args.request.now (payload_of c.args.lent.now)) c.args.replicas.now c.place_served.result from c.in-Some.i c.index-replicas-i.result c.answer.new.replica c.in-Some.is c.answer.ensures.new
+    served_changes (is_complete seen) k (replica_after c.args.request.now (payload_of c.args.lent.now) seen) c.args.replicas.now c.place_served.result from c.in-Some.i c.index-replicas-i.result c.answer.new.replica c.in-Some.is c.answer.ensures.new
 
 pub returns-clause-details : goal.returns-clause-details
 returns-clause-details c =
