@@ -1,4 +1,4 @@
--- What was answered OK is on every complete replica of its checkpoint, and stays there.
+-- What was answered OK is on every complete replica of its checkpoint, or where updates go to the active alone, on the active's; and it stays there.
 use Rattle.std.proofs.Common.{◌≡◌, ◌⊎◌, ℕ, zero, suc, ◌+◌, ◌-◌, ◌≤◌, inl, inr, List, [], ◌∷◌, ◌++◌, filter, Option, Some, None, Bool, true, false, cond, not, ◌==◌, ◌&&◌, ℤ, refl, sym, ap, subst, ◌∙◌, append_assoc, arith}
 use Rattle.std.specs.Prelude.{IsSomeAnd, slice_index, slice_set}
 use Rattle.std.proofs.lemmas.Bool.{eqb-true, eq-eqb, and_parts}
@@ -26,26 +26,27 @@ use Rattle.cluster_record.specs.Identities.{IdentitiesRise, AllUpTo}
 use Rattle.cluster_record.specs.Places.{change_key, put2}
 use Rattle.cluster_record.specs.RecordState.{RecordState, entry_of, identity_of, complete_of, stays, swept, moved, entered, created_as, new_entry, finished, opened, closed, unlinked, referred, made_with, unreferred, released_all, unnamed, retaining, is_call_of, departed, undone, has_references}
 use Rattle.cluster_record.proofs.IdentityLaws.{KeepsIdentity, IdentitiesRise-change_key, IdentitiesRise-filter, IdentitiesRise-map, IdentitiesRise-push}
-use Rattle.ckpt_machine.specs.Acknowledged.{IsUpdateWord, Acknowledges, ckpt_named, HasBegun, IsUpdateBy, HasUpdate, IsOnEvery}
+use Rattle.ckpt_machine.specs.Acknowledged.{IsUpdateWord, Acknowledges, ckpt_named, HasBegun, IsUpdateBy, HasUpdate, IsToHave, IsOnItsReplicas}
 use Rattle.ckpt_machine.specs.AllOrNone.{OneUpdate, IsOfOne}
 use Rattle.ckpt_types.specs.Asks.{Ask, asked, update_of}
 use Rattle.ckpt_types.specs.Asks as asks
 use Rattle.ckpt_machine.specs.Complete.{with_replica, replicas_from, complete_replicas}
-use Rattle.ckpt_machine.specs.Guards.{OnEach, OnReplica, CommitOk, Row, Allowed, ends_update}
+use Rattle.ckpt_machine.specs.Guards.{OnEach, OnAll, OnActive, CommitOk, ApplyOk, Row, Allowed, ends_update}
 use Rattle.ckpt_machine.specs.Invariant.{Invariant}
 use Rattle.ckpt_machine.specs.Laws.{AcknowledgedStays}
 use Rattle.ckpt_machine.specs.Machine.{Machine, Applied, Effect, ReplicaState, Staged, CallState}
+use Rattle.ckpt_machine.specs.Options.{is_all}
 use Rattle.ckpt_machine.specs.Owned.{OwnsNothing}
 use Rattle.ckpt_machine.specs.Runs.{last_from, last, IsRunFrom, IsRun}
 use Rattle.node_core.specs.Serving.{update_answer}
 use Rattle.ckpt_machine.specs.Shape.{IsCompleteOn}
-use Rattle.ckpt_machine.specs.Steps.{IsDue, with_record, record_step, created_for, retained_for, change_replica, with_committed, committed_slot, with_slot, effect_of, changed, on_ok, on_look, without_making, at_some, replica_under, opened_state, stepped, step_of, staged_moment, after}
+use Rattle.ckpt_machine.specs.Steps.{Told, IsDue, with_record, record_step, created_for, retained_for, change_replica, with_committed, committed_slot, with_applied, having_taken, with_slot, effect_of, changed, on_ok, on_look, without_making, at_some, replica_under, opened_state, stepped, step_of, staged_moment, after}
 use Rattle.ckpt_machine.proofs.OwnMaking.{making_there}
 use Rattle.ckpt_machine.proofs.AllOrNone.{all_or_none}
 use Rattle.ckpt_machine.proofs.Entries.{ComesOf-filter, ComesOf-change_key, ComesOf-map, ComesOf-then}
 use Rattle.ckpt_machine.proofs.EntryLists.{find_key-key, find_key-change_key, entry_of-given}
 use Rattle.ckpt_machine.proofs.Follows.{IsBare}
-use Rattle.ckpt_machine.proofs.Histories.{HasHistory, slot_owned, maker_incomplete, keeps_history, run_history}
+use Rattle.ckpt_machine.proofs.Histories.{HasHistory, slot_owned, maker_incomplete, on_replica-there, keeps_history, run_history}
 use Rattle.ckpt_machine.proofs.Lawful.{lawful}
 use Rattle.ckpt_machine.proofs.OptionLemmas.{IsSomeAnd-at}
 use Rattle.ckpt_machine.proofs.OwnMaking.{making_there}
@@ -55,7 +56,7 @@ use Rattle.ckpt_machine.proofs.References.{released-identity, released_all-ident
 use Rattle.ckpt_machine.proofs.RefusedRuns.{owns_nothing}
 use Rattle.ckpt_machine.proofs.BegunBefore.{all_began}
 use Rattle.ckpt_machine.proofs.BegunOnce.{begins_once}
-use Rattle.ckpt_machine.proofs.UpdateAnswers.{begin_not_done, IsDoneCommit, done_by_commit}
+use Rattle.ckpt_machine.proofs.UpdateAnswers.{begin_not_done, IsTakenOn, done_by_taking}
 use Rattle.ckpt_machine.proofs.ReplicaSteps.{put_actor-here}
 use Rattle.ckpt_machine.proofs.Runs.{last_from-append, run_before, run_front, IsRunFrom-back}
 
@@ -88,26 +89,47 @@ committed_has (Some e) x d u has = by_slot x.slot
     by_slot None = has
     by_slot (Some slot) = has_more d u x.effects (effect_of slot ∷ []) has
 
+-- nor does an update in one step
+applied_has : (o : Option Entry) (by : CallId) (new : Update) (t : ℤ) (x : ReplicaState) (d : CallId) (u : Update) → HasUpdate d u x.effects → HasUpdate d u (with_applied by new t o x).effects
+applied_has None by new t x d u has = has
+applied_has (Some e) by new t x d u has = has_more d u x.effects (Applied by new t ∷ []) has
+
 -- ---- a checkpoint that is made
 
--- it stays made, on the same nodes
+-- it is made, on the same nodes with the same active, and declares the same
+record IsMadeAs (e f : Entry) : Type 0 where
+  made : f.making ≡ None
+  complete : f.complete ≡ e.complete
+  active : f.active ≡ e.active
+  attributes : f.attributes ≡ e.attributes
+
+-- it stays made
 abbrev StaysMade : Entry → Entry → Type 0
-StaysMade e f = e.making ≡ None → (f.making ≡ None) × (f.complete ≡ e.complete)
+StaysMade e f = e.making ≡ None → IsMadeAs e f
 
 StaysMade-same : (e : Entry) → StaysMade e e
-StaysMade-same e made = (made, refl)
+StaysMade-same e made = record { made = made; complete = refl; active = refl; attributes = refl }
+
+-- where none of that is changed
+StaysMade-kept : (e f : Entry) → f.making ≡ e.making → f.complete ≡ e.complete → f.active ≡ e.active → f.attributes ≡ e.attributes → StaysMade e f
+StaysMade-kept e f making complete active attributes made = record { made = making ∙ made; complete = complete; active = active; attributes = attributes }
 
 StaysMade-then : (e f g : Entry) → StaysMade e f → StaysMade f g → StaysMade e g
 StaysMade-then e f g first second made =
-    let (between, same) = first made in
-    let (later, again) = second between in
-    (later, again ∙ same)
+    let between = first made in
+    let later = second between.made in
+    record { made = later.made; complete = later.complete ∙ between.complete; active = later.active ∙ between.active; attributes = later.attributes ∙ between.attributes }
+
+-- a node that is to have its updates was to have them before
+to_have_before : (e f : Entry) → IsMadeAs e f → (r : ℕ) → IsToHave (Some f) r → IsToHave (Some e) r
+to_have_before e f same r (inl all) = inl (ap is_all (sym same.attributes) ∙ all)
+to_have_before e f same r (inr active) = inr (sym same.active ∙ active)
 
 -- whether any references are left or not
 left_made : (e : Entry) (t : ℤ) (references : List ℕ) (none left : Bool) → StaysMade e (cond none e (cond left (record e { references = references }) (record e { references = references; idle = t })))
-left_made e t references true left made = (made, refl)
-left_made e t references false true made = (made, refl)
-left_made e t references false false made = (made, refl)
+left_made e t references true left = StaysMade-same e
+left_made e t references false true = StaysMade-kept e (record e { references = references }) refl refl refl refl
+left_made e t references false false = StaysMade-kept e (record e { references = references; idle = t }) refl refl refl refl
 
 released_made : (c : ℕ) (t : ℤ) (e : Entry) → StaysMade e (unreferred c t e)
 released_made c t e = left_made e t (slice_set e.references c (slice_index e.references c - 1)) (slice_index e.references c == 0) (has_references (record e { references = slice_set e.references c (slice_index e.references c - 1) }))
@@ -197,7 +219,7 @@ module _ (k : ℕ) (R : RecordState) (given : k ≤ R.last_identity) (rises : Id
   created_for_on call ask = same_on
 
   retained_for_on : (ask : Ask) (j : ℕ) → MadeOn k R (retained_for ask j R)
-  retained_for_on (asks.Retain place duration) j = changed_on j (retaining duration) (λ e. refl) (λ e made. (made, refl))
+  retained_for_on (asks.Retain place duration) j = changed_on j (retaining duration) (λ e. refl) (λ e. StaysMade-kept e (retaining duration e) refl refl refl refl)
   retained_for_on ask j = same_on
 
 -- ---- the update stays
@@ -212,11 +234,11 @@ row_needs m inv s verbs.Finish (Some j) None words.Ok end details row = making_t
 row_needs m inv s verbs.Finish (Some j) (Some q) words.Ok end details row = absurd row.0
 row_needs m inv s verb j q reply end details row = tt
 
--- the checkpoint was given and is made, if it is there, and each of its replicas has the update
+-- the checkpoint was given and is made, if it is there, and each of its replicas that is to have the update has it
 record StaysIn (k : ℕ) (call : CallId) (update : Update) (R : RecordState) (replicas : ℕ → ℕ → Option ReplicaState) : Type 0 where
   given : k ≤ R.last_identity
   made : (e : Entry) → entry_of k R.entries ≡ Some e → e.making ≡ None
-  every : (r : ℕ) (x : ReplicaState) → replicas k r ≡ Some x → HasUpdate call update x.effects
+  its : (r : ℕ) (x : ReplicaState) → replicas k r ≡ Some x → IsToHave (entry_of k R.entries) r → HasUpdate call update x.effects
 
 abbrev Stays : ℕ → CallId → Update → Machine → Type 0
 Stays k call update m = StaysIn k call update m.cluster m.replicas
@@ -231,29 +253,32 @@ module _ (k : ℕ) (call : CallId) (update : Update) (m : Machine) (stay : Stays
   record_stays : (R : RecordState) → MadeOn k m.cluster R → Stays k call update (with_record m R)
   record_stays R on = record {
     given = (let a = on.last in let b = stay.given in omega (arith, a, b));
-    made = λ f found. (let (e, was, keeps) = on.made f found in (keeps (stay.made e was)).0);
-    every = λ r y is. stay.every r y (came (entry_of k R.entries) refl r y is);
+    made = λ f found. (let (e, was, keeps) = on.made f found in (keeps (stay.made e was)).made);
+    its = λ r y is to_have. had (entry_of k R.entries) refl r y is to_have;
   }
     where
-      came : (o : Option Entry) → entry_of k R.entries ≡ o → (r : ℕ) (y : ReplicaState) → replica_under o (slice_index (complete_of (entry_of k m.cluster.entries)) r) r (m.replicas k r) ≡ Some y → m.replicas k r ≡ Some y
-      came None found r y is = absurd (cc is)
-      came (Some f) found r y is =
+      had : (o : Option Entry) → entry_of k R.entries ≡ o → (r : ℕ) (y : ReplicaState) → replica_under o (slice_index (complete_of (entry_of k m.cluster.entries)) r) r (m.replicas k r) ≡ Some y → IsToHave o r → HasUpdate call update y.effects
+      had None found r y is to_have = absurd (cc is)
+      had (Some f) found r y is to_have =
           let (e, was, keeps) = on.made f found in
-          let same : complete_of (entry_of k m.cluster.entries) ≡ f.complete = ap complete_of was ∙ sym ((keeps (stay.made e was)).1) in
-          kept (slice_index f.complete r == 0) (opened_state f) (m.replicas k r) y (subst (λ (nodes : List ℕ). cond (slice_index f.complete r == 0) None (cond (slice_index nodes r == 0) (Some (opened_state f)) (m.replicas k r)) ≡ Some y) same is)
+          let still = keeps (stay.made e was) in
+          let same : complete_of (entry_of k m.cluster.entries) ≡ f.complete = ap complete_of was ∙ sym still.complete in
+          let came : m.replicas k r ≡ Some y = kept (slice_index f.complete r == 0) (opened_state f) (m.replicas k r) y (subst (λ (nodes : List ℕ). cond (slice_index f.complete r == 0) None (cond (slice_index nodes r == 0) (Some (opened_state f)) (m.replicas k r)) ≡ Some y) same is) in
+          stay.its r y came (subst (λ o. IsToHave o r) (sym was) (to_have_before e f still r to_have))
 
   -- one replica changed, whose effects stay
   replica_stays : (j q : ℕ) (o : Option ReplicaState) → m.replicas j q ≡ o → (change : ReplicaState → ReplicaState) → ((x : ReplicaState) → HasUpdate call update x.effects → HasUpdate call update (change x).effects) → Stays k call update (change_replica m j q o change)
   replica_stays j q None there change more = stay
-  replica_stays j q (Some x) there change more = record { given = stay.given; made = stay.made; every = every }
+  replica_stays j q (Some x) there change more = record { given = stay.given; made = stay.made; its = its }
     where
-      every : (r : ℕ) (y : ReplicaState) → put2 m.replicas j q (Some (change x)) k r ≡ Some y → HasUpdate call update y.effects
-      every r y is = elim ((k == j) && (r == q)) as (λ b. ((k == j) && (r == q)) ≡ b → cond b (Some (change x)) (m.replicas k r) ≡ Some y → HasUpdate call update y.effects) [
+      its : (r : ℕ) (y : ReplicaState) → put2 m.replicas j q (Some (change x)) k r ≡ Some y → IsToHave (entry_of k m.cluster.entries) r → HasUpdate call update y.effects
+      its r y is to_have = elim ((k == j) && (r == q)) as (λ b. ((k == j) && (r == q)) ≡ b → cond b (Some (change x)) (m.replicas k r) ≡ Some y → HasUpdate call update y.effects) [
         | true ↦ λ at here.
             let (ckpt, node) = and_parts (k == j) (r == q) at in
             let was : m.replicas k q ≡ Some x = subst (λ i. m.replicas i q ≡ Some x) (sym (eqb-true k j ckpt)) there in
-            subst (λ (z : ReplicaState). HasUpdate call update z.effects) (same_Some (change x) y here) (more x (stay.every q x was))
-        | false ↦ λ at other. stay.every r y other
+            let to_have_it = subst (λ r. IsToHave (entry_of k m.cluster.entries) r) (eqb-true r q node) to_have in
+            subst (λ (z : ReplicaState). HasUpdate call update z.effects) (same_Some (change x) y here) (more x (stay.its q x was to_have_it))
+        | false ↦ λ at other. stay.its r y other to_have
       ] refl is
 
   module _ (rises : IdentitiesRise m.cluster.entries) (up_to : AllUpTo m.cluster.last_identity m.cluster.entries) where
@@ -292,32 +317,34 @@ module _ (k : ℕ) (call : CallId) (update : Update) (m : Machine) (stay : Stays
     -- any step
     changed_stays : (s : CallState) (verb : Verb) (j q : Option ℕ) (reply : StepReply) → StepNeeds m.cluster s.call verb j reply → Stays k call update (changed m s verb j q reply)
     changed_stays s verbs.Enter j q reply needs = ok_stays reply _ (one_stays q _ (λ q. step_stays (entered (client_of s.call) q s.call.number) (record { last = omega arith; rises = rises; made = (same_on k m.cluster stay.given rises up_to).made })))
-    changed_stays s verbs.Open j q reply needs = ok_stays reply _ (one_stays j _ (λ j. step_stays (opened j (client_of s.call)) (changed_on k m.cluster stay.given rises up_to j (referred (client_of s.call)) (λ e. refl) (λ e made. (made, refl)))))
+    changed_stays s verbs.Open j q reply needs = ok_stays reply _ (one_stays j _ (λ j. step_stays (opened j (client_of s.call)) (changed_on k m.cluster stay.given rises up_to j (referred (client_of s.call)) (λ e. refl) (λ e. StaysMade-kept e (referred (client_of s.call) e) refl refl refl refl))))
     changed_stays s verbs.Create j q reply needs = ok_stays reply _ (step_stays (created_for s.call (asked s.op)) (created_for_on k m.cluster stay.given rises up_to s.call (asked s.op)))
-    changed_stays s verbs.Reserve j q reply needs = ok_stays reply _ (both_stay j q _ (λ j q. record { given = stay.given; made = stay.made; every = stay.every }))
+    changed_stays s verbs.Reserve j q reply needs = ok_stays reply _ (both_stay j q _ (λ j q. record { given = stay.given; made = stay.made; its = stay.its }))
     changed_stays s verbs.Finish j q reply needs = finished_stays s j q reply needs
     changed_stays s verbs.Undo j q reply needs = ok_stays reply _ (one_stays j _ undone_stays)
     changed_stays s verbs.Stage j q reply needs = ok_stays reply _ (both_stay j q _ (λ j q. replica_stays j q (m.replicas j q) refl (with_slot s.call (update_of s.op) (staged_moment m j)) (λ x has. has)))
     changed_stays s verbs.Commit j q reply needs = ok_stays reply _ (both_stay j q _ (λ j q. replica_stays j q (m.replicas j q) refl (with_committed (entry_of j m.cluster.entries)) (λ x has. committed_has (entry_of j m.cluster.entries) x call update has)))
+    changed_stays s verbs.Apply j q reply needs = ok_stays reply _ (both_stay j q _ (λ j q. replica_stays j q (m.replicas j q) refl (with_applied s.call (update_of s.op) m.cluster.moment (entry_of j m.cluster.entries))
+        (λ x has. applied_has (entry_of j m.cluster.entries) s.call (update_of s.op) m.cluster.moment x call update has)))
     changed_stays s verbs.Iter j q reply needs = ok_stays reply _ (both_stay j q _ (λ j q. stay))
     changed_stays s verbs.Next j q reply needs = ok_stays reply _ (both_stay j q _ (λ j q. stay))
     changed_stays s verbs.Leave j q reply needs = ok_stays reply _ (step_stays (departed (client_of s.call)) (departed_on k m.cluster stay.given rises up_to (client_of s.call)))
     changed_stays s verbs.Close j q reply needs = ok_stays reply _ (one_stays j _ (λ j. step_stays (closed j (client_of s.call))
         (changed_on k m.cluster stay.given rises up_to j (unreferred (client_of s.call) m.cluster.moment) (released-identity (client_of s.call) m.cluster.moment) (released_made (client_of s.call) m.cluster.moment))))
-    changed_stays s verbs.Unlink j q reply needs = ok_stays reply _ (one_stays j _ (λ j. step_stays (unlinked j) (changed_on k m.cluster stay.given rises up_to j unnamed (λ e. refl) (λ e made. (made, refl)))))
+    changed_stays s verbs.Unlink j q reply needs = ok_stays reply _ (one_stays j _ (λ j. step_stays (unlinked j) (changed_on k m.cluster stay.given rises up_to j unnamed (λ e. refl) (λ e. StaysMade-kept e (unnamed e) refl refl refl refl))))
     changed_stays s verbs.Retain j q reply needs = ok_stays reply _ (one_stays j _ (λ j. step_stays (retained_for (asked s.op) j) (retained_for_on k m.cluster stay.given rises up_to (asked s.op) j)))
     changed_stays s verbs.Look j q reply needs = look_stays reply _ _ stay (making_stays (making_of s.call m.cluster))
     changed_stays s verb j q reply needs = stay
 
   -- any label that is allowed
   after_stays : Invariant m → (l : Label) → Allowed m l → Stays k call update (after m l)
-  after_stays inv (labels.Began d op end) allowed = record { given = stay.given; made = stay.made; every = stay.every }
+  after_stays inv (labels.Began d op end) allowed = record { given = stay.given; made = stay.made; its = stay.its }
   after_stays inv (labels.Stepped d op verb j q reply end details) allowed =
       let s = allowed.state in
       let then = changed_stays inv.holds.rises inv.holds.up_to s verb j q reply (row_needs m inv s verb j q reply end details allowed.row) in
-      subst (λ o. Stays k call update (step_of m o verb j q reply end)) (sym allowed.in_hand) (record { given = then.given; made = then.made; every = then.every })
+      subst (λ o. Stays k call update (step_of m o verb j q reply end)) (sym allowed.in_hand) (record { given = then.given; made = then.made; its = then.its })
   after_stays inv (labels.Word who line said) allowed = stay
-  after_stays inv (labels.Nodes n) allowed = record { given = stay.given; made = stay.made; every = stay.every }
+  after_stays inv (labels.Nodes n) allowed = record { given = stay.given; made = stay.made; its = stay.its }
   after_stays inv (labels.Moved t) allowed = record_stays (moved t m.cluster) (record { last = omega arith; rises = IdentitiesRise-filter (stays t) m.cluster.entries inv.holds.rises; made = ComesOf-filter StaysMade StaysMade-same (stays t) m.cluster.entries inv.holds.rises k })
   after_stays inv (labels.Shown j replicas) allowed = stay
   after_stays inv l allowed = absurd allowed
@@ -346,8 +373,8 @@ module _ (P : ReplicaState → Type 0) where
   each_at f n (c ∷ cs) each zero y some at = first_of n (replicas_from f (n + 1) cs) (c == 0) (f n) y some (ap f (let here : n ≡ n + 0 = omega arith in here) ∙ at) each
   each_at f n (c ∷ cs) each (suc d) y some at = each_at f (n + 1) cs (rest_of n (replicas_from f (n + 1) cs) (c == 0) (f n) each) d y some (ap f (let there : n + 1 + d ≡ n + suc d = omega arith in there) ∙ at)
 
--- where one replica has the update and nothing staged, and the call owns nothing, all have it
-module _ (m : Machine) (inv : Invariant m) (bare : IsBare m) (k r : ℕ) (call : CallId) (update : Update) (e : Entry) (found : entry_of k m.cluster.entries ≡ Some e) (made : e.making ≡ None) (x : ReplicaState) (there : m.replicas k r ≡ Some x) (free : x.slot ≡ None) (has : HasUpdate call update x.effects) (owns : OwnsNothing m call) where
+-- where updates are on all replicas, one has the update and nothing staged, and the call owns nothing, all have it
+module _ (m : Machine) (inv : Invariant m) (bare : IsBare m) (k r : ℕ) (call : CallId) (update : Update) (e : Entry) (found : entry_of k m.cluster.entries ≡ Some e) (made : e.making ≡ None) (all : is_all e.attributes ≡ true) (x : ReplicaState) (there : m.replicas k r ≡ Some x) (free : x.slot ≡ None) (has : HasUpdate call update x.effects) (owns : OwnsNothing m call) where
   on_each : (P : ReplicaState → Type 0) → OnEach P (complete_replicas m k) → (q : ℕ) (y : ReplicaState) → m.replicas k q ≡ Some y → P y
   on_each P each q y at =
       let (f, is, complete) = IsSomeAnd-at (entry_of k m.cluster.entries) (λ e. IsCompleteOn e q) (bare.complete k q y at) in
@@ -363,8 +390,8 @@ module _ (m : Machine) (inv : Invariant m) (bare : IsBare m) (k r : ℕ) (call :
         | inr new ↦ absurd ((owns.slots k q y slot at staged).1 (second.0 ∙ new.0))
       ]
 
-  on_every : IsOnEvery m k call update
-  on_every q y at = elim (all_or_none m inv k e found made) [
+  on_every : (q : ℕ) (y : ReplicaState) → m.replicas k q ≡ Some y → HasUpdate call update y.effects
+  on_every q y at = elim (all_or_none m inv k e found made all) [
     | inl equal ↦
         let first = on_each (λ z. (z.slot ≡ None) × (z.sections ≡ equal.sections) × (z.effects ≡ equal.effects)) equal.each r x there in
         let second = on_each (λ z. (z.slot ≡ None) × (z.sections ≡ equal.sections) × (z.effects ≡ equal.effects)) equal.each q y at in
@@ -405,8 +432,13 @@ is_made m inv bare k r e x found there = by_making e.making refl
         absurd (let w : true ≡ false = sym (maker_incomplete m inv c k r e found is) ∙ ap (λ (z : Entry). slice_index z.complete r == 0) same ∙ complete in cc w)
 
 module _ (m : Machine) (inv : Invariant m) (history : HasHistory m) (d : CallId) (op : OpWord) (j r : ℕ) (answer : Answer) (details : Details) where
-  abbrev label : Label
-  label = labels.Stepped d op verbs.Commit (Some j) (Some r) words.Ok (Some (Done answer)) details
+  -- a node has taken an update, and this ends the call
+  abbrev label : Verb → Label
+  label verb = labels.Stepped d op verb (Some j) (Some r) words.Ok (Some (Done answer)) details
+
+  -- a replica is changed by the step that ends the call
+  abbrev ended : CallState → ReplicaState → Machine
+  ended s y = stepped (record m { replicas = put2 m.replicas j r (Some y) }) s (Some (Done answer))
 
   -- what is staged by a call in hand is its own update
   own_update : (s : CallState) → m.in_hand s.call.actor ≡ Some s → (x : ReplicaState) (slot : Staged) → m.replicas j r ≡ Some x → x.slot ≡ Some slot → slot.owner ≡ s.call → slot.update ≡ update_of s.op
@@ -415,33 +447,64 @@ module _ (m : Machine) (inv : Invariant m) (history : HasHistory m) (d : CallId)
       let state : by.state ≡ s = same_Some by.state s (sym by.in_hand ∙ ap (λ (c : CallId). m.in_hand c.actor) owner ∙ held) in
       update ∙ owner_update m j (inv.shapes j) slot.owner by ∙ ap (λ (z : CallState). update_of z.op) state
 
-  committed_stays : (allowed : Allowed m label) → IsDue m label → Stays j d (update_of allowed.state.op) (after m label)
+  -- it stays from a step on that leaves it on the replicas that are to have it
+  ended_stays : (s : CallState) (e : Entry) (x y : ReplicaState) → entry_of j m.cluster.entries ≡ Some e → m.replicas j r ≡ Some x → IsOnItsReplicas (ended s y) j s.call (update_of s.op) → Stays j s.call (update_of s.op) (ended s y)
+  ended_stays s e x y found there its = record {
+    given = entry_of-given m.cluster.last_identity j m.cluster.entries e inv.holds.up_to found;
+    made = λ f at. subst (λ (z : Entry). z.making ≡ None) (same_Some e f (sym found ∙ at)) (is_made m inv history.bare j r e x found there);
+    its = its;
+  }
+
+  -- after a commit every replica has it
+  committed_stays : (allowed : Allowed m (label verbs.Commit)) → IsDue m (label verbs.Commit) → Stays j d (update_of allowed.state.op) (after m (label verbs.Commit))
   committed_stays allowed due =
+      let l = label verbs.Commit in
       let s = allowed.state in
       let u = update_of s.op in
       let w = allowed.row.1 in
       let held : m.in_hand s.call.actor ≡ Some s = ap (λ (c : CallId). m.in_hand c.actor) allowed.call_is ∙ allowed.in_hand in
-      let row : OnReplica m j r (λ e x. CommitOk m s.call w j r (Some (Done answer)) details x) = allowed.row.3 in
-      let (e, found, on) = IsSomeAnd-at (entry_of j m.cluster.entries) (λ e. IsSomeAnd (m.replicas j r) (λ x. CommitOk m s.call w j r (Some (Done answer)) details x)) row in
-      let (x, there, ok) = IsSomeAnd-at (m.replicas j r) (λ x. CommitOk m s.call w j r (Some (Done answer)) details x) on in
+      let row : OnAll m j r (λ e x. CommitOk m s.call w j r (Some (Done answer)) details x) = allowed.row.3 in
+      let (e, x, found, there, row_of) = on_replica-there m j r (λ e x. (is_all e.attributes ≡ true) × CommitOk m s.call w j r (Some (Done answer)) details x) row in
+      let ok : CommitOk m s.call w j r (Some (Done answer)) details x = row_of.1 in
       let ends : ends_update s.call r ok.slot (complete_replicas m j) ≡ true = ends_if (ends_update s.call r ok.slot (complete_replicas m j)) (Done answer) (Done (update_answer w)) ok.answer in
       let origin : ok.slot.origin ≡ s.call = same_call-true ok.slot.origin s.call ((and_parts _ _ ends).0) in
       let y = with_committed (entry_of j m.cluster.entries) x in
       let y_is : y ≡ committed_slot e.attributes x x.slot = ap (λ o. with_committed o x) found in
-      let n = stepped (record m { replicas = put2 m.replicas j r (Some y) }) s (Some (Done answer)) in
-      let is : after m label ≡ n = ap (λ o. step_of m o verbs.Commit (Some j) (Some r) words.Ok (Some (Done answer))) allowed.in_hand ∙ ap (λ o. stepped (change_replica m j r o (with_committed (entry_of j m.cluster.entries))) s (Some (Done answer))) there in
-      let inv_n : Invariant n = subst Invariant is (lawful m label inv due).1 in
-      let bare_n : IsBare n = subst IsBare is (keeps_history m label inv history allowed due).bare in
+      let n = ended s y in
+      let is : after m l ≡ n = ap (λ o. step_of m o verbs.Commit (Some j) (Some r) words.Ok (Some (Done answer))) allowed.in_hand ∙ ap (λ o. stepped (change_replica m j r o (with_committed (entry_of j m.cluster.entries))) s (Some (Done answer))) there in
+      let inv_n : Invariant n = subst Invariant is (lawful m l inv due).1 in
+      let bare_n : IsBare n = subst IsBare is (keeps_history m l inv history allowed due).bare in
       let none : n.in_hand s.call.actor ≡ None = put_actor-here m.in_hand s.call.actor None in
       let owns = owns_nothing n inv_n bare_n s.call none in
       let free : y.slot ≡ None = ap (λ (z : ReplicaState). z.slot) y_is ∙ committed_free e.attributes x x.slot ok.slot ok.staged in
       let has : HasUpdate s.call u y.effects = subst (λ (z : ReplicaState). HasUpdate s.call u z.effects) (sym y_is) (committed_new e.attributes x x.slot ok.slot s.call u ok.staged origin (own_update s held x ok.slot there ok.staged ok.owner)) in
       let made = is_made m inv history.bare j r e x found there in
-      subst (λ c. Stays j c u (after m label)) allowed.call_is (subst (Stays j s.call u) (sym is) (record {
-        given = entry_of-given m.cluster.last_identity j m.cluster.entries e inv.holds.up_to found;
-        made = λ f at. subst (λ (z : Entry). z.making ≡ None) (same_Some e f (sym found ∙ at)) made;
-        every = on_every n inv_n bare_n j r s.call u e found made y (put2-here m.replicas j r (Some y)) free has owns;
-      }))
+      let every = on_every n inv_n bare_n j r s.call u e found made row_of.0 y (put2-here m.replicas j r (Some y)) free has owns in
+      subst (λ c. Stays j c u (after m l)) allowed.call_is (subst (Stays j s.call u) (sym is) (ended_stays s e x y found there (λ q z at to_have. every q z at)))
+
+  -- where updates are on the active alone, which is this node, no other is to have it
+  active_alone : (e : Entry) → is_all e.attributes ≡ false → e.active ≡ Some r → (q : ℕ) → IsToHave (Some e) q → r ≡ q
+  active_alone e none active q (inl all) = absurd (let w : true ≡ false = sym all ∙ none in cc w)
+  active_alone e none active q (inr at) = same_Some r q (sym active ∙ at)
+
+  -- after an update in one step the active has it
+  applied_stays : (allowed : Allowed m (label verbs.Apply)) → Stays j d (update_of allowed.state.op) (after m (label verbs.Apply))
+  applied_stays allowed =
+      let l = label verbs.Apply in
+      let s = allowed.state in
+      let u = update_of s.op in
+      let t : Told = record { verb = verbs.Apply; ckpt = Some j; node = Some r; reply = words.Ok; end = Some (Done answer); details = details } in
+      let row : OnActive m j r (ApplyOk m allowed.row.1 t) = allowed.row.3 in
+      let (e, x, found, there, row_of) = on_replica-there m j r (λ e x. (is_all e.attributes ≡ false) × (e.active ≡ Some r) × ApplyOk m allowed.row.1 t e x) row in
+      let y = with_applied s.call u m.cluster.moment (entry_of j m.cluster.entries) x in
+      let y_is : having_taken e.attributes s.call u m.cluster.moment x ≡ y = ap (λ o. with_applied s.call u m.cluster.moment o x) (sym found) in
+      let has : HasUpdate s.call u y.effects = subst (λ (z : ReplicaState). HasUpdate s.call u z.effects) y_is (has_new s.call u x.effects (Applied s.call u m.cluster.moment) (refl, refl)) in
+      let is : after m l ≡ ended s y = ap (λ o. step_of m o verbs.Apply (Some j) (Some r) words.Ok (Some (Done answer))) allowed.in_hand ∙ ap (λ o. stepped (change_replica m j r o (with_applied s.call u m.cluster.moment (entry_of j m.cluster.entries))) s (Some (Done answer))) there in
+      let its : IsOnItsReplicas (ended s y) j s.call u = λ q z at to_have.
+      let node : r ≡ q = active_alone e row_of.0 row_of.1 q (subst (λ o. IsToHave o q) found to_have) in
+      let same : y ≡ z = same_Some y z (sym (put2-here m.replicas j r (Some y)) ∙ ap (λ q. put2 m.replicas j r (Some y) j q) node ∙ at) in
+      subst (λ (z : ReplicaState). HasUpdate s.call u z.effects) same has in
+      subst (λ c. Stays j c u (after m l)) allowed.call_is (subst (Stays j s.call u) (sym is) (ended_stays s e x y found there its))
 
 -- ---- any label that answers OK
 
@@ -455,25 +518,26 @@ record IsTaken (log : List Label) (l : Label) (call : CallId) : Type 0 where
   stay : Stays ckpt call (update_of op) (after (last log) l)
 
 module _ (log : List Label) (run : IsRun log) (inv : Invariant (last log)) (history : HasHistory (last log)) where
-  -- by the commit that ends it
-  taken : (d : CallId) (word : OpWord) (j r : ℕ) (answer : Answer) (details : Details) → Allowed (last log) (label (last log) inv history d word j r answer details) → IsDue (last log) (label (last log) inv history d word j r answer details)
-      → IsUpdateWord word → IsTaken log (label (last log) inv history d word j r answer details) d
-  taken d word j r answer details allowed due asks =
+  -- by the step that ends it, where it stays from that on
+  taken : (d : CallId) (word : OpWord) (verb : Verb) (j r : ℕ) (answer : Answer) (details : Details) (allowed : Allowed (last log) (label (last log) inv history d word j r answer details verb)) → Some j ≡ allowed.state.kept.ckpt
+      → IsUpdateWord word → Stays j d (update_of allowed.state.op) (after (last log) (label (last log) inv history d word j r answer details verb)) → IsTaken log (label (last log) inv history d word j r answer details verb) d
+  taken d word verb j r answer details allowed own asks stay =
       let s = allowed.state in
       let held : (last log).in_hand s.call.actor ≡ Some s = ap (λ (c : CallId). (last log).in_hand c.actor) allowed.call_is ∙ allowed.in_hand in
       record {
         op = s.op;
         asks = subst IsUpdateWord (sym allowed.word) asks;
         ckpt = j;
-        begun = subst (λ c. HasBegun log c s.op (Some j)) allowed.call_is (subst (HasBegun log s.call s.op) (sym allowed.own) (all_began log run s held));
+        begun = subst (λ c. HasBegun log c s.op (Some j)) allowed.call_is (subst (HasBegun log s.call s.op) (sym own) (all_began log run s held));
         named = refl;
-        stay = committed_stays (last log) inv history d word j r answer details allowed due;
+        stay = stay;
       }
 
-  -- and by no other label
+  -- a commit, or an update in one step, and no other
   answered : (d : CallId) (word : OpWord) (verb : Verb) (k r : Option ℕ) (reply : StepReply) (answer : Answer) (details : Details) → Allowed (last log) (labels.Stepped d word verb k r reply (Some (Done answer)) details) → IsDue (last log) (labels.Stepped d word verb k r reply (Some (Done answer)) details)
-      → IsUpdateWord word → IsDoneCommit verb k r reply → IsTaken log (labels.Stepped d word verb k r reply (Some (Done answer)) details) d
-  answered d word verbs.Commit (Some j) (Some r) words.Ok answer details allowed due asks is = taken d word j r answer details allowed due asks
+      → IsUpdateWord word → IsTakenOn verb k r reply → IsTaken log (labels.Stepped d word verb k r reply (Some (Done answer)) details) d
+  answered d word verbs.Commit (Some j) (Some r) words.Ok answer details allowed due asks is = taken d word verbs.Commit j r answer details allowed allowed.own asks (committed_stays (last log) inv history d word j r answer details allowed due)
+  answered d word verbs.Apply (Some j) (Some r) words.Ok answer details allowed due asks is = taken d word verbs.Apply j r answer details allowed allowed.own asks (applied_stays (last log) inv history d word j r answer details allowed)
   answered d word verb k r reply answer details allowed due asks is = absurd is
 
   acknowledged : (l : Label) → Allowed (last log) l → IsDue (last log) l → (call : CallId) → Acknowledges l call → IsTaken log l call
@@ -481,8 +545,8 @@ module _ (log : List Label) (run : IsRun log) (inv : Invariant (last log)) (hist
   acknowledged (labels.Stepped d word verb k r reply (Some (Done answer)) details) allowed due call acks =
       let s = allowed.state in
       let held : (last log).in_hand s.call.actor ≡ Some s = ap (λ (c : CallId). (last log).in_hand c.actor) allowed.call_is ∙ allowed.in_hand in
-      let commit = done_by_commit (last log) s (subst IsUpdateWord (sym allowed.word) acks.1) answer verb k r reply details allowed.row in
-      subst (IsTaken log (labels.Stepped d word verb k r reply (Some (Done answer)) details)) acks.0 (answered d word verb k r reply answer details allowed due acks.1 commit)
+      let by = done_by_taking (last log) s (subst IsUpdateWord (sym allowed.word) acks.1) answer verb k r reply details allowed.row in
+      subst (IsTaken log (labels.Stepped d word verb k r reply (Some (Done answer)) details)) acks.0 (answered d word verb k r reply answer details allowed due acks.1 by)
   acknowledged l allowed due call acks = absurd acks
 
 -- THE LAW: what was answered OK stays
@@ -500,5 +564,5 @@ acknowledged_stay log run front more back l call is acks =
       begun = first.begun;
       once = λ other k begun. begins_once front before call first.op other (Some first.ckpt) k first.begun begun;
       named = first.named;
-      on_every = subst (λ (m : Machine). IsOnEvery m first.ckpt call (update_of first.op)) (sym (last_from-append _ front (l ∷ more))) all.every;
+      on_its = subst (λ (m : Machine). IsOnItsReplicas m first.ckpt call (update_of first.op)) (sym (last_from-append _ front (l ∷ more))) all.its;
     }

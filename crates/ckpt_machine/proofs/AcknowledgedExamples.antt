@@ -1,5 +1,5 @@
--- Worked examples of which labels answer an update OK, and of a whole run to such a label, each by computation.
-use Rattle.std.proofs.Common.{◌≡◌, ℕ, ◌+◌, List, [], ◌∷◌, ◌++◌, Option, Some, None, codes, false, pos, inl, inr, refl, ap, arith}
+-- Worked examples of which labels answer an update OK, and of two whole runs to such a label, each by computation.
+use Rattle.std.proofs.Common.{◌≡◌, ℕ, ◌+◌, List, [], ◌∷◌, ◌++◌, Option, Some, None, codes, true, false, pos, inl, inr, refl, ap, arith}
 use Rattle.ckpt_types.specs.declared.answers.Answer.TheVariants as answers
 use Rattle.ckpt_types.specs.declared.answers.Outcome.{Outcome}
 use Rattle.ckpt_types.specs.declared.answers.Outcome.TheVariants.{Done}
@@ -10,7 +10,7 @@ use Rattle.ckpt_types.specs.declared.operation.Op.{Op}
 use Rattle.ckpt_types.specs.declared.operation.Op.TheVariants as ops
 use Rattle.ckpt_types.specs.declared.update.Update.{Update}
 use Rattle.ckpt_types.specs.declared.update.Update.TheVariants as updates
-use Rattle.ckpt_types.specs.Limits.{wr_all_replicas, checkpoint_write, checkpoint_create, release, major_max, minor_answered, end_of_time}
+use Rattle.ckpt_types.specs.Limits.{wr_all_replicas, wr_active_replica, checkpoint_write, checkpoint_create, release, major_max, minor_answered, end_of_time}
 use Rattle.node_msgs.specs.declared.steps.StepReply.TheVariants as words
 use Rattle.node_msgs.specs.declared.steps.Verb.{Verb}
 use Rattle.node_msgs.specs.declared.steps.Verb.TheVariants as verbs
@@ -19,7 +19,8 @@ use Rattle.run_labels.specs.declared.labels.Label.{Label}
 use Rattle.run_labels.specs.declared.labels.Label.TheVariants as labels
 use Rattle.ckpt_types.specs.declared.words.OpWord.{OpWord}
 use Rattle.ckpt_types.specs.declared.words.OpWord.TheVariants as opwords
-use Rattle.ckpt_machine.specs.Acknowledged.{Acknowledges, HasBegun, HasUpdate}
+use Rattle.cluster_record.specs.RecordState.{entry_of}
+use Rattle.ckpt_machine.specs.Acknowledged.{Acknowledges, HasBegun, HasUpdate, IsToHave}
 use Rattle.ckpt_machine.specs.Machine.{Effect, Applied, ReplicaState}
 use Rattle.ckpt_machine.specs.Runs.{last}
 
@@ -32,9 +33,9 @@ call_numbered n = record { actor = Client 0; number = n }
 abbrev answered_ok : Option Outcome
 answered_ok = Some (Done answers.Nothing)
 
--- a checkpoint with one section of 8 bytes, and a write of it
-abbrev one_section : CreationAttributes
-one_section = record { creation_flags = wr_all_replicas; checkpoint_size = 8; retention_duration = pos 0; max_sections = 1; max_section_size = 8; max_section_id_size = 8 }
+-- a checkpoint with one section of 8 bytes, by its option, and a write of it
+abbrev one_section : ℕ → CreationAttributes
+one_section option = record { creation_flags = option; checkpoint_size = 8; retention_duration = pos 0; max_sections = 1; max_section_size = 8; max_section_id_size = 8 }
 
 abbrev abc : Update
 abc = updates.Write (record { id = []; offset = 0; bytes = codes "abc" } ∷ [])
@@ -42,7 +43,7 @@ abc = updates.Write (record { id = []; offset = 0; bytes = codes "abc" } ∷ [])
 abbrev a_write : Op
 a_write = ops.Write 0 abc
 
--- a write_step of a call_numbered on a checkpoint and a node, by which it goes on
+-- a step of a call on a checkpoint and a node, by which it goes on
 abbrev write_step : ℕ → OpWord → Verb → Option ℕ → Option ℕ → Label
 write_step n word verb k r = labels.Stepped (call_numbered n) word verb k r words.Ok None beside.Nothing
 
@@ -54,6 +55,13 @@ last_commit word = labels.Stepped (call_numbered 3) word verbs.Commit (Some 1) (
 
 pub a_commit_that_ends_a_write : Acknowledges (last_commit opwords.Write) (call_numbered 3)
 a_commit_that_ends_a_write = (refl, tt)
+
+-- where updates go to the active alone, a write ends by the one step that applies it
+abbrev applied_at_once : Label
+applied_at_once = labels.Stepped (call_numbered 3) opwords.Write verbs.Apply (Some 1) (Some 0) words.Ok answered_ok beside.Nothing
+
+pub an_apply_that_ends_a_write : Acknowledges applied_at_once (call_numbered 3)
+an_apply_that_ends_a_write = (refl, tt)
 
 -- whether any allowed label is such a look or such a beginning, or not
 pub a_look_that_ends_a_write : Acknowledges (labels.Stepped (call_numbered 3) opwords.Write verbs.Look None None words.Done answered_ok beside.Nothing) (call_numbered 3)
@@ -70,23 +78,23 @@ not_by_a_close acks = acks.1
 
 -- ---- a run to such a label
 
--- two nodes come up, c0 enters on n0 and makes a checkpoint, and begins to write
-abbrev until_it_writes : List Label
-until_it_writes =
+-- two nodes come up, c0 enters on n0 and makes a checkpoint of this option
+abbrev until_it_writes : ℕ → List Label
+until_it_writes option =
     labels.Nodes 2
     ∷ labels.Began (call_numbered 1) (ops.Client 0 (record { release = release; major = major_max; minor = minor_answered }) (record { opens = false; syncs = false })) None
     ∷ labels.Stepped (call_numbered 1) opwords.Client verbs.Enter None (Some 0) words.Ok (Some (Done answers.Version)) beside.Nothing
-    ∷ labels.Began (call_numbered 2) (ops.Open 0 (codes "ck") (checkpoint_write + checkpoint_create) end_of_time (Some one_section)) None
+    ∷ labels.Began (call_numbered 2) (ops.Open 0 (codes "ck") (checkpoint_write + checkpoint_create) end_of_time (Some (one_section option))) None
     ∷ write_step 2 opwords.Open verbs.Create (Some 1) None
     ∷ write_step 2 opwords.Open verbs.Reserve (Some 1) (Some 0)
     ∷ write_step 2 opwords.Open verbs.Reserve (Some 1) (Some 1)
     ∷ labels.Stepped (call_numbered 2) opwords.Open verbs.Finish (Some 1) None words.Ok (Some (Done (answers.Opened 1))) beside.Nothing
     ∷ []
 
--- the write is staged on n0 and on n1, and committed on n1
+-- with updates on all replicas: a write is staged on n0 and on n1, and committed on n1
 abbrev until_one_has_it : List Label
 until_one_has_it =
-    until_it_writes
+    until_it_writes wr_all_replicas
     ++ labels.Began (call_numbered 3) a_write None
     ∷ write_step 3 opwords.Write verbs.Stage (Some 1) (Some 0)
     ∷ write_step 3 opwords.Write verbs.Stage (Some 1) (Some 1)
@@ -109,7 +117,7 @@ n0_has_it_staged = refl
 
 -- it began there, on the checkpoint of the handle in place 0
 pub it_has_begun : HasBegun until_one_has_it (call_numbered 3) a_write (Some 1)
-it_has_begun = record { before = until_it_writes; behind = _; log_is = refl; ckpt_is = refl }
+it_has_begun = record { before = until_it_writes wr_all_replicas; behind = _; log_is = refl; ckpt_is = refl }
 
 pub then_n0_has_it : effects_on (until_one_has_it ++ last_commit opwords.Write ∷ []) 0 ≡ Some (Applied (call_numbered 3) abc (pos 0) ∷ [])
 then_n0_has_it = refl
@@ -117,10 +125,33 @@ then_n0_has_it = refl
 pub and_n1_has_it : effects_on (until_one_has_it ++ last_commit opwords.Write ∷ []) 1 ≡ Some (Applied (call_numbered 3) abc (pos 0) ∷ [])
 and_n1_has_it = refl
 
--- and that is the update of the call_numbered
+-- and that is the update of the call
 pub which_is_its_update : HasUpdate (call_numbered 3) abc (Applied (call_numbered 3) abc (pos 0) ∷ [])
 which_is_its_update = inl (refl, refl)
 
 pub and_of_no_other_call : HasUpdate (call_numbered 4) abc (Applied (call_numbered 3) abc (pos 0) ∷ []) → ⊥
 and_of_no_other_call (inl is) = let w : 3 ≡ 4 = ap (λ (c : CallId). c.number) is.0 in omega (arith, w)
 and_of_no_other_call (inr none) = none
+
+-- ---- a run where updates go to the active alone
+
+-- a write is applied on n0, the active
+abbrev until_the_active_has_it : List Label
+until_the_active_has_it = until_it_writes wr_active_replica ++ labels.Began (call_numbered 3) a_write None ∷ applied_at_once ∷ []
+
+pub the_active_has_it : effects_on until_the_active_has_it 0 ≡ Some (Applied (call_numbered 3) abc (pos 0) ∷ [])
+the_active_has_it = refl
+
+-- n1 has it not, and is not to have it
+pub n1_has_it_not : effects_on until_the_active_has_it 1 ≡ Some []
+n1_has_it_not = refl
+
+abbrev is_to_have : ℕ → Type 0
+is_to_have r = IsToHave (entry_of 1 (last until_the_active_has_it).cluster.entries) r
+
+pub n0_is_to_have_it : is_to_have 0
+n0_is_to_have_it = inr refl
+
+pub n1_is_not_to_have_it : is_to_have 1 → ⊥
+n1_is_not_to_have_it (inl all) = let w : false ≡ true = all in cc w
+n1_is_not_to_have_it (inr active) = let w : Some 0 ≡ Some 1 = active in cc w

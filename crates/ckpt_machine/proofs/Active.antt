@@ -1,7 +1,6 @@
 -- A read, a status, and iterations, each answered by the active, with any calls of others in hand.
-use Rattle.std.proofs.Common.{◌≡◌, ℕ, suc, ◌+◌, ◌<◌, List, [], ◌∷◌, Option, Some, None, Result, Ok, Err, Bool, true, false, cond, not, ◌&&◌, ◌==◌, refl, sym, ap, subst, ◌∙◌, arith, ℤ}
-use Rattle.std.specs.Prelude.{is_some, IfSome, slice_index}
-use Rattle.std.proofs.lemmas.Option.{same_Some}
+use Rattle.std.proofs.Common.{◌≡◌, ℕ, List, Option, Some, None, Result, Ok, Err, Bool, true, false, cond, not, ◌&&◌, refl, sym, ap, subst, ◌∙◌}
+use Rattle.std.specs.Prelude.{is_some}
 use Rattle.ckpt_types.specs.declared.ais_error.AisError.TheVariants.{NoResources, NoSections, NotExist}
 use Rattle.ckpt_types.specs.declared.answers.Answer.TheVariants as answers
 use Rattle.ckpt_types.specs.declared.answers.Cause.TheVariants.{Plain, Index, Count}
@@ -17,54 +16,35 @@ use Rattle.node_msgs.specs.declared.replies.Reply.TheVariants as replies
 use Rattle.node_msgs.specs.declared.next.Next.TheVariants.{Serve, End}
 use Rattle.node_msgs.specs.declared.steps.StepReply.TheVariants as words
 use Rattle.section_iter.specs.declared.room.Room.{Room}
-use Rattle.ckpt_types.specs.declared.update.ReadElement.{ReadElement}
 use Rattle.cluster_record.specs.declared.calls.ActiveKind.{ActiveKind}
 use Rattle.cluster_record.specs.declared.calls.ActiveKind.TheVariants as kinds
 use Rattle.cluster_record.specs.declared.entries.Entry.{Entry}
 use Rattle.cluster_record.specs.Calls.{put_actor}
-use Rattle.cluster_record.specs.DueActive.{active_on, on_active, request_by, starts_iteration}
-use Rattle.cluster_record.specs.RecordState.{entry_of, attributes_now, first_complete}
+use Rattle.cluster_record.specs.DueActive.{active_on, request_by, starts_iteration}
+use Rattle.cluster_record.specs.RecordState.{entry_of, attributes_now}
 use Rattle.node_msgs.specs.declared.details.Details.TheVariants as beside
 use Rattle.ckpt_types.specs.Asks.{Ask, asked, elements_asked, elements_of}
 use Rattle.ckpt_types.specs.Asks as asks
-use Rattle.ckpt_machine.specs.Tables.{choice_of, started, gone_on}
+use Rattle.ckpt_machine.specs.Tables.{started, gone_on}
 use Rattle.ckpt_machine.specs.Drivers.{Driver, Rooms}
 use Rattle.ckpt_machine.specs.Drivers as drivers
 use Rattle.ckpt_machine.specs.Driving.{driver_next, refused_cause}
-use Rattle.ckpt_machine.specs.Entries.{WasMade}
-use Rattle.ckpt_machine.specs.InHand.{active_kind, IsInPlace, IsActiveIn}
-use Rattle.ckpt_machine.specs.Invariant.{IsGoodIn, InvariantIn, Invariant}
-use Rattle.ckpt_machine.specs.Machine.{Machine, ReplicaState, CallState}
+use Rattle.ckpt_machine.specs.InHand.{active_kind, change_kind, IsInPlace, IsActiveIn}
+use Rattle.ckpt_machine.specs.Invariant.{InvariantIn, Invariant}
+use Rattle.ckpt_machine.specs.Machine.{Machine, CallState}
 use Rattle.node_core.specs.Serving.{read_details, reply_at, details_at, done_or_refused, next_reply, next_details}
 use Rattle.node_core.specs.Seen.{record_seen, entry_seen}
-use Rattle.ckpt_machine.specs.Steps.{Told, IsDone, IsServed, driver_of, seen, seen_at, seen_by, rooms_of, ids_asked, payload_due, details_due, with_tables, given_at, chosen_at}
-use Rattle.ckpt_machine.specs.Guards.{OnReplica, IterOk, NextAnswer, LookRefused, HasNoActive, NoActiveLook}
-use Rattle.ckpt_machine.specs.Shape.{Shape, IsCompleteOn, IsShaped, IsSpread}
+use Rattle.ckpt_machine.specs.Steps.{Told, IsDone, IsServed, driver_of, seen, seen_at, rooms_of, ids_asked, payload_due, details_due, with_tables, given_at, chosen_at}
+use Rattle.ckpt_machine.specs.Guards.{IterOk, NextAnswer, LookRefused, ChangeLook, HasNoActive, NoActiveLook}
+use Rattle.ckpt_machine.specs.Shape.{Shape}
+use Rattle.ckpt_machine.proofs.ActiveNode.{AsksOf, by_kind, ActiveOf, active_of, active_seen, on_its_replica, active_next-there}
+use Rattle.ckpt_machine.proofs.Apply.{apply_goes}
 use Rattle.ckpt_machine.proofs.EndedTables.{started_keeps, gone_on_keeps}
 use Rattle.ckpt_machine.proofs.ReplicaSteps.{put_actor-here}
-use Rattle.ckpt_machine.proofs.NodeLists.{index-within}
 use Rattle.ckpt_machine.proofs.PlainCalls.{is_plain, plain_ends, look_goes}
 use Rattle.ckpt_machine.proofs.DueStep.{Goes}
-use Rattle.ckpt_machine.proofs.OptionLemmas.{IsSomeAnd-at, IsSomeAnd-from}
+use Rattle.ckpt_machine.proofs.OptionLemmas.{IsSomeAnd-from}
 use Rattle.ckpt_machine.proofs.StepLabels.{IsServed-told}
-
--- ---- what is asked for, by the kind of the call
-
--- what a call of a kind asks for
-abbrev pub AsksOf : ActiveKind → Ask → Type 0
-AsksOf kinds.Read ask = (place : ℕ) × (elements : List ReadElement) × (ask ≡ asks.Read place elements)
-AsksOf kinds.Status ask = (place : ℕ) × (ask ≡ asks.Status place)
-AsksOf (kinds.Iterate choice) ask = (iteration place chosen : ℕ) × (time : ℤ) × (ask ≡ asks.Iterate iteration place chosen time) × (choice ≡ choice_of chosen time)
-AsksOf kinds.Next ask = (iteration : ℕ) × (ask ≡ asks.Next iteration)
-AsksOf kind ask = ⊥
-
--- so it is of the kind that it has by what is asked for
-pub by_kind : (ask : Ask) (kind : ActiveKind) → active_kind ask ≡ Some kind → AsksOf kind ask
-by_kind (asks.Read place elements) kind is = subst (λ k. AsksOf k (asks.Read place elements)) (same_Some kinds.Read kind is) (place, elements, refl)
-by_kind (asks.Status place) kind is = subst (λ k. AsksOf k (asks.Status place)) (same_Some kinds.Status kind is) (place, refl)
-by_kind (asks.Iterate iteration place chosen time) kind is = subst (λ k. AsksOf k (asks.Iterate iteration place chosen time)) (same_Some (kinds.Iterate (choice_of chosen time)) kind is) (iteration, place, chosen, time, refl, refl)
-by_kind (asks.Next iteration) kind is = subst (λ k. AsksOf k (asks.Next iteration)) (same_Some kinds.Next kind is) (iteration, refl)
-by_kind ask kind is = absurd (cc is)
 
 -- the cause of a refused read is the index, and that of a refused `next` is none
 read_cause : (op : Op) (index : ℕ) → AsksOf kinds.Read (asked op) → refused_cause op index ≡ Index index
@@ -78,63 +58,17 @@ next_cause (ops.Write place update) index is = absurd (cc (is.1))
 next_cause op index is = refl
 
 -- where its checkpoint is gone, or has no active, the call is refused
-LookRefused-active : (m : Machine) (s : CallState) (kind : ActiveKind) (ask : Ask) → active_kind ask ≡ Some kind → NoActiveLook m s.kept.ckpt NotExist Plain → LookRefused m s ask NotExist Plain
+LookRefused-active : (m : Machine) (s : CallState) (kind : ActiveKind) (ask : Ask) → active_kind s.kept.all ask ≡ Some kind → NoActiveLook m s.kept.ckpt NotExist Plain → LookRefused m s ask NotExist Plain
+LookRefused-active m s kind (asks.Change place update) is gone = by_all s.kept.all is gone
+  where
+    by_all : (all : Bool) → change_kind all ≡ Some kind → NoActiveLook m s.kept.ckpt NotExist Plain → ChangeLook all m s.kept.ckpt NotExist Plain
+    by_all true is gone = absurd (cc is)
+    by_all false is gone = gone
 LookRefused-active m s kind (asks.Read place elements) is gone = gone
 LookRefused-active m s kind (asks.Status place) is gone = gone
 LookRefused-active m s kind (asks.Iterate iteration place chosen time) is gone = gone
 LookRefused-active m s kind (asks.Next iteration) is gone = gone
 LookRefused-active m s kind ask is gone = absurd (cc is)
-
--- ---- the active of a checkpoint that is made
-
--- the lowest complete node is complete
-pub first_complete-node : (n : ℕ) (cs : List ℕ) (r : ℕ) → first_complete n cs ≡ Some r → (d : ℕ) × (r ≡ n + d) × ((slice_index cs d == 0) ≡ false)
-first_complete-node n [] r is = absurd (cc is)
-first_complete-node n (c ∷ cs) r is = elim (c == 0) as (λ b. (c == 0) ≡ b → cond b (first_complete (n + 1) cs) (Some n) ≡ Some r → (d : ℕ) × (r ≡ n + d) × ((slice_index (c ∷ cs) d == 0) ≡ false)) [
-  | true ↦ λ none later. (let (d, at, there) = first_complete-node (n + 1) cs r later in (suc d, omega (arith, at), there))
-  | false ↦ λ some here. (0, (let same : n ≡ r = same_Some n r here in omega (arith, same)), some)
-] refl is
-
--- its entry, and its replica on its active
-pub record ActiveOf (m : Machine) (k : ℕ) : Type 0 where
-  pub entry : Entry
-  pub found : entry_of k m.cluster.entries ≡ Some entry
-  pub node : ℕ
-  pub within : node < 8
-  pub active : entry.active ≡ Some node
-  pub replica : ReplicaState
-  pub there : m.replicas k node ≡ Some replica
-
-pub active_of : (m : Machine) (shapes : ℕ → Shape) (k : ℕ) (e : Entry) → InvariantIn shapes m → WasMade m.cluster k → entry_of k m.cluster.entries ≡ Some e → ActiveOf m k
-active_of m shapes k e inv made found = by_node (first_complete 0 e.complete) refl spread.some
-  where
-    spread : IsSpread m k (shapes k) e
-    spread = subst (IsGoodIn m k (shapes k) e) (subst (λ o. IfSome o (λ (e : Entry). e.making ≡ None)) found made.made) (inv.entries k e found)
-
-    by_node : (o : Option ℕ) → first_complete 0 e.complete ≡ o → is_some o ≡ true → ActiveOf m k
-    by_node None none some = absurd (cc some)
-    by_node (Some r) first some =
-        let at_r = first_complete-node 0 e.complete r first in
-        let is : r ≡ 0 + at_r.0 = at_r.1 in
-        let there : IsCompleteOn e r = subst (λ (q : ℕ). (slice_index e.complete q == 0) ≡ false) (omega (arith, is)) at_r.2 in
-        let (x, here, shaped) = IsSomeAnd-at (m.replicas k r) (IsShaped (shapes k) ((shapes k).owners r)) (spread.replicas r there) in
-        record { entry = e; found = found; node = r; within = subst (λ (n : ℕ). r < n) spread.nodes (index-within e.complete r there); active = spread.active ∙ first; replica = x; there = here }
-
-module _ (m : Machine) (k : ℕ) (at : ActiveOf m k) where
-  -- what the code sees of the replica
-  pub active_seen : seen_at m k at.node ≡ Some (seen k at.entry.attributes at.replica)
-  active_seen = ap (λ o. seen_by k o (m.replicas k at.node)) at.found ∙ ap (seen_by k (Some at.entry)) at.there
-
-  -- what holds of its entry and of it holds on the replica
-  on_its_replica : (P : Entry → ReplicaState → Type 0) → P at.entry at.replica → OnReplica m k at.node P
-  on_its_replica P p = IsSomeAnd-from (entry_of k m.cluster.entries) _ at.entry at.found (IsSomeAnd-from (m.replicas k at.node) (P at.entry) at.replica at.there p)
-
-  -- it is asked, where there is room for what the call starts
-  pub active_next-there : (call : CallId) (kind : ActiveKind) (rooms : Rooms)
-      → driver_next m.cluster rooms (drivers.Active (record { call = call; ckpt = k; kind = kind })) ≡ cond (starts_iteration kind && not rooms.iterations) (End (Refused NoResources (Count 8))) (Serve at.node (request_by call k kind))
-  active_next-there call kind rooms =
-      ap (active_on rooms.iterations (record { call = call; ckpt = k; kind = kind })) at.found
-      ∙ ap (on_active rooms.iterations (record { call = call; ckpt = k; kind = kind })) at.active
 
 -- ---- any of them
 
@@ -163,7 +97,7 @@ module _ (m : Machine) (shapes : ℕ → Shape) (inv : InvariantIn shapes m) (s 
 
     -- what it asks for
     pub asks_of : AsksOf kind (asked s.op)
-    asks_of = by_kind (asked s.op) kind at_active.kind
+    asks_of = by_kind s.kept.all (asked s.op) kind at_active.kind
 
   module _ (at : ActiveOf m k) where
     -- ---- a read
@@ -291,7 +225,7 @@ module _ (m : Machine) (shapes : ℕ → Shape) (inv : InvariantIn shapes m) (s 
     there_goes kinds.Status is rooms t has done = status_goes is t done
     there_goes (kinds.Iterate choice) is rooms t has done = iterate_by choice is rooms.iterations t (ap (λ (r : Rooms). r.iterations) has) done
     there_goes kinds.Next is rooms t has done = next_by is t done (given (ids_asked m s) m.cluster.moment at.replica.sections) refl
-    there_goes kinds.Apply is rooms t has done = absurd (asks_of kinds.Apply is)
+    there_goes kinds.Apply is rooms t has done = apply_goes m shapes inv s call k held at is t done
     there_goes (kinds.Weak n) is rooms t has done = absurd (asks_of (kinds.Weak n) is)
 
   no_active : (ckpt : Option ℕ) → ckpt ≡ Some k → entry_of k m.cluster.entries ≡ None → NoActiveLook m ckpt NotExist Plain

@@ -9,13 +9,15 @@ use Rattle.ckpt_machine.specs.Shape.{Shape, IsCompleteOn, IsShaped, IsSpread, se
 use Rattle.ckpt_machine.specs.Invariant.{IsGoodIn, Invariant}
 use Rattle.ckpt_machine.specs.AllOrNone.{OneUpdate, IsOfOne, AreEqual, AreOfOne, AllOrNone}
 use Rattle.ckpt_machine.specs.Laws.{IsOnAllOrNone}
+use Rattle.ckpt_machine.specs.Options.{is_all}
 use Rattle.ckpt_machine.specs.Runs.{last}
 use Rattle.ckpt_machine.proofs.RunLaws.{run_has}
 use Rattle.ckpt_machine.proofs.Runs.{run_front}
 use Rattle.ckpt_machine.proofs.NodeLists.{FirstComplete, first_complete-is, trichotomy}
+use Rattle.ckpt_machine.proofs.OnAll.{shaped_replicas}
 use Rattle.ckpt_machine.proofs.Stage.{IfSome-more, on_complete}
 
-module _ (m : Machine) (k : ℕ) (z : Shape) (e : Entry) (found : entry_of k m.cluster.entries ≡ Some e) (spread : IsSpread m k z e) where
+module _ (m : Machine) (k : ℕ) (z : Shape) (e : Entry) (found : entry_of k m.cluster.entries ≡ Some e) (spread : IsSpread m k z e) (all : is_all e.attributes ≡ true) where
   -- where the lowest has no slot, none has
   none_then : (f : FirstComplete 0 e.complete) → z.owners f.place ≡ None → (q : ℕ) → IsCompleteOn e q → z.owners q ≡ None
   none_then f none q there = by_owner (z.owners q) refl
@@ -45,18 +47,18 @@ module _ (m : Machine) (k : ℕ) (z : Shape) (e : Entry) (found : entry_of k m.c
       by_owner f None none = inl (record {
         sections = sections_by z None;
         effects = effects_by z None;
-        each = on_complete m k e found _ (λ q there. IfSome-more (m.replicas k q) (IsShaped z (z.owners q)) _ (λ y shaped. let at : IsShaped z None y = subst (λ o. IsShaped z o y) (none_then f none q there) shaped in (at.slot, at.sections, at.effects)) (spread.replicas q there));
+        each = on_complete m k e found _ (λ q there. IfSome-more (m.replicas k q) (IsShaped z (z.owners q)) _ (λ y shaped. let at : IsShaped z None y = subst (λ o. IsShaped z o y) (none_then f none q there) shaped in (at.slot, at.sections, at.effects)) (shaped_replicas m k z e spread all q there));
       })
       by_owner f (Some d) owns = inr (record {
         one = one;
         done = z.done;
         fits = spread.fits f.place d owns;
-        each = on_complete m k e found (λ y. IsOfOne one z.done y y.slot) (λ q there. IfSome-more (m.replicas k q) (IsShaped z (z.owners q)) _ (λ y shaped. of_one z.done refl (z.owners q) y shaped) (spread.replicas q there));
+        each = on_complete m k e found (λ y. IsOfOne one z.done y y.slot) (λ q there. IfSome-more (m.replicas k q) (IsShaped z (z.owners q)) _ (λ y shaped. of_one z.done refl (z.owners q) y shaped) (shaped_replicas m k z e spread all q there));
       })
 
 -- wherever the invariant holds
 pub all_or_none : (m : Machine) → Invariant m → AllOrNone m
-all_or_none m inv k e found none = together m k (inv.shapes k) e found (subst (λ maker. IsGoodIn m k (inv.shapes k) e maker) none (inv.holds.entries k e found))
+all_or_none m inv k e found none all = together m k (inv.shapes k) e found (subst (λ maker. IsGoodIn m k (inv.shapes k) e maker) none (inv.holds.entries k e found)) all
 
 -- so after each front of a run
 pub on_all_or_none : IsOnAllOrNone

@@ -1,5 +1,5 @@
 -- What drives a call is what its operation asks for, by the call's own steps alone.
-use Rattle.std.proofs.Common.{◌≡◌, ℕ, List, [], ◌∷◌, Option, Some, None, ℤ, refl, ap, sym, subst, ◌∙◌}
+use Rattle.std.proofs.Common.{◌≡◌, ℕ, List, [], ◌∷◌, Option, Some, None, Bool, true, false, ℤ, refl, ap, sym, subst, ◌∙◌}
 use Rattle.std.specs.Prelude.{IfSome}
 use Rattle.ckpt_types.specs.declared.calls.OpenAsk.{OpenAsk}
 use Rattle.ckpt_types.specs.declared.identities.CallId.{CallId}
@@ -16,7 +16,7 @@ use Rattle.ckpt_types.specs.Asks.{Ask, asked}
 use Rattle.ckpt_types.specs.Asks as asks
 use Rattle.ckpt_machine.specs.Drivers.{Driver}
 use Rattle.ckpt_machine.specs.Drivers as drivers
-use Rattle.ckpt_machine.specs.Driving.{Kept, on_kept, driver_start, driver_state, driver_taken}
+use Rattle.ckpt_machine.specs.Driving.{Kept, on_kept, driver_start, driver_state, driver_taken, change_start}
 use Rattle.ckpt_machine.specs.Machine.{CallState}
 use Rattle.ckpt_machine.specs.Steps.{IsDriven, driver_of}
 
@@ -51,7 +51,11 @@ kept_drives call ask (Some k) start each = each k
 start_drives : (call : CallId) (ask : Ask) (kept : Kept) → IfSome (driver_start call ask kept) (DrivesFor call ask)
 start_drives call (asks.Open place name flags timeout a) kept = record { place = place; flags = flags; timeout = timeout; asks = refl; call_is = refl; client = refl }
 start_drives call (asks.Retain place duration) kept = kept_drives call (asks.Retain place duration) kept.ckpt _ (λ k. record { place = place; asks = refl })
-start_drives call (asks.Change place update) kept = kept_drives call (asks.Change place update) kept.ckpt _ (λ k. tt)
+start_drives call (asks.Change place update) kept = by_all kept.all
+  where
+    by_all : (all : Bool) → IfSome (change_start call all kept.ckpt) (DrivesFor call (asks.Change place update))
+    by_all true = kept_drives call (asks.Change place update) kept.ckpt _ (λ k. tt)
+    by_all false = kept_drives call (asks.Change place update) kept.ckpt _ (λ k. tt)
 start_drives call (asks.Read place elements) kept = kept_drives call (asks.Read place elements) kept.ckpt _ (λ k. tt)
 start_drives call (asks.Status place) kept = kept_drives call (asks.Status place) kept.ckpt _ (λ k. tt)
 start_drives call (asks.Iterate iteration place chosen time) kept = kept_drives call (asks.Iterate iteration place chosen time) kept.ckpt _ (λ k. tt)

@@ -35,12 +35,12 @@ use Rattle.ckpt_machine.specs.Drivers as drivers
 use Rattle.cluster_record.specs.DueActive.{active_begun}
 use Rattle.cluster_record.specs.DueOnce as once
 use Rattle.cluster_record.specs.DueUpdate.{update_begun}
-use Rattle.ckpt_machine.specs.Driving.{Kept, driver_start, active_start, deadline_from}
+use Rattle.ckpt_machine.specs.Driving.{Kept, driver_start, active_start, deadline_from, change_start}
 use Rattle.ckpt_machine.specs.Entries.{WasMade}
-use Rattle.ckpt_machine.specs.InHand.{AreGoodAttributes, active_kind, is_enter, IsInPlace}
+use Rattle.ckpt_machine.specs.InHand.{AreGoodAttributes, active_kind, is_enter, IsInPlace, change_kind}
 use Rattle.ckpt_machine.specs.Invariant.{IsGoodClient, InvariantIn, Invariant}
 use Rattle.ckpt_machine.specs.Machine.{Machine, CallState}
-use Rattle.ckpt_machine.specs.Steps.{IsBegun, IsDriven, MayBegin, asked_handle, kept_at_beginning, room_in, begun, begun_call, call_begun, started_call, driver_of}
+use Rattle.ckpt_machine.specs.Steps.{IsBegun, IsDriven, MayBegin, asked_handle, kept_at_beginning, room_in, begun, begun_call, call_begun, started_call, driver_of, all_at}
 use Rattle.ckpt_machine.specs.Tables.{handle_asked, ckpt_of_handle, choice_of, ended_at_once}
 use Rattle.ckpt_machine.specs.Shape.{Shape}
 use Rattle.ckpt_machine.proofs.Begun.{begun_live, begun_keeps, update_begins}
@@ -48,6 +48,7 @@ use Rattle.ckpt_machine.proofs.ClientTables.{same_tables}
 use Rattle.ckpt_machine.proofs.EndedTables.{client_by_number, ended_at_once_keeps}
 use Rattle.ckpt_machine.proofs.ReplicaSteps.{put_actor-here}
 use Rattle.ckpt_machine.proofs.Starting.{if_live-None, on_handle-None, iteration_answers, goes_on_begun, driven_begun}
+use Rattle.ckpt_machine.specs.Options.{is_all, is_all_in}
 
 -- ---- what a beginning that goes on has passed
 
@@ -123,6 +124,11 @@ kept_room : (o : Option Entry) → IfSome o (λ e. room_in (declared_in o) ≡ r
 kept_room None = tt
 kept_room (Some e) = refl
 
+-- and so it keeps whether updates are on all replicas
+kept_is_all : (o : Option Entry) → IfSome o (λ e. is_all_in (declared_in o) ≡ is_all e.attributes)
+kept_is_all None = tt
+kept_is_all (Some e) = refl
+
 -- a client's number is below 100
 client_within : (a : ActorName) → IsClient a → number_of a < client_numbers
 client_within (Client c) is = is
@@ -173,25 +179,30 @@ module _ (m : Machine) (shapes : ℕ → Shape) (inv : InvariantIn shapes m) (ca
   if_goes : (o : Option Outcome) → if_live (is_live_client c m.cluster) o ≡ None → (is_live m.cluster call ≡ true) × (o ≡ None)
   if_goes o goes = let (live, rest) = if_live-None (is_live_client c m.cluster) o goes in (live_then live, rest)
 
-  -- a call to the active on a handle
-  starts_active : (op : Op) (ask : Ask) (kind : ActiveKind) (h : Option HandleView) (bad : Bool) (may : OpenFlags → Bool) → GoesOn op ask h → ((o : Option HandleView) → driver_start call ask (kept_with o) ≡ active_start call kind (ckpt_of_handle o)) → active_kind ask ≡ Some kind → if_live (is_live_client c m.cluster) (on_handle h bad may) ≡ None → Starts op ask h
+  -- a call to the active on a handle that is there
+  starts_on : (op : Op) (ask : Ask) (kind : ActiveKind) (x : HandleView) → asked op ≡ ask → asked_handle m call.actor op ≡ Some x → is_live m.cluster call ≡ true → driver_start call ask (kept_with (Some x)) ≡ active_start call kind (Some x.id) → active_kind (all_at m.cluster (Some x.id)) ask ≡ Some kind → Starts op ask (Some x)
+  starts_on op ask kind x asks named live begins is = record {
+    driver = drivers.Active (active_begun call x.id kind);
+    driven = begins;
+    at = record {
+      call = refl;
+      kind = ap (active_kind (all_at m.cluster (Some x.id))) asks ∙ is;
+      made = asked_made op x named;
+      kept = refl;
+      room = kept_room (entry_of x.id m.cluster.entries);
+      all = kept_is_all (entry_of x.id m.cluster.entries);
+      handle = subst (λ (o : Option HandleView). IsSome o) (sym named) refl;
+    };
+    live = λ others. live;
+  }
+
+  -- on a handle
+  starts_active : (op : Op) (ask : Ask) (kind : ActiveKind) (h : Option HandleView) (bad : Bool) (may : OpenFlags → Bool) → GoesOn op ask h → ((o : Option HandleView) → driver_start call ask (kept_with o) ≡ active_start call kind (ckpt_of_handle o)) → ((all : Bool) → active_kind all ask ≡ Some kind) → if_live (is_live_client c m.cluster) (on_handle h bad may) ≡ None → Starts op ask h
   starts_active op ask kind h bad may on begins is goes =
       let (live, rest) = if_goes (on_handle h bad may) goes in
       let (x, there) = on_handle-None h bad may rest in
       let named : asked_handle m call.actor op ≡ Some x = on.named ∙ there in
-      subst (Starts op ask) (sym there) (record {
-        driver = drivers.Active (active_begun call x.id kind);
-        driven = begins (Some x);
-        at = record {
-          call = refl;
-          kind = ap active_kind on.is ∙ is;
-          made = asked_made op x named;
-          kept = refl;
-          room = kept_room (entry_of x.id m.cluster.entries);
-          handle = subst (λ (o : Option HandleView). IsSome o) (sym named) refl;
-        };
-        live = λ others. live;
-      })
+      subst (Starts op ask) (sym there) (starts_on op ask kind x on.is named live (begins (Some x)) (is (all_at m.cluster (Some x.id))))
 
   -- each operation that goes on
   starts : (op : Op) (ask : Ask) (h : Option HandleView) → GoesOn op ask h → IsBuiltAsk ask → Starts op ask h
@@ -219,11 +230,20 @@ module _ (m : Machine) (shapes : ℕ → Shape) (inv : InvariantIn shapes m) (ca
   starts op (asks.Change place update) h on built =
       let (live, rest) = if_goes (on_handle h (update_is_bad update) may_write) on.goes in
       let (x, there) = on_handle-None h _ _ rest in
-      subst (Starts op (asks.Change place update)) (sym there) (record { driver = drivers.Update (update_begun call x.id); driven = refl; at = update_begins m shapes inv call idle c op x place update on.is (asked_made op x (on.named ∙ there)); live = λ others. live })
-  starts op (asks.Read place elements) h on built = starts_active op (asks.Read place elements) kinds.Read h _ _ on (λ o. refl) refl on.goes
-  starts op (asks.Status place) h on built = starts_active op (asks.Status place) kinds.Status h _ _ on (λ o. refl) refl on.goes
-  starts op (asks.Iterate iteration place chosen time) h on built = starts_active op (asks.Iterate iteration place chosen time) (kinds.Iterate (choice_of chosen time)) h _ _ on (λ o. refl) refl on.goes
-  starts op (asks.Next iteration) h on built = starts_active op (asks.Next iteration) kinds.Next h _ _ on (λ o. refl) refl on.goes
+      subst (Starts op (asks.Change place update)) (sym there) (by_all x (on.named ∙ there) live (all_at m.cluster (Some x.id)) refl)
+    where
+      by_all : (x : HandleView) → asked_handle m call.actor op ≡ Some x → is_live m.cluster call ≡ true → (all : Bool) → all_at m.cluster (Some x.id) ≡ all → Starts op (asks.Change place update) (Some x)
+      by_all x named live true all = record {
+        driver = drivers.Update (update_begun call x.id);
+        driven = ap (λ b. change_start call b (Some x.id)) all;
+        at = update_begins m shapes inv call idle c op x place update on.is (asked_made op x named) all;
+        live = λ others. live;
+      }
+      by_all x named live false none = starts_on op (asks.Change place update) kinds.Apply x on.is named live (ap (λ b. change_start call b (Some x.id)) none) (ap change_kind none)
+  starts op (asks.Read place elements) h on built = starts_active op (asks.Read place elements) kinds.Read h _ _ on (λ o. refl) (λ all. refl) on.goes
+  starts op (asks.Status place) h on built = starts_active op (asks.Status place) kinds.Status h _ _ on (λ o. refl) (λ all. refl) on.goes
+  starts op (asks.Iterate iteration place chosen time) h on built = starts_active op (asks.Iterate iteration place chosen time) (kinds.Iterate (choice_of chosen time)) h _ _ on (λ o. refl) (λ all. refl) on.goes
+  starts op (asks.Next iteration) h on built = starts_active op (asks.Next iteration) kinds.Next h _ _ on (λ o. refl) (λ all. refl) on.goes
   starts op (asks.EndIteration iteration) h on built = absurd (iteration_answers h (if_live-None (is_live_client c m.cluster) _ on.goes).1)
   starts op (asks.Close place) h on built =
       let (live, rest) = if_goes (on_handle h false may_always) on.goes in

@@ -2,7 +2,7 @@
 use Rattle.cluster_record.specs.declared.calls.ActiveKind.{ActiveKind}
 use Rattle.cluster_record.specs.declared.calls.ActiveKind.TheVariants as kinds
 use Rattle.ckpt_machine.specs.Drivers.{Rooms}
-use Rattle.std.proofs.Common.{◌≡◌, ℕ, List, [], ◌∷◌, refl, subst, ◌∙◌}
+use Rattle.std.proofs.Common.{◌≡◌, ℕ, List, [], ◌∷◌, Bool, true, false, refl, subst, ◌∙◌}
 use Rattle.std.specs.Prelude.{Option, Some, None, IfSome}
 use Rattle.ckpt_types.specs.declared.identities.CallId.{CallId}
 use Rattle.ckpt_types.specs.Asks.{Ask, asked}
@@ -20,7 +20,7 @@ use Rattle.ckpt_machine.specs.Drivers as drivers
 use Rattle.cluster_record.specs.DueUpdate.{UpdateState}
 use Rattle.cluster_record.specs.RecordState.{RecordState}
 use Rattle.cluster_record.specs.StepDone.{StepDone}
-use Rattle.ckpt_machine.specs.Driving.{Kept, on_kept, driver_start, driver_state, driver_taken, driver_next}
+use Rattle.ckpt_machine.specs.Driving.{Kept, on_kept, driver_start, driver_state, driver_taken, driver_next, change_start}
 use Rattle.cluster_record.specs.DueUpdate.{update_taken_by}
 use Rattle.cluster_record.specs.DueActive.{request_by}
 use Rattle.ckpt_machine.specs.Machine.{CallState}
@@ -56,7 +56,11 @@ of_kept c None start h = tt
 of_kept c (Some k) start h = h k
 
 of_start : (call : CallId) (ask : Ask) (kept : Kept) → IfSome (driver_start call ask kept) (Of call)
-of_start call (asks.Change place update) kept = of_kept call kept.ckpt _ (λ k. refl)
+of_start call (asks.Change place update) kept = by_all kept.all
+  where
+    by_all : (all : Bool) → IfSome (change_start call all kept.ckpt) (Of call)
+    by_all true = of_kept call kept.ckpt _ (λ k. refl)
+    by_all false = of_kept call kept.ckpt _ (λ k. tt)
 of_start call (asks.Read place elements) kept = of_kept call kept.ckpt _ (λ k. tt)
 of_start call (asks.Status place) kept = of_kept call kept.ckpt _ (λ k. tt)
 of_start call (asks.Iterate iteration place chosen time) kept = of_kept call kept.ckpt _ (λ k. tt)

@@ -32,7 +32,8 @@ use Rattle.ckpt_machine.specs.InHand.{is_enter, IsInPlace, IsUpdateIn, IsInHand,
 use Rattle.ckpt_machine.specs.Invariant.{InvariantIn, Invariant}
 use Rattle.ckpt_machine.proofs.NodeLists.{elsewhere-is, last_having-None, index-set, index-other, length-slice_set, index-within, had-there, has-none}
 use Rattle.ckpt_machine.proofs.ReplicaSteps.{put_actor-here, one_changed, step_keeps}
-use Rattle.ckpt_machine.proofs.Owning.{is_owner-true, is_owner-here, owner_alone, at, made, on_replica}
+use Rattle.ckpt_machine.proofs.Owning.{is_owner-true, is_owner-here, owner_alone, at, made, on_all, all_is}
+use Rattle.ckpt_machine.proofs.OnAll.{shaped_replicas, by_shape}
 use Rattle.ckpt_machine.proofs.Stage.{IfSome-more, on_complete}
 use Rattle.ckpt_machine.proofs.Actors.{same_actor-refl, same_call-refl}
 
@@ -116,7 +117,7 @@ module _ (m : Machine) (shapes : ℕ → Shape) (inv : InvariantIn shapes m) (s 
       ap (λ o. owned_elsewhere s.call r (replicas_from (m.replicas u.ckpt) 0 (complete_of o))) found
       ∙ elsewhere-is s.call r (m.replicas u.ckpt) 0 e.complete owned_then (length-slice_set u.owned r 0 ∙ same_length)
       (λ d complete. subst (λ (j : ℕ). IsSomeAnd (m.replicas u.ckpt j) (λ y. (not (j == r) && owns_slot s.call y.slot) ≡ has (slice_index e.complete d) (slice_index owned_then d))) (omega arith)
-      (each d complete (m.replicas u.ckpt d) (spread.replicas d complete)))
+      (each d complete (m.replicas u.ckpt d) (shaped_replicas m u.ckpt z e spread (all_is m shapes inv s u held is e found) d complete)))
     where
       kept : (d : ℕ) → IsCompleteOn e d → (not (d == r) && is_owner s.call (z.owners d)) ≡ has (slice_index e.complete d) (slice_index owned_then d)
       kept d complete = elim (d == r) as (λ b. (d == r) ≡ b → (not b && is_owner s.call (z.owners d)) ≡ has (slice_index e.complete d) (slice_index owned_then d)) [
@@ -141,13 +142,13 @@ module _ (m : Machine) (shapes : ℕ → Shape) (inv : InvariantIn shapes m) (s 
     staged = shaped.slot;
     owner = refl;
     origin = inl commits.origin;
-    others = on_complete m u.ckpt e found (λ y. HasSlotOrEffect x own_slot y y.slot) (λ q complete. IfSome-more (m.replicas u.ckpt q) (IsShaped z (z.owners q)) _ (has_it q complete (z.owners q) refl) (spread.replicas q complete));
+    others = on_complete m u.ckpt e found (λ y. HasSlotOrEffect x own_slot y y.slot) (λ q complete. IfSome-more (m.replicas u.ckpt q) (IsShaped z (z.owners q)) _ (has_it q complete (z.owners q) refl) (shaped_replicas m u.ckpt z e spread (all_is m shapes inv s u held is e found) q complete));
     answer = done-by A left_then ∙ ap (λ b. cond b (Some (Done A)) None) (sym ends);
     told = details-by A (told_id (update_of s.op) z.moment x.sections) left_then ∙ ap (λ b. cond b (told_id (update_of s.op) z.moment x.sections) beside.Nothing) (sym ends);
   }
 
   pub commit_row : CommitRow m s.call (update_of s.op) u.ckpt r words.Ok (done_if_none A left_then) (ended_details (done_if_none A left_then) (told_id (update_of s.op) z.moment x.sections))
-  commit_row = on_replica m shapes inv s u held is e found r x (λ f y. CommitOk m s.call (update_of s.op) u.ckpt r (done_if_none A left_then) (ended_details (done_if_none A left_then) (told_id (update_of s.op) z.moment x.sections)) y) there commit_ok
+  commit_row = on_all m shapes inv s u held is e found r x (λ f y. CommitOk m s.call (update_of s.op) u.ckpt r (done_if_none A left_then) (ended_details (done_if_none A left_then) (told_id (update_of s.op) z.moment x.sections)) y) there commit_ok
 
   -- ---- the state after it
 
@@ -206,8 +207,9 @@ module _ (m : Machine) (shapes : ℕ → Shape) (inv : InvariantIn shapes m) (s 
     slot = is.slot;
     sections = is.sections ∙ ap (λ b. cond b z.outcome z.sections) is_done;
     effects = is.effects ∙ ap (λ b. cond b (z.effects ++ Applied z.origin z.update z.moment ∷ []) z.effects) is_done;
+    unmarked = is.unmarked;
   }
-  IsShaped-committed q full (Some d) owns y is = record { slot = is.slot; sections = is.sections; effects = is.effects }
+  IsShaped-committed q full (Some d) owns y is = record { slot = is.slot; sections = is.sections; effects = is.effects; unmarked = is.unmarked }
 
   committed_shaped : IsShaped committed None with_commit
   unfolding with_commit
@@ -215,6 +217,7 @@ module _ (m : Machine) (shapes : ℕ → Shape) (inv : InvariantIn shapes m) (s 
     slot = refl;
     sections = (let outcome_is = ap (outcome e.attributes z.update z.moment) shaped.sections ∙ spread.fits r s.call own in ap (λ o. or_same o x.sections) outcome_is);
     effects = ap (λ es. es ++ Applied z.origin z.update z.moment ∷ []) shaped.effects;
+    unmarked = shaped.unmarked;
   }
 
   replicas_then : (o : Option CallState) (q : ℕ) → IsCompleteOn e q → IsSomeAnd ((then_machine o).replicas u.ckpt q) (IsShaped committed (committed.owners q))
@@ -222,7 +225,7 @@ module _ (m : Machine) (shapes : ℕ → Shape) (inv : InvariantIn shapes m) (s 
       subst (λ b. IsSomeAnd (cond (b && (q == r)) (Some with_commit) (m.replicas u.ckpt q)) (IsShaped committed (committed.owners q))) (sym (eq-eqb u.ckpt u.ckpt refl))
       (elim (q == r) as (λ b. IsSomeAnd (cond b (Some with_commit) (m.replicas u.ckpt q)) (IsShaped committed (cond b None (z.owners q)))) [
         | true ↦ committed_shaped
-        | false ↦ shaped_then (m.replicas u.ckpt q) (spread.replicas q there)
+        | false ↦ shaped_then (m.replicas u.ckpt q) (shaped_replicas m u.ckpt z e spread (all_is m shapes inv s u held is e found) q there)
       ])
     where
       shaped_then : (y : Option ReplicaState) → IsSomeAnd y (IsShaped z (z.owners q)) → IsSomeAnd y (IsShaped committed (z.owners q))
@@ -235,7 +238,7 @@ module _ (m : Machine) (shapes : ℕ → Shape) (inv : InvariantIn shapes m) (s 
     nodes = spread.nodes;
     some = spread.some;
     active = spread.active;
-    replicas = replicas_then o;
+    replicas = λ q there. by_shape e (all_is m shapes inv s u held is e found) committed (committed.owners q) ((then_machine o).replicas u.ckpt q) (replicas_then o q there);
     fits = λ q d owns. spread.fits q d (owners_left q d owns).1;
     complete = λ q d owns. spread.complete q d (owners_left q d owns).1;
     lowest = lowest_then;
@@ -288,6 +291,7 @@ module _ (m : Machine) (shapes : ℕ → Shape) (inv : InvariantIn shapes m) (s 
     asks = was.asks;
     kept = was.kept;
     made = was.made;
+    all = was.all;
     nodes = length-slice_set u.owned r 0 ∙ was.nodes;
     owns = λ f there. subst (λ w. OwnsIn w s then_driver f) (sym (ap (λ b. cond b committed (shapes u.ckpt)) (eq-eqb u.ckpt u.ckpt refl))) (subst (OwnsIn committed s then_driver) (same_Some e f (sym found ∙ there)) owns_then);
     some = λ f there. subst (λ f. HasSome then_driver f Committing) (same_Some e f (sym found ∙ there)) (ap is_some some);

@@ -1,5 +1,6 @@
 -- What the code relies on holds wherever the invariant does.
 use Rattle.std.proofs.Common.{◌≡◌, ℕ, ◌<◌, List, length, Option, Some, None, Bool, true, false, cond, not, ◌&&◌, nat_le, ℤ, refl, sym, ap, subst, ◌∙◌}
+use Rattle.std.proofs.lemmas.Option.{same_Some}
 use Rattle.std.specs.Prelude.{is_some, IsSome, IsSomeAnd, IfSome, pos, ◌≤ℤ◌}
 use Rattle.std.proofs.lemmas.Bool.{leb-false}
 use Rattle.ckpt_types.specs.declared.ais_error.AisError.TheVariants.{NoResources, BadOperation}
@@ -32,7 +33,7 @@ use Rattle.ckpt_machine.specs.Drivers as drivers
 use Rattle.ckpt_machine.specs.Driving.{driver_next}
 use Rattle.ckpt_machine.specs.Machine.{Machine, CallState}
 use Rattle.node_core.specs.Fitting.{IsReadyFor}
-use Rattle.ckpt_machine.specs.Steps.{due, driver_of, room_in, room_at, rooms_of, seen_at, seen}
+use Rattle.ckpt_machine.specs.Steps.{due, driver_of, room_in, room_at, rooms_of, seen_at, seen, seen_slot}
 use Rattle.ckpt_machine.specs.Tables.{choice_of}
 use Rattle.ckpt_machine.specs.Facts.{IsActive, IsServable, IsEventReady, IsStarting, IsGoingOn, Facts}
 use Rattle.ckpt_machine.specs.InHand.{active_kind, IsEnterAt, IsOnceAt, IsInPlace, IsActiveIn}
@@ -40,11 +41,12 @@ use Rattle.ckpt_machine.specs.Invariant.{InvariantIn, Invariant}
 use Rattle.ckpt_machine.specs.Shape.{Shape}
 use Rattle.section_iter.specs.Room.{room_declared}
 use Rattle.cluster_record.specs.LookUps.{declared_in}
-use Rattle.ckpt_machine.proofs.Active.{ActiveOf, active_of, active_seen, active_next-there}
+use Rattle.ckpt_machine.proofs.ActiveNode.{none_all, ActiveOf, active_of, active_seen, active_next-there}
 use Rattle.ckpt_machine.proofs.OpenReady.{IsReadyOpen, open_ready, open_fits}
 use Rattle.ckpt_machine.proofs.OwnMaking.{making_is}
 use Rattle.ckpt_machine.proofs.UpdateReady.{HasMoment, HasOwn, IsReadyNext, update_ready}
 use Rattle.ckpt_machine.proofs.OptionLemmas.{IsSomeAnd-from}
+use Rattle.ckpt_machine.specs.Options.{is_all}
 
 -- what it relies on of an iteration that is started, and of one that goes on
 abbrev pub IsFor : Machine → CallState → Request → Type 0
@@ -92,23 +94,25 @@ update_due m s u ready = by_entry (entry_of u.ckpt m.cluster.entries) ready
 -- ---- a call to the active
 
 -- one that starts an iteration asks for it
-iterates : (ask : Ask) (choice : Choice) → active_kind ask ≡ Some (kinds.Iterate choice) → (iteration place chosen : ℕ) × (time : ℤ) × (ask ≡ asks.Iterate iteration place chosen time) × (choice ≡ choice_of chosen time)
-iterates (asks.Iterate iteration place chosen time) choice is = (iteration, place, chosen, time, refl, cc is)
-iterates ask choice is = absurd (cc is)
+iterates : (all : Bool) (ask : Ask) (choice : Choice) → active_kind all ask ≡ Some (kinds.Iterate choice) → (iteration place chosen : ℕ) × (time : ℤ) × (ask ≡ asks.Iterate iteration place chosen time) × (choice ≡ choice_of chosen time)
+iterates all (asks.Iterate iteration place chosen time) choice is = (iteration, place, chosen, time, refl, cc is)
+iterates false (asks.Change place update) choice is = absurd (let w : kinds.Apply ≡ kinds.Iterate choice = same_Some kinds.Apply (kinds.Iterate choice) is in cc w)
+iterates true (asks.Change place update) choice is = absurd (cc is)
+iterates all ask choice is = absurd (cc is)
 
 -- one that goes on with an iteration asks for that
-asks_next : (ask : Ask) → active_kind ask ≡ Some kinds.Next → (iteration : ℕ) × (ask ≡ asks.Next iteration)
-asks_next (asks.Next iteration) is = (iteration, refl)
-asks_next ask is = absurd (cc is)
+asks_next : (all : Bool) (ask : Ask) → active_kind all ask ≡ Some kinds.Next → (iteration : ℕ) × (ask ≡ asks.Next iteration)
+asks_next all (asks.Next iteration) is = (iteration, refl)
+asks_next false (asks.Change place update) is = absurd (let w : kinds.Apply ≡ kinds.Next = same_Some kinds.Apply kinds.Next is in cc w)
+asks_next true (asks.Change place update) is = absurd (cc is)
+asks_next all ask is = absurd (cc is)
 
 -- what is not built is asked for by none
-none_applies : (ask : Ask) → active_kind ask ≡ Some kinds.Apply → ⊥
-none_applies (asks.Next iteration) is = cc is
-none_applies ask is = cc is
-
-none_weak : (ask : Ask) (n : ℕ) → active_kind ask ≡ Some (kinds.Weak n) → ⊥
-none_weak (asks.Next iteration) n is = cc is
-none_weak ask n is = cc is
+none_weak : (all : Bool) (ask : Ask) (n : ℕ) → active_kind all ask ≡ Some (kinds.Weak n) → ⊥
+none_weak all (asks.Next iteration) n is = cc is
+none_weak false (asks.Change place update) n is = let w : kinds.Apply ≡ kinds.Weak n = same_Some kinds.Apply (kinds.Weak n) is in cc w
+none_weak true (asks.Change place update) n is = cc is
+none_weak all ask n is = cc is
 
 module _ (m : Machine) (shapes : ℕ → Shape) (inv : InvariantIn shapes m) (s : CallState) (call : CallId) (k : ℕ) (kind : ActiveKind) (held : m.in_hand s.call.actor ≡ Some s) (is : driver_of s ≡ drivers.Active (record { call = call; ckpt = k; kind = kind })) where
   at_active : IsActiveIn m s (record { call = call; ckpt = k; kind = kind })
@@ -129,9 +133,13 @@ module _ (m : Machine) (shapes : ℕ → Shape) (inv : InvariantIn shapes m) (s 
     kept_all : s.kept.room ≡ room_at m.cluster (Some k)
     kept_all = subst (λ o. IfSome o (λ (e : Entry). s.kept.room ≡ room_declared e.attributes)) at.found at_active.room ∙ ap (λ o. room_in (declared_in o)) (sym at.found)
 
-    is_starting : (choice : Choice) → active_kind (asked s.op) ≡ Some (kinds.Iterate choice) → IsStarting m s k choice
+    -- updates of its checkpoint go to the active alone, where it asks for one
+    alone : active_kind s.kept.all (asked s.op) ≡ Some kinds.Apply → is_all at.entry.attributes ≡ false
+    alone kind_is = sym (subst (λ o. IfSome o (λ (e : Entry). s.kept.all ≡ is_all e.attributes)) at.found at_active.all) ∙ none_all s.kept.all (asked s.op) kind_is
+
+    is_starting : (choice : Choice) → active_kind s.kept.all (asked s.op) ≡ Some (kinds.Iterate choice) → IsStarting m s k choice
     is_starting choice kind_is =
-        let (iteration, place, chosen, time, is_asked, choice_is) = iterates (asked s.op) choice kind_is in
+        let (iteration, place, chosen, time, is_asked, choice_is) = iterates s.kept.all (asked s.op) choice kind_is in
         record {
           iteration = iteration;
           place = place;
@@ -145,17 +153,17 @@ module _ (m : Machine) (shapes : ℕ → Shape) (inv : InvariantIn shapes m) (s 
           active = subst IsActive (sym is) tt;
         }
 
-    is_going_on : active_kind (asked s.op) ≡ Some kinds.Next → IsGoingOn m s
-    is_going_on kind_is = let (iteration, is_asked) = asks_next (asked s.op) kind_is in record { iteration = iteration; asks = is_asked; within = subst IsBuiltAsk is_asked built; handle = at_active.handle }
+    is_going_on : active_kind s.kept.all (asked s.op) ≡ Some kinds.Next → IsGoingOn m s
+    is_going_on kind_is = let (iteration, is_asked) = asks_next s.kept.all (asked s.op) kind_is in record { iteration = iteration; asks = is_asked; within = subst IsBuiltAsk is_asked built; handle = at_active.handle }
 
-    by_kind : (x : ActiveKind) → active_kind (asked s.op) ≡ Some x → (b : Bool) → IsDueReady m s driver (cond b (End (Refused NoResources (Count 8))) (Serve at.node (request_by call k x)))
+    by_kind : (x : ActiveKind) → active_kind s.kept.all (asked s.op) ≡ Some x → (b : Bool) → IsDueReady m s driver (cond b (End (Refused NoResources (Count 8))) (Serve at.node (request_by call k x)))
     by_kind x kind_is true = tt
     by_kind kinds.Read kind_is false = (at.within, seen_there (requests.Read k) refl tt, tt, tt, tt)
     by_kind kinds.Status kind_is false = (at.within, seen_there (requests.Status k) refl tt, tt, tt, tt)
     by_kind (kinds.Iterate choice) kind_is false = (at.within, seen_there (requests.Iterate call k choice) refl tt, tt, tt, is_starting choice kind_is)
     by_kind kinds.Next kind_is false = (at.within, seen_there (requests.Next call k) refl tt, tt, tt, is_going_on kind_is)
-    by_kind kinds.Apply kind_is false = absurd (none_applies (asked s.op) kind_is)
-    by_kind (kinds.Weak n) kind_is false = absurd (none_weak (asked s.op) n kind_is)
+    by_kind kinds.Apply kind_is false = (at.within, seen_there (requests.Apply call k) refl (ap (seen_slot (length at.replica.effects)) (at.apart (alone kind_is)).free), tt, tt, tt)
+    by_kind (kinds.Weak n) kind_is false = absurd (none_weak s.kept.all (asked s.op) n kind_is)
 
   active_ready : (rooms : Rooms) → IsDueReady m s driver (driver_next m.cluster rooms driver)
   active_ready rooms = by_entry (entry_of k m.cluster.entries) refl

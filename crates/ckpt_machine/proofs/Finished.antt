@@ -19,13 +19,14 @@ use Rattle.ckpt_machine.specs.InHand.{IsMakingIn}
 use Rattle.ckpt_machine.specs.Invariant.{IsMaker, IsGoodIn, InvariantIn}
 use Rattle.ckpt_machine.specs.Machine.{Machine, CallState}
 use Rattle.ckpt_machine.specs.Steps.{driver_of, with_record, replica_under, reservation_under, opened_state}
-use Rattle.ckpt_machine.specs.Shape.{Shape, IsCompleteOn, IsShaped, is_owner, IsOwner, IsSpread}
+use Rattle.ckpt_machine.specs.Shape.{Shape, IsCompleteOn, IsShapedBy, is_owner, IsOwner, IsSpread}
 use Rattle.ckpt_machine.proofs.ReplicaSteps.{put_actor-cases, put_actor-other}
 use Rattle.ckpt_machine.proofs.OtherCalls.{LooksAlike, making_still, IsInHand-alike, IsGoodIn-alike, IsLaterEntry-refl}
 use Rattle.ckpt_machine.proofs.OptionLemmas.{IsSomeAnd-at, IsSomeAnd-from}
 use Rattle.ckpt_machine.proofs.Actors.{same_actor-refl, same_actor-true}
 use Rattle.ckpt_machine.proofs.EntryLists.{find_key-change_key}
 use Rattle.ckpt_machine.proofs.NodeLists.{slice_index-replicate}
+use Rattle.ckpt_machine.specs.Options.{is_all}
 
 module _ (m : Machine) (shapes : ℕ → Shape) (inv : InvariantIn shapes m) (s : CallState) (o : OpenState) (making : Making) (held : m.in_hand s.call.actor ≡ Some s) (is : driver_of s ≡ drivers.Open o) (makes : o.making ≡ Some making)
     (c : ℕ) (e : Entry) (found : entry_of making.ckpt m.cluster.entries ≡ Some e) (by : e.making ≡ Some s.call) (some : IsSome (first_complete 0 m.cluster.up)) (stays : AllStay m.cluster.moment (change_key identity_of making.ckpt (made_with m.cluster.up c) m.cluster.entries)) where
@@ -127,13 +128,18 @@ module _ (m : Machine) (shapes : ℕ → Shape) (inv : InvariantIn shapes m) (s 
       ∙ ap (λ o. replica_under (Some f) (slice_index (complete_of o) r) r (m.replicas making.ckpt r)) found
       ∙ (λ i. cond (there i) None (cond (none_before r i) (Some (opened_state f)) (m.replicas making.ckpt r)))
 
+  opened_by : (b : Bool) → IsShapedBy b opened_shape None (opened_state f)
+  unfolding opened_shape
+  opened_by true = record { slot = refl; sections = refl; effects = refl; unmarked = refl }
+  opened_by false = record { free = refl; unmarked = refl }
+
   spread_here : IsSpread then_machine making.ckpt opened_shape f
   unfolding opened_shape
   spread_here = record {
     nodes = ap length inv.up.1;
     some = some;
     active = refl;
-    replicas = λ r there. IsSomeAnd-from (then_machine.replicas making.ckpt r) (IsShaped opened_shape None) (opened_state f) (replica_here r there) (record { slot = refl; sections = refl; effects = refl });
+    replicas = λ r there. IsSomeAnd-from (then_machine.replicas making.ckpt r) (IsShapedBy (is_all f.attributes) opened_shape None) (opened_state f) (replica_here r there) (opened_by (is_all f.attributes));
     fits = λ r d none. absurd (cc none);
     complete = λ r d none. absurd (cc none);
     lowest = λ q r d below there none. absurd (cc none);

@@ -1,4 +1,4 @@
--- What a step leaves of replicas and their effects: a replica is where its node is complete, none has marks, and no checkpoint is held; effects are those that were, or of the call that commits.
+-- What a step leaves of replicas and their effects: a replica is where its node is complete, none has marks, and no checkpoint is held; effects are those that were, or of the call that commits or applies.
 use Rattle.std.proofs.Common.{◌≡◌, ◌⊎◌, ℕ, ◌-◌, inl, inr, List, [], ◌∷◌, ◌++◌, filter, All, Option, Some, None, Bool, true, false, cond, not, ◌==◌, ◌&&◌, ℤ, refl, sym, ap, subst, ◌∙◌}
 use Rattle.std.specs.Prelude.{IsSomeAnd, slice_index, slice_set}
 use Rattle.std.proofs.lemmas.Bool.{eqb-true, and_parts}
@@ -7,6 +7,7 @@ use Rattle.std.proofs.lemmas.List.Elements.{All-filter, All-map, All-push, All-w
 use Rattle.ckpt_types.specs.declared.attributes.CreationAttributes.{CreationAttributes}
 use Rattle.ckpt_types.specs.declared.identities.ActorName.{ActorName}
 use Rattle.ckpt_types.specs.declared.identities.CallId.{CallId}
+use Rattle.ckpt_types.specs.declared.update.Update.{Update}
 use Rattle.node_msgs.specs.declared.steps.Verb.{Verb}
 use Rattle.node_msgs.specs.declared.steps.Verb.TheVariants as verbs
 use Rattle.node_msgs.specs.declared.steps.StepReply.{StepReply}
@@ -17,12 +18,12 @@ use Rattle.cluster_record.specs.Makings.{making_of}
 use Rattle.cluster_record.specs.Places.{change_key, put2}
 use Rattle.cluster_record.specs.RecordState.{RecordState, entry_of, identity_of, complete_of, has_references, stays, swept, entered, created_as, new_entry, referred, made_with, unreferred, released_all, unnamed, retaining, is_call_of, departed, undone}
 use Rattle.cluster_record.proofs.KeptLaws.{All-change_key}
-use Rattle.ckpt_types.specs.Asks.{Ask, asked}
+use Rattle.ckpt_types.specs.Asks.{Ask, asked, update_of}
 use Rattle.ckpt_types.specs.Asks as asks
-use Rattle.ckpt_machine.specs.Machine.{Machine, Effect, ReplicaState, Staged, CallState}
+use Rattle.ckpt_machine.specs.Machine.{Machine, Effect, Applied, ReplicaState, Staged, CallState}
 use Rattle.ckpt_machine.specs.Owned.{IsEffectOf, HasEffect}
 use Rattle.ckpt_machine.specs.Shape.{IsCompleteOn}
-use Rattle.ckpt_machine.specs.Steps.{with_record, record_step, created_for, retained_for, change_replica, with_committed, committed_slot, effect_of, changed, on_ok, on_look, without_making, at_some, replica_under, reservation_under, opened_state}
+use Rattle.ckpt_machine.specs.Steps.{with_record, record_step, created_for, retained_for, change_replica, with_committed, committed_slot, with_applied, effect_of, changed, on_ok, on_look, without_making, at_some, replica_under, reservation_under, opened_state}
 
 -- ---- what is so in every state of a run
 
@@ -105,6 +106,16 @@ committed_effects (Some e) x d has = by_slot x.slot refl has
     by_slot : (o : Option Staged) → x.slot ≡ o → HasEffect d (committed_slot e.attributes x o).effects → HasEffect d x.effects ⊎ ((slot : Staged) × (x.slot ≡ Some slot) × (slot.origin ≡ d))
     by_slot None is has = inl has
     by_slot (Some slot) is has = elim (effect_more d x.effects (effect_of slot) has) [ inl was ↦ inl was | inr new ↦ inr (slot, is, new) ]
+
+-- an update in one step leaves the marks as they were
+applied_marks : (o : Option Entry) (call : CallId) (update : Update) (t : ℤ) (x : ReplicaState) → (with_applied call update t o x).marks ≡ x.marks
+applied_marks None call update t x = refl
+applied_marks (Some e) call update t x = refl
+
+-- and takes the effect of its call
+applied_effects : (o : Option Entry) (call : CallId) (update : Update) (t : ℤ) (x : ReplicaState) (d : CallId) → HasEffect d (with_applied call update t o x).effects → HasEffect d x.effects ⊎ (call ≡ d)
+applied_effects None call update t x d has = inl has
+applied_effects (Some e) call update t x d has = effect_more d x.effects (Applied call update t) has
 
 -- ---- the entries
 
@@ -252,39 +263,52 @@ module _ (m : Machine) (bare : IsBare m) (IsNew : ℕ → CallId → Type 0) whe
         | false ↦ λ at some. bare.reserves j q i some
       ] refl is
 
-  -- what a step needs of its row: a node that reserves is not complete, and the new effects of a commit are of the origins of what is staged there
-  abbrev pub StepNeeds : Verb → Option ℕ → Option ℕ → StepReply → Type 0
-  StepNeeds verbs.Reserve (Some k) (Some r) words.Ok = IsSomeAnd (entry_of k m.cluster.entries) (λ e. IsIncomplete e r)
-  StepNeeds verbs.Commit (Some k) (Some r) words.Ok = (x : ReplicaState) (slot : Staged) → m.replicas k r ≡ Some x → x.slot ≡ Some slot → IsNew k slot.origin
-  StepNeeds verb k r reply = Unit {0}
+  -- what a step of a call needs of its row: a node that reserves is not complete, the new effects of a commit are of the origins of what is staged there, and that of an update in one step is of the call
+  abbrev pub StepNeeds : CallId → Verb → Option ℕ → Option ℕ → StepReply → Type 0
+  StepNeeds call verbs.Reserve (Some k) (Some r) words.Ok = IsSomeAnd (entry_of k m.cluster.entries) (λ e. IsIncomplete e r)
+  StepNeeds call verbs.Commit (Some k) (Some r) words.Ok = (x : ReplicaState) (slot : Staged) → m.replicas k r ≡ Some x → x.slot ≡ Some slot → IsNew k slot.origin
+  StepNeeds call verbs.Apply (Some k) (Some r) words.Ok = IsNew k call
+  StepNeeds call verb k r reply = Unit {0}
 
-  reserved_follows : (k r : Option ℕ) (reply : StepReply) → StepNeeds verbs.Reserve k r reply → ReplicasFollow m IsNew (on_ok reply m (at_some k m (λ k. at_some r m (λ r. record m { reserved = put2 m.reserved k r (Some (slice_index m.cluster.up r)) }))))
-  reserved_follows (Some k) (Some r) words.Ok there = reserve_follows k r (slice_index m.cluster.up r) there
-  reserved_follows (Some k) None words.Ok there = same_follows
-  reserved_follows None r words.Ok there = same_follows
-  reserved_follows k r reply there = same_follows
+  reserved_follows : (call : CallId) (k r : Option ℕ) (reply : StepReply) → StepNeeds call verbs.Reserve k r reply → ReplicasFollow m IsNew (on_ok reply m (at_some k m (λ k. at_some r m (λ r. record m { reserved = put2 m.reserved k r (Some (slice_index m.cluster.up r)) }))))
+  reserved_follows call (Some k) (Some r) words.Ok there = reserve_follows k r (slice_index m.cluster.up r) there
+  reserved_follows call (Some k) None words.Ok there = same_follows
+  reserved_follows call None r words.Ok there = same_follows
+  reserved_follows call k r reply there = same_follows
 
-  commit_follows : (k r : Option ℕ) (reply : StepReply) → StepNeeds verbs.Commit k r reply → ReplicasFollow m IsNew (on_ok reply m (at_some k m (λ k. at_some r m (λ r. change_replica m k r (m.replicas k r) (with_committed (entry_of k m.cluster.entries))))))
-  commit_follows (Some k) (Some r) words.Ok new =
+  commit_follows : (call : CallId) (k r : Option ℕ) (reply : StepReply) → StepNeeds call verbs.Commit k r reply → ReplicasFollow m IsNew (on_ok reply m (at_some k m (λ k. at_some r m (λ r. change_replica m k r (m.replicas k r) (with_committed (entry_of k m.cluster.entries))))))
+  commit_follows call (Some k) (Some r) words.Ok new =
       changed_replica k r (m.replicas k r) refl (with_committed (entry_of k m.cluster.entries)) (committed_marks (entry_of k m.cluster.entries))
       (λ x d there has. elim (committed_effects (entry_of k m.cluster.entries) x d has) [
         | inl was ↦ inl was
         | inr by ↦ (let (slot, is, origin) = by in inr (subst (IsNew k) origin (new x slot there is)))
       ])
-  commit_follows (Some k) None words.Ok new = same_follows
-  commit_follows None r words.Ok new = same_follows
-  commit_follows k r reply new = same_follows
+  commit_follows call (Some k) None words.Ok new = same_follows
+  commit_follows call None r words.Ok new = same_follows
+  commit_follows call k r reply new = same_follows
+
+  apply_follows : (call : CallId) (update : Update) (t : ℤ) (k r : Option ℕ) (reply : StepReply) → StepNeeds call verbs.Apply k r reply → ReplicasFollow m IsNew (on_ok reply m (at_some k m (λ k. at_some r m (λ r. change_replica m k r (m.replicas k r) (with_applied call update t (entry_of k m.cluster.entries))))))
+  apply_follows call update t (Some k) (Some r) words.Ok new =
+      changed_replica k r (m.replicas k r) refl (with_applied call update t (entry_of k m.cluster.entries)) (applied_marks (entry_of k m.cluster.entries) call update t)
+      (λ x d there has. elim (applied_effects (entry_of k m.cluster.entries) call update t x d has) [
+        | inl was ↦ inl was
+        | inr by ↦ inr (subst (IsNew k) by new)
+      ])
+  apply_follows call update t (Some k) None words.Ok new = same_follows
+  apply_follows call update t None r words.Ok new = same_follows
+  apply_follows call update t k r reply new = same_follows
 
   -- any step
-  pub changed_follows : (s : CallState) (verb : Verb) (k r : Option ℕ) (reply : StepReply) → StepNeeds verb k r reply → ReplicasFollow m IsNew (changed m s verb k r reply)
+  pub changed_follows : (s : CallState) (verb : Verb) (k r : Option ℕ) (reply : StepReply) → StepNeeds s.call verb k r reply → ReplicasFollow m IsNew (changed m s verb k r reply)
   changed_follows s verbs.Enter k r reply new = ok_follows reply _ (one_follows r _ (λ r. step_follows (entered (client_of s.call) r s.call.number) bare.free))
   changed_follows s verbs.Open k r reply new = ok_follows reply _ (one_follows k _ (λ k. entry_follows k (λ R. referred (client_of s.call)) (λ e. refl)))
   changed_follows s verbs.Create k r reply new = ok_follows reply _ (step_follows (created_for s.call (asked s.op)) (created_for_free m.cluster bare.free s.call (asked s.op)))
-  changed_follows s verbs.Reserve k r reply new = reserved_follows k r reply new
+  changed_follows s verbs.Reserve k r reply new = reserved_follows s.call k r reply new
   changed_follows s verbs.Finish k r reply new = ok_follows reply _ (one_follows k _ (λ k. entry_follows k (λ R. made_with R.up (client_of s.call)) (λ e. refl)))
   changed_follows s verbs.Undo k r reply new = ok_follows reply _ (one_follows k _ undone_follows)
   changed_follows s verbs.Stage k r reply new = ok_follows reply _ (both_follow k r _ (λ k r. changed_replica k r (m.replicas k r) refl _ (λ x. refl) (λ x d there has. inl has)))
-  changed_follows s verbs.Commit k r reply new = commit_follows k r reply new
+  changed_follows s verbs.Commit k r reply new = commit_follows s.call k r reply new
+  changed_follows s verbs.Apply k r reply new = apply_follows s.call (update_of s.op) m.cluster.moment k r reply new
   changed_follows s verbs.Iter k r reply new = ok_follows reply _ (both_follow k r _ (λ k r. same_follows))
   changed_follows s verbs.Next k r reply new = ok_follows reply _ (both_follow k r _ (λ k r. same_follows))
   changed_follows s verbs.Leave k r reply new = ok_follows reply _ (step_follows (departed (client_of s.call)) (departed_free m.cluster bare.free (client_of s.call)))

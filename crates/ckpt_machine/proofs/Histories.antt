@@ -1,9 +1,10 @@
--- Which calls replicas have effects of: of calls that were begun; and one that is in hand commits its update there.
+-- Which calls replicas have effects of: of calls that were begun; and one that is in hand commits its update there, since an update in one step has ended.
 use Rattle.std.proofs.Common.{◌≡◌, ◌⊎◌, ℕ, ◌+◌, ◌<◌, inl, inr, List, [], ◌∷◌, Option, Some, None, Bool, true, false, cond, ◌==◌, ℤ, refl, sym, ap, subst, ◌∙◌, arith}
 use Rattle.std.specs.Prelude.{IsSomeAnd, slice_index}
 use Rattle.std.proofs.lemmas.List.Elements.{All-nil, All-filter}
 use Rattle.std.proofs.lemmas.Option.{same_Some}
 use Rattle.ckpt_types.specs.declared.ais_error.AisError.TheVariants.{NotExist}
+use Rattle.ckpt_types.specs.declared.answers.Answer.{Answer}
 use Rattle.ckpt_types.specs.declared.answers.Answer.TheVariants as answers
 use Rattle.ckpt_types.specs.declared.answers.Cause.TheVariants.{Plain}
 use Rattle.ckpt_types.specs.declared.answers.Outcome.{Outcome}
@@ -26,10 +27,12 @@ use Rattle.cluster_record.specs.StepDone.{StepDone, done_of, counting, first_lac
 use Rattle.ckpt_machine.specs.Drivers.{Driver}
 use Rattle.ckpt_machine.specs.Drivers as drivers
 use Rattle.ckpt_machine.specs.Driving.{driver_next, driver_taken}
-use Rattle.ckpt_machine.specs.Guards.{IsMadeBy, OnReplica, CommitOk, Row, Allowed}
+use Rattle.node_core.specs.Serving.{update_answer}
+use Rattle.ckpt_machine.specs.Guards.{IsMadeBy, OnReplica, OnAll, OnActive, CommitOk, ApplyOk, Row, Allowed}
 use Rattle.ckpt_machine.specs.Invariant.{IsGoodIn, InvariantIn, Invariant}
 use Rattle.ckpt_machine.specs.Machine.{Machine, Staged, ReplicaState, CallState, empty_cluster}
-use Rattle.ckpt_machine.specs.Shape.{Shape, IsCompleteOn, IsShaped, IsOwner, slot_by}
+use Rattle.ckpt_machine.specs.Options.{is_all}
+use Rattle.ckpt_machine.specs.Shape.{Shape, IsCompleteOn, IsShapedBy, IsOwner, slot_by}
 use Rattle.ckpt_machine.specs.Steps.{Told, IsDone, IsDue, driver_of, due, rooms_of, begun, with_record, call_begun, changed, kept_behind, claimed_count, stepped, step_of, after}
 use Rattle.ckpt_machine.proofs.OwnMaking.{making_there}
 use Rattle.ckpt_machine.proofs.Follows.{IsFree, IsIncomplete, IsBare, Has, ReplicasFollow, record_follows, StepNeeds, changed_follows}
@@ -82,14 +85,18 @@ module _ (m : Machine) (shapes : ℕ → Shape) (inv : InvariantIn shapes m) (ba
           let origin : (shapes k).origin ≡ slot.origin = ap (λ (z : Staged). z.origin) same in
           (subst (IsOwner m k (shapes k)) owner own, sym origin ∙ owner_origin m k (shapes k) d own ∙ owner, ap (λ (z : Staged). z.update) (sym same))
 
+      -- where updates are on the active alone, nothing is staged
+      by_shape : (all : Bool) (y : ReplicaState) → y ≡ x → IsShapedBy all (shapes k) ((shapes k).owners r) y → ((d : CallId) → (shapes k).owners r ≡ Some d → IsOwner m k (shapes k) d) → IsOwner m k (shapes k) slot.owner × (slot.origin ≡ slot.owner) × (slot.update ≡ (shapes k).update)
+      by_shape true y same shaped owned = by_owner ((shapes k).owners r) refl (sym shaped.slot ∙ ap (λ (z : ReplicaState). z.slot) same ∙ staged) owned
+      by_shape false y same apart owned = absurd (let w : None ≡ Some slot = sym apart.free ∙ ap (λ (z : ReplicaState). z.slot) same ∙ staged in cc w)
+
       by_maker : (e : Entry) → IsCompleteOn e r → (maker : Option CallId) → IsGoodIn m k (shapes k) e maker → IsOwner m k (shapes k) slot.owner × (slot.origin ≡ slot.owner) × (slot.update ≡ (shapes k).update)
       by_maker e there (Some call) good =
           let none : (slice_index e.complete r == 0) ≡ true = ap (λ nodes. slice_index nodes r == 0) good.0.complete ∙ ap (λ n. n == 0) (slice_index-replicate 8 r) in
           absurd (let w : true ≡ false = sym none ∙ there in cc w)
       by_maker e there None good =
-          let (y, is, shaped) = IsSomeAnd-at (m.replicas k r) (IsShaped (shapes k) ((shapes k).owners r)) (good.replicas r there) in
-          let same : y ≡ x = same_Some y x (sym is ∙ at) in
-          by_owner ((shapes k).owners r) refl (sym shaped.slot ∙ ap (λ (z : ReplicaState). z.slot) same ∙ staged) (good.owned r)
+          let (y, is, shaped) = IsSomeAnd-at (m.replicas k r) (IsShapedBy (is_all e.attributes) (shapes k) ((shapes k).owners r)) (good.replicas r there) in
+          by_shape (is_all e.attributes) y (same_Some y x (sym is ∙ at)) shaped (good.owned r)
 
 -- on no node is complete what is in the making
 pub maker_incomplete : (m : Machine) → Invariant m → (call : CallId) (k r : ℕ) (e : Entry) → entry_of k m.cluster.entries ≡ Some e → e.making ≡ Some call → IsIncomplete e r
@@ -140,7 +147,7 @@ taken_commit d u k is ckpt phase = subst (λ verb. IsCommittingAt k (drivers.Upd
     by_reply (inl is) = committed_phase d u d.reply is
     by_reply (inr ok) = subst (λ reply. ((commit_taken d u reply).phase ≡ Committing) × ((commit_taken d u reply).ckpt ≡ u.ckpt)) (sym ok) (refl, refl)
 
--- where it goes on it commits commits_still
+-- where it goes on it commits still
 commits_still : (m : Machine) (s : CallState) (t : Told) (d : StepDone) (k : ℕ) → d.verb ≡ t.verb → IsDone m s (due m s) t → t.end ≡ None → IsCommittingAt k (driver_of s) → IsCommittingAt k (driver_taken d (driver_of s))
 commits_still m s t d k verb done goes_on at =
     elim (commits_by m s at.update t at.driver_is at.phase done) [
@@ -151,44 +158,65 @@ commits_still m s t d k verb done goes_on at =
 
 -- ---- a step
 
+-- the entry and the replica of which a row speaks
+pub on_replica-there : (m : Machine) (k r : ℕ) (P : Entry → ReplicaState → Type 0) → OnReplica m k r P → (e : Entry) × (x : ReplicaState) × (entry_of k m.cluster.entries ≡ Some e) × (m.replicas k r ≡ Some x) × P e x
+on_replica-there m k r P on =
+    let (e, found, here) = IsSomeAnd-at (entry_of k m.cluster.entries) (λ e. IsSomeAnd (m.replicas k r) (P e)) on in
+    let (x, at, p) = IsSomeAnd-at (m.replicas k r) (P e) here in
+    (e, x, found, at, p)
+
 module _ (m : Machine) (inv : Invariant m) (history : HasHistory m) (s : CallState) (held : m.in_hand s.call.actor ≡ Some s) (t : Told) (row : Row m s t.verb t) where
-  -- a new effect is of the call itself, which commits at this checkpoint
-  pub record IsOwnCommit (k : ℕ) (d : CallId) : Type 0 where
-    pub own : d ≡ s.call
+  -- the step commits at this checkpoint
+  pub record Commits (k : ℕ) : Type 0 where
     pub verb : t.verb ≡ verbs.Commit
-    pub reply : t.reply ≡ words.Ok
     pub update : UpdateState
     pub driver_is : driver_of s ≡ drivers.Update update
     pub ckpt : update.ckpt ≡ k
 
+  -- or it is the one step of an update, which is answered OK
+  pub record Applies : Type 0 where
+    pub verb : t.verb ≡ verbs.Apply
+    pub answer : Answer
+    pub ends : t.end ≡ Some (Done answer)
+
+  -- a new effect is of the call itself, which commits at this checkpoint, or ends
+  pub record IsOwnEffect (k : ℕ) (d : CallId) : Type 0 where
+    pub own : d ≡ s.call
+    pub reply : t.reply ≡ words.Ok
+    pub by : Commits k ⊎ Applies
+
   abbrev n : Machine
   n = changed m s t.verb t.ckpt t.node t.reply
 
-  own_commit : (update : Update) (k r : ℕ) → t.verb ≡ verbs.Commit → t.reply ≡ words.Ok → OnReplica m k r (λ e x. CommitOk m s.call update k r t.end t.details x) → (x : ReplicaState) (slot : Staged) → m.replicas k r ≡ Some x → x.slot ≡ Some slot → IsOwnCommit k slot.origin
-  own_commit update k r verb reply on x slot at staged = one
-    where
-      one : IsOwnCommit k slot.origin
-      one =
-          let (e, found, here) = IsSomeAnd-at (entry_of k m.cluster.entries) (λ e. IsSomeAnd (m.replicas k r) (λ x. CommitOk m s.call update k r t.end t.details x)) on in
-          let (y, is, ok) = IsSomeAnd-at (m.replicas k r) (λ x. CommitOk m s.call update k r t.end t.details x) here in
-          let same : y ≡ x = same_Some y x (sym is ∙ at) in
-          let slots : ok.slot ≡ slot = same_Some ok.slot slot (sym ok.staged ∙ ap (λ (z : ReplicaState). z.slot) same ∙ staged) in
-          let (by, origin, same_update) = slot_owned m inv.shapes inv.holds history.bare k r x slot at staged in
-          let owner : slot.owner ≡ s.call = ap (λ (z : Staged). z.owner) (sym slots) ∙ ok.owner in
-          let own : IsOwner m k (inv.shapes k) s.call = subst (IsOwner m k (inv.shapes k)) owner by in
-          let state : own.state ≡ s = same_Some own.state s (sym own.in_hand ∙ held) in
-          record { own = origin ∙ owner; verb = verb; reply = reply; update = own.driver; driver_is = ap driver_of (sym state) ∙ own.driver_is; ckpt = own.ckpt }
+  own_commit : (update : Update) (k r : ℕ) → t.verb ≡ verbs.Commit → t.reply ≡ words.Ok → OnAll m k r (λ e x. CommitOk m s.call update k r t.end t.details x) → (x : ReplicaState) (slot : Staged) → m.replicas k r ≡ Some x → x.slot ≡ Some slot → IsOwnEffect k slot.origin
+  own_commit update k r verb reply on x slot at staged =
+      let (e, y, found, is, row_of) = on_replica-there m k r (λ e x. (is_all e.attributes ≡ true) × CommitOk m s.call update k r t.end t.details x) on in
+      let ok : CommitOk m s.call update k r t.end t.details y = row_of.1 in
+      let same : y ≡ x = same_Some y x (sym is ∙ at) in
+      let slots : ok.slot ≡ slot = same_Some ok.slot slot (sym ok.staged ∙ ap (λ (z : ReplicaState). z.slot) same ∙ staged) in
+      let (by, origin, same_update) = slot_owned m inv.shapes inv.holds history.bare k r x slot at staged in
+      let owner : slot.owner ≡ s.call = ap (λ (z : Staged). z.owner) (sym slots) ∙ ok.owner in
+      let own : IsOwner m k (inv.shapes k) s.call = subst (IsOwner m k (inv.shapes k)) owner by in
+      let state : own.state ≡ s = same_Some own.state s (sym own.in_hand ∙ held) in
+      record { own = origin ∙ owner; reply = reply; by = inl (record { verb = verb; update = own.driver; driver_is = ap driver_of (sym state) ∙ own.driver_is; ckpt = own.ckpt }) }
 
-  pub follows : ReplicasFollow m IsOwnCommit n
-  follows = changed_follows m history.bare IsOwnCommit s t.verb t.ckpt t.node t.reply (news t.verb t.ckpt t.node t.reply refl refl row)
+  own_apply : (update : Update) (k r : ℕ) (u : Told) → u.end ≡ t.end → t.verb ≡ verbs.Apply → t.reply ≡ words.Ok → OnActive m k r (ApplyOk m update u) → IsOwnEffect k s.call
+  own_apply update k r u end verb reply on =
+      let (e, x, found, at, row_of) = on_replica-there m k r (λ e x. (is_all e.attributes ≡ false) × (e.active ≡ Some r) × ApplyOk m update u e x) on in
+      let ok : ApplyOk m update u e x = row_of.2 in
+      record { own = refl; reply = reply; by = inr (record { verb = verb; answer = update_answer update; ends = sym end ∙ ok.answer }) }
+
+  pub follows : ReplicasFollow m IsOwnEffect n
+  follows = changed_follows m history.bare IsOwnEffect s t.verb t.ckpt t.node t.reply (news t.verb t.ckpt t.node t.reply refl refl row)
     where
-      news : (verb : Verb) (k r : Option ℕ) (reply : StepReply) → t.verb ≡ verb → t.reply ≡ reply → Row m s verb (record t { verb = verb; ckpt = k; node = r; reply = reply }) → StepNeeds m history.bare IsOwnCommit verb k r reply
+      news : (verb : Verb) (k r : Option ℕ) (reply : StepReply) → t.verb ≡ verb → t.reply ≡ reply → Row m s verb (record t { verb = verb; ckpt = k; node = r; reply = reply }) → StepNeeds m history.bare IsOwnEffect s.call verb k r reply
       news verbs.Commit (Some k) (Some r) words.Ok verb reply row = own_commit row.1 k r verb reply row.3
+      news verbs.Apply (Some k) (Some r) words.Ok verb reply row = own_apply row.1 k r (record t { verb = verbs.Apply; ckpt = Some k; node = Some r; reply = words.Ok }) refl verb reply row.3
       news verbs.Reserve (Some k) (Some r) words.Ok verb reply row = making_incomplete m inv s.call k r row.0.3.1
       news verb k r reply verb_is reply_is row = tt
 
-  -- whoever has an effect after the step had it before, or commits by it
-  pub had : (k r : ℕ) (d : CallId) → Has n k r d → Has m k r d ⊎ IsOwnCommit k d
+  -- whoever has an effect after the step had it before, or has it by this step
+  pub had : (k r : ℕ) (d : CallId) → Has n k r d → Has m k r d ⊎ IsOwnEffect k d
   had k r d has = follows.effects k r has.replica d has.there has.effect
 
   module _ (end : Option Outcome) (ends : t.end ≡ end) (done : IsDone m s (due m s) t) where
@@ -202,13 +230,17 @@ module _ (m : Machine) (inv : Invariant m) (history : HasHistory m) (s : CallSta
     abbrev told : StepDone
     told = counting (claimed_count m t.verb t.ckpt t.node) (done_of n.cluster t.verb t.ckpt t.node t.reply)
 
-    -- where the call goes on, it commits commits_still
+    -- where the call goes on, it commits still
     own_commits : (k r : ℕ) → end ≡ None → Has then_machine k r s.call → IsCommittingAt k (driver_of then_state)
     own_commits k r none has =
         elim (had k r s.call (record { replica = has.replica; there = has.there; effect = has.effect })) [
           | inl was ↦ commits_still m s t told k refl done (ends ∙ none) (history.commits k r s held was)
-          | inr new ↦ subst (λ x. IsCommittingAt k (driver_taken told x)) (sym new.driver_is) (taken_commit told new.update k new.verb new.ckpt (inr new.reply))
+          | inr new ↦ by_new new.reply new.by
         ]
+      where
+        by_new : t.reply ≡ words.Ok → Commits k ⊎ Applies → IsCommittingAt k (driver_of then_state)
+        by_new reply (inl commits) = subst (λ x. IsCommittingAt k (driver_taken told x)) (sym commits.driver_is) (taken_commit told commits.update k commits.verb commits.ckpt (inr reply))
+        by_new reply (inr applies) = absurd (let w : None ≡ Some (Done applies.answer) = sym (ends ∙ none) ∙ applies.ends in cc w)
 
     other_commits : (k r : ℕ) (z : CallState) → same_actor z.call.actor s.call.actor ≡ false → n.in_hand z.call.actor ≡ Some z → Has then_machine k r z.call → IsCommittingAt k (driver_of z)
     other_commits k r z other in_hand has =

@@ -26,6 +26,7 @@ pub mod OtherCalls
 pub mod Entries
 pub mod PlainCalls
 pub mod EndedTables
+pub mod OnAll
 pub mod OneStepCalls
 pub mod Enter
 pub mod Acknowledged
@@ -34,6 +35,9 @@ pub mod BegunBefore
 pub mod BegunOnce
 pub mod UpdateAnswers
 pub mod Active
+pub mod ActiveNode
+pub mod Applied
+pub mod Apply
 pub mod Beginnings
 pub mod BeginRows
 pub mod BeginExamples

@@ -22,8 +22,10 @@ use Rattle.ckpt_types.specs.Asks.{asked}
 use Rattle.ckpt_machine.specs.Drivers.{Driver}
 use Rattle.ckpt_machine.specs.Drivers as drivers
 use Rattle.ckpt_machine.specs.Entries.{WasMade}
-use Rattle.ckpt_machine.specs.Machine.{Machine, CallState}
-use Rattle.ckpt_machine.specs.Shape.{Shape, IsCompleteOn, IsShaped, is_owner, IsOwner}
+use Rattle.ckpt_types.specs.declared.attributes.CreationAttributes.{CreationAttributes}
+use Rattle.ckpt_machine.specs.Machine.{Machine, ReplicaState, CallState}
+use Rattle.ckpt_machine.specs.Options.{is_all}
+use Rattle.ckpt_machine.specs.Shape.{Shape, IsCompleteOn, IsShapedBy, is_owner, IsOwner}
 use Rattle.ckpt_machine.specs.Steps.{driver_of, asked_handle}
 use Rattle.ckpt_machine.specs.Tables.{handle_asked}
 use Rattle.ckpt_machine.specs.InHand.{IsMakingIn, IsOpenIn, HasSome, IsOnceAt, IsInPlace, IsInHand}
@@ -54,14 +56,15 @@ module _ (m n : Machine) (shapes then_shapes : ℕ → Shape) (z : CallState) (a
   handle_alike : IsSome (asked_handle m z.call.actor z.op) → IsSome (asked_handle n z.call.actor z.op)
   handle_alike there = subst (λ (t : ClientState). IsSome (handle_asked (asked z.op) t)) (sym alike.tables) there
 
-  room_alike : (k : ℕ) → WasMade m.cluster k → IfSome (entry_of k m.cluster.entries) (λ e. z.kept.room ≡ room_declared e.attributes) → IfSome (entry_of k n.cluster.entries) (λ e. z.kept.room ≡ room_declared e.attributes)
-  room_alike k was room = by_entry (entry_of k n.cluster.entries) refl
+  -- what holds of what a checkpoint declares, where it is there
+  declared_alike : (P : CreationAttributes → Type 0) (k : ℕ) → WasMade m.cluster k → IfSome (entry_of k m.cluster.entries) (λ e. P e.attributes) → IfSome (entry_of k n.cluster.entries) (λ e. P e.attributes)
+  declared_alike P k was holds = by_entry (entry_of k n.cluster.entries) refl
     where
-      by_entry : (o : Option Entry) → entry_of k n.cluster.entries ≡ o → IfSome o (λ e. z.kept.room ≡ room_declared e.attributes)
+      by_entry : (o : Option Entry) → entry_of k n.cluster.entries ≡ o → IfSome o (λ e. P e.attributes)
       by_entry None gone = tt
       by_entry (Some f) is =
           let (e, there, complete, attributes) = alike.later k was f is in
-          subst (λ o. IfSome o (λ (e : Entry). z.kept.room ≡ room_declared e.attributes)) there room ∙ sym (ap room_declared attributes)
+          subst P (sym attributes) (subst (λ o. IfSome o (λ (e : Entry). P e.attributes)) there holds)
 
   HasSome-alike : (u : UpdateState) (e f : Entry) → f.complete ≡ e.complete → (ph : UpdatePhase) → HasSome u e ph → HasSome u f ph
   HasSome-alike u e f same Staging some = tt
@@ -97,6 +100,7 @@ module _ (m n : Machine) (shapes then_shapes : ℕ → Shape) (z : CallState) (a
     asks = at.asks;
     kept = at.kept;
     made = alike.made u.ckpt at.made;
+    all = declared_alike (λ a. is_all a ≡ true) u.ckpt at.made at.all;
     nodes = at.nodes;
     owns = λ f is r full.
         let (e, was, complete, attributes) = alike.later u.ckpt at.made f is in
@@ -104,7 +108,7 @@ module _ (m n : Machine) (shapes then_shapes : ℕ → Shape) (z : CallState) (a
         ∙ sym (alike.owners u.ckpt at.made r);
     some = λ f is. let (e, was, complete, attributes) = alike.later u.ckpt at.made f is in HasSome-alike u e f complete u.phase (at.some e was);
   }
-  IsIn-alike (drivers.Active a) at = record { call = at.call; kind = at.kind; made = alike.made a.ckpt at.made; kept = at.kept; room = room_alike a.ckpt at.made at.room; handle = handle_alike at.handle }
+  IsIn-alike (drivers.Active a) at = record { call = at.call; kind = at.kind; made = alike.made a.ckpt at.made; kept = at.kept; room = declared_alike (λ a. z.kept.room ≡ room_declared a) a.ckpt at.made at.room; all = declared_alike (λ b. z.kept.all ≡ is_all b) a.ckpt at.made at.all; handle = handle_alike at.handle }
 
   -- and all holds of it that did
   pub IsInHand-alike : (a : ActorName) → (is_live m.cluster z.call ≡ true → is_live n.cluster z.call ≡ true) → z.call.number < n.next a → IsInHand m shapes a z → IsInHand n then_shapes a z
@@ -128,7 +132,7 @@ module _ (m n : Machine) (k : ℕ) where
     nodes = ap length later.complete ∙ was.nodes;
     some = subst (λ (cs : List ℕ). IsSome (first_complete 0 cs)) (sym later.complete) was.some;
     active = later.active ∙ was.active ∙ sym (ap (first_complete 0) later.complete);
-    replicas = λ r there. let before = was_complete r there in subst (λ o. IsSomeAnd o (IsShaped sh (sh.owners r))) (sym (replicas r before)) (was.replicas r before);
+    replicas = λ r there. let before = was_complete r there in subst (λ (z : Option ReplicaState × CreationAttributes). IsSomeAnd z.0 (IsShapedBy (is_all z.1) sh (sh.owners r))) (λ i. (sym (replicas r before) i, sym later.attributes i)) (was.replicas r before);
     fits = λ r d owns. ap (λ a. outcome a sh.update sh.moment sh.sections) later.attributes ∙ was.fits r d owns;
     complete = λ r d owns. subst (λ (cs : List ℕ). (slice_index cs r == 0) ≡ false) (sym later.complete) (was.complete r d owns);
     lowest = λ q r d below there owns. was.lowest q r d below (was_complete q there) owns;

@@ -50,7 +50,7 @@ own_told m s (End o) t asked done = subst (λ (t : Told). IsOnOwn t.verb t.ckpt 
 -- ---- what a driver asks_own
 
 kind_asks : (call : CallId) (k r : ℕ) (kind : ActiveKind) → IsAskedOf (Some k) (Serve r (request_by call k kind))
-kind_asks call k r kinds.Apply = tt
+kind_asks call k r kinds.Apply = refl
 kind_asks call k r (kinds.Weak n) = tt
 kind_asks call k r kinds.Read = refl
 kind_asks call k r kinds.Status = refl

@@ -15,7 +15,9 @@ use Rattle.ckpt_machine.specs.Drivers as drivers
 use Rattle.ckpt_machine.specs.Machine.{Machine, ReplicaState, CallState}
 use Rattle.ckpt_types.specs.Asks.{update_of}
 use Rattle.ckpt_machine.specs.Steps.{driver_of, seen, seen_at, seen_by}
-use Rattle.ckpt_machine.specs.Guards.{OnReplica}
+use Rattle.ckpt_machine.specs.Guards.{OnReplica, OnAll}
+use Rattle.ckpt_machine.specs.Options.{is_all}
+use Rattle.ckpt_machine.proofs.OnAll.{shaped_replicas}
 use Rattle.ckpt_machine.specs.Shape.{Shape, IsCompleteOn, IsShaped, is_owner, IsOwner, IsSpread, PhaseFits}
 use Rattle.ckpt_machine.specs.InHand.{is_enter, IsInPlace, IsUpdateIn}
 use Rattle.ckpt_machine.specs.Invariant.{IsGoodIn, InvariantIn, Invariant}
@@ -101,12 +103,19 @@ module _ (m : Machine) (shapes : ℕ → Shape) (inv : InvariantIn shapes m) (s 
     pub owns_had : (q : ℕ) → IsCompleteOn e q → has (slice_index e.complete q) (slice_index u.owned q) ≡ true → (shapes u.ckpt).owners q ≡ Some s.call
     owns_had q there had = is_owner-true s.call ((shapes u.ckpt).owners q) (sym (at.owns e found q there) ∙ had)
 
+    -- updates of its checkpoint are on all replicas
+    pub all_is : is_all e.attributes ≡ true
+    all_is = subst (λ o. IfSome o (λ e. is_all e.attributes ≡ true)) found at.all
+
     -- the replica of a complete node
     pub replica_at : (q : ℕ) → IsCompleteOn e q → (x : ReplicaState) × (m.replicas u.ckpt q ≡ Some x) × IsShaped (shapes u.ckpt) ((shapes u.ckpt).owners q) x
-    replica_at q there = IsSomeAnd-at (m.replicas u.ckpt q) (IsShaped (shapes u.ckpt) ((shapes u.ckpt).owners q)) ((spread e found).replicas q there)
+    replica_at q there = IsSomeAnd-at (m.replicas u.ckpt q) (IsShaped (shapes u.ckpt) ((shapes u.ckpt).owners q)) (shaped_replicas m u.ckpt (shapes u.ckpt) e (spread e found) all_is q there)
 
     pub seen_is : (q : ℕ) (x : ReplicaState) → m.replicas u.ckpt q ≡ Some x → seen_at m u.ckpt q ≡ Some (seen u.ckpt e.attributes x)
     seen_is q x there = ap (λ o. seen_by u.ckpt o (m.replicas u.ckpt q)) found ∙ ap (seen_by u.ckpt (Some e)) there
+
+    pub on_all : (q : ℕ) (x : ReplicaState) (P : Entry → ReplicaState → Type 0) → m.replicas u.ckpt q ≡ Some x → P e x → OnAll m u.ckpt q P
+    on_all q x P there p = IsSomeAnd-from (entry_of u.ckpt m.cluster.entries) _ e found (IsSomeAnd-from (m.replicas u.ckpt q) (λ x. (is_all e.attributes ≡ true) × P e x) x there (all_is, p))
 
     pub on_replica : (q : ℕ) (x : ReplicaState) (P : Entry → ReplicaState → Type 0) → m.replicas u.ckpt q ≡ Some x → P e x → OnReplica m u.ckpt q P
     on_replica q x P there p = IsSomeAnd-from (entry_of u.ckpt m.cluster.entries) _ e found (IsSomeAnd-from (m.replicas u.ckpt q) (P e) x there p)

@@ -1,6 +1,6 @@
 -- A call that ends with a refusal has nothing after it, and leaves all else as it was.
 use Rattle.node_msgs.specs.declared.details.Details.{Details}
-use Rattle.std.proofs.Common.{◌≡◌, ℕ, inl, inr, List, [], ◌∷◌, ◌++◌, Option, Some, None, true, false, cond, not, ◌==◌, refl, sym, ap, subst, ◌∙◌, append_assoc, arith}
+use Rattle.std.proofs.Common.{◌≡◌, ◌⊎◌, ℕ, inl, inr, List, [], ◌∷◌, ◌++◌, Option, Some, None, true, false, cond, not, ◌==◌, refl, sym, ap, subst, ◌∙◌, append_assoc, arith}
 use Rattle.std.specs.Prelude.{IsSomeAnd, slice_index}
 use Rattle.std.proofs.lemmas.Option.{same_Some}
 use Rattle.ckpt_types.specs.declared.answers.Outcome.{Outcome}
@@ -26,7 +26,7 @@ use Rattle.ckpt_machine.specs.Runs.{last}
 use Rattle.ckpt_machine.specs.Shape.{IsCompleteOn}
 use Rattle.ckpt_machine.specs.Steps.{Told, IsDone, IsDue, due, begun, changed, step_of, after, replica_under, replicas_under, reservation_under, opened_state}
 use Rattle.ckpt_machine.proofs.Follows.{IsFree, IsIncomplete, IsBare, Has}
-use Rattle.ckpt_machine.proofs.Histories.{HasHistory, commits_by, commit, gone, nothing_left, slot_owned, making_incomplete, had, keeps_history, run_history}
+use Rattle.ckpt_machine.proofs.Histories.{HasHistory, commits_by, commit, gone, nothing_left, Commits, Applies, slot_owned, making_incomplete, had, keeps_history, run_history}
 use Rattle.ckpt_machine.proofs.Lawful.{lawful}
 use Rattle.ckpt_machine.proofs.EntryLists.{find_key-without, AllStay-filter, swept-all}
 use Rattle.ckpt_machine.proofs.ReplicaSteps.{put_actor-here}
@@ -84,8 +84,12 @@ module _ (m : Machine) (inv : Invariant m) (history : HasHistory m) (s : CallSta
   pub has_none : HasNoEffect (step_of m (Some s) t.verb t.ckpt t.node t.reply t.end) s.call
   has_none k r x there has = elim (had m inv history s held t row k r s.call (record { replica = x; there = there; effect = has })) [
     | inl was ↦ had_none k r was
-    | inr new ↦ no_commit m s t new.verb row refused
+    | inr new ↦ none_new new.by
   ]
+    where
+      none_new : Commits m inv history s held t row k ⊎ Applies m inv history s held t row → ⊥
+      none_new (inl commits) = no_commit m s t commits.verb row refused
+      none_new (inr applies) = subst IsRefused applies.ends refused
 
 -- ---- any label
 

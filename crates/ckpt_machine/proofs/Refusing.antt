@@ -30,7 +30,8 @@ use Rattle.ckpt_machine.specs.Machine.{Machine, ReplicaState, CallState}
 use Rattle.ckpt_machine.specs.Steps.{changed, call_begun, stepped, step_of, after, ids_asked, Told, without_making, kept_behind}
 use Rattle.ckpt_machine.specs.Tables.{ended_at_once}
 use Rattle.ckpt_machine.specs.Complete.{complete_replicas}
-use Rattle.ckpt_machine.specs.Guards.{AtCkpt, AtNode, AtNodeAlone, AtNone, OnReplica, CommitOk, Row, Allowed, ends_update, IterOk, NextOk, NextAnswer, LookRow, UndoRow, AsksToOpen}
+use Rattle.ckpt_machine.specs.Options.{is_all}
+use Rattle.ckpt_machine.specs.Guards.{AtCkpt, AtNode, AtNodeAlone, AtNone, OnReplica, OnAll, OnActive, CommitOk, ApplyOk, Row, Allowed, ends_update, IterOk, NextOk, NextAnswer, LookRow, UndoRow, AsksToOpen}
 use Rattle.ckpt_machine.specs.Refusals.{IsRefused, IsRefusal, LeavesAll, UndoesOwn, LeavesBy, unmade_swept}
 use Rattle.ckpt_machine.proofs.Actors.{same_actor-true}
 use Rattle.ckpt_machine.proofs.ReplicaSteps.{put_actor-here, put_actor-other}
@@ -64,6 +65,12 @@ none_of_some None P p not_so = absurd p
 pub on_replica : (m : Machine) (k r : ℕ) (P : Entry → ReplicaState → Type 0) → OnReplica m k r P → ((e : Entry) (x : ReplicaState) → P e x → ⊥) → ⊥
 on_replica m k r P p not_so = none_of_some (entry_of k m.cluster.entries) (λ e. IsSomeAnd (m.replicas k r) (P e)) p (λ e p. none_of_some (m.replicas k r) (P e) p (λ x p. not_so e x p))
 
+pub on_all : (m : Machine) (k r : ℕ) (P : Entry → ReplicaState → Type 0) → OnAll m k r P → ((e : Entry) (x : ReplicaState) → P e x → ⊥) → ⊥
+on_all m k r P p not_so = on_replica m k r (λ e x. (is_all e.attributes ≡ true) × P e x) p (λ e x p. not_so e x p.1)
+
+pub on_active : (m : Machine) (k r : ℕ) (P : Entry → ReplicaState → Type 0) → OnActive m k r P → ((e : Entry) (x : ReplicaState) → P e x → ⊥) → ⊥
+on_active m k r P p not_so = on_replica m k r (λ e x. (is_all e.attributes ≡ false) × (e.active ≡ Some r) × P e x) p (λ e x p. not_so e x p.2)
+
 -- ---- an end that is no refusal
 
 no_refusal_done : (end : Option Outcome) (answer : Answer) → end ≡ Some (Done answer) → IsRefused end → ⊥
@@ -77,8 +84,12 @@ no_refusal_committed true answer end is refused = no_refusal_done end answer is 
 no_refusal_committed false answer end is refused = no_refusal_yet end is refused
 
 -- no commit refuses
-pub commit_ends : (m : Machine) (call : CallId) (update : Update) (k r : ℕ) (end : Option Outcome) (details : Details) → OnReplica m k r (λ e x. CommitOk m call update k r end details x) → IsRefused end → ⊥
-commit_ends m call update k r end details row refused = on_replica m k r (λ e x. CommitOk m call update k r end details x) row (λ e x (ok : CommitOk m call update k r end details x). no_refusal_committed (ends_update call r ok.slot (complete_replicas m k)) (update_answer update) end ok.answer refused)
+pub commit_ends : (m : Machine) (call : CallId) (update : Update) (k r : ℕ) (end : Option Outcome) (details : Details) → OnAll m k r (λ e x. CommitOk m call update k r end details x) → IsRefused end → ⊥
+commit_ends m call update k r end details row refused = on_all m k r (λ e x. CommitOk m call update k r end details x) row (λ e x (ok : CommitOk m call update k r end details x). no_refusal_committed (ends_update call r ok.slot (complete_replicas m k)) (update_answer update) end ok.answer refused)
+
+-- nor does an update that is applied
+apply_ends : (m : Machine) (update : Update) (k r : ℕ) (t : Told) → OnActive m k r (ApplyOk m update t) → IsRefused t.end → ⊥
+apply_ends m update k r t row refused = on_active m k r (ApplyOk m update t) row (λ e x (ok : ApplyOk m update t e x). no_refusal_done t.end (update_answer update) ok.answer refused)
 
 given_next : (next : Option NextGiven) (end : Option Outcome) (details : Details) → NextAnswer next words.Ok end details → IsRefused end → ⊥
 given_next (Some next) end details answer refused = no_refusal_done end answers.Section answer.0 refused
@@ -115,6 +126,10 @@ changed_same m s verbs.Stage k r words.Ok end details row refused looks = absurd
 changed_same m s verbs.Stage k r reply end details row refused looks = refl
 changed_same m s verbs.Commit k r words.Ok end details row refused looks = absurd (at_node k r _ row (λ k r p. commit_ends m s.call p.1 k r end details p.3 refused))
 changed_same m s verbs.Commit k r reply end details row refused looks = refl
+changed_same m s verbs.Apply k r words.Ok end details row refused looks =
+    let t : Told = record { verb = verbs.Apply; ckpt = k; node = r; reply = words.Ok; end = end; details = details } in
+    absurd (at_node k r _ row (λ k r p. apply_ends m p.1 k r t p.3 refused))
+changed_same m s verbs.Apply k r reply end details row refused looks = refl
 changed_same m s verbs.Read k r reply end details row refused looks = refl
 changed_same m s verbs.Status k r reply end details row refused looks = refl
 changed_same m s verbs.Iter k r words.Ok end details row refused looks = absurd (at_node k r _ row.0 (λ k r p. on_replica m k r (IterOk m s r end) p.5 (λ e x (ok : IterOk m s r end e x). no_refusal_done end answers.Nothing ok.answer refused)))

@@ -26,7 +26,8 @@ use Rattle.ckpt_machine.specs.InHand.{is_enter, IsUpdateIn, IsInPlace, IsInHand,
 use Rattle.ckpt_machine.specs.Invariant.{InvariantIn, Invariant}
 use Rattle.ckpt_machine.proofs.NodeLists.{OnEach-from, index-set, index-other, length-slice_set, index-within, not-lacked, has-itself}
 use Rattle.ckpt_machine.proofs.ReplicaSteps.{put_actor-here, one_changed, step_keeps}
-use Rattle.ckpt_machine.proofs.Owning.{is_owner-true, owner_alone, at, made, on_replica}
+use Rattle.ckpt_machine.proofs.Owning.{is_owner-true, owner_alone, at, made, on_all, all_is}
+use Rattle.ckpt_machine.proofs.OnAll.{shaped_replicas, by_shape}
 use Rattle.ckpt_machine.proofs.Actors.{same_actor-refl, same_call-refl}
 
 -- the shape is of the call's own update, which has an outcome, and which no replica has
@@ -49,8 +50,8 @@ sections-undone z (Some d) undone = refl
 
 -- with other owners elsewhere a replica is shaped as it was
 IsShaped-owners : (z : Shape) (f : ℕ → Option CallId) (o : Option CallId) (x : ReplicaState) → IsShaped z o x → IsShaped (record z { owners = f }) o x
-IsShaped-owners z f None x is = record { slot = is.slot; sections = is.sections; effects = is.effects }
-IsShaped-owners z f (Some d) x is = record { slot = is.slot; sections = is.sections; effects = is.effects }
+IsShaped-owners z f None x is = record { slot = is.slot; sections = is.sections; effects = is.effects; unmarked = is.unmarked }
+IsShaped-owners z f (Some d) x is = record { slot = is.slot; sections = is.sections; effects = is.effects; unmarked = is.unmarked }
 
 pub IfSome-more : {X : Type 0} (o : Option X) (P Q : X → Type 0) → ((x : X) → P x → Q x) → IsSomeAnd o P → IfSome o Q
 IfSome-more None P Q more p = tt
@@ -81,13 +82,13 @@ module _ (m : Machine) (shapes : ℕ → Shape) (inv : InvariantIn shapes m) (s 
       free = shaped.slot;
       fits = let sections = shaped.sections ∙ sections-undone z None stages.undone in ap is_ok ((λ i. outcome e.attributes (update_of s.op) (mom i) (sections i)) ∙ stages.gives);
       same_effects = on_complete m u.ckpt e found (λ y. y.effects ≡ x.effects) (λ q complete.
-          IfSome-more (m.replicas u.ckpt q) (IsShaped z (z.owners q)) (λ y. y.effects ≡ x.effects) (λ y is. is.effects ∙ effects-undone z (z.owners q) stages.undone ∙ sym (shaped.effects ∙ effects-undone z None stages.undone)) (spread.replicas q complete));
+          IfSome-more (m.replicas u.ckpt q) (IsShaped z (z.owners q)) (λ y. y.effects ≡ x.effects) (λ y is. is.effects ∙ effects-undone z (z.owners q) stages.undone ∙ sym (shaped.effects ∙ effects-undone z None stages.undone)) (shaped_replicas m u.ckpt z e spread (all_is m shapes inv s u held is e found) q complete));
       only_own = on_complete m u.ckpt e found (λ y. IfSlot y.slot (λ slot. slot ≡ record { owner = s.call; origin = s.call; update = update_of s.op; moment = staged_moment m u.ckpt })) (λ q complete.
-          IfSome-more (m.replicas u.ckpt q) (IsShaped z (z.owners q)) _ (λ y is. subst (λ w. IfSlot w (λ slot. slot ≡ record { owner = s.call; origin = s.call; update = update_of s.op; moment = staged_moment m u.ckpt })) (sym is.slot) (slots_own q (z.owners q) refl)) (spread.replicas q complete));
+          IfSome-more (m.replicas u.ckpt q) (IsShaped z (z.owners q)) _ (λ y is. subst (λ w. IfSlot w (λ slot. slot ≡ record { owner = s.call; origin = s.call; update = update_of s.op; moment = staged_moment m u.ckpt })) (sym is.slot) (slots_own q (z.owners q) refl)) (shaped_replicas m u.ckpt z e spread (all_is m shapes inv s u held is e found) q complete));
     }
 
     pub stage_row : StageRow m s (update_of s.op) u.ckpt r words.Ok None
-    stage_row = (on_replica m shapes inv s u held is e found r x (StageOk m s.call (update_of s.op) u.ckpt) there stage_ok, refl)
+    stage_row = (on_all m shapes inv s u held is e found r x (StageOk m s.call (update_of s.op) u.ckpt) there stage_ok, refl)
 
     -- ---- the state after it
 
@@ -157,8 +158,9 @@ module _ (m : Machine) (shapes : ℕ → Shape) (inv : InvariantIn shapes m) (s 
               slot = (let moment = mom ∙ sym stages.moment in λ i. Some (record { owner = s.call; origin = sym stages.origin i; update = sym stages.update i; moment = moment i }));
               sections = shaped.sections ∙ sections-undone z None stages.undone;
               effects = shaped.effects ∙ effects-undone z None stages.undone;
+              unmarked = shaped.unmarked;
             }
-            | false ↦ IsSomeAnd-shaped (m.replicas u.ckpt q) (z.owners q) (spread.replicas q there)
+            | false ↦ IsSomeAnd-shaped (m.replicas u.ckpt q) (z.owners q) (shaped_replicas m u.ckpt z e spread (all_is m shapes inv s u held is e found) q there)
           ])
         where
           IsSomeAnd-shaped : (y : Option ReplicaState) (o : Option CallId) → IsSomeAnd y (IsShaped z o) → IsSomeAnd y (IsShaped staged o)
@@ -170,7 +172,7 @@ module _ (m : Machine) (shapes : ℕ → Shape) (inv : InvariantIn shapes m) (s 
         nodes = spread.nodes;
         some = spread.some;
         active = spread.active;
-        replicas = replicas_then;
+        replicas = λ q there. by_shape e (all_is m shapes inv s u held is e found) staged (staged.owners q) (then_machine.replicas u.ckpt q) (replicas_then q there);
         fits = λ q d has_it. (λ i. outcome e.attributes (stages.update i) (stages.moment i) z.sections) ∙ stages.gives;
         complete = λ q d has_it. elim (owners_then q d has_it).0 [ inl here ↦ subst (IsCompleteOn e) (sym here) complete | inr was ↦ spread.complete q d was ];
         lowest = lowest_then;
@@ -225,6 +227,7 @@ module _ (m : Machine) (shapes : ℕ → Shape) (inv : InvariantIn shapes m) (s 
             asks = was.asks;
             kept = was.kept;
             made = was.made;
+            all = was.all;
             nodes = length-slice_set u.owned r (slice_index e.complete r) ∙ was.nodes;
             owns = λ f there. subst (λ w. OwnsIn w s then_driver f) (sym (ap (λ b. cond b staged (shapes u.ckpt)) (eq-eqb u.ckpt u.ckpt refl))) (subst (OwnsIn staged s then_driver) (same_Some e f (sym found ∙ there)) owns_then);
             some = λ f there. tt;

@@ -13,7 +13,8 @@ use Rattle.ckpt_machine.specs.Steps.{driver_of, staged_moment, moment_from, mome
 use Rattle.ckpt_machine.specs.Shape.{Shape, IsCompleteOn, IsShaped, IsSpread, IsStaging, PhaseFits, slot_by}
 use Rattle.ckpt_machine.specs.Invariant.{InvariantIn}
 use Rattle.ckpt_machine.proofs.NodeLists.{trichotomy, last_having-None, moment-none, moment-some, not-lacked, had-there}
-use Rattle.ckpt_machine.proofs.Owning.{at, spread, own_phase, owns_had}
+use Rattle.ckpt_machine.proofs.Owning.{at, spread, own_phase, owns_had, all_is}
+use Rattle.ckpt_machine.proofs.OnAll.{shaped_replicas}
 use Rattle.ckpt_machine.proofs.Stage.{IfSome-more}
 
 module _ (m : Machine) (shapes : ℕ → Shape) (inv : InvariantIn shapes m) (s : CallState) (u : UpdateState) (held : m.in_hand s.call.actor ≡ Some s) (is : driver_of s ≡ drivers.Update u) (e : Entry) (found : entry_of u.ckpt m.cluster.entries ≡ Some e) where
@@ -50,7 +51,7 @@ module _ (m : Machine) (shapes : ℕ → Shape) (inv : InvariantIn shapes m) (s 
         ap (λ o. moment_from (m.replicas u.ckpt) m.cluster.moment 0 (complete_of o)) found
         ∙ moment-none (m.replicas u.ckpt) m.cluster.moment 0 e.complete
         (λ d there. subst (λ (j : ℕ). IfSome (m.replicas u.ckpt j) (λ y. y.slot ≡ None)) (omega arith)
-        (IfSome-more (m.replicas u.ckpt d) (IsShaped (shapes u.ckpt) ((shapes u.ckpt).owners d)) (λ y. y.slot ≡ None) (λ y is. is.slot ∙ ap (slot_by (shapes u.ckpt)) (none_owned d)) (was.replicas d there)))
+        (IfSome-more (m.replicas u.ckpt d) (IsShaped (shapes u.ckpt) ((shapes u.ckpt).owners d)) (λ y. y.slot ≡ None) (λ y is. is.slot ∙ ap (slot_by (shapes u.ckpt)) (none_owned d)) (shaped_replicas m u.ckpt (shapes u.ckpt) e was (all_is m shapes inv s u held is e found) d there)))
 
   -- ---- it has staged before
 
@@ -65,9 +66,9 @@ module _ (m : Machine) (shapes : ℕ → Shape) (inv : InvariantIn shapes m) (s 
     moment_later =
         ap (λ o. moment_from (m.replicas u.ckpt) m.cluster.moment 0 (complete_of o)) found
         ∙ moment-some (m.replicas u.ckpt) m.cluster.moment u.moment 0 e.complete p (had-there (slice_index e.complete p) (slice_index u.owned p) had)
-        (subst (λ (j : ℕ). IsSomeAnd (m.replicas u.ckpt j) (λ y. IsSome y.slot)) (omega arith) (slot_there (m.replicas u.ckpt p) (was.replicas p (was.complete p s.call owner_p))))
+        (subst (λ (j : ℕ). IsSomeAnd (m.replicas u.ckpt j) (λ y. IsSome y.slot)) (omega arith) (slot_there (m.replicas u.ckpt p) (shaped_replicas m u.ckpt (shapes u.ckpt) e was (all_is m shapes inv s u held is e found) p (was.complete p s.call owner_p))))
         (λ d there. subst (λ (j : ℕ). IfSome (m.replicas u.ckpt j) (λ y. moment_of_slot y.slot u.moment ≡ u.moment)) (omega arith)
-        (IfSome-more (m.replicas u.ckpt d) (IsShaped (shapes u.ckpt) ((shapes u.ckpt).owners d)) (λ y. moment_of_slot y.slot u.moment ≡ u.moment) (λ y is. ap (λ w. moment_of_slot w u.moment) is.slot ∙ slot_moment ((shapes u.ckpt).owners d)) (was.replicas d there)))
+        (IfSome-more (m.replicas u.ckpt d) (IsShaped (shapes u.ckpt) ((shapes u.ckpt).owners d)) (λ y. moment_of_slot y.slot u.moment ≡ u.moment) (λ y is. ap (λ w. moment_of_slot w u.moment) is.slot ∙ slot_moment ((shapes u.ckpt).owners d)) (shaped_replicas m u.ckpt (shapes u.ckpt) e was (all_is m shapes inv s u held is e found) d there)))
       where
         slot_there : (y : Option ReplicaState) → IsSomeAnd y (IsShaped (shapes u.ckpt) ((shapes u.ckpt).owners p)) → IsSomeAnd y (λ y. IsSome y.slot)
         slot_there None is = is

@@ -1,5 +1,5 @@
 -- The next step of an update: allowed, and the invariant holds after it, whatever other calls are in hand.
-use Rattle.std.proofs.Common.{◌≡◌, ◌≢◌, ℕ, ◌+◌, ◌<◌, inl, inr, List, Option, Some, None, true, false, cond, Result, Ok, Err, length, ℤ, refl, sym, ap, subst, ◌∙◌, arith}
+use Rattle.std.proofs.Common.{◌≡◌, ◌≢◌, ℕ, ◌+◌, ◌<◌, inl, inr, List, Option, Some, None, Bool, true, false, cond, Result, Ok, Err, length, ℤ, refl, sym, ap, subst, ◌∙◌, arith}
 use Rattle.std.specs.Prelude.{is_some, IsSomeAnd, slice_index, slice_set}
 use Rattle.ckpt_types.specs.declared.ais_error.AisError.TheVariants.{NotExist, TryAgain}
 use Rattle.ckpt_types.specs.declared.answers.Answer.{Answer}
@@ -36,12 +36,13 @@ use Rattle.node_core.specs.Seen.{record_seen}
 use Rattle.ckpt_machine.specs.Driving.{making_in, refused_cause, driver_taken}
 use Rattle.ckpt_machine.specs.Machine.{Machine, Staged, ReplicaState, CallState}
 use Rattle.ckpt_machine.specs.Steps.{Told, IsDone, IsServed, driver_of, payload_due, stepped, kept_behind, staged_moment, ended_details, with_committed, with_slot, seen_at, seen_slot, change_replica, without_making}
-use Rattle.ckpt_machine.specs.Guards.{StageRefused, StageHeld, owns_slot, LookRefused, GoneLook}
+use Rattle.ckpt_machine.specs.Guards.{StageRefused, StageHeld, owns_slot, LookRefused, ChangeLook, HasNoActive}
 use Rattle.ckpt_machine.specs.Left.{update_left, steps_left}
 use Rattle.ckpt_machine.proofs.StepsLeft.{update_nearer}
 use Rattle.ckpt_machine.specs.Shape.{Shape, IsCompleteOn, IsShaped, is_owner, IsOwner, IsSpread, IsStaging, IsCommitting, PhaseFits, slot_by, sections_by, effects_by}
 use Rattle.ckpt_machine.proofs.NodeLists.{first_lacking-is, first_lacking-None, last_having-is, last_having-None, first_complete-some, not-lacked, lacked-has, had-there}
-use Rattle.ckpt_machine.proofs.Owning.{is_owner-here, owner_alone, owner_live, at, spread, own_phase, owns_had, replica_at, seen_is, on_replica, ended_keeps}
+use Rattle.ckpt_machine.proofs.Owning.{is_owner-here, owner_alone, owner_live, at, spread, own_phase, owns_had, replica_at, seen_is, on_all, ended_keeps, all_is}
+use Rattle.ckpt_machine.proofs.OnAll.{shaped_replicas, by_shape}
 use Rattle.ckpt_machine.proofs.StagedMoment.{none_owned, moment_first, moment_later}
 use Rattle.ckpt_machine.proofs.Stage.{Stages, IfSome-more, on_complete, sections-undone, stage_row, stage_leads}
 use Rattle.ckpt_machine.proofs.Commit.{Commits, commit_row, commit_leads, commit_is}
@@ -60,12 +61,16 @@ module _ (m : Machine) (shapes : ℕ → Shape) (inv : InvariantIn shapes m) (s 
 
   -- ---- its checkpoint is gone
 
+  change_gone : (b : Bool) → entry_of u.ckpt m.cluster.entries ≡ None → ChangeLook b m (Some u.ckpt) NotExist Plain
+  change_gone true gone = gone
+  change_gone false gone = subst (λ o. HasNoActive o) (sym gone) tt
+
   gone_moves : (t : Told) → entry_of u.ckpt m.cluster.entries ≡ None → IsDone m s (End (Refused NotExist Plain)) t → Goes m s (drivers.Update u) t
   gone_moves t gone done =
       let none : making_of s.call m.cluster ≡ None = making_is m shapes inv s held ∙ ap making_in is in
       let was = at m shapes inv s u held is in
       subst (Goes m s (drivers.Update u)) (sym done) (record {
-        row = (refl, refl, subst (λ (a : Ask). LookRefused m s a NotExist Plain) (sym was.asks) (subst (λ o. GoneLook m o NotExist Plain) (sym was.kept) gone), refl);
+        row = (refl, refl, subst (λ (a : Ask). LookRefused m s a NotExist Plain) (sym was.asks) (subst (λ o. ChangeLook s.kept.all m o NotExist Plain) (sym was.kept) (change_gone s.kept.all gone)), refl);
         holds = subst (λ k. let n = without_making k m in Invariant (stepped n (kept_behind m s n.cluster verbs.Look None None words.Refused) (Some (Refused NotExist Plain)))) (sym none)
             (ended_keeps m shapes inv s u held is (λ e found. absurd (let w : None ≡ Some e = sym gone ∙ found in cc)));
         nearer = λ none. absurd (cc none);
@@ -131,7 +136,7 @@ module _ (m : Machine) (shapes : ℕ → Shape) (inv : InvariantIn shapes m) (s 
                   _,
                   _,
                   asks_own,
-                  on_replica m shapes inv s u held is e found r x (λ f y. StageHeld m s.call d (Some (Refused TryAgain (Holder d))) y) there (record {
+                  on_all m shapes inv s u held is e found r x (λ f y. StageHeld m s.call d (Some (Refused TryAgain (Holder d))) y) there (record {
                     owner = subst (λ y. IsSomeAnd y (λ slot. slot.owner ≡ d)) (sym slot) refl;
                     another = another;
                     live = live;
@@ -174,11 +179,11 @@ module _ (m : Machine) (shapes : ℕ → Shape) (inv : InvariantIn shapes m) (s 
                   _,
                   _,
                   asks_own,
-                  on_replica m shapes inv s u held is e found r x (StageRefused m s (update_of s.op) u.ckpt (Some (Refused why.error (refused_cause s.op why.index)))) there (record {
+                  on_all m shapes inv s u held is e found r x (StageRefused m s (update_of s.op) u.ckpt (Some (Refused why.error (refused_cause s.op why.index)))) there (record {
                     free = slot;
                     none_own = on_complete m u.ckpt e found (λ y. owns_slot s.call y.slot ≡ false) (λ q there.
                         IfSome-more (m.replicas u.ckpt q) (IsShaped (shapes u.ckpt) ((shapes u.ckpt).owners q)) (λ y. owns_slot s.call y.slot ≡ false)
-                        (λ y is. ap (owns_slot s.call) is.slot ∙ slot_owner (shapes u.ckpt) s.call ((shapes u.ckpt).owners q) ∙ sym (owns_at q there) ∙ last_having-None 0 e.complete u.owned same_length none q) (was.replicas q there));
+                        (λ y is. ap (owns_slot s.call) is.slot ∙ slot_owner (shapes u.ckpt) s.call ((shapes u.ckpt).owners q) ∙ sym (owns_at q there) ∙ last_having-None 0 e.complete u.owned same_length none q) (shaped_replicas m u.ckpt (shapes u.ckpt) e was (all_is m shapes inv s u held is e found) q there));
                     why = why;
                     refused = ap (λ l. outcome e.attributes (update_of s.op) (kept_moment l m.cluster.moment u.moment) x.sections) (sym none) ∙ gives;
                     answer = refl;
@@ -215,7 +220,7 @@ module _ (m : Machine) (shapes : ℕ → Shape) (inv : InvariantIn shapes m) (s 
 
           adopted_shaped : (sections : List Section) (y : ReplicaState) → IsShaped (shapes u.ckpt) None y → IsShaped (adopted sections) None y
           unfolding adopted
-          adopted_shaped sections y is = record { slot = is.slot; sections = is.sections; effects = is.effects }
+          adopted_shaped sections y is = record { slot = is.slot; sections = is.sections; effects = is.effects; unmarked = is.unmarked }
 
           adopted_at : (sections : List Section) (q : ℕ) (y : ReplicaState) → IsShaped (shapes u.ckpt) ((shapes u.ckpt).owners q) y → IsShaped (adopted sections) ((shapes u.ckpt).owners q) y
           adopted_at sections q y is = subst (λ o. IsShaped (adopted sections) o y) (sym (none_at q)) (adopted_shaped sections y (subst (λ o. IsShaped (shapes u.ckpt) o y) (none_at q) is))
@@ -226,7 +231,7 @@ module _ (m : Machine) (shapes : ℕ → Shape) (inv : InvariantIn shapes m) (s 
             nodes = was.nodes;
             some = was.some;
             active = was.active;
-            replicas = λ q there. IsSomeAnd-each (m.replicas u.ckpt q) q (was.replicas q there);
+            replicas = λ q there. by_shape e (all_is m shapes inv s u held is e found) (adopted sections) ((shapes u.ckpt).owners q) (m.replicas u.ckpt q) (IsSomeAnd-each (m.replicas u.ckpt q) q (shaped_replicas m u.ckpt (shapes u.ckpt) e was (all_is m shapes inv s u held is e found) q there));
             fits = λ q d owns. absurd (nobody q d owns);
             complete = was.complete;
             lowest = was.lowest;

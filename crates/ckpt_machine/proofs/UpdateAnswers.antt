@@ -1,5 +1,5 @@
--- An update is answered OK by a commit alone: by no look and no other step, and not at its beginning.
-use Rattle.std.proofs.Common.{◌≡◌, ℕ, Option, Some, None, Bool, true, subst}
+-- An update is answered OK by a commit, or where it is applied in one step: by no look and no other step, and not at its beginning.
+use Rattle.std.proofs.Common.{◌≡◌, ℕ, Option, Some, None, Bool, true, refl, sym, subst, ◌∙◌}
 use Rattle.ckpt_types.specs.declared.ais_error.AisError.{AisError}
 use Rattle.ckpt_types.specs.declared.ais_error.AisError.TheVariants.{TryAgain}
 use Rattle.ckpt_types.specs.declared.answers.Answer.{Answer}
@@ -22,9 +22,10 @@ use Rattle.ckpt_types.specs.Asks.{Ask, asked}
 use Rattle.ckpt_types.specs.Asks as asks
 use Rattle.ckpt_machine.specs.BeginRows.{ends_at_once, BeginRow}
 use Rattle.ckpt_machine.specs.Driving.{refused_cause}
-use Rattle.ckpt_machine.specs.Guards.{AtNode, StageRefused, StageHeld, StageRow, CommitRow, LookDone, LookRow, Row}
+use Rattle.ckpt_machine.specs.Guards.{AtNode, StageRefused, StageHeld, StageRow, CommitRow, ApplyRefused, ApplyHeld, ApplyRow, LookDone, LookRow, Row}
 use Rattle.ckpt_machine.specs.Machine.{Machine, CallState}
-use Rattle.ckpt_machine.proofs.Refusing.{row_at_ckpt, at_node, at_none, at_node_alone, on_replica}
+use Rattle.ckpt_machine.specs.Steps.{Told}
+use Rattle.ckpt_machine.proofs.Refusing.{row_at_ckpt, at_node, at_none, at_node_alone, on_all, on_active}
 
 -- ---- an update asks for no other thing
 
@@ -54,10 +55,11 @@ begin_not_done live h op answer word row = absurd row
 
 -- ---- a step
 
--- a commit on a node is done
-abbrev pub IsDoneCommit : Verb → Option ℕ → Option ℕ → StepReply → Type 0
-IsDoneCommit verbs.Commit (Some k) (Some r) words.Ok = Unit {0}
-IsDoneCommit verb k r reply = ⊥
+-- a node has taken an update: what was staged there, or in one step
+abbrev pub IsTakenOn : Verb → Option ℕ → Option ℕ → StepReply → Type 0
+IsTakenOn verbs.Commit (Some k) (Some r) words.Ok = Unit {0}
+IsTakenOn verbs.Apply (Some k) (Some r) words.Ok = Unit {0}
+IsTakenOn verb k r reply = ⊥
 
 -- nothing is left to do of a close alone
 no_look_done : (m : Machine) (s : CallState) (ask : Ask) (answer : Answer) → IsChange ask → LookDone m s ask answer → ⊥
@@ -85,33 +87,48 @@ module _ (m : Machine) (s : CallState) (word : IsUpdateWord (word_of_op s.op)) (
 
   stage_not_done : (update : Update) (k r : ℕ) (reply : StepReply) → StageRow m s update k r reply (Some (Done answer)) → ⊥
   stage_not_done update k r words.Ok row = goes_on row.1
-  stage_not_done update k r words.Refused row = on_replica m k r (StageRefused m s update k (Some (Done answer))) row (λ e x (by : StageRefused m s update k (Some (Done answer)) e x). refused by.why.error (refused_cause s.op by.why.index) by.answer)
-  stage_not_done update k r (words.Held by) row = on_replica m k r (λ e x. StageHeld m s.call by (Some (Done answer)) x) row (λ e x (held : StageHeld m s.call by (Some (Done answer)) x). refused TryAgain (Holder by) held.answer)
+  stage_not_done update k r words.Refused row = on_all m k r (StageRefused m s update k (Some (Done answer))) row (λ e x (by : StageRefused m s update k (Some (Done answer)) e x). refused by.why.error (refused_cause s.op by.why.index) by.answer)
+  stage_not_done update k r (words.Held by) row = on_all m k r (λ e x. StageHeld m s.call by (Some (Done answer)) x) row (λ e x (held : StageHeld m s.call by (Some (Done answer)) x). refused TryAgain (Holder by) held.answer)
   stage_not_done update k r reply row = absurd row
 
-  commit_done : (k r : Option ℕ) (reply : StepReply) (details : Details) → AtNode k r (λ k r. (place : ℕ) × (update : Update) × (asked s.op ≡ asks.Change place update) × CommitRow m s.call update k r reply (Some (Done answer)) details) → IsDoneCommit verbs.Commit k r reply
+  commit_done : (k r : Option ℕ) (reply : StepReply) (details : Details) → AtNode k r (λ k r. (place : ℕ) × (update : Update) × (asked s.op ≡ asks.Change place update) × CommitRow m s.call update k r reply (Some (Done answer)) details) → IsTakenOn verbs.Commit k r reply
   commit_done (Some k) (Some r) words.Ok details row = tt
   commit_done (Some k) (Some r) reply details row = absurd row.3
   commit_done (Some k) None reply details row = absurd row
   commit_done None r reply details row = absurd row
 
-  -- a step that answers an update OK is a commit
-  pub done_by_commit : (verb : Verb) (k r : Option ℕ) (reply : StepReply) (details : Details) → Row m s verb (record { verb = verb; ckpt = k; node = r; reply = reply; end = Some (Done answer); details = details }) → IsDoneCommit verb k r reply
-  done_by_commit verbs.Commit k r reply details row = commit_done k r reply details row
-  done_by_commit verbs.Enter k r reply details row = at_node_alone k r _ row.0 (λ q p. no_other _ p.2)
-  done_by_commit verbs.Open k r reply details row = row_at_ckpt k r _ row.0 (λ k p. no_other _ p.2.asks)
-  done_by_commit verbs.Create k r reply details row = row_at_ckpt k r _ row.0 (λ k p. no_other _ p.2.asks)
-  done_by_commit verbs.Reserve k r reply details row = at_node k r _ row.0 (λ k r p. no_other _ p.2.asks)
-  done_by_commit verbs.Finish k r reply details row = row_at_ckpt k r _ row.0 (λ k p. no_other _ p.2.asks)
-  done_by_commit verbs.Undo k r reply details row = row_at_ckpt k r _ row.0 (λ k p. no_other _ p.2.asks)
-  done_by_commit verbs.Stage k r reply details row = at_node k r _ row.0 (λ k r p. stage_not_done p.1 k r reply p.3)
-  done_by_commit verbs.Read k r reply details row = at_node k r _ row (λ k r p. no_other _ p.2)
-  done_by_commit verbs.Status k r reply details row = at_node k r _ row (λ k r p. no_other _ p.1)
-  done_by_commit verbs.Iter k r reply details row = at_node k r _ row.0 (λ k r p. no_other _ p.4)
-  done_by_commit verbs.Next k r reply details row = at_node k r _ row (λ k r p. no_other _ p.1)
-  done_by_commit verbs.Leave k r reply details row = at_none k r _ row.0 (λ p. no_other _ p.0)
-  done_by_commit verbs.Close k r reply details row = row_at_ckpt k r _ row.0 (λ k p. no_other _ p.1)
-  done_by_commit verbs.Unlink k r reply details row = row_at_ckpt k r _ row.0 (λ k p. no_other _ p.1)
-  done_by_commit verbs.Retain k r reply details row = row_at_ckpt k r _ row.0 (λ k p. no_other _ p.2)
-  done_by_commit verbs.Look k r reply details row = look_not_done reply row.2
-  done_by_commit verb k r reply details row = absurd row
+  -- one that is refused, or held off, is not answered OK
+  applied_ok : (update : Update) (k r : ℕ) (t : Told) (reply : StepReply) → t.end ≡ Some (Done answer) → ApplyRow m s update k r t reply → reply ≡ words.Ok
+  applied_ok update k r t words.Ok is row = refl
+  applied_ok update k r t words.Refused is row = absurd (on_active m k r (ApplyRefused m s update t) row (λ e x (by : ApplyRefused m s update t e x). refused by.why.error (refused_cause s.op by.why.index) (sym is ∙ by.answer)))
+  applied_ok update k r t (words.Held by) is row = absurd (on_active m k r (λ e x. ApplyHeld m s.call by t x) row (λ e x (held : ApplyHeld m s.call by t x). refused TryAgain (Holder by) (sym is ∙ held.answer)))
+  applied_ok update k r t reply is row = absurd row
+
+  apply_done : (k r : Option ℕ) (reply : StepReply) (details : Details) → Row m s verbs.Apply (record { verb = verbs.Apply; ckpt = k; node = r; reply = reply; end = Some (Done answer); details = details }) → IsTakenOn verbs.Apply k r reply
+  apply_done (Some k) (Some r) reply details row =
+      let t : Told = record { verb = verbs.Apply; ckpt = Some k; node = Some r; reply = reply; end = Some (Done answer); details = details } in
+      subst (λ reply. IsTakenOn verbs.Apply (Some k) (Some r) reply) (sym (applied_ok row.1 k r t reply refl row.3)) tt
+  apply_done (Some k) None reply details row = absurd row
+  apply_done None r reply details row = absurd row
+
+  -- a step that answers an update OK is a commit, or applies it
+  pub done_by_taking : (verb : Verb) (k r : Option ℕ) (reply : StepReply) (details : Details) → Row m s verb (record { verb = verb; ckpt = k; node = r; reply = reply; end = Some (Done answer); details = details }) → IsTakenOn verb k r reply
+  done_by_taking verbs.Commit k r reply details row = commit_done k r reply details row
+  done_by_taking verbs.Apply k r reply details row = apply_done k r reply details row
+  done_by_taking verbs.Enter k r reply details row = at_node_alone k r _ row.0 (λ q p. no_other _ p.2)
+  done_by_taking verbs.Open k r reply details row = row_at_ckpt k r _ row.0 (λ k p. no_other _ p.2.asks)
+  done_by_taking verbs.Create k r reply details row = row_at_ckpt k r _ row.0 (λ k p. no_other _ p.2.asks)
+  done_by_taking verbs.Reserve k r reply details row = at_node k r _ row.0 (λ k r p. no_other _ p.2.asks)
+  done_by_taking verbs.Finish k r reply details row = row_at_ckpt k r _ row.0 (λ k p. no_other _ p.2.asks)
+  done_by_taking verbs.Undo k r reply details row = row_at_ckpt k r _ row.0 (λ k p. no_other _ p.2.asks)
+  done_by_taking verbs.Stage k r reply details row = at_node k r _ row.0 (λ k r p. stage_not_done p.1 k r reply p.3)
+  done_by_taking verbs.Read k r reply details row = at_node k r _ row (λ k r p. no_other _ p.2)
+  done_by_taking verbs.Status k r reply details row = at_node k r _ row (λ k r p. no_other _ p.1)
+  done_by_taking verbs.Iter k r reply details row = at_node k r _ row.0 (λ k r p. no_other _ p.4)
+  done_by_taking verbs.Next k r reply details row = at_node k r _ row (λ k r p. no_other _ p.1)
+  done_by_taking verbs.Leave k r reply details row = at_none k r _ row.0 (λ p. no_other _ p.0)
+  done_by_taking verbs.Close k r reply details row = row_at_ckpt k r _ row.0 (λ k p. no_other _ p.1)
+  done_by_taking verbs.Unlink k r reply details row = row_at_ckpt k r _ row.0 (λ k p. no_other _ p.1)
+  done_by_taking verbs.Retain k r reply details row = row_at_ckpt k r _ row.0 (λ k p. no_other _ p.2)
+  done_by_taking verbs.Look k r reply details row = look_not_done reply row.2
+  done_by_taking verb k r reply details row = absurd row

@@ -64,7 +64,7 @@ module _ (m : Machine) (shapes : ℕ → Shape) (inv : InvariantIn shapes m) (s 
     stage_ready : (r : ℕ) (t : ℤ) → IsCompleteOn e r → ((shapes u.ckpt).owners r ≡ None → staged_moment m u.ckpt ≡ t) → IsReadyNext m s (Serve r (requests.Stage u.call u.ckpt t))
     stage_ready r t there mom =
         let (x, here, shaped) = replica_at m shapes inv s u held is e found r there in
-        (within r there, IsSomeAnd-from (seen_at m u.ckpt r) (IsReadyFor (requests.Stage u.call u.ckpt t)) (seen u.ckpt e.attributes x) (seen_is m shapes inv s u held is e found r x here) tt, λ free. mom (free_node r there free), tt)
+        (within r there, IsSomeAnd-from (seen_at m u.ckpt r) (IsReadyFor (requests.Stage u.call u.ckpt t)) (seen u.ckpt e.attributes x) (seen_is m shapes inv s u held is e found r x here) shaped.unmarked, λ free. mom (free_node r there free), tt)
 
     -- the slots of the call are of its own update
     own_update : (r : ℕ) → (shapes u.ckpt).owners r ≡ Some s.call → (shapes u.ckpt).update ≡ update_of s.op

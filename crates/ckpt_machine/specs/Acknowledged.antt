@@ -1,5 +1,5 @@
 -- An update that was answered OK, and where it is from then on.
-use Rattle.std.specs.Prelude.{◌≡◌, ◌⊎◌, ℕ, List, [], ◌∷◌, ◌++◌, Option, Some, None}
+use Rattle.std.specs.Prelude.{◌≡◌, ◌⊎◌, ℕ, List, [], ◌∷◌, ◌++◌, Option, Some, None, true}
 use Rattle.ckpt_types.specs.declared.answers.Outcome.TheVariants.{Done}
 use Rattle.ckpt_types.specs.declared.identities.CallId.{CallId}
 use Rattle.ckpt_types.specs.declared.operation.Op.{Op}
@@ -9,7 +9,10 @@ use Rattle.run_labels.specs.declared.labels.Label.TheVariants as labels
 use Rattle.ckpt_types.specs.declared.words.OpWord.{OpWord}
 use Rattle.ckpt_types.specs.declared.words.OpWord.TheVariants as opwords
 use Rattle.ckpt_types.specs.OpWord.{word_of_op}
+use Rattle.cluster_record.specs.declared.entries.Entry.{Entry}
+use Rattle.cluster_record.specs.RecordState.{entry_of}
 use Rattle.ckpt_machine.specs.Machine.{Machine, Effect, Applied, ReplicaState}
+use Rattle.ckpt_machine.specs.Options.{is_all}
 use Rattle.ckpt_machine.specs.Runs.{last}
 use Rattle.ckpt_types.specs.Asks.{update_of}
 use Rattle.ckpt_machine.specs.Steps.{asked_handle}
@@ -58,11 +61,16 @@ abbrev pub HasUpdate : CallId → Update → List Effect → Type 0
 HasUpdate call update [] = ⊥
 HasUpdate call update (x ∷ xs) = IsUpdateBy call update x ⊎ HasUpdate call update xs
 
--- each complete replica of the checkpoint has the update by the call
-abbrev pub IsOnEvery : Machine → ℕ → CallId → Update → Type 0
-IsOnEvery m k call update = (r : ℕ) (x : ReplicaState) → m.replicas k r ≡ Some x → HasUpdate call update x.effects
+-- the node is one of those on which an update has to be: any, or where updates go to the active alone, the active
+abbrev pub IsToHave : Option Entry → ℕ → Type 0
+IsToHave None r = Unit {0}
+IsToHave (Some e) r = (is_all e.attributes ≡ true) ⊎ (e.active ≡ Some r)
 
--- the call began in the log with an update, of the checkpoint that the label behind the log names, and each complete replica of that checkpoint has this update
+-- each complete replica of the checkpoint has the update by the call; where updates go to the active alone, the active's
+abbrev pub IsOnItsReplicas : Machine → ℕ → CallId → Update → Type 0
+IsOnItsReplicas m k call update = (r : ℕ) (x : ReplicaState) → m.replicas k r ≡ Some x → IsToHave (entry_of k m.cluster.entries) r → HasUpdate call update x.effects
+
+-- the call began in the log with an update, of the checkpoint that the label behind the log names, and this update is on the replicas of that checkpoint on which it has to be
 pub record IsAcknowledged (log : List Label) (l : Label) (call : CallId) (m : Machine) : Type 0 where
   pub op : Op
   pub asks : IsUpdateWord (word_of_op op)
@@ -71,8 +79,8 @@ pub record IsAcknowledged (log : List Label) (l : Label) (call : CallId) (m : Ma
   -- with no other operation, and on no other checkpoint
   pub once : (other : Op) (k : Option ℕ) → HasBegun log call other k → (other ≡ op) × (k ≡ Some ckpt)
   pub named : ckpt_named l ≡ Some ckpt
-  pub on_every : IsOnEvery m ckpt call (update_of op)
+  pub on_its : IsOnItsReplicas m ckpt call (update_of op)
 
--- WHAT WAS ANSWERED OK STAYS: after any label that answers OK to a call that asks for an update, and at every time from then on, each complete replica of its checkpoint has the update
+-- WHAT WAS ANSWERED OK STAYS: after any label that answers OK to a call that asks for an update, and at every time from then on, each complete replica of its checkpoint has the update, or where updates go to the active alone, the active's
 abbrev pub AcknowledgedStay : List Label → Type 0
 AcknowledgedStay log = (front more back : List Label) (l : Label) (call : CallId) → log ≡ front ++ l ∷ (more ++ back) → Acknowledges l call → IsAcknowledged front l call (last (front ++ l ∷ more))

@@ -1,5 +1,6 @@
 -- Of a checkpoint with updates on all replicas: none has an update staged and all are equal, or all are of one update.
 use Rattle.std.specs.Prelude.{◌≡◌, ◌⊎◌, ℕ, List, [], ◌∷◌, ◌++◌, Option, Some, None, Ok, Bool, true, false, ℤ}
+use Rattle.ckpt_machine.specs.Options.{is_all}
 use Rattle.ckpt_types.specs.declared.attributes.CreationAttributes.{CreationAttributes}
 use Rattle.ckpt_types.specs.declared.identities.CallId.{CallId}
 use Rattle.ckpt_types.specs.declared.update.Update.{Update}
@@ -41,9 +42,9 @@ pub record AreOfOne (m : Machine) (k : ℕ) (a : CreationAttributes) : Type 0 wh
   pub fits : outcome a one.update one.moment one.sections ≡ Ok one.outcome
   pub each : OnEach (λ y. IsOfOne one done y y.slot) (complete_replicas m k)
 
--- of every checkpoint that is made: no complete replica has a slot, and all are equal; or all slots are of one update
+-- of every checkpoint that is made, whose updates are on all replicas: no complete replica has a slot, and all are equal; or all slots are of one update
 abbrev pub AllOrNone : Machine → Type 0
-AllOrNone m = (k : ℕ) (e : Entry) → entry_of k m.cluster.entries ≡ Some e → e.making ≡ None → AreEqual m k ⊎ AreOfOne m k e.attributes
+AllOrNone m = (k : ℕ) (e : Entry) → entry_of k m.cluster.entries ≡ Some e → e.making ≡ None → is_all e.attributes ≡ true → AreEqual m k ⊎ AreOfOne m k e.attributes
 
 -- AT EVERY TIME OF A RUN: it is so after each front of the log
 abbrev pub IsAllOrNoneThroughout : List Label → Type 0

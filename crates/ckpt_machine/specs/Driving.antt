@@ -132,10 +132,11 @@ takes_memory events.Open = true
 takes_memory events.Create = true
 takes_memory step = false
 
--- what a call keeps of the tables and of the record at its beginning: the checkpoint of its handle, the room for the identifiers that this one declares, the client's node, and the moment
+-- what a call keeps of the tables and of the record at its beginning: the checkpoint of its handle, the room for the identifiers that this one declares, whether its updates are on all replicas, the client's node, and the moment
 pub record Kept : Type 0 where
   pub ckpt : Option ℕ
   pub room : Room
+  pub all : Bool
   pub node : ℕ
   pub moment : ℤ
 
@@ -157,11 +158,16 @@ update_start call ckpt = on_kept ckpt (λ k. drivers.Update (update_begun call k
 abbrev pub active_start : CallId → ActiveKind → Option ℕ → Option Driver
 active_start call kind ckpt = on_kept ckpt (λ k. drivers.Active (active_begun call k kind))
 
+-- an update is of all replicas, or is done by the active in one step
+abbrev pub change_start : CallId → Bool → Option ℕ → Option Driver
+change_start call true ckpt = update_start call ckpt
+change_start call false ckpt = active_start call kinds.Apply ckpt
+
 -- what drives a call that goes on behind its beginning; a call on no checkpoint does not, nor does one that is answered at its beginning, or is not built
 abbrev pub driver_start : CallId → Ask → Kept → Option Driver
 driver_start call (asks.Enter r version callbacks) kept = Some (drivers.Once (Enter r))
 driver_start call (asks.Open place name flags timeout a) kept = Some (drivers.Open (open_begun call (record { name = name; attrs = a; client = client_of call; node = kept.node }) (Some (sum_until_end kept.moment timeout))))
-driver_start call (asks.Change place update) kept = update_start call kept.ckpt
+driver_start call (asks.Change place update) kept = change_start call kept.all kept.ckpt
 driver_start call (asks.Read place elements) kept = active_start call kinds.Read kept.ckpt
 driver_start call (asks.Status place) kept = active_start call kinds.Status kept.ckpt
 driver_start call (asks.Iterate iteration place chosen time) kept = active_start call (kinds.Iterate (choice_of chosen time)) kept.ckpt

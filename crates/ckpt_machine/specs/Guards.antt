@@ -41,6 +41,7 @@ use Rattle.ckpt_machine.specs.Driving.{deadline_from, refused_cause}
 use Rattle.node_core.specs.Serving.{update_answer, told_id}
 use Rattle.ckpt_machine.specs.Machine.{Machine, Staged, ReplicaState, CallState}
 use Rattle.ckpt_machine.specs.Listing.{listing_at}
+use Rattle.ckpt_machine.specs.Options.{is_all}
 use Rattle.ckpt_machine.specs.Steps.{Told, rooms_of, ids_asked, staged_moment, effect_of}
 
 -- ---- the complete replicas of a checkpoint, at once
@@ -71,6 +72,14 @@ owned_elsewhere call r ((q, x) ∷ others) = (not (q == r) && owns_slot call x.s
 abbrev pub OnReplica : Machine → ℕ → ℕ → (Entry → ReplicaState → Type 0) → Type 0
 OnReplica m k r P = IsSomeAnd (entry_of k m.cluster.entries) (λ e. IsSomeAnd (m.replicas k r) (P e))
 
+-- its updates are on all replicas
+abbrev pub OnAll : Machine → ℕ → ℕ → (Entry → ReplicaState → Type 0) → Type 0
+OnAll m k r P = OnReplica m k r (λ e x. (is_all e.attributes ≡ true) × P e x)
+
+-- its updates are on the active alone, which this node has
+abbrev pub OnActive : Machine → ℕ → ℕ → (Entry → ReplicaState → Type 0) → Type 0
+OnActive m k r P = OnReplica m k r (λ e x. (is_all e.attributes ≡ false) × (e.active ≡ Some r) × P e x)
+
 -- ---- all-replicas updates
 
 -- staged: the replica has no slot and the update an outcome, all complete replicas have equal effects, and each slot is of this very update
@@ -98,9 +107,9 @@ pub record StageHeld (m : Machine) (call by : CallId) (end : Option Outcome) (x 
 
 -- a stage is done, refused by the sections, or held off by another call
 abbrev pub StageRow : Machine → CallState → Update → ℕ → ℕ → StepReply → Option Outcome → Type 0
-StageRow m s update k r words.Ok end = OnReplica m k r (StageOk m s.call update k) × (end ≡ None)
-StageRow m s update k r words.Refused end = OnReplica m k r (StageRefused m s update k end)
-StageRow m s update k r (words.Held by) end = OnReplica m k r (λ e x. StageHeld m s.call by end x)
+StageRow m s update k r words.Ok end = OnAll m k r (StageOk m s.call update k) × (end ≡ None)
+StageRow m s update k r words.Refused end = OnAll m k r (StageRefused m s update k end)
+StageRow m s update k r (words.Held by) end = OnAll m k r (λ e x. StageHeld m s.call by end x)
 StageRow m s update k r reply end = ⊥
 
 -- the replica has the same slot still, or has committed it
@@ -125,8 +134,41 @@ pub record CommitOk (m : Machine) (call : CallId) (update : Update) (k r : ℕ) 
 
 -- a commit is done
 abbrev pub CommitRow : Machine → CallId → Update → ℕ → ℕ → StepReply → Option Outcome → Details → Type 0
-CommitRow m call update k r words.Ok end details = OnReplica m k r (λ e x. CommitOk m call update k r end details x)
+CommitRow m call update k r words.Ok end details = OnAll m k r (λ e x. CommitOk m call update k r end details x)
 CommitRow m call update k r reply end details = ⊥
+
+-- ---- updates of the active alone
+
+-- applied: no marks stand, and the update has an outcome at the record's moment; it is answered OK, and a creation tells its identifier
+pub record ApplyOk (m : Machine) (update : Update) (t : Told) (e : Entry) (x : ReplicaState) : Type 0 where
+  pub unmarked : x.marks ≡ None
+  pub fits : IsOk (outcome e.attributes update m.cluster.moment x.sections)
+  pub answer : t.end ≡ Some (Done (update_answer update))
+  pub told : t.details ≡ told_id update m.cluster.moment x.sections
+
+-- refused: no marks stand, and the outcome at the record's moment is the refusal
+pub record ApplyRefused (m : Machine) (s : CallState) (update : Update) (t : Told) (e : Entry) (x : ReplicaState) : Type 0 where
+  pub unmarked : x.marks ≡ None
+  pub why : Refusal
+  pub refused : outcome e.attributes update m.cluster.moment x.sections ≡ Err why
+  -- the cause is the index for a write alone
+  pub answer : t.end ≡ Some (Refused why.error (refused_cause s.op why.index))
+  pub told : t.details ≡ beside.Nothing
+
+-- held: the marks of another call stand, which is live; this one is to try again
+pub record ApplyHeld (m : Machine) (call by : CallId) (t : Told) (x : ReplicaState) : Type 0 where
+  pub marks : IsSomeAnd x.marks (λ marks. marks.call ≡ by)
+  pub another : same_call by call ≡ false
+  pub live : is_live m.cluster by ≡ true
+  pub answer : t.end ≡ Some (Refused errors.TryAgain (Holder by))
+  pub told : t.details ≡ beside.Nothing
+
+-- an update is applied, refused by the sections, or held off by the marks of another call
+abbrev pub ApplyRow : Machine → CallState → Update → ℕ → ℕ → Told → StepReply → Type 0
+ApplyRow m s update k r t words.Ok = OnActive m k r (ApplyOk m update t)
+ApplyRow m s update k r t words.Refused = OnActive m k r (ApplyRefused m s update t)
+ApplyRow m s update k r t (words.Held by) = OnActive m k r (λ e x. ApplyHeld m s.call by t x)
+ApplyRow m s update k r t reply = ⊥
 
 -- ---- reads, on the active
 
@@ -358,11 +400,16 @@ abbrev pub RetainLook : Machine → Option ℕ → AisError → Cause → Type 0
 RetainLook m (Some k) errors.BadOperation Plain = IsSomeAnd (entry_of k m.cluster.entries) (λ e. e.name ≡ None)
 RetainLook m k error cause = GoneLook m k error cause
 
+-- NOT_EXIST of an update: its checkpoint is gone, or where it goes to the active alone, has none
+abbrev pub ChangeLook : Bool → Machine → Option ℕ → AisError → Cause → Type 0
+ChangeLook true m k error cause = GoneLook m k error cause
+ChangeLook false m k error cause = NoActiveLook m k error cause
+
 -- what the record alone refuses, by what is asked for
 abbrev pub LookRefused : Machine → CallState → Ask → AisError → Cause → Type 0
 LookRefused m s (asks.Enter r version callbacks) error cause = EnterLook m error cause
 LookRefused m s (asks.Open place name flags timeout a) error cause = OpenLook m s name a error cause
-LookRefused m s (asks.Change place update) error cause = GoneLook m s.kept.ckpt error cause
+LookRefused m s (asks.Change place update) error cause = ChangeLook s.kept.all m s.kept.ckpt error cause
 LookRefused m s (asks.Read place elements) error cause = NoActiveLook m s.kept.ckpt error cause
 LookRefused m s (asks.Status place) error cause = NoActiveLook m s.kept.ckpt error cause
 LookRefused m s (asks.Iterate iteration place chosen time) error cause = IterLook m s error cause
@@ -421,6 +468,7 @@ Row m s verbs.Finish t = AtCkpt t.ckpt t.node (λ k. (name : List ℕ) × (a : O
 Row m s verbs.Undo t = AtCkpt t.ckpt t.node (λ k. (name : List ℕ) × (a : Option CreationAttributes) × AsksToOpen s name a × UndoRow m s k t.reply t.end) × (t.details ≡ beside.Nothing)
 Row m s verbs.Stage t = AtNode t.ckpt t.node (λ k r. (place : ℕ) × (update : Update) × (asked s.op ≡ asks.Change place update) × StageRow m s update k r t.reply t.end) × (t.details ≡ beside.Nothing)
 Row m s verbs.Commit t = AtNode t.ckpt t.node (λ k r. (place : ℕ) × (update : Update) × (asked s.op ≡ asks.Change place update) × CommitRow m s.call update k r t.reply t.end t.details)
+Row m s verbs.Apply t = AtNode t.ckpt t.node (λ k r. (place : ℕ) × (update : Update) × (asked s.op ≡ asks.Change place update) × ApplyRow m s update k r t t.reply)
 Row m s verbs.Read t = AtNode t.ckpt t.node (λ k r. (place : ℕ) × (elements : List ReadElement) × (asked s.op ≡ asks.Read place elements) × ReadRow m elements k r t)
 Row m s verbs.Status t = AtNode t.ckpt t.node (λ k r. (place : ℕ) × (asked s.op ≡ asks.Status place) × StatusRow m k r t.reply t.end t.details)
 Row m s verbs.Iter t = AtNode t.ckpt t.node (λ k r. (iteration place chosen : ℕ) × (time : ℤ) × (asked s.op ≡ asks.Iterate iteration place chosen time) × IterRow m s k r t.reply t.end) × (t.details ≡ beside.Nothing)
@@ -436,6 +484,7 @@ Row m s verb t = ⊥
 abbrev pub IsOnOwn : Verb → Option ℕ → Option ℕ → Type 0
 IsOnOwn verbs.Stage ckpt own = ckpt ≡ own
 IsOnOwn verbs.Commit ckpt own = ckpt ≡ own
+IsOnOwn verbs.Apply ckpt own = ckpt ≡ own
 IsOnOwn verbs.Read ckpt own = ckpt ≡ own
 IsOnOwn verbs.Status ckpt own = ckpt ≡ own
 IsOnOwn verbs.Iter ckpt own = ckpt ≡ own

@@ -26,6 +26,7 @@ use Rattle.ckpt_machine.specs.Beginning.{name_is_bad}
 use Rattle.ckpt_machine.specs.Guards.{AsksToOpen}
 use Rattle.ckpt_machine.specs.Tables.{choice_of}
 use Rattle.ckpt_machine.specs.Machine.{Machine, CallState}
+use Rattle.ckpt_machine.specs.Options.{is_all}
 use Rattle.ckpt_machine.specs.Steps.{driver_of, IsDriven, rooms_of, asked_handle}
 use Rattle.section_iter.specs.Room.{room_declared}
 use Rattle.cluster_record.specs.declared.calls.UpdatePhase.{UpdatePhase}
@@ -35,13 +36,19 @@ use Rattle.ckpt_machine.specs.Drivers as drivers
 use Rattle.cluster_record.specs.declared.calls.ActiveKind.TheVariants as kinds
 use Rattle.ckpt_machine.specs.Entries.{WasMade}
 
--- by what is asked of the active, the kind of the call
-abbrev pub active_kind : Ask → Option ActiveKind
-active_kind (asking.Read place elements) = Some kinds.Read
-active_kind (asking.Status place) = Some kinds.Status
-active_kind (asking.Iterate iteration place chosen time) = Some (kinds.Iterate (choice_of chosen time))
-active_kind (asking.Next iteration) = Some kinds.Next
-active_kind ask = None
+-- an update of all replicas is none of these; any other is
+abbrev pub change_kind : Bool → Option ActiveKind
+change_kind true = None
+change_kind false = Some kinds.Apply
+
+-- by what is asked of the active, the kind of the call, on a checkpoint whose updates are on all replicas or not
+abbrev pub active_kind : Bool → Ask → Option ActiveKind
+active_kind all (asking.Change place update) = change_kind all
+active_kind all (asking.Read place elements) = Some kinds.Read
+active_kind all (asking.Status place) = Some kinds.Status
+active_kind all (asking.Iterate iteration place chosen time) = Some (kinds.Iterate (choice_of chosen time))
+active_kind all (asking.Next iteration) = Some kinds.Next
+active_kind all ask = None
 
 -- attributes that were given passed their check
 abbrev pub AreGoodAttributes : Option CreationAttributes → Type 0
@@ -87,7 +94,7 @@ abbrev pub HasSome : UpdateState → Entry → UpdatePhase → Type 0
 HasSome u e Staging = Unit {0}
 HasSome u e Committing = IsSome (last_having 0 e.complete u.owned)
 
--- an update is of a checkpoint that was made, and of the slots there it owns those for which it keeps a node
+-- an update is of a checkpoint that was made, whose updates are on all replicas, and of the slots there it owns those for which it keeps a node
 pub record IsUpdateIn (m : Machine) (shapes : ℕ → Shape) (s : CallState) (u : UpdateState) : Type 0 where
   pub call : u.call ≡ s.call
   pub place : ℕ
@@ -95,6 +102,7 @@ pub record IsUpdateIn (m : Machine) (shapes : ℕ → Shape) (s : CallState) (u 
   pub asks : asked s.op ≡ asking.Change place update
   pub kept : s.kept.ckpt ≡ Some u.ckpt
   pub made : WasMade m.cluster u.ckpt
+  pub all : IfSome (entry_of u.ckpt m.cluster.entries) (λ e. is_all e.attributes ≡ true)
   pub nodes : length u.owned ≡ nodes_max
   pub owns : (e : Entry) → entry_of u.ckpt m.cluster.entries ≡ Some e → OwnsIn (shapes u.ckpt) s u e
   pub some : (e : Entry) → entry_of u.ckpt m.cluster.entries ≡ Some e → HasSome u e u.phase
@@ -102,11 +110,12 @@ pub record IsUpdateIn (m : Machine) (shapes : ℕ → Shape) (s : CallState) (u 
 -- a call to the active is of the kind of its operation, on a checkpoint that was made, and its handle is there
 pub record IsActiveIn (m : Machine) (s : CallState) (a : ActiveState) : Type 0 where
   pub call : a.call ≡ s.call
-  pub kind : active_kind (asked s.op) ≡ Some a.kind
+  pub kind : active_kind s.kept.all (asked s.op) ≡ Some a.kind
   pub made : WasMade m.cluster a.ckpt
   pub kept : s.kept.ckpt ≡ Some a.ckpt
   -- where its checkpoint is still there, it declares what it did at the beginning
   pub room : IfSome (entry_of a.ckpt m.cluster.entries) (λ e. s.kept.room ≡ room_declared e.attributes)
+  pub all : IfSome (entry_of a.ckpt m.cluster.entries) (λ e. s.kept.all ≡ is_all e.attributes)
   pub handle : IsSome (asked_handle m s.call.actor s.op)
 
 -- a client that is live leaves

@@ -58,10 +58,10 @@ RefusedHasNothing = (log : List Label) → IsRun log → EachRefusalLeaves log
 abbrev pub EndsAsItMay : Type 0
 EndsAsItMay = (m : Machine) (l : Label) → Allowed m l → EndsKnown l
 
--- at every time of a run, an update is on all complete replicas of its checkpoint, or on none
+-- at every time of a run, an update on all replicas is on all complete replicas of its checkpoint, or on none
 abbrev pub IsOnAllOrNone : Type 0
 IsOnAllOrNone = (log : List Label) → IsRun log → IsAllOrNoneThroughout log
 
--- what was answered OK is on each complete replica of its checkpoint from then on
+-- what was answered OK is on each complete replica of its checkpoint from then on, or where updates go to the active alone, on the active's
 abbrev pub AcknowledgedStays : Type 0
 AcknowledgedStays = (log : List Label) → IsRun log → AcknowledgedStay log

@@ -3,6 +3,7 @@ pub mod Beginning
 pub mod Tables
 pub mod Driving
 pub mod Machine
+pub mod Options
 pub mod Complete
 pub mod Listing
 pub mod Steps

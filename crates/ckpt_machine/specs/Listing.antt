@@ -11,7 +11,8 @@ use Rattle.run_labels.specs.declared.shown.ShownSlot.TheVariants as slots
 use Rattle.cluster_record.specs.declared.entries.Entry.{Entry}
 use Rattle.cluster_record.specs.RecordState.{entry_of}
 use Rattle.ckpt_machine.specs.Complete.{complete_replicas}
-use Rattle.ckpt_machine.specs.Machine.{Machine, Staged, Marked, ReplicaState}
+use Rattle.weak_marks.specs.Marks.{Marked}
+use Rattle.ckpt_machine.specs.Machine.{Machine, Staged, ReplicaState}
 
 -- this node has the active replica
 abbrev pub is_active : Option ℕ → ℕ → Bool

@@ -8,6 +8,7 @@ use Rattle.ckpt_types.specs.declared.operation.Op.{Op}
 use Rattle.ckpt_types.specs.declared.update.Update.{Update}
 use Rattle.ckpt_types.specs.Sections.{Section}
 use Rattle.client_handles.specs.ClientState.{ClientState, new_client}
+use Rattle.weak_marks.specs.Marks.{Marked}
 use Rattle.cluster_record.specs.RecordState.{RecordState, empty_record}
 use Rattle.cluster_record.specs.StepDone.{StepDone}
 use Rattle.ckpt_machine.specs.Drivers.{Driver}
@@ -25,15 +26,7 @@ pub record Staged : Type 0 where
   pub update : Update
   pub moment : ℤ
 
--- the marks of a weak write, of which so many elements are done
-pub record Marked : Type 0 where
-  pub call : CallId
-  pub update : Update
-  pub moment : ℤ
-  pub done : ℕ
-  pub generation : ℕ
-
--- the replica of a checkpoint on a complete node; its count of updates is the number of its effects
+-- the replica of a checkpoint on a complete node; its count of updates is the number of its effects, and its marks are those of the weak write that is under way on it
 pub record ReplicaState : Type 0 where
   pub sections : List Section
   pub effects : List Effect

@@ -3,7 +3,8 @@ use Rattle.std.specs.Prelude.{◌≡◌, ◌≢◌, ◌⊎◌, ℕ, List, [], �
 use Rattle.ckpt_types.specs.declared.identities.CallId.{CallId}
 use Rattle.cluster_record.specs.declared.entries.Entry.{Entry}
 use Rattle.cluster_record.specs.RecordState.{entry_of}
-use Rattle.ckpt_machine.specs.Machine.{Machine, Effect, Applied, Broken, Staged, Marked, ReplicaState}
+use Rattle.weak_marks.specs.Marks.{Marked}
+use Rattle.ckpt_machine.specs.Machine.{Machine, Effect, Applied, Broken, Staged, ReplicaState}
 
 -- no replica has a slot that the call owns, or that has its update, or marks of it; and it makes and holds no checkpoint
 pub record OwnsNothing (m : Machine) (call : CallId) : Type 0 where

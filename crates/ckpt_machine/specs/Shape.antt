@@ -1,4 +1,4 @@
--- What stands behind the replicas of a checkpoint with updates on all replicas: one equation for each node, with a witness.
+-- What stands behind the replicas of a checkpoint: where its updates are on all of them, one equation for each node, with a witness.
 use Rattle.std.specs.Prelude.{◌≡◌, ℕ, ◌<◌, List, [], ◌∷◌, ◌++◌, length, Option, Some, None, IsSome, IsSomeAnd, Ok, Bool, true, false, ◌==◌, if◌then◌else◌, ℤ, slice_index}
 use Rattle.ckpt_types.specs.declared.identities.CallId.{CallId}
 use Rattle.ckpt_types.specs.declared.update.Update.{Update}
@@ -14,6 +14,7 @@ use Rattle.cluster_record.specs.RecordState.{first_complete}
 use Rattle.ckpt_machine.specs.Drivers as drivers
 use Rattle.ckpt_types.specs.Asks.{update_of}
 use Rattle.ckpt_machine.specs.Machine.{Machine, Effect, Applied, Staged, ReplicaState, CallState}
+use Rattle.ckpt_machine.specs.Options.{is_all}
 use Rattle.ckpt_machine.specs.Steps.{driver_of}
 
 -- the slots by node, each with its owner; the update that is staged; the contents under it, and those after it, which the replicas without a slot have where it is done
@@ -44,11 +45,22 @@ abbrev pub effects_by : Shape → Option CallId → List Effect
 effects_by sh None = if sh.done then sh.effects ++ Applied sh.origin sh.update sh.moment ∷ [] else sh.effects
 effects_by sh (Some owner) = sh.effects
 
--- a replica is as the shape says by the owner of its slot; its generation and its marks are its own
+-- a replica is as the shape says by the owner of its slot, and no marks stand on it; its generation is its own
 pub record IsShaped (sh : Shape) (owner : Option CallId) (x : ReplicaState) : Type 0 where
   pub slot : x.slot ≡ slot_by sh owner
   pub sections : x.sections ≡ sections_by sh owner
   pub effects : x.effects ≡ effects_by sh owner
+  pub unmarked : x.marks ≡ None
+
+-- a replica of a checkpoint whose updates are on the active alone: nothing is staged on it, and no marks stand; what it has is its own
+pub record IsApart (x : ReplicaState) : Type 0 where
+  pub free : x.slot ≡ None
+  pub unmarked : x.marks ≡ None
+
+-- where updates are on all replicas, it is as the shape says
+abbrev pub IsShapedBy : Bool → Shape → Option CallId → ReplicaState → Type 0
+IsShapedBy true sh owner x = IsShaped sh owner x
+IsShapedBy false sh owner x = IsApart x
 
 -- the owner of a slot, where it has one, is this call
 abbrev pub is_owner : CallId → Option CallId → Bool
@@ -100,7 +112,7 @@ pub record IsSpread (m : Machine) (k : ℕ) (sh : Shape) (e : Entry) : Type 0 wh
   pub nodes : length e.complete ≡ nodes_max
   pub some : IsSome (first_complete 0 e.complete)
   pub active : e.active ≡ first_complete 0 e.complete
-  pub replicas : (r : ℕ) → IsCompleteOn e r → IsSomeAnd (m.replicas k r) (IsShaped sh (sh.owners r))
+  pub replicas : (r : ℕ) → IsCompleteOn e r → IsSomeAnd (m.replicas k r) (IsShapedBy (is_all e.attributes) sh (sh.owners r))
   -- what is staged has this outcome
   pub fits : (r : ℕ) (call : CallId) → sh.owners r ≡ Some call → outcome e.attributes sh.update sh.moment sh.sections ≡ Ok sh.outcome
   pub complete : (r : ℕ) (call : CallId) → sh.owners r ≡ Some call → IsCompleteOn e r

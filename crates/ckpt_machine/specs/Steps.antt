@@ -2,7 +2,7 @@
 use Rattle.section_iter.specs.Room.{room_declared}
 use Rattle.section_iter.specs.declared.room.Room.{Room}
 use Rattle.std.specs.Option.{option_or, option_map}
-use Rattle.std.specs.Prelude.{◌≡◌, ◌≢◌, ◌⊎◌, ℕ, ◌+◌, ◌<◌, ◌≤◌, List, [], ◌∷◌, ◌++◌, length, Option, Some, None, IsTrue, true, false, ◌==◌, if◌then◌else◌, ℤ, slice_index}
+use Rattle.std.specs.Prelude.{◌≡◌, ◌≢◌, ◌⊎◌, ℕ, ◌+◌, ◌<◌, ◌≤◌, List, [], ◌∷◌, ◌++◌, length, Option, Some, None, Bool, IsTrue, true, false, ◌==◌, if◌then◌else◌, ℤ, slice_index}
 use Rattle.ckpt_types.specs.declared.answers.Answer.TheVariants as answers
 use Rattle.ckpt_types.specs.declared.answers.Outcome.{Outcome}
 use Rattle.ckpt_types.specs.declared.answers.Outcome.TheVariants.{Done, NoMemory}
@@ -59,6 +59,7 @@ use Rattle.replica.specs.Replicas.{or_same}
 use Rattle.node_msgs.specs.Steps.{word_of, verb_of, event_verb}
 use Rattle.ckpt_machine.specs.Driving.{Kept, driver_start, driver_state, driver_next, driver_taken, driver_end, event_ckpt, event_node, event_end, event_refusal, takes_memory}
 use Rattle.ckpt_machine.specs.Listing.{listing_at}
+use Rattle.ckpt_machine.specs.Options.{is_all_in}
 use Rattle.ckpt_machine.specs.Machine.{Machine, Effect, Applied, Staged, ReplicaState, CallState}
 use Rattle.client_handles.specs.ClientState.{ClientState, emptied}
 use Rattle.cluster_record.specs.Makings.{making_of}
@@ -77,7 +78,7 @@ seen_slot count (Some s) = Some (record { owner = s.owner; update = s.update; mo
 
 -- a replica as its node has it, with a count in place of the effects, which do not change while a slot stands
 abbrev pub seen : ℕ → CreationAttributes → ReplicaState → Replica
-seen k a x = record { ckpt = k; attributes = a; sections = x.sections; count = length x.effects; generation = x.generation; slot = seen_slot (length x.effects) x.slot }
+seen k a x = record { ckpt = k; attributes = a; sections = x.sections; count = length x.effects; generation = x.generation; slot = seen_slot (length x.effects) x.slot; marks = x.marks }
 
 -- the replica that a node shows, of a checkpoint that is there
 abbrev pub seen_by : ℕ → Option Entry → Option ReplicaState → Option Replica
@@ -197,9 +198,14 @@ abbrev pub room_at : RecordState → Option ℕ → Room
 room_at R None = room_in None
 room_at R (Some k) = room_in (declared_in (entry_of k R.entries))
 
+-- whether updates of the checkpoint that a call keeps are on all replicas; not where it is gone
+abbrev pub all_at : RecordState → Option ℕ → Bool
+all_at R None = false
+all_at R (Some k) = is_all_in (declared_in (entry_of k R.entries))
+
 -- what a call keeps at its beginning
 abbrev pub kept_at_beginning : RecordState → ℕ → Option HandleView → Kept
-kept_at_beginning R c h = record { ckpt = ckpt_of_handle h; room = room_at R (ckpt_of_handle h); node = node_of_client (find_key client_key c R.clients); moment = R.moment }
+kept_at_beginning R c h = record { ckpt = ckpt_of_handle h; room = room_at R (ckpt_of_handle h); all = all_at R (ckpt_of_handle h); node = node_of_client (find_key client_key c R.clients); moment = R.moment }
 
 -- an Initialize begins for a client that is not live, on a node that is up
 abbrev pub MayBegin : RecordState → ℕ → Ask → Type 0
@@ -304,6 +310,13 @@ staged_moment m k = moment_from (m.replicas k) m.cluster.moment 0 (complete_of (
 abbrev pub with_slot : CallId → Update → ℤ → ReplicaState → ReplicaState
 with_slot call update t x = record x { slot = Some (record { owner = call; origin = call; update = update; moment = t }) }
 
+-- the replica has taken the update of a call at a moment: its sections are the outcome, and it has the effect
+abbrev pub having_taken : CreationAttributes → CallId → Update → ℤ → ReplicaState → ReplicaState
+having_taken a call update t x = record x {
+  sections = or_same (outcome a update t x.sections) x.sections;
+  effects = x.effects ++ Applied call update t ∷ [];
+}
+
 -- the effect that a commit leaves of what was staged
 abbrev pub effect_of : Staged → Effect
 effect_of slot = Applied slot.origin slot.update slot.moment
@@ -311,16 +324,17 @@ effect_of slot = Applied slot.origin slot.update slot.moment
 -- the replica has taken what was staged
 abbrev pub committed_slot : CreationAttributes → ReplicaState → Option Staged → ReplicaState
 committed_slot a x None = x
-committed_slot a x (Some slot) = record x {
-  sections = or_same (outcome a slot.update slot.moment x.sections) x.sections;
-  effects = x.effects ++ effect_of slot ∷ [];
-  slot = None;
-}
+committed_slot a x (Some slot) = record (having_taken a slot.origin slot.update slot.moment x) { slot = None }
 
 -- the replica has taken what was staged on it, by what its checkpoint declares
 abbrev pub with_committed : Option Entry → ReplicaState → ReplicaState
 with_committed None x = x
 with_committed (Some e) x = committed_slot e.attributes x x.slot
+
+-- the replica has taken an update in one step, by what its checkpoint declares
+abbrev pub with_applied : CallId → Update → ℤ → Option Entry → ReplicaState → ReplicaState
+with_applied call update t None x = x
+with_applied call update t (Some e) x = having_taken e.attributes call update t x
 
 -- one replica is changed, where the node has it
 abbrev pub change_replica : Machine → ℕ → ℕ → Option ReplicaState → (ReplicaState → ReplicaState) → Machine
@@ -410,6 +424,7 @@ changed m s verbs.Unlink k r reply = on_ok reply m (at_some k m (λ k. record_st
 changed m s verbs.Retain k r reply = on_ok reply m (at_some k m (λ k. record_step (retained_for (asked s.op) k) m))
 changed m s verbs.Stage k r reply = on_ok reply m (at_some k m (λ k. at_some r m (λ r. change_replica m k r (m.replicas k r) (with_slot s.call (update_of s.op) (staged_moment m k)))))
 changed m s verbs.Commit k r reply = on_ok reply m (at_some k m (λ k. at_some r m (λ r. change_replica m k r (m.replicas k r) (with_committed (entry_of k m.cluster.entries)))))
+changed m s verbs.Apply k r reply = on_ok reply m (at_some k m (λ k. at_some r m (λ r. change_replica m k r (m.replicas k r) (with_applied s.call (update_of s.op) m.cluster.moment (entry_of k m.cluster.entries)))))
 changed m s verbs.Iter k r reply = on_ok reply m (at_some k m (λ k. at_some r m (λ r. with_started s k r m)))
 changed m s verbs.Next k r reply = on_ok reply m (at_some k m (λ k. at_some r m (λ r. with_gone_on s k r m)))
 changed m s verbs.Look k r reply = on_look reply m (with_closed s m) (without_making (making_of s.call m.cluster) m)

@@ -7,8 +7,9 @@ ghost use Rattle.ckpt_machine.specs.Laws.{Starts, IsLawful, EachRunHas, GivesFac
 /// Of any number of nodes up to eight, and any number of calls in hand: what is due is allowed and keeps the invariant,
 /// which gives all that the code relies on; a call in hand comes nearer to its end by each of its steps; what is refused
 /// leaves all but the making of its own call as it was, and in a run its call has nothing then, and no replica an effect
-/// of it; a call ends only with an answer that it may have; an update is on all replicas of its checkpoint or on none;
-/// and one that was answered OK, by whatever label, is on each of them from then on.
+/// of it; a call ends only with an answer that it may have; an update of a checkpoint that has them on all replicas is on
+/// all or on none; and one that was answered OK, by whatever label, is on each of them from then on, or where updates go
+/// to the active alone, on the active's.
 pub fn machine_law()
     ensures starts { Starts }
     ensures lawful { IsLawful }

@@ -89,10 +89,9 @@ pub record RegistersNone (callbacks : CallbackSet) : Type 0 where
   pub opens : callbacks.opens ≡ false
   pub syncs : callbacks.syncs ≡ false
 
--- of the attributes that pass their check, these are not built yet: updates on the active replica alone, and weak ones, each
--- collocated or not
+-- of the attributes that pass their check, these are not built yet: collocated checkpoints, and weak updates
 pub record IsBuiltAttributes (a : CreationAttributes) : Type 0 where
-  pub not_active : (a.creation_flags ≢ wr_active_replica) × (a.creation_flags ≢ wr_active_replica + checkpoint_collocated)
+  pub not_collocated : a.creation_flags ≢ wr_active_replica + checkpoint_collocated
   pub not_weak : (a.creation_flags ≢ wr_active_replica_weak) × (a.creation_flags ≢ wr_active_replica_weak + checkpoint_collocated)
 
 -- attributes are of a kind that is built, where they are given

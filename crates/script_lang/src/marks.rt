@@ -227,13 +227,12 @@ fn is_later_attributes(attributes: &Option<CreationAttributes>) -> bool
     }
 }
 
-// The update options of the active replica, collocated or not.
+// Weak updates, and collocated checkpoints.
 fn is_later_declared(declared: &CreationAttributes) -> bool
     ensures { result ≡ spec_is_later_declared declared.now }
 {
     let flags = declared.creation_flags;
-    flags == WR_ACTIVE_REPLICA
-        || flags == WR_ACTIVE_REPLICA_WEAK
+    flags == WR_ACTIVE_REPLICA_WEAK
         || flags == WR_ACTIVE_REPLICA + CHECKPOINT_COLLOCATED
         || flags == WR_ACTIVE_REPLICA_WEAK + CHECKPOINT_COLLOCATED
 }

@@ -1,7 +1,7 @@
 -- A beginning, whatever the operation.
 use Rattle.section_iter.specs.KeptIds.{KeptIds}
 use Rattle.std.proofs.Common.{◌≡◌, ℕ, ◌+◌, ◌<◌, Bool, true, false, List, [], length, refl, sym, ap, subst, ◌∙◌, cond}
-use Rattle.std.specs.Prelude.{Option, Some, None, ◌==◌, slice_get, slice_set}
+use Rattle.std.specs.Prelude.{Option, Some, None, ◌==◌, is_some, slice_get, slice_set}
 use Rattle.ckpt_types.specs.declared.answers.Outcome.{Outcome}
 use Rattle.ckpt_types.specs.declared.identities.ActorName.{ActorName}
 use Rattle.ckpt_types.specs.declared.identities.ActorName.TheVariants.{Client, Node}
@@ -138,3 +138,20 @@ begin_done w c op own said number handle live due end declared room tables drive
     let b : slice_set w.tables c (begun_with end ask t.0) ≡ tables = ap (table_changed c (begun_with end ask) w.tables) (sym t.1) ∙ sym tables_are in
     subst (λ (y : List TableState × List (Option InHand) × ℕ × Op). Does w (record w { tables = y.0; hands = y.1 }) (Began (record { actor = Client c; number = y.2 }) y.3 end))
     (λ i. (b i, g i, n i, sym said_is i)) (begin_does w c op t.0 q.0 end room driver within built may t.1 q.1 free own_answers own_took own_driven)
+
+-- ---- what a beginning leaves of the calls in hand
+
+-- a call that has ended where it began is not in hand
+pub ended_left : {H E : Type 0} (end : Option E) (hand : H) → is_some end ≡ true → left end hand ≡ None
+ended_left None hand ended = absurd (let e : false ≡ true = ended in cc)
+ended_left (Some e) hand ended = refl
+
+-- what is not there is none
+pub none_where_false : {E : Type 0} (end : Option E) → is_some end ≡ false → end ≡ None
+none_where_false None goes = refl
+none_where_false (Some e) goes = absurd (let e : true ≡ false = goes in cc)
+
+-- and what is there is not
+pub none_is_not_some : {E : Type 0} (end : Option E) → is_some end ≡ true → end ≡ None → ⊥
+none_is_not_some None ended none = let e : false ≡ true = ended in cc e
+none_is_not_some (Some e) ended none = cc none

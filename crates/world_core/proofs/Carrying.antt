@@ -12,21 +12,24 @@ use Rattle.node_msgs.specs.declared.replies.Reply.TheVariants as replies
 use Rattle.node_msgs.specs.declared.requests.Request.{Request}
 use Rattle.node_msgs.specs.declared.requests.Request.TheVariants as requests
 use Rattle.stage_slot.specs.Slots.{Slot}
-use Rattle.replica.specs.Replicas.{Replica, staged, outcome_on}
+use Rattle.replica.specs.Replicas.{Replica, staged, applied, begun, outcome_on}
 use Rattle.node_core.specs.declared.lent.Lent.{Lent}
 use Rattle.node_core.specs.Lending.{HasRoomToRead, HasRoomToTell, HasRoomToCommit, HasLent}
 use Rattle.node_core.specs.Payloads.{Payload, payload_of, update_or, elements_or, ids_or}
 use Rattle.node_core.specs.Seen.{RecordSeen}
-use Rattle.node_core.specs.Serving.{reply_at, details_at, replica_after, stage_reply, done_or_refused, read_details, next_reply, next_details}
+use Rattle.node_core.specs.Serving.{reply_at, details_at, replica_after, stage_reply, apply_reply, applied_id, told_id, mark_reply, done_or_refused, read_details, next_reply, next_details}
 use Rattle.ckpt_machine.specs.Tables.{ids_of, kept_asked}
 use Rattle.world_core.specs.declared.hands.InHand.{InHand}
 use Rattle.world_core.specs.Lending.{IsLentBy, iteration_lent}
 
--- the request goes to a replica, and neither claims what is staged there nor withdraws it
+-- the request goes to a replica, and is one of a call that is built
 abbrev pub GoesToReplica : Request → Type 0
 GoesToReplica (requests.Reserve k) = ⊥
 GoesToReplica (requests.Claim call k owner) = ⊥
 GoesToReplica (requests.Withdraw call k) = ⊥
+GoesToReplica (requests.Mark call k) = ⊥
+GoesToReplica (requests.Element call k) = ⊥
+GoesToReplica (requests.Unmark call k) = ⊥
 GoesToReplica request = Unit {0}
 
 pub reserves_none : (request : Request) → GoesToReplica request → (k : ℕ) → request ≢ requests.Reserve k
@@ -35,6 +38,8 @@ reserves_none request goes k e = subst GoesToReplica e goes
 -- two payloads have the same of what a request uses
 abbrev pub Carries : Request → Payload → Payload → Type 0
 Carries (requests.Stage call k t) p q = p.update ≡ q.update
+Carries (requests.Apply call k) p q = p.update ≡ q.update
+Carries (requests.Mark call k) p q = p.update ≡ q.update
 Carries (requests.Read k) p q = p.elements ≡ q.elements
 Carries (requests.Next call k) p q = p.ids ≡ q.ids
 Carries request p q = Unit {0}
@@ -43,6 +48,8 @@ Carries request p q = Unit {0}
 pub reply_carried : (request : Request) (p q : Payload) (seen : RecordSeen) (y : Option Replica) → Carries request p q → reply_at request p seen y ≡ reply_at request q seen y
 reply_carried request p q seen None same = refl
 reply_carried (requests.Stage call k t) p q seen (Some x) same = λ i. stage_reply (outcome_on x (same i) t) x.slot
+reply_carried (requests.Apply call k) p q seen (Some x) same = λ i. apply_reply (same i) (outcome_on x (same i) seen.moment) x.marks
+reply_carried (requests.Mark call k) p q seen (Some x) same = λ i. mark_reply (outcome_on x (same i) seen.moment) x.marks
 reply_carried (requests.Read k) p q seen (Some x) same = λ i. done_or_refused (replies.Done answers.Pieces) (read (same i) seen.moment x.sections)
 reply_carried (requests.Next call k) p q seen (Some x) same = λ i. next_reply (given (same i) seen.moment x.sections)
 reply_carried request p q seen (Some x) same = refl
@@ -50,14 +57,17 @@ reply_carried request p q seen (Some x) same = refl
 -- and what comes beside it
 pub details_carried : (request : Request) (p q : Payload) (seen : RecordSeen) (y : Option Replica) → Carries request p q → details_at request p seen y ≡ details_at request q seen y
 details_carried request p q seen None same = refl
+details_carried (requests.Apply call k) p q seen (Some x) same = λ i. applied_id x.marks (outcome_on x (same i) seen.moment) (told_id (same i) seen.moment x.sections)
 details_carried (requests.Read k) p q seen (Some x) same = λ i. read_details (read (same i) seen.moment x.sections)
 details_carried (requests.Next call k) p q seen (Some x) same = λ i. next_details (given (same i) seen.moment x.sections)
 details_carried request p q seen (Some x) same = refl
 
 -- and what the replica becomes
-pub replica_carried : (request : Request) (p q : Payload) (x : Replica) → Carries request p q → replica_after request p x ≡ replica_after request q x
-replica_carried (requests.Stage call k t) p q x same = λ i. staged call (same i) t x
-replica_carried request p q x same = refl
+pub replica_carried : (request : Request) (p q : Payload) (seen : RecordSeen) (x : Replica) → Carries request p q → replica_after request p seen x ≡ replica_after request q seen x
+replica_carried (requests.Stage call k t) p q seen x same = λ i. staged call (same i) t x
+replica_carried (requests.Apply call k) p q seen x same = λ i. applied (same i) seen.moment x
+replica_carried (requests.Mark call k) p q seen x same = λ i. begun call (same i) seen.moment x
+replica_carried request p q seen x same = refl
 
 -- ---- what is lent
 
@@ -72,6 +82,8 @@ ids_same (Some kept) = refl
 -- it is carried by what is lent, with the iteration that goes with the request
 pub lent_carries : (request : Request) (hand : InHand) (t : ClientState) (lent : Lent) → IsLentBy hand.op request lent → Carries request (payload_of (record lent { iteration = iteration_lent request hand t })) (payload_with hand t)
 lent_carries (requests.Stage call k time) hand t lent is = ap update_or is
+lent_carries (requests.Apply call k) hand t lent is = ap update_or is.update
+lent_carries (requests.Mark call k) hand t lent is = ap update_or is
 lent_carries (requests.Read k) hand t lent is = ap elements_or is.vector
 lent_carries (requests.Next call k) hand t lent is = ids_same (kept_asked (asked hand.op) t)
 lent_carries request hand t lent is = tt
@@ -88,11 +100,13 @@ room_to_commit op lent None room own = tt
 room_to_commit op lent (Some slot) room own = subst (λ u. HasRoomToTell u lent.read) (sym own) room
 
 -- then all that the request uses is lent
-pub has_lent : (request : Request) (hand : InHand) (t : ClientState) (lent : Lent) (x : Replica) → IsLentBy hand.op request lent → IsOfCall request hand t x → HasLent request (record lent { iteration = iteration_lent request hand t }) x
-has_lent (requests.Stage call k time) hand t lent x is own = subst (λ o. IsSome o) (sym is) refl
-has_lent (requests.Commit call k) hand t lent x is own = room_to_commit hand.op lent x.slot is own
-has_lent (requests.Read k) hand t lent x is own = subst (λ o. IsSomeAnd o (λ elements. HasRoomToRead elements lent.read)) (sym is.vector) is.room
-has_lent (requests.Status k) hand t lent x is own = is
-has_lent (requests.Iterate call k choice) hand t lent x is own = own
-has_lent (requests.Next call k) hand t lent x is own = (own, is)
-has_lent request hand t lent x is own = tt
+pub has_lent : (request : Request) (hand : InHand) (t : ClientState) (lent : Lent) (x : Replica) → GoesToReplica request → IsLentBy hand.op request lent → IsOfCall request hand t x → HasLent request (record lent { iteration = iteration_lent request hand t }) x
+has_lent (requests.Stage call k time) hand t lent x goes is own = subst (λ o. IsSome o) (sym is) refl
+has_lent (requests.Commit call k) hand t lent x goes is own = room_to_commit hand.op lent x.slot is own
+has_lent (requests.Apply call k) hand t lent x goes is own = subst (λ o. IsSomeAnd o (λ update. HasRoomToTell update lent.read)) (sym is.update) is.room
+has_lent (requests.Mark call k) hand t lent x goes is own = absurd goes
+has_lent (requests.Read k) hand t lent x goes is own = subst (λ o. IsSomeAnd o (λ elements. HasRoomToRead elements lent.read)) (sym is.vector) is.room
+has_lent (requests.Status k) hand t lent x goes is own = is
+has_lent (requests.Iterate call k choice) hand t lent x goes is own = own
+has_lent (requests.Next call k) hand t lent x goes is own = (own, is)
+has_lent request hand t lent x goes is own = tt

@@ -1,6 +1,6 @@
 -- What a due request finds on its node: for all but a reservation the replica that the machine has there.
-use Rattle.std.proofs.Common.{◌≡◌, ℕ, ◌<◌, ◌==◌, Bool, true, false, not, cond, List, length, refl, sym, ap, subst, ◌∙◌}
-use Rattle.std.specs.Prelude.{Option, Some, None, IsSome, IsSomeAnd, slice_index}
+use Rattle.std.proofs.Common.{◌≡◌, ℕ, ◌<◌, ◌==◌, Bool, true, false, not, cond, List, [], ◌∷◌, length, refl, sym, ap, subst, ◌∙◌}
+use Rattle.std.specs.Prelude.{Option, Some, None, IfSome, IsSome, IsSomeAnd, slice_index}
 use Rattle.std.specs.Option.{option_and_then}
 use Rattle.ckpt_types.specs.declared.identities.ActorName.TheVariants.{Client}
 use Rattle.ckpt_types.specs.declared.identities.CallId.{CallId}
@@ -9,7 +9,7 @@ use Rattle.node_msgs.specs.declared.requests.Request.TheVariants.{Reserve}
 use Rattle.node_msgs.specs.declared.requests.Request.TheVariants as requests
 use Rattle.node_msgs.specs.declared.next.Next.{Next}
 use Rattle.node_msgs.specs.declared.next.Next.TheVariants.{Serve}
-use Rattle.cluster_record.specs.DueActive.{request_by}
+use Rattle.cluster_record.specs.DueActive.{request_by, active_request}
 use Rattle.cluster_record.specs.declared.calls.ActiveKind.{ActiveKind}
 use Rattle.cluster_record.specs.declared.calls.ActiveKind.TheVariants as kinds
 use Rattle.cluster_record.specs.declared.entries.Entry.{Entry}
@@ -17,20 +17,22 @@ use Rattle.replica.specs.Replicas.{Replica}
 use Rattle.stage_slot.specs.Slots.{Slot}
 use Rattle.world_core.specs.declared.hands.InHand.{InHand}
 use Rattle.world_core.specs.declared.world.World.{World}
-use Rattle.cluster_record.specs.RecordState.{RecordState, entry_of, complete_of, no_nodes}
+use Rattle.cluster_record.specs.RecordState.{entry_of, complete_of, no_nodes}
+use Rattle.cluster_record.specs.StepDone.{StepDone}
 use Rattle.node_msgs.specs.Requests.{ckpt_of}
 use Rattle.node_core.specs.Nodes.{replica_served, where_seen}
 use Rattle.node_core.specs.Seen.{record_seen, entry_seen, is_complete, is_complete_in}
 use Rattle.node_core.specs.Fitting.{IsReadyFor}
 use Rattle.world_core.specs.Nodes.{node_at, replica_in}
-use Rattle.ckpt_machine.specs.Drivers.{Driver, Rooms}
+use Rattle.ckpt_machine.specs.Drivers.{Driver}
 use Rattle.ckpt_machine.specs.Drivers as drivers
-use Rattle.ckpt_machine.specs.Driving.{driver_next}
+use Rattle.ckpt_machine.specs.Driving.{Kept, on_kept, driver_start, driver_state, driver_taken, driver_next, change_start}
 use Rattle.ckpt_machine.specs.Machine.{Machine, Effect, ReplicaState, CallState}
 use Rattle.ckpt_machine.specs.Tables.{handle_asked}
-use Rattle.ckpt_machine.specs.Steps.{seen_by, seen_at, seen_slot, due, room_in}
+use Rattle.ckpt_machine.specs.Steps.{seen_by, seen_at, seen_slot, due, driver_of, IsDriven, room_in}
 use Rattle.cluster_record.specs.LookUps.{declared_in}
-use Rattle.ckpt_types.specs.Asks.{asked, update_of}
+use Rattle.ckpt_types.specs.Asks.{Ask, asked, update_of}
+use Rattle.ckpt_types.specs.Asks as asks
 use Rattle.ckpt_types.specs.declared.update.Update.{Update}
 use Rattle.client_handles.specs.ClientState.{ClientState, iteration_at}
 use Rattle.client_handles.specs.declared.handle_view.HandleView.{HandleView}
@@ -42,7 +44,7 @@ use Rattle.ckpt_machine.specs.Facts.{Facts, IsServable}
 use Rattle.world_core.specs.Shows.{HistoryFits, FitsReplica, HasCount, History, machine_of, shown_replica, shown_slot, where_complete, complete_replica, room_for, tables_of, hand_at}
 use Rattle.ckpt_machine.proofs.NextOf.{OfAsked, next_of}
 use Rattle.world_core.proofs.Carrying.{GoesToReplica, IsOfCall}
-use Rattle.world_core.proofs.Held.{state_in, in_hand_is, actor_is, iteration_is, due_is}
+use Rattle.world_core.proofs.Held.{state_in, in_hand_is, actor_is, driver_is, iteration_is, due_is}
 use Rattle.world_core.proofs.IterationSteps.{TablesReady, goes_on_with, asked_is, room_for_declared}
 use Rattle.world_core.proofs.Recording.{zero_there}
 
@@ -57,22 +59,56 @@ abbrev AsksSo : Next → Type 0
 AsksSo (Serve r request) = IsReservationOr request
 AsksSo next = Unit {0}
 
-kind_goes : (call : CallId) (k : ℕ) (kind : ActiveKind) → IsReservationOr (request_by call k kind)
-kind_goes call k kinds.Apply = tt
-kind_goes call k (kinds.Weak n) = tt
-kind_goes call k kinds.Read = tt
-kind_goes call k kinds.Status = tt
-kind_goes call k (kinds.Iterate choice) = tt
-kind_goes call k kinds.Next = tt
+kind_goes : (call : CallId) (k : ℕ) (kind : ActiveKind) → GoesToReplica (request_by call k kind) → IsReservationOr (request_by call k kind)
+kind_goes call k kinds.Apply goes = goes
+kind_goes call k (kinds.Weak n) goes = goes
+kind_goes call k kinds.Read goes = goes
+kind_goes call k kinds.Status goes = goes
+kind_goes call k (kinds.Iterate choice) goes = goes
+kind_goes call k kinds.Next goes = goes
 
-asked_goes : (x : Driver) → OfAsked AsksSo x
-asked_goes (drivers.Update u) = (λ r t. tt, λ r. tt)
-asked_goes (drivers.Active a) = λ r. kind_goes a.call a.ckpt a.kind
-asked_goes x = tt
+-- what drives a call: to the active it asks what goes to a replica
+abbrev DrivesSo : Driver → Type 0
+DrivesSo (drivers.Active a) = GoesToReplica (active_request a)
+DrivesSo x = Unit {0}
 
--- no call claims what is staged, or withdraws it
-pub next_goes : (R : RecordState) (room : Rooms) (x : Driver) (r : ℕ) (request : Request) → driver_next R room x ≡ Serve r request → IsReservationOr request
-next_goes R room x r request e = subst AsksSo e (next_of AsksSo (λ o. tt) (λ step. tt) (λ r k. tt) R room x (asked_goes x))
+asked_goes : (x : Driver) → DrivesSo x → OfAsked AsksSo x
+asked_goes (drivers.Update u) so = (λ r t. tt, λ r. tt)
+asked_goes (drivers.Active a) so = λ r. kind_goes a.call a.ckpt a.kind so
+asked_goes x so = tt
+
+kept_so : (o : Option ℕ) (start : ℕ → Driver) → ((k : ℕ) → DrivesSo (start k)) → IfSome (on_kept o start) DrivesSo
+kept_so None start each = tt
+kept_so (Some k) start each = each k
+
+-- so it begins, whatever is asked for
+start_so : (call : CallId) (ask : Ask) (kept : Kept) → IfSome (driver_start call ask kept) DrivesSo
+start_so call (asks.Change place update) kept = by_all kept.all
+  where
+    by_all : (all : Bool) → IfSome (change_start call all kept.ckpt) DrivesSo
+    by_all true = kept_so kept.ckpt _ (λ k. tt)
+    by_all false = kept_so kept.ckpt _ (λ k. tt)
+start_so call (asks.Read place elements) kept = kept_so kept.ckpt _ (λ k. tt)
+start_so call (asks.Status place) kept = kept_so kept.ckpt _ (λ k. tt)
+start_so call (asks.Iterate iteration place chosen time) kept = kept_so kept.ckpt _ (λ k. tt)
+start_so call (asks.Next iteration) kept = kept_so kept.ckpt _ (λ k. tt)
+start_so call (asks.Close place) kept = kept_so kept.ckpt _ (λ k. tt)
+start_so call (asks.Retain place duration) kept = kept_so kept.ckpt _ (λ k. tt)
+start_so call ask kept = tt
+
+-- and so it goes on
+taken_so : (d : StepDone) (x : Driver) → DrivesSo x → DrivesSo (driver_taken d x)
+taken_so d (drivers.Active a) so = so
+taken_so d (drivers.Update u) so = tt
+taken_so d (drivers.Once x) so = tt
+taken_so d (drivers.Open o) so = tt
+
+state_so : (begun : Driver) (steps : List StepDone) → DrivesSo begun → DrivesSo (driver_state begun steps)
+state_so begun [] so = so
+state_so begun (d ∷ steps) so = taken_so d (driver_state begun steps) (state_so begun steps so)
+
+driven_so : (s : CallState) → IsDriven s → DrivesSo (driver_of s)
+driven_so s driven = state_so s.begun s.steps (subst (λ o. IfSome o DrivesSo) driven (start_so s.call (asked s.op) s.kept))
 
 -- ---- the replica that is there
 
@@ -100,8 +136,8 @@ there k c (Some e) E o y P fits some = by_test (c == 0) refl y fits some where
   by_test false t None fits some = absurd some
   by_test false t (Some x) fits some =
       let slot : seen_slot (length E) (shown_slot o x.slot) ≡ x.slot = ap (λ n. seen_slot n (shown_slot o x.slot)) fits.2 ∙ seen_same o x.count x.slot fits.3 in
-      let same : record { ckpt = k; attributes = e.attributes; sections = x.sections; count = length E; generation = x.generation; slot = seen_slot (length E) (shown_slot o x.slot) } ≡ x
-      = λ i. record { ckpt = sym fits.0 i; attributes = sym fits.1 i; sections = x.sections; count = fits.2 i; generation = x.generation; slot = slot i } in
+      let same : record { ckpt = k; attributes = e.attributes; sections = x.sections; count = length E; generation = x.generation; slot = seen_slot (length E) (shown_slot o x.slot); marks = x.marks } ≡ x
+      = λ i. record { ckpt = sym fits.0 i; attributes = sym fits.1 i; sections = x.sections; count = fits.2 i; generation = x.generation; slot = slot i; marks = x.marks } in
       record {
         replica = x;
         entry = e;
@@ -141,6 +177,13 @@ module _ (w : World) (h : History) (c r : ℕ) (request : Request) (hand : InHan
   -- its node is one of eight, and can serve it
   pub ready : (r < 8) × IsServable m r request
   ready = facts.ready (Client c) (state_in h c hand) r request (in_hand_is w h c hand held) due_here
+
+  -- and it is one of a call that is built
+  pub built : IsReservationOr request
+  built =
+      let s = state_in h c hand in
+      let so : DrivesSo hand.driver = subst DrivesSo (sym (driver_is w h c hand held fits)) (driven_so s (facts.driven (Client c) s (in_hand_is w h c hand held))) in
+      subst AsksSo next (next_of AsksSo (λ o. tt) (λ step. tt) (λ r k. tt) w.cluster (rooms_at w c) hand.driver (asked_goes hand.driver so))
 
   module _ (goes : GoesToReplica request) where
     -- the node has the replica

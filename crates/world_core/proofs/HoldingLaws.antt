@@ -1,13 +1,13 @@
 -- What follows from it that the nodes hold only what stands, and how it is shown.
 use Rattle.std.proofs.Common.{◌≡◌, ◌≢◌, ◌⊎◌, inl, inr, ℕ, zero, suc, ◌<◌, ◌≤◌, Bool, true, false, cond, List, [], ◌∷◌, ◌++◌, length, refl, sym, ap, subst, ◌∙◌, arith}
-use Rattle.std.specs.Prelude.{Option, Some, None, IsSomeAnd, not, ◌==◌, nat_lt, replicate, slice_get, slice_set, slice_index}
+use Rattle.std.specs.Prelude.{Option, Some, None, Result, Ok, Err, IsSomeAnd, not, ◌==◌, nat_lt, replicate, slice_get, slice_set, slice_index}
 use Rattle.std.proofs.lemmas.Bool.{and_parts, eqb-true}
 use Rattle.std.proofs.lemmas.Option.{same_Some}
 use Rattle.ckpt_types.specs.declared.answers.Answer.TheVariants as answers
 use Rattle.node_msgs.specs.declared.replies.Reply.{Reply}
 use Rattle.node_msgs.specs.declared.replies.Reply.TheVariants as replies
 use Rattle.node_msgs.specs.declared.requests.Request.{Request}
-use Rattle.node_msgs.specs.declared.requests.Request.TheVariants.{Commit, Reserve}
+use Rattle.node_msgs.specs.declared.requests.Request.TheVariants.{Apply, Commit, Element, Reserve}
 use Rattle.node_msgs.specs.Requests.{ckpt_of}
 use Rattle.cluster_record.specs.declared.entries.Entry.{Entry}
 use Rattle.cluster_record.specs.Places.{find_key, change_key, list_or}
@@ -16,12 +16,15 @@ use Rattle.replica.specs.Replicas.{Replica}
 use Rattle.world_core.specs.Holding.{replicas_on, IsReservation, IsHeld, HoldsOnlyWhatStands}
 use Rattle.node_core.specs.Nodes.{NodeState, replica_key, replicas_after, reserved_for, with_reserved, replicas_reserved}
 use Rattle.node_core.specs.Payloads.{Payload}
-use Rattle.node_core.specs.Seen.{record_seen, entry_seen, is_complete, is_complete_in}
+use Rattle.node_core.specs.Seen.{RecordSeen, record_seen, entry_seen, is_complete, is_complete_in}
 use Rattle.node_core.specs.Serving.{replica_after}
 use Rattle.ckpt_machine.specs.Facts.{IsReservable}
 use Rattle.world_core.specs.Nodes.{node_at, nodes_after, replica_in}
-use Rattle.replica.specs.Replicas.{committed, opened_replica}
+use Rattle.replica.specs.Replicas.{applied_by, committed, element_done, opened_replica, outcome_on}
 use Rattle.stage_slot.specs.Slots.{Slot}
+use Rattle.weak_marks.specs.Marks.{Marked}
+use Rattle.ckpt_types.specs.Sections.{Section}
+use Rattle.ckpt_types.specs.Updates.{Refusal}
 use Rattle.cluster_record.proofs.Places.{find_changed, find_pushed, get_set, not_changed, there_is}
 use Rattle.ckpt_machine.proofs.OnceByKey.{counted, counted-change_key, counted-push, found_in, found_once}
 
@@ -83,16 +86,25 @@ once_set nodes r xs new is few all q k =
 -- ---- a request that a node has served
 
 -- it changes no replica's checkpoint
-pub after_key : (request : Request) (p : Payload) (x : Replica) → replica_key (replica_after request p x) ≡ replica_key x
-after_key (Commit call k) p x = by_slot x.slot where
+pub after_key : (request : Request) (p : Payload) (seen : RecordSeen) (x : Replica) → replica_key (replica_after request p seen x) ≡ replica_key x
+after_key (Commit call k) p seen x = by_slot x.slot where
   by_slot : (o : Option Slot) → replica_key (committed x o) ≡ replica_key x
   by_slot None = refl
   by_slot (Some slot) = refl
-after_key request p x = refl
+after_key (Apply call k) p seen x = by_marks x.marks (outcome_on x p.update seen.moment) where
+  by_marks : (o : Option Marked) (after : Result (List Section) Refusal) → replica_key (applied_by o after x) ≡ replica_key x
+  by_marks (Some marked) after = refl
+  by_marks None (Ok sections) = refl
+  by_marks None (Err why) = refl
+after_key (Element call k) p seen x = by_marks x.marks where
+  by_marks : (o : Option Marked) → replica_key (element_done x o) ≡ replica_key x
+  by_marks None = refl
+  by_marks (Some marked) = refl
+after_key request p seen x = refl
 
 -- what is no reservation changes the one replica, where the node is complete for it
 pub replicas_served : (R : RecordState) (n : NodeState) (request : Request) (p : Payload) (reply : Reply) → ((k : ℕ) → request ≢ Reserve k) →
-    replicas_after R n request p reply ≡ cond (is_complete (record_seen R (ckpt_of request) n.number)) (change_key replica_key (ckpt_of request) (replica_after request p) n.replicas) n.replicas
+    replicas_after R n request p reply ≡ cond (is_complete (record_seen R (ckpt_of request) n.number)) (change_key replica_key (ckpt_of request) (replica_after request p (record_seen R (ckpt_of request) n.number)) n.replicas) n.replicas
 replicas_served R n (Reserve k) p reply other = absurd (other k refl)
 replicas_served R n request p reply other = refl
 
@@ -184,16 +196,16 @@ module _ (R : RecordState) (nodes : List (List Replica)) (holds : HoldsOnlyWhatS
   by_reply k (replies.Done answers.Nothing) can = by_entry k (entry_of k R.entries) refl can
   by_reply k reply can = holds_as_it_was
 
-  by_complete : (request : Request) (p : Payload) (b : Bool) → is_complete (record_seen R (ckpt_of request) r) ≡ b → HoldsOnlyWhatStands R (slice_set nodes r (cond b (change_key replica_key (ckpt_of request) (replica_after request p) xs) xs))
+  by_complete : (request : Request) (p : Payload) (b : Bool) → is_complete (record_seen R (ckpt_of request) r) ≡ b → HoldsOnlyWhatStands R (slice_set nodes r (cond b (change_key replica_key (ckpt_of request) (replica_after request p (record_seen R (ckpt_of request) r)) xs) xs))
   by_complete request p true complete =
       let (e, there, test) = complete_entry R (ckpt_of request) r complete in
-      holds_changed (ckpt_of request) e (replica_after request p) (after_key request p) there test
+      holds_changed (ckpt_of request) e (replica_after request p (record_seen R (ckpt_of request) r)) (after_key request p (record_seen R (ckpt_of request) r)) there test
   by_complete request p false complete = holds_as_it_was
 
   served_there : (request : Request) (p : Payload) (reply : Reply) → ((k : ℕ) → request ≡ Reserve k → IsSomeAnd (entry_of k R.entries) (IsReservable R r)) → (other : ((k : ℕ) → request ≢ Reserve k) ⊎ ((k : ℕ) × (request ≡ Reserve k))) → HoldsOnlyWhatStands R (nodes_after R nodes r request p reply)
   served_there request p reply can (inl other) =
       subst (λ (ys : List Replica). HoldsOnlyWhatStands R (slice_set nodes r ys))
-      (ap (λ (o : Option (List Replica)). cond (is_complete (record_seen R (ckpt_of request) r)) (change_key replica_key (ckpt_of request) (replica_after request p) (list_or o)) (list_or o)) (sym at) ∙ sym (replicas_served R (node_at nodes r) request p reply other))
+      (ap (λ (o : Option (List Replica)). cond (is_complete (record_seen R (ckpt_of request) r)) (change_key replica_key (ckpt_of request) (replica_after request p (record_seen R (ckpt_of request) r)) (list_or o)) (list_or o)) (sym at) ∙ sym (replicas_served R (node_at nodes r) request p reply other))
       (by_complete request p (is_complete (record_seen R (ckpt_of request) r)) refl)
   served_there request p reply can (inr own) =
       let (k, is) = own in

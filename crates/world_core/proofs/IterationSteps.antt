@@ -1,7 +1,7 @@
 -- What a served step makes of the tables of its client: a started iteration is there, and one that was lent is back.
 use Rattle.std.proofs.Common.{◌≡◌, ℕ, zero, suc, ◌-◌, ◌^◌, ◌<◌, arith, ℤ, true, cond, List, [], ◌∷◌, Option, Some, None, IsSome, Ok, refl, sym, ap, subst, ◌∙◌}
 use Rattle.std.specs.Prelude.{slice_get, slice_set}
-use Rattle.std.specs.Option.{option_and_then, option_map, ok_or}
+use Rattle.std.specs.Option.{option_and_then, ok_or}
 use Rattle.std.proofs.lemmas.Bool.{eq-eqb}
 use Rattle.ckpt_types.specs.declared.ais_error.AisError.TheVariants.{BadHandle}
 use Rattle.ckpt_types.specs.declared.answers.Answer.TheVariants as answers
@@ -39,17 +39,16 @@ use Rattle.ckpt_machine.specs.Steps.{with_tables}
 use Rattle.ckpt_machine.specs.Tables.{choice_of, ids_of, kept_asked, started, with_iteration, gone_on}
 use Rattle.world_core.specs.declared.hands.InHand.{InHand}
 use Rattle.world_core.specs.declared.world.World.{World}
-use Rattle.world_core.specs.Lending.{IsGoingOnWith, IsOutOf, IsValidFor, come_back, iteration_lent, lending, hands_lending, tables_lending, tables_keeping, without_room, CanLend, CanKeep}
+use Rattle.world_core.specs.Lending.{IsGoingOnWith, IsOutOf, IsValidFor, come_back, iteration_lent, lending, hand_lending, tables_lending, tables_keeping, CanLend, CanKeep}
 use Rattle.cluster_record.specs.Calls.{left}
 use Rattle.cluster_record.specs.StepDone.{StepDone}
 use Rattle.world_core.specs.HandSteps.{hand_taken, end_by}
 use Rattle.cluster_record.specs.RecordState.{RecordState}
 use Rattle.world_core.specs.LiveRooms.{LiveHaveRoom}
-use Rattle.world_core.specs.Shows.{History, machine_of, hand_at}
+use Rattle.world_core.specs.Shows.{History, machine_of}
 use Rattle.world_core.specs.TableState.{TableState, kept_in, kept_by, with_client, table_changed, at_client}
 use Rattle.world_core.proofs.GoingOn.{gone_on-told}
 use Rattle.world_core.proofs.LiveRooms.{rooms_client}
-use Rattle.world_core.proofs.Maps.{hand_set}
 use Rattle.world_core.proofs.RequestRows.{tables_moved}
 use Rattle.world_core.proofs.TableFields.{change_is}
 
@@ -222,35 +221,24 @@ can_keep (requests.Next call k) m s c hand tables ready built room number =
     subst (IsOutOf (asked hand.op)) (sym (kept_changed c tables (lending (asked hand.op)) (slice_get tables c) refl (λ none. lends_none (asked hand.op)))) (is_out (asked hand.op) (kept_by tables c) ready)
 can_keep request m s c hand tables ready built room number = tt
 
--- ---- the calls in hand
-
--- the call in hand while its iteration is lent
-abbrev pub hand_lent : Request → InHand → InHand
-hand_lent (requests.Iterate call k choice) hand = without_room hand
-hand_lent request hand = hand
+-- ---- the call in hand
 
 -- a step that starts an iteration ends its call
 abbrev pub EndsIts : Request → Option Outcome → Type 0
 EndsIts (requests.Iterate call k choice) end = IsSome end
 EndsIts request end = Unit {0}
 
-module _ (c : ℕ) (hands : List (Option InHand)) (hand : InHand) (held : hand_at hands c ≡ Some hand) where
-  pub lent_held : (request : Request) → hand_at (hands_lending request c hands) c ≡ Some (hand_lent request hand)
-  lent_held (requests.Iterate call k choice) =
-      hand_set hands c hand (option_map without_room (hand_at hands c)) held c ∙ ap (λ b. cond b (option_map without_room (hand_at hands c)) (hand_at hands c)) (eq-eqb c c refl) ∙ ap (option_map without_room) held
-  lent_held request = held
-
-  -- so the room that was taken out of it does not matter
-  pub lent_left : (request : Request) (d : StepDone) (end : Option Outcome) → EndsIts request end → slice_set (hands_lending request c hands) c (left end (hand_taken d (hand_lent request hand))) ≡ slice_set hands c (left end (hand_taken d hand))
-  lent_left (requests.Iterate call k choice) d None ends = absurd (cc ends)
-  lent_left (requests.Iterate call k choice) d (Some end) ends = set_twice hands c (option_map without_room (hand_at hands c)) None
-  lent_left request d end ends = refl
+-- so the room that was taken out of it does not matter
+pub lent_left : (request : Request) (hand : InHand) (d : StepDone) (end : Option Outcome) → EndsIts request end → left end (hand_taken d (hand_lending request hand)) ≡ left end (hand_taken d hand)
+lent_left (requests.Iterate call k choice) hand d None ends = absurd (cc ends)
+lent_left (requests.Iterate call k choice) hand d (Some end) ends = refl
+lent_left request hand d end ends = refl
 
 -- it has its operation and its driver
-pub lent_op : (request : Request) (hand : InHand) → (hand_lent request hand).op ≡ hand.op
+pub lent_op : (request : Request) (hand : InHand) → (hand_lending request hand).op ≡ hand.op
 lent_op (requests.Iterate call k choice) hand = refl
 lent_op request hand = refl
 
-pub lent_end : (request : Request) (hand : InHand) (d : StepDone) (reply : Reply) → end_by d reply (hand_lent request hand) ≡ end_by d reply hand
+pub lent_end : (request : Request) (hand : InHand) (d : StepDone) (reply : Reply) → end_by d reply (hand_lending request hand) ≡ end_by d reply hand
 lent_end (requests.Iterate call k choice) hand d reply = refl
 lent_end request hand d reply = refl

@@ -1,14 +1,12 @@
 pub mod Begin
-pub mod Beginnings
 pub mod CallSteps
 pub mod Carrying
-pub mod Ended
 pub mod Events
 pub mod Finding
 pub mod Freeing
 pub mod Going
 pub mod GoingOn
-pub mod HandsKept
+pub mod HandPlaces
 pub mod Held
 pub mod HoldingLaws
 pub mod IterationSteps

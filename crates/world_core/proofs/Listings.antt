@@ -16,6 +16,7 @@ use Rattle.ckpt_machine.specs.Listing.{slot_listed, section_listed, replica_list
 use Rattle.ckpt_machine.specs.Machine.{Machine, Effect, ReplicaState}
 use Rattle.replica.specs.Replicas.{Replica}
 use Rattle.stage_slot.specs.Slots.{Slot}
+use Rattle.weak_marks.specs.Marks.{Marked}
 use Rattle.world_core.specs.Nodes.{replica_in}
 use Rattle.world_core.specs.declared.world.World.{World}
 use Rattle.world_core.specs.Happenings.{TellsReplicas}
@@ -38,14 +39,15 @@ length-listed-le t sections i = omega (arith, length-map (present t (take i sect
 
 -- ---- one replica
 
-slot_is : (origin : CallId) (o : Option Slot) → kept_slot_listed o ≡ slot_listed (shown_slot origin o) None
-slot_is origin None = refl
-slot_is origin (Some slot) = refl
+slot_is : (origin : CallId) (o : Option Slot) (marks : Option Marked) → kept_slot_listed o marks ≡ slot_listed (shown_slot origin o) marks
+slot_is origin (Some slot) marks = refl
+slot_is origin None (Some marked) = refl
+slot_is origin None None = refl
 
 -- it counts its effects
 replica_is : (t : ℤ) (active : Option ℕ) (r : ℕ) (effects : List Effect) (origin : CallId) (x : Replica) → length effects ≡ x.count
-    → kept_replica_listed t active r x ≡ replica_listed t active (r, record { sections = x.sections; effects = effects; generation = x.generation; slot = shown_slot origin x.slot; marks = None })
-replica_is t active r effects origin x count = λ i. record (kept_replica_listed t active r x) { count = sym count i; slot = slot_is origin x.slot i }
+    → kept_replica_listed t active r x ≡ replica_listed t active (r, record { sections = x.sections; effects = effects; generation = x.generation; slot = shown_slot origin x.slot; marks = x.marks })
+replica_is t active r effects origin x count = λ i. record (kept_replica_listed t active r x) { count = sym count i; slot = slot_is origin x.slot x.marks i }
 
 -- of one node, which is complete or not
 one_is : (t : ℤ) (active : Option ℕ) (k r : ℕ) (e : Option Entry) (effects : List Effect) (origin : CallId) (rest : List (ℕ × ReplicaState)) (b : Bool) (o : Option Replica) → FitsReplica k e effects (cond b None o)

@@ -2,6 +2,8 @@
 use Rattle.std.proofs.Common.{◌≡◌, ℕ, Bool, true, false, List, [], refl, sym, ap, subst, ◌∙◌, cond}
 use Rattle.std.specs.Prelude.{Option, Some, None, ◌==◌, ◌&&◌, slice_get, slice_set, slice_index}
 use Rattle.std.proofs.lemmas.Bool.{eqb-true}
+use Rattle.std.proofs.lemmas.List.{set-get_or}
+use Rattle.std.proofs.lemmas.Option.{get_or_from_slice_get}
 use Rattle.ckpt_types.specs.declared.identities.ActorName.{ActorName}
 use Rattle.ckpt_types.specs.declared.identities.ActorName.TheVariants.{Client, Node}
 use Rattle.ckpt_types.specs.declared.identities.CallId.{CallId}
@@ -35,6 +37,10 @@ pub put2_same : {X : Type 0} (f : ℕ → ℕ → X) (k r : ℕ) (x : X) → f k
 put2_same f k r x is =
     let one = λ (j q : ℕ). same_there ((j == k) && (q == r)) x (f j q) (λ e. let s = both_true j k q r e in ap (λ (y : ℕ × ℕ). f y.0 y.1) (λ i. (s.0 i, s.1 i)) ∙ is) in
     λ i j q. one j q i
+
+-- what is there, set again, changes nothing
+pub set_again : {X : Type 0} (xs : List X) (i : ℕ) (x : X) → slice_get xs i ≡ Some x → slice_set xs i x ≡ xs
+set_again xs i x is = ap (slice_set xs i) (sym (get_or_from_slice_get xs i x x is)) ∙ set-get_or xs i x
 
 -- ---- the nodes, changed at one
 

@@ -122,6 +122,7 @@ changed-moment m s verbs.Unlink k r reply = on_ok-moment m _ reply (at_some-mome
 changed-moment m s verbs.Retain k r reply = on_ok-moment m _ reply (at_some-moment m k _ (λ k. retained_for-moment (asked s.op) k m.cluster))
 changed-moment m s verbs.Stage k r reply = on_ok-moment m _ reply (at_some-moment m k _ (λ k. at_some-moment m r _ (λ r. change_replica-moment m k r (m.replicas k r) _)))
 changed-moment m s verbs.Commit k r reply = on_ok-moment m _ reply (at_some-moment m k _ (λ k. at_some-moment m r _ (λ r. change_replica-moment m k r (m.replicas k r) _)))
+changed-moment m s verbs.Apply k r reply = on_ok-moment m _ reply (at_some-moment m k _ (λ k. at_some-moment m r _ (λ r. change_replica-moment m k r (m.replicas k r) _)))
 changed-moment m s verbs.Iter k r reply = on_ok-moment m _ reply (at_some-moment m k _ (λ k. at_some-moment m r _ (λ r. refl)))
 changed-moment m s verbs.Next k r reply = on_ok-moment m _ reply (at_some-moment m k _ (λ k. at_some-moment m r _ (λ r. refl)))
 changed-moment m s verbs.Look k r reply = on_look-moment m _ _ reply refl (without_making-moment m (making_of s.call m.cluster))

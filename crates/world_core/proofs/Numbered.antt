@@ -4,7 +4,7 @@ use Rattle.std.specs.Option.{option_map}
 use Rattle.std.specs.Prelude.{filter, replicate, slice_get, slice_index_or, slice_set, ◌==◌}
 use Rattle.std.proofs.lemmas.Bool.{eqb-true}
 use Rattle.std.proofs.lemmas.List.{length-map, length-set, map-set}
-use Rattle.std.proofs.lemmas.Option.{slice_get-get_or, slice_get-map}
+use Rattle.std.proofs.lemmas.Option.{same_Some, slice_get-get_or, slice_get-map}
 use Rattle.cluster_record.specs.declared.entries.Entry.{Entry}
 use Rattle.cluster_record.specs.Places.{list_or}
 use Rattle.cluster_record.proofs.Places.{get_set}
@@ -12,9 +12,6 @@ use Rattle.replica.specs.Replicas.{Replica}
 use Rattle.node_core.specs.Nodes.{NodeState, freed_node, is_there}
 use Rattle.world_core.specs.Freeing.{freed}
 use Rattle.world_core.specs.Nodes.{node_at, nodes_shown, StandByNumber}
-
-some_same : {x y : NodeState} → Some x ≡ Some y → x ≡ y
-some_same e = cc
 
 -- a node with other replicas
 abbrev pub holding : NodeState → List Replica → NodeState
@@ -45,7 +42,7 @@ module _ (nodes : List NodeState) (numbered : StandByNumber nodes) (r : ℕ) (d 
     numbers = λ q n is. by_place q n (q == r) refl (sym (get_set nodes r (holding (slice_index_or nodes r d) xs) (slice_index_or nodes r d) q there) ∙ is);
   } where
     by_place : (q : ℕ) (n : NodeState) (b : Bool) → (q == r) ≡ b → cond b (Some (holding (slice_index_or nodes r d) xs)) (slice_get nodes q) ≡ Some n → n.number ≡ q
-    by_place q n true e is = ap (λ (n : NodeState). n.number) (some_same (sym is)) ∙ numbered.numbers r (slice_index_or nodes r d) there ∙ sym (eqb-true q r e)
+    by_place q n true e is = ap (λ (n : NodeState). n.number) (same_Some n _ (sym is)) ∙ numbered.numbers r (slice_index_or nodes r d) there ∙ sym (eqb-true q r e)
     by_place q n false e is = numbered.numbers q n is
 
 -- ---- nodes that are freed of what is gone
@@ -63,7 +60,7 @@ numbered_freed entries nodes numbered = record {
 } where
   by_node : (q : ℕ) (n : NodeState) (o : Option NodeState) → slice_get nodes q ≡ o → option_map (freed_node entries) o ≡ Some n → n.number ≡ q
   by_node q n None at is = absurd (cc is)
-  by_node q n (Some old) at is = ap (λ (n : NodeState). n.number) (some_same (sym is)) ∙ numbered.numbers q old at
+  by_node q n (Some old) at is = ap (λ (n : NodeState). n.number) (same_Some n _ (sym is)) ∙ numbered.numbers q old at
 
 -- ---- nodes without replicas
 
@@ -84,12 +81,12 @@ shown_first = refl
 pub numbered_first : StandByNumber (nodes_from 8)
 numbered_first = record { eight = refl; numbers = by_number } where
   by_number : (r : ℕ) (n : NodeState) → slice_get (nodes_from 8) r ≡ Some n → n.number ≡ r
-  by_number zero n is = ap (λ (n : NodeState). n.number) (some_same (sym is))
-  by_number (suc zero) n is = ap (λ (n : NodeState). n.number) (some_same (sym is))
-  by_number (suc (suc zero)) n is = ap (λ (n : NodeState). n.number) (some_same (sym is))
-  by_number (suc (suc (suc zero))) n is = ap (λ (n : NodeState). n.number) (some_same (sym is))
-  by_number (suc (suc (suc (suc zero)))) n is = ap (λ (n : NodeState). n.number) (some_same (sym is))
-  by_number (suc (suc (suc (suc (suc zero))))) n is = ap (λ (n : NodeState). n.number) (some_same (sym is))
-  by_number (suc (suc (suc (suc (suc (suc zero)))))) n is = ap (λ (n : NodeState). n.number) (some_same (sym is))
-  by_number (suc (suc (suc (suc (suc (suc (suc zero))))))) n is = ap (λ (n : NodeState). n.number) (some_same (sym is))
+  by_number zero n is = ap (λ (n : NodeState). n.number) (same_Some n _ (sym is))
+  by_number (suc zero) n is = ap (λ (n : NodeState). n.number) (same_Some n _ (sym is))
+  by_number (suc (suc zero)) n is = ap (λ (n : NodeState). n.number) (same_Some n _ (sym is))
+  by_number (suc (suc (suc zero))) n is = ap (λ (n : NodeState). n.number) (same_Some n _ (sym is))
+  by_number (suc (suc (suc (suc zero)))) n is = ap (λ (n : NodeState). n.number) (same_Some n _ (sym is))
+  by_number (suc (suc (suc (suc (suc zero))))) n is = ap (λ (n : NodeState). n.number) (same_Some n _ (sym is))
+  by_number (suc (suc (suc (suc (suc (suc zero)))))) n is = ap (λ (n : NodeState). n.number) (same_Some n _ (sym is))
+  by_number (suc (suc (suc (suc (suc (suc (suc zero))))))) n is = ap (λ (n : NodeState). n.number) (same_Some n _ (sym is))
   by_number (suc (suc (suc (suc (suc (suc (suc (suc r)))))))) n is = absurd (cc is)

@@ -93,11 +93,11 @@ module _ (w : World) (c : ℕ) (step : RecordStep) (hand : InHand) (held : hand_
   -- ---- what it makes of the world, with the parts as the code names them
 
   -- it is done, and the nodes are freed of what is gone
-  pub event_step : (R : RecordState) (nodes : List (List Replica)) (tables : List TableState) (hands : List (Option InHand)) (word : OpWord) (verb : Verb) (k r : Option ℕ) (end : Option Outcome) → event_refusal w.cluster step hand.driver ≡ None → HasNumbersLeft w → (step ≡ events.Enter → room_is_taken (slice_get w.tables c) ≡ true) →
+  pub event_step : (R : RecordState) (nodes : List (List Replica)) (tables : List TableState) (taken : InHand) (place : Option InHand) (word : OpWord) (verb : Verb) (k r : Option ℕ) (end : Option Outcome) → event_refusal w.cluster step hand.driver ≡ None → HasNumbersLeft w → (step ≡ events.Enter → room_is_taken (slice_get w.tables c) ≡ true) →
       R ≡ event_after hand.call hand.driver step w.cluster → k ≡ event_ckpt w.cluster hand.driver step → r ≡ event_node hand.driver step → end ≡ event_end step k → tables ≡ settled R c hand.op step k w.tables →
-      ((h : InHand) → hand_at w.hands c ≡ Some h → hands ≡ slice_set w.hands c (left end (hand_taken (done_of R (event_verb step) k r words.Ok) h))) → nodes ≡ freed R.entries w.nodes → word ≡ word_of_op hand.op → verb ≡ event_verb step →
-      IsStep c w (record w { cluster = R; nodes = nodes; tables = tables; hands = hands }) (Stepped hand.call word verb k r words.Ok end beside.Nothing)
-  event_step R nodes tables hands word verb k r end granted roomy has_room R_is k_is r_is end_is tables_are told nodes_are word_is verb_is = record {
+      taken ≡ hand_taken (done_of R (event_verb step) k r words.Ok) hand → place ≡ left end taken → nodes ≡ freed R.entries w.nodes → word ≡ word_of_op hand.op → verb ≡ event_verb step →
+      IsStep c w (record w { cluster = R; nodes = nodes; tables = tables; hands = slice_set w.hands c place }) (Stepped hand.call word verb k r words.Ok end beside.Nothing)
+  event_step R nodes tables taken place word verb k r end granted roomy has_room R_is k_is r_is end_is tables_are taken_is place_is nodes_are word_is verb_is = record {
     hand = hand;
     held = held;
     op = word;
@@ -111,8 +111,8 @@ module _ (w : World) (c : ℕ) (step : RecordStep) (hand : InHand) (held : hand_
     next = hand_taken (done_of R (event_verb step) k r words.Ok) hand;
     same_call = refl;
     same_op = refl;
-    hands = told hand held;
-    does = rw (told hand held, tables_are, nodes_are, end_is, R_is, k_is, r_is, word_is, verb_is) (event_does w c step hand held next granted (can_settle granted roomy) (enters w c step hand held next shown has_room));
+    hands = ap (slice_set w.hands c) (place_is ∙ ap (left end) taken_is);
+    does = rw (place_is, taken_is, tables_are, nodes_are, end_is, R_is, k_is, r_is, word_is, verb_is) (event_does w c step hand held next granted (can_settle granted roomy) (enters w c step hand held next shown has_room));
   }
 
   -- it is refused, by the record or for the memory that it takes, and the call ends

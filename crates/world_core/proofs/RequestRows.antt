@@ -1,5 +1,5 @@
 -- For each request that a node serves but a reservation: what its row changes in the machine is what the node changes.
-use Rattle.std.proofs.Common.{◌≡◌, ℕ, ◌+◌, ℤ, List, ◌∷◌, [], ◌++◌, refl, sym, ap, ◌∙◌, length-append}
+use Rattle.std.proofs.Common.{◌≡◌, ℕ, ◌+◌, ℤ, List, ◌∷◌, [], ◌++◌, length, refl, sym, ap, subst, ◌∙◌, length-append}
 use Rattle.std.specs.Prelude.{Option, Some, None, Result, Ok, Err}
 use Rattle.ckpt_types.specs.declared.identities.CallId.{CallId}
 use Rattle.ckpt_types.specs.declared.update.Update.{Update}
@@ -11,38 +11,51 @@ use Rattle.ckpt_types.specs.Reads.{NextGiven, given, chosen}
 use Rattle.client_handles.specs.ClientState.{ClientState, kept_at}
 use Rattle.section_iter.specs.KeptIds.{KeptIds}
 use Rattle.node_msgs.specs.declared.requests.Request.{Request}
-use Rattle.node_msgs.specs.declared.requests.Request.TheVariants.{Reserve, Claim, Withdraw, Iterate, Next, Stage, Commit}
+use Rattle.node_msgs.specs.declared.requests.Request.TheVariants.{Reserve, Claim, Withdraw, Apply, Mark, Element, Unmark, Iterate, Next, Stage, Commit}
 use Rattle.node_msgs.specs.declared.steps.Verb.TheVariants as verbs
 use Rattle.node_msgs.specs.declared.steps.StepReply.TheVariants as words
 use Rattle.cluster_record.specs.declared.entries.Entry.{Entry}
-use Rattle.replica.specs.Replicas.{Replica, committed, slot_after_stage, staged_by, outcome_on}
+use Rattle.replica.specs.Replicas.{Replica, committed, applied_by, or_same, standing_or, staged_by, outcome_on}
 use Rattle.stage_slot.specs.Slots.{Slot, IsOwnedBy}
+use Rattle.weak_marks.specs.Marks.{Marked}
 use Rattle.cluster_record.specs.Places.{put2}
 use Rattle.cluster_record.specs.RecordState.{entry_of}
 use Rattle.node_msgs.specs.Requests.{ckpt_of}
 use Rattle.node_core.specs.Payloads.{Payload}
-use Rattle.node_core.specs.Seen.{record_seen}
-use Rattle.node_core.specs.Serving.{reply_of, replica_after, stage_reply, next_reply}
+use Rattle.node_core.specs.Seen.{RecordSeen, record_seen}
+use Rattle.node_core.specs.Serving.{reply_of, replica_after, stage_reply, apply_reply, next_reply}
 use Rattle.node_core.specs.Fitting.{IsReadyFor}
 use Rattle.node_msgs.specs.Steps.{verb_of, word_of}
 use Rattle.ckpt_machine.specs.Machine.{Machine, Effect, Applied, ReplicaState, CallState}
-use Rattle.ckpt_machine.specs.Steps.{changed, change_replica, chosen_at, given_at, ids_asked, payload_due, seen_at, with_slot, with_committed, with_tables, staged_moment}
+use Rattle.ckpt_machine.specs.Steps.{changed, on_ok, change_replica, chosen_at, given_at, ids_asked, payload_due, seen_at, with_slot, with_committed, with_applied, having_taken, with_tables, staged_moment}
 use Rattle.ckpt_machine.specs.Tables.{started, with_next, gone_on}
-use Rattle.world_core.specs.Shows.{shown_replica, FitsReplica, HasCount}
+use Rattle.world_core.specs.Shows.{shown_replica, shown_slot, FitsReplica, HasCount}
 use Rattle.ckpt_machine.proofs.Calls.{IsOwn}
 use Rattle.ckpt_machine.proofs.ClientTables.{same_tables}
-use Rattle.world_core.proofs.Carrying.{GoesToReplica}
+use Rattle.world_core.proofs.Carrying.{GoesToReplica, Carries}
 use Rattle.world_core.proofs.Maps.{put2_same}
 
--- the effects of the replica, and the origin of its slot, after a request
+-- the effects of the replica, and the origin of its slot, after a request of a call
 
 abbrev pub effects_with : Option Slot → CallId → List Effect → List Effect
 effects_with None o E = E
 effects_with (Some slot) o E = E ++ Applied o slot.update slot.moment ∷ []
 
-abbrev pub effects_after : Request → Option Replica → CallId → List Effect → List Effect
-effects_after (Commit call k) (Some x) o E = effects_with x.slot o E
-effects_after request y o E = E
+-- one more where the update is made at once
+abbrev pub effects_applied : Effect → Option Marked → Result (List Section) Refusal → List Effect → List Effect
+effects_applied effect (Some marked) result E = E
+effects_applied effect None (Ok sections) E = E ++ effect ∷ []
+effects_applied effect None (Err why) E = E
+
+abbrev pub effects_after : CallId → Request → Payload → RecordSeen → Option Replica → CallId → List Effect → List Effect
+effects_after by (Commit call k) p seen (Some x) o E = effects_with x.slot o E
+effects_after by (Apply call k) p seen (Some x) o E = effects_applied (Applied by p.update seen.moment) x.marks (outcome_on x p.update seen.moment) E
+effects_after by request p seen y o E = E
+
+-- what is the same of two payloads leaves the same effects
+pub effects_carried : (by : CallId) (request : Request) (p q : Payload) (seen : RecordSeen) (x : Replica) (o : CallId) (E : List Effect) → Carries request p q → effects_after by request p seen (Some x) o E ≡ effects_after by request q seen (Some x) o E
+effects_carried by (Apply call k) p q seen x o E same = λ i. effects_applied (Applied by (same i) seen.moment) x.marks (outcome_on x (same i) seen.moment) E
+effects_carried by request p q seen x o E same = refl
 
 abbrev pub origin_with : CallId → CallId → Option Slot → CallId
 origin_with call o None = call
@@ -75,12 +88,12 @@ module _ (M : Machine) (s : CallState) (k r : ℕ) (E : List Effect) (o : CallId
   stays y is = λ i. record M { replicas = sym (put2_same M.replicas k r y is) i }
 
   stage_moves : (call : CallId) (t : ℤ) (p : Option Slot) (result : Result (List Section) Refusal) → M.replicas k r ≡ shown_replica E o (Some (record x { slot = p })) → call ≡ s.call → (p ≡ None → staged_moment M k ≡ t) →
-      changed M s verbs.Stage (Some k) (Some r) (word_of (stage_reply result p)) ≡ with (shown_replica E (origin_with call o p) (Some (record x { slot = slot_after_stage result (staged_by call (update_of s.op) t x) p })))
+      changed M s verbs.Stage (Some k) (Some r) (word_of (stage_reply result p)) ≡ with (shown_replica E (origin_with call o p) (Some (record x { slot = standing_or p result (staged_by call (update_of s.op) t x) })))
   stage_moves call t (Some slot) result is own moment = stays (shown_replica E o (Some (record x { slot = Some slot }))) is
   stage_moves call t None (Err why) is own moment = stays (shown_replica E o (Some (record x { slot = None }))) is
   stage_moves call t None (Ok sections) is own moment =
       let f = with_slot s.call (update_of s.op) (staged_moment M k) in
-      let X : ReplicaState = record { sections = x.sections; effects = E; generation = x.generation; slot = None; marks = None } in
+      let X : ReplicaState = record { sections = x.sections; effects = E; generation = x.generation; slot = None; marks = x.marks } in
       ap (λ y. change_replica M k r y f) is ∙ (λ i. with (Some (with_slot (sym own i) (update_of s.op) (moment refl i) X)))
 
   commit_moves : (p : Option Slot) (e : Entry) (call : CallId) → entry_of k M.cluster.entries ≡ Some e → x.attributes ≡ e.attributes → M.replicas k r ≡ shown_replica E o (Some (record x { slot = p })) → IsOwnedBy call p →
@@ -90,6 +103,18 @@ module _ (M : Machine) (s : CallState) (k r : ℕ) (E : List Effect) (o : CallId
       ap (λ y. change_replica M k r y (with_committed (entry_of k M.cluster.entries))) is
       ∙ ap (λ f. change_replica M k r (shown_replica E o (Some (record x { slot = Some slot }))) (with_committed f)) at
       ∙ ap (λ a. change_replica M k r (shown_replica E o (Some (record x { slot = Some slot }))) (with_committed (Some (record e { attributes = a })))) (sym same)
+
+  -- the replica as the machine has it, where no marks stand
+  abbrev unmarked : ReplicaState
+  unmarked = record { sections = x.sections; effects = E; generation = x.generation; slot = shown_slot o x.slot; marks = None }
+
+  -- an update that is made at once, by what its row makes of a replica on which it has an outcome
+  pub apply_moves : (row : ReplicaState → ReplicaState) (effect : Effect) (update : Update) (p : Option Marked) (result : Result (List Section) Refusal) → M.replicas k r ≡ shown_replica E o (Some (record x { marks = p })) →
+      ((sections : List Section) → result ≡ Ok sections → row unmarked ≡ record unmarked { sections = sections; effects = E ++ effect ∷ [] }) →
+      on_ok (word_of (apply_reply update result p)) M (change_replica M k r (M.replicas k r) row) ≡ with (shown_replica (effects_applied effect p result E) o (Some (applied_by p result (record x { marks = p }))))
+  apply_moves row effect update (Some marked) result is makes = stays (shown_replica E o (Some (record x { marks = Some marked }))) is
+  apply_moves row effect update None (Err why) is makes = stays (shown_replica E o (Some (record x { marks = None }))) is
+  apply_moves row effect update None (Ok sections) is makes = ap (λ y. change_replica M k r y row) is ∙ ap (λ y. with (Some y)) (makes sections refl)
 
   module _ (is : M.replicas k r ≡ shown_replica E o (Some x)) (seen : seen_at M k r ≡ Some x) where
     abbrev whole : Machine
@@ -110,10 +135,18 @@ module _ (M : Machine) (s : CallState) (k r : ℕ) (E : List Effect) (o : CallId
 pub row_moves : (M : Machine) (s : CallState) (r : ℕ) (E : List Effect) (o : CallId) (x : Replica) (e : Entry) (request : Request) → GoesToReplica request → entry_of (ckpt_of request) M.cluster.entries ≡ Some e → x.attributes ≡ e.attributes →
     M.replicas (ckpt_of request) r ≡ shown_replica E o (Some x) → seen_at M (ckpt_of request) r ≡ Some x → IsReadyFor request x → IsOwn s.call request → ((call : CallId) (k : ℕ) (t : ℤ) → request ≡ Stage call k t → x.slot ≡ None → staged_moment M k ≡ t) →
     changed M s (verb_of request) (Some (ckpt_of request)) (Some r) (word_of (reply_of request (payload_due M s) (record_seen M.cluster (ckpt_of request) r) x))
-    ≡ tables_moved request s (ids_asked M s) M.cluster.moment x.sections (record M { replicas = put2 M.replicas (ckpt_of request) r (shown_replica (effects_after request (Some x) o E) (origin_after request (Some x) o) (Some (replica_after request (payload_due M s) x))) })
+    ≡ tables_moved request s (ids_asked M s) M.cluster.moment x.sections (record M { replicas = put2 M.replicas (ckpt_of request) r (shown_replica (effects_after s.call request (payload_due M s) (record_seen M.cluster (ckpt_of request) r) (Some x) o E) (origin_after request (Some x) o) (Some (replica_after request (payload_due M s) (record_seen M.cluster (ckpt_of request) r) x))) })
 row_moves M s r E o x e (Reserve k) goes at same is seen ready own moment = absurd goes
 row_moves M s r E o x e (Claim call k owner) goes at same is seen ready own moment = absurd goes
 row_moves M s r E o x e (Withdraw call k) goes at same is seen ready own moment = absurd goes
+row_moves M s r E o x e (Apply call k) goes at same is seen ready own moment =
+    apply_moves M s k r E o x (with_applied s.call (update_of s.op) M.cluster.moment (entry_of k M.cluster.entries)) (Applied s.call (update_of s.op) M.cluster.moment) (update_of s.op) x.marks (outcome_on x (update_of s.op) M.cluster.moment) is
+    (λ sections gives. ap (λ f. with_applied s.call (update_of s.op) M.cluster.moment f (unmarked M s k r E o x)) at
+    ∙ ap (λ a. having_taken a s.call (update_of s.op) M.cluster.moment (unmarked M s k r E o x)) (sym same)
+    ∙ ap (λ result. record (unmarked M s k r E o x) { sections = or_same result x.sections; effects = E ++ Applied s.call (update_of s.op) M.cluster.moment ∷ [] }) gives)
+row_moves M s r E o x e (Mark call k) goes at same is seen ready own moment = absurd goes
+row_moves M s r E o x e (Element call k) goes at same is seen ready own moment = absurd goes
+row_moves M s r E o x e (Unmark call k) goes at same is seen ready own moment = absurd goes
 row_moves M s r E o x e (Iterate call k choice) goes at same is seen ready own moment = starts M s k r E o x is seen
 row_moves M s r E o x e (Next call k) goes at same is seen ready own moment = goes_on M s k r E o x is seen (given (ids_asked M s) M.cluster.moment x.sections) refl
 row_moves M s r E o x e (Stage call k t) goes at same is seen ready own moment = stage_moves M s k r E o x call t x.slot (outcome_on x (update_of s.op) t) is own (λ n. moment call k t refl n)
@@ -126,16 +159,34 @@ fits_commit k e E o x None fits = fits
 fits_commit k None E o x (Some slot) fits = (fits.0, tt, length-append E (Applied o slot.update slot.moment ∷ []) ∙ ap (λ n. n + 1) fits.2, tt)
 fits_commit k (Some e) E o x (Some slot) fits = (fits.0, fits.1, length-append E (Applied o slot.update slot.moment ∷ []) ∙ ap (λ n. n + 1) fits.2, tt)
 
-staged_count : (call : CallId) (update : Update) (t : ℤ) (x : Replica) (result : Result (List Section) Refusal) (p : Option Slot) → HasCount x.count p → HasCount x.count (slot_after_stage result (staged_by call update t x) p)
+staged_count : (call : CallId) (update : Update) (t : ℤ) (x : Replica) (result : Result (List Section) Refusal) (p : Option Slot) → HasCount x.count p → HasCount x.count (standing_or p result (staged_by call update t x))
 staged_count call update t x result (Some slot) has = has
 staged_count call update t x (Ok sections) None has = refl
 staged_count call update t x (Err why) None has = tt
 
-pub row_fits : (k : ℕ) (e : Option Entry) (E : List Effect) (o : CallId) (x : Replica) (request : Request) (p : Payload) → GoesToReplica request → FitsReplica k e E (Some x) → FitsReplica k e (effects_after request (Some x) o E) (Some (replica_after request p x))
-row_fits k e E o x (Reserve j) p goes fits = absurd goes
-row_fits k e E o x (Claim call j owner) p goes fits = absurd goes
-row_fits k e E o x (Withdraw call j) p goes fits = absurd goes
-row_fits k None E o x (Stage call j t) p goes fits = (fits.0, tt, fits.2, staged_count call p.update t x (outcome_on x p.update t) x.slot fits.3)
-row_fits k (Some e) E o x (Stage call j t) p goes fits = (fits.0, fits.1, fits.2, staged_count call p.update t x (outcome_on x p.update t) x.slot fits.3)
-row_fits k e E o x (Commit call j) p goes fits = fits_commit k e E o x x.slot fits
-row_fits k e E o x request p goes fits = fits
+fits_apply : (k : ℕ) (e : Option Entry) (E : List Effect) (effect : Effect) (x : Replica) (p : Option Marked) (result : Result (List Section) Refusal) → x.slot ≡ None → FitsReplica k e E (Some x) → FitsReplica k e (effects_applied effect p result E) (Some (applied_by p result x))
+fits_apply k e E effect x (Some marked) result free fits = fits
+fits_apply k e E effect x None (Err why) free fits = fits
+fits_apply k e E effect x None (Ok sections) free fits = by_entry e fits where
+  count : length (E ++ effect ∷ []) ≡ x.count + 1
+  count = length-append E (effect ∷ []) ∙ ap (λ n. n + 1) fits.2
+
+  slot : HasCount (x.count + 1) x.slot
+  slot = subst (HasCount (x.count + 1)) (sym free) tt
+
+  by_entry : (e : Option Entry) → FitsReplica k e E (Some x) → FitsReplica k e (E ++ effect ∷ []) (Some (record x { sections = sections; count = x.count + 1 }))
+  by_entry None fits = (fits.0, tt, count, slot)
+  by_entry (Some e) fits = (fits.0, fits.1, count, slot)
+
+pub row_fits : (k : ℕ) (e : Option Entry) (E : List Effect) (o : CallId) (x : Replica) (by : CallId) (request : Request) (p : Payload) (seen : RecordSeen) → GoesToReplica request → IsReadyFor request x → FitsReplica k e E (Some x) → FitsReplica k e (effects_after by request p seen (Some x) o E) (Some (replica_after request p seen x))
+row_fits k e E o x by (Reserve j) p seen goes ready fits = absurd goes
+row_fits k e E o x by (Claim call j owner) p seen goes ready fits = absurd goes
+row_fits k e E o x by (Withdraw call j) p seen goes ready fits = absurd goes
+row_fits k e E o x by (Mark call j) p seen goes ready fits = absurd goes
+row_fits k e E o x by (Element call j) p seen goes ready fits = absurd goes
+row_fits k e E o x by (Unmark call j) p seen goes ready fits = absurd goes
+row_fits k None E o x by (Stage call j t) p seen goes ready fits = (fits.0, tt, fits.2, staged_count call p.update t x (outcome_on x p.update t) x.slot fits.3)
+row_fits k (Some e) E o x by (Stage call j t) p seen goes ready fits = (fits.0, fits.1, fits.2, staged_count call p.update t x (outcome_on x p.update t) x.slot fits.3)
+row_fits k e E o x by (Commit call j) p seen goes ready fits = fits_commit k e E o x x.slot fits
+row_fits k e E o x by (Apply call j) p seen goes ready fits = fits_apply k e E (Applied by p.update seen.moment) x x.marks (outcome_on x p.update seen.moment) ready fits
+row_fits k e E o x by request p seen goes ready fits = fits

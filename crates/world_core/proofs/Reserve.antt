@@ -1,5 +1,5 @@
 -- A reservation: the node takes the storage of a replica, or is refused the memory.
-use Rattle.std.proofs.Common.{◌≡◌, ◌⊎◌, inl, inr, ℕ, zero, suc, [], ◌<◌, Bool, true, false, List, ◌∷◌, length, refl, sym, ap, subst, ◌∙◌, cond}
+use Rattle.std.proofs.Common.{◌≡◌, ◌⊎◌, inl, inr, ℕ, ◌<◌, Bool, true, false, List, length, refl, sym, ap, subst, ◌∙◌, cond}
 use Rattle.std.specs.Prelude.{Option, Some, None, ◌==◌, ◌&&◌, IsSomeAnd, slice_get, slice_set, slice_index}
 use Rattle.std.proofs.lemmas.Bool.{eqb-true}
 use Rattle.ckpt_types.specs.declared.answers.Answer.TheVariants as answers
@@ -30,7 +30,7 @@ use Rattle.ckpt_machine.specs.Facts.{IsReservable, IsServable}
 use Rattle.world_core.specs.Shows.{Does, HistoryFits, FitsReplica, History, machine_of, shown_replica, where_complete, complete_replica, where_not_complete, shown_reservation, reserved_in, hand_at}
 use Rattle.world_core.proofs.Held.{state_in, driver_is}
 use Rattle.world_core.proofs.HoldingLaws.{opening_there, holds_served}
-use Rattle.world_core.proofs.Maps.{both_true, same_there, node_case}
+use Rattle.world_core.proofs.Maps.{both_true, same_there, set_again, node_case}
 use Rattle.cluster_record.proofs.Places.{find_pushed, get_set, there_is}
 use Rattle.world_core.proofs.Finding as finding
 use Rattle.world_core.proofs.Serve.{behind, its_done, its_end, its_details, replica_there, served_world, served_label}
@@ -42,12 +42,6 @@ use Rattle.world_core.proofs.Freeing.{does_before}
 -- one replica more on a node that has none of its checkpoint
 abbrev pub reserved_at : List (List Replica) → ℕ → Replica → List (List Replica)
 reserved_at nodes r new = slice_set nodes r (with_reserved (replica_in nodes new.ckpt r) new (list_or (slice_get nodes r)))
-
--- a node that takes its own place changes nothing
-set_same : {X : Type 0} (xs : List (List X)) (i : ℕ) → slice_set xs i (list_or (slice_get xs i)) ≡ xs
-set_same [] i = refl
-set_same (x ∷ xs) zero = refl
-set_same (x ∷ xs) (suc i) = ap (λ ys. x ∷ ys) (set_same xs i)
 
 -- the node has none of this checkpoint yet, or this very one
 abbrev pub NoneButThis : Replica → Option Replica → Type 0
@@ -149,8 +143,9 @@ module _ (w : World) (c r k : ℕ) (hand : InHand) (p : Payload) (reply : Reply)
         subst (λ (a : Reply). Reserves a (nodes_after w.cluster w.nodes r (Reserve k) p a) h) (sym done)
         (subst (λ (nodes : List (List Replica)). Reserves (Done answers.Nothing) nodes h) (sym (ap (λ (o : Option Entry). slice_set w.nodes r (reserved_for o k (list_or (slice_get w.nodes r)))) there)) (taken e there can h known))
     | inr refused ↦
+        let (xs, there) = there_is w.nodes r within in
         subst (λ (a : Reply). Reserves a (nodes_after w.cluster w.nodes r (Reserve k) p a) h) (sym refused)
-        (subst (λ (nodes : List (List Replica)). Reserves NoMemory nodes h) (sym (set_same w.nodes r)) (record { change = refl; fits = known.fits }))
+        (subst (λ (nodes : List (List Replica)). Reserves NoMemory nodes h) (sym (ap (λ o. slice_set w.nodes r (list_or o)) there ∙ set_again w.nodes r xs there)) (record { change = refl; fits = known.fits }))
   ]
 
   pub reserve_does : Does w (served_world w c r (Reserve k) hand p reply) (served_label w c r (Reserve k) hand p reply)

@@ -235,7 +235,7 @@ its_row m s word t here allowed = subst (λ s. Row m s t.verb t) (sym (same_Some
 pub a_commit_before_its_stage_is_not_allowed : Allowed before_stage (ends 3 (writes 0 (codes "abc")) verbs.Commit (Some 1) (Some 0) (Done answers.Nothing)) → ⊥
 a_commit_before_its_stage_is_not_allowed allowed =
     let row = its_row before_stage writing (word_of_op writing.op) (told verbs.Commit) refl allowed in
-    let none : None ≡ Some row.3.slot = row.3.staged in
+    let none : None ≡ Some row.3.1.slot = row.3.1.staged in
     cc none
 
 -- an answer with its stage
@@ -351,7 +351,7 @@ abbrev named_section : List ℕ → List ℕ → Section
 named_section id bytes = record { id = id; bytes = bytes; expiration = end_of_time; state = Valid; last_update = pos 0 }
 
 abbrev a_and_b : Replica
-a_and_b = record { ckpt = 1; attributes = sized 16 2; sections = named_section (codes "a") (codes "aa") ∷ named_section (codes "b") (codes "bb") ∷ []; count = 2; generation = 1; slot = None }
+a_and_b = record { ckpt = 1; attributes = sized 16 2; sections = named_section (codes "a") (codes "aa") ∷ named_section (codes "b") (codes "bb") ∷ []; count = 2; generation = 1; slot = None; marks = None }
 
 abbrev three : Op
 three = ops.Write 0 (updates.Write (into (codes "a") 0 (codes "X") ∷ into (codes "b") 0 (codes "Y") ∷ into (codes "c") 0 (codes "Z") ∷ []))
@@ -359,7 +359,7 @@ three = ops.Write 0 (updates.Write (into (codes "a") 0 (codes "X") ∷ into (cod
 pub the_replica_refuses_with_the_index : reply_at (requests.Stage (c0 3) 1 (pos 0)) (update_alone (update_of three)) (record_seen example_opened.cluster 1 0) (Some a_and_b) ≡ replies.Refused errors.NotExist 2
 the_replica_refuses_with_the_index = refl
 
-pub it_stays_as_it_was : replica_after (requests.Stage (c0 3) 1 (pos 0)) (update_alone (update_of three)) a_and_b ≡ a_and_b
+pub it_stays_as_it_was : replica_after (requests.Stage (c0 3) 1 (pos 0)) (update_alone (update_of three)) (record_seen example_opened.cluster 1 0) a_and_b ≡ a_and_b
 it_stays_as_it_was = refl
 
 pub the_call_tells_the_index : (d : StepDone) (x : Driver) → driver_end three d (replies.Refused errors.NotExist 2) x ≡ Some (Refused errors.NotExist (Index 2))

@@ -50,7 +50,7 @@ use Rattle.world_core.proofs.Held.{state_in, in_hand_is, actor_is, driver_is}
 use Rattle.world_core.proofs.IterationSteps.{tables_move, rooms_moved}
 use Rattle.world_core.proofs.HoldingLaws.{after_key, replicas_served, holds_served}
 use Rattle.world_core.proofs.Maps.{slice_there, node_case, complete_at_node, put_replica, fits_replica, reserved_same}
-use Rattle.world_core.proofs.RequestRows.{effects_after, origin_after, row_moves, row_fits, tables_moved}
+use Rattle.world_core.proofs.RequestRows.{effects_after, effects_carried, origin_after, row_moves, row_fits, tables_moved}
 use Rattle.world_core.proofs.Told.{told_world}
 use Rattle.world_core.proofs.CallSteps.{IsKnown, known_by, IsShownBehind, step_before}
 use Rattle.world_core.proofs.Freeing.{does_before}
@@ -59,18 +59,19 @@ use Rattle.world_core.proofs.Freeing.{does_before}
 
 -- after a request to one node, the replica of each checkpoint on each node
 served_there : (R : RecordState) (nodes : List (List Replica)) (r : ℕ) (request : Request) (p : Payload) (reply : Reply) (x : Replica) → GoesToReplica request → is_complete (record_seen R (ckpt_of request) r) ≡ true → replica_in nodes (ckpt_of request) r ≡ Some x →
-    (j q : ℕ) → replica_in (nodes_after R nodes r request p reply) j q ≡ cond ((j == ckpt_of request) && (q == r)) (Some (replica_after request p x)) (replica_in nodes j q)
+    (j q : ℕ) → replica_in (nodes_after R nodes r request p reply) j q ≡ cond ((j == ckpt_of request) && (q == r)) (Some (replica_after request p (record_seen R (ckpt_of request) r) x)) (replica_in nodes j q)
 served_there R nodes r request p reply x goes complete is j q =
     let (xs, there) = slice_there (slice_get nodes r) (find_key replica_key (ckpt_of request)) x refl is in
-    let new = change_key replica_key (ckpt_of request) (replica_after request p) in
+    let after = replica_after request p (record_seen R (ckpt_of request) r) in
+    let new = change_key replica_key (ckpt_of request) after in
     let at : find_key replica_key (ckpt_of request) xs ≡ Some x = ap (λ o. find_key replica_key (ckpt_of request) (list_or o)) (sym there) ∙ is in
     let set : nodes_after R nodes r request p reply ≡ slice_set nodes r (new xs) =
     ap (slice_set nodes r) (replicas_served R (node_at nodes r) request p reply (reserves_none request goes)
     ∙ ap (λ b. cond b (new (list_or (slice_get nodes r))) (list_or (slice_get nodes r))) complete ∙ ap (λ o. new (list_or o)) there) in
     ap (λ ns. replica_in ns j q) set ∙ ap (λ o. find_key replica_key j (list_or o)) (get_set nodes r (new xs) xs q there)
-    ∙ node_case (j == ckpt_of request) (q == r) (Some (replica_after request p x)) (find_key replica_key j) xs (new xs) (slice_get nodes q)
+    ∙ node_case (j == ckpt_of request) (q == r) (Some (after x)) (find_key replica_key j) xs (new xs) (slice_get nodes q)
     (λ e. ap (λ q. list_or (slice_get nodes q)) (eqb-true q r e) ∙ ap list_or there)
-    (find_changed replica_key (ckpt_of request) (replica_after request p) (after_key request p) xs x j at)
+    (find_changed replica_key (ckpt_of request) after (after_key request p (record_seen R (ckpt_of request) r)) xs x j at)
 
 -- the node is there
 pub node_within : (nodes : List (List Replica)) (k r : ℕ) (x : Replica) → replica_in nodes k r ≡ Some x → r < length nodes
@@ -136,7 +137,7 @@ module _ (w : World) (c r : ℕ) (request : Request) (hand : InHand) (p : Payloa
 
   -- its history, where the node has this replica
   abbrev later : Option Replica → History → History
-  later y h = record h { effects = put2 h.effects k r (effects_after request y (h.origins k r) (h.effects k r)); origins = put2 h.origins k r (origin_after request y (h.origins k r)) }
+  later y h = record h { effects = put2 h.effects k r (effects_after hand.call request p seen y (h.origins k r) (h.effects k r)); origins = put2 h.origins k r (origin_after request y (h.origins k r)) }
 
   module _ (h : History) (known : IsKnown w h) where
     abbrev m : Machine
@@ -191,7 +192,7 @@ module _ (w : World) (c r : ℕ) (request : Request) (hand : InHand) (p : Payloa
         (subst (λ (q : Request). IsSomeAnd (m.replicas (ckpt_of q) r) HasNoSlot) is (subst (λ (y : Option ReplicaState). IsSomeAnd y HasNoSlot) (sym shown) (ap (shown_slot o) free)))
 
     abbrev x' : Replica
-    x' = replica_after request p x
+    x' = replica_after request p seen x
 
     at_each : (j i : ℕ) → replica_in new.nodes j i ≡ cond ((j == k) && (i == r)) (Some x') (replica_in w.nodes j i)
     at_each = served_there w.cluster w.nodes r request p reply x goes seen_complete found.is
@@ -200,15 +201,18 @@ module _ (w : World) (c r : ℕ) (request : Request) (hand : InHand) (p : Payloa
     complete_each = complete_at_node w.cluster w.nodes new.nodes k r x' at_each found.complete
 
     -- the machine's replicas with the one that is served, this being what it becomes
-    abbrev with : Replica → Machine
-    with x' = record m { replicas = put2 m.replicas k r (shown_replica (effects_after request (Some x) o E) (origin_after request (Some x) o) (Some x')) }
+    abbrev with : List Effect → Replica → Machine
+    with E' x' = record m { replicas = put2 m.replicas k r (shown_replica E' (origin_after request (Some x) o) (Some x')) }
+
+    abbrev E' : List Effect
+    E' = effects_after hand.call request p seen (Some x) o E
 
     abbrev served_nodes : World
     served_nodes = record w { nodes = new.nodes }
 
-    with_is : with x' ≡ machine_of served_nodes (later (Some x) h)
+    with_is : with E' x' ≡ machine_of served_nodes (later (Some x) h)
     with_is =
-        let replicas = put_replica h.effects h.origins (complete_replica w.cluster w.nodes) (complete_replica w.cluster new.nodes) k r (effects_after request (Some x) o E) (origin_after request (Some x) o) x' complete_each in
+        let replicas = put_replica h.effects h.origins (complete_replica w.cluster w.nodes) (complete_replica w.cluster new.nodes) k r E' (origin_after request (Some x) o) x' complete_each in
         let reserved = reserved_same w.cluster w.nodes new.nodes k r x' x found.is at_each in
         λ i. record (machine_of served_nodes (later (Some x) h)) { replicas = replicas i; reserved = λ j q. reserved j q i }
 
@@ -216,7 +220,7 @@ module _ (w : World) (c r : ℕ) (request : Request) (hand : InHand) (p : Payloa
     change =
         ap (λ a. changed m s (verb_of request) (Some k) (Some r) (word_of a)) reply_is
         ∙ row_moves m s r E o x found.entry request goes found.at found.attributes shown found.seen found.holds own moment
-        ∙ ap (λ x'. tables_moved request s (ids_asked m s) w.cluster.moment x.sections (with x')) (sym (replica_carried request p q x carried))
+        ∙ sym (λ i. tables_moved request s (ids_asked m s) w.cluster.moment x.sections (with (effects_carried hand.call request p q seen x o E carried i) (replica_carried request p q seen x carried i)))
         ∙ ap (tables_moved request s (ids_asked m s) w.cluster.moment x.sections) with_is
         ∙ tables_move served_nodes (later (Some x) h) m s c hand actor refl (ids_asked m s) seen x request q reply (finding.tables_ready w h c r hand known.facts known.fits held request due_here) valid
         (λ i. ids_of (kept_asked (asked hand.op) (tables_of w.tables (actor i)))) reply_is
@@ -225,7 +229,7 @@ module _ (w : World) (c r : ℕ) (request : Request) (hand : InHand) (p : Payloa
 
     fits_behind : HistoryFits new (later y h)
     fits_behind = subst (λ (y : Option Replica). HistoryFits new (later y h)) (sym found.is) (record {
-      replicas = fits_replica w.cluster h.effects (complete_replica w.cluster w.nodes) (complete_replica w.cluster new.nodes) k r (effects_after request (Some x) o E) x' complete_each (row_fits k (entry_of k w.cluster.entries) E o x request p goes found.fits) known.fits.replicas;
+      replicas = fits_replica w.cluster h.effects (complete_replica w.cluster w.nodes) (complete_replica w.cluster new.nodes) k r E' x' complete_each (row_fits k (entry_of k w.cluster.entries) E o x hand.call request p seen goes found.holds found.fits) known.fits.replicas;
       hands = known.fits.hands;
     })
 

@@ -1,7 +1,6 @@
 -- The step that a node serves, with the parts as the code names them.
 use Rattle.std.proofs.Common.{◌≡◌, ℕ, ◌<◌, List, length, refl, sym, ap, subst, ◌∙◌}
 use Rattle.std.specs.Prelude.{Option, Some, slice_set}
-use Rattle.std.proofs.lemmas.Option.{same_Some}
 use Rattle.ckpt_types.specs.declared.answers.Answer.TheVariants as answers
 use Rattle.ckpt_types.specs.declared.answers.Outcome.{Outcome}
 use Rattle.ckpt_types.specs.declared.operation.Op.{Op}
@@ -32,13 +31,13 @@ use Rattle.ckpt_machine.specs.Steps.{ended_details}
 use Rattle.world_core.specs.declared.hands.InHand.{InHand}
 use Rattle.world_core.specs.declared.world.World.{World}
 use Rattle.world_core.specs.Nodes.{node_at, nodes_after}
-use Rattle.world_core.specs.Lending.{IsLentBy, IsValidFor, CanKeep, hands_lending, tables_lending, tables_keeping}
-use Rattle.world_core.specs.HandSteps.{hand_taken, end_by, served_done}
+use Rattle.world_core.specs.Lending.{IsLentBy, IsValidFor, CanKeep, hand_lending, iteration_lent, tables_lending, tables_keeping}
+use Rattle.world_core.specs.HandSteps.{hand_taken, hand_end, served_done}
 use Rattle.world_core.specs.Happenings.{IsNext, IsStep}
-use Rattle.world_core.specs.TableState.{kept_by}
+use Rattle.world_core.specs.TableState.{TableState, kept_by}
 use Rattle.world_core.specs.Shows.{IsShown, HasNumbersLeft, hand_at}
 use Rattle.world_core.proofs.Carrying.{lent_carries}
-use Rattle.world_core.proofs.IterationSteps.{hand_lent, lent_held, lent_left, lent_op, lent_end}
+use Rattle.world_core.proofs.IterationSteps.{lent_left, lent_op, lent_end}
 use Rattle.world_core.proofs.Serve.{its_done, its_end, its_details, its_iteration, served_world}
 use Rattle.world_core.proofs.Stepping.{with_iteration, keeps, fits_lent, serve_is, ends_its}
 
@@ -60,42 +59,40 @@ pub record ServedAs (w : World) (r : ℕ) (request : Request) (lent back : Lent)
   pub iteration : back.iteration ≡ iteration_behind request (record_seen w.cluster (ckpt_of request) r) (replica_served w.cluster (node_at w.nodes r) (ckpt_of request)) lent.iteration
 
 module _ (w : World) (c r : ℕ) (request : Request) (hand : InHand) (held : hand_at w.hands c ≡ Some hand) (next : IsNext w c (Serve r request)) (shown : IsShown w) (room : HasNumbersLeft w) (lent : Lent) (is_lent : IsLentBy hand.op request lent) where
-  -- the world while the iteration is lent, and what is lent with it
-  abbrev mid : World
-  mid = record w { hands = hands_lending request c w.hands; tables = tables_lending request c hand.op w.tables }
-
   abbrev whole : Lent
   whole = with_iteration w c r request hand held next lent
 
-  module _ (w1 : World) (lent1 : Lent) (mid_is : w1 ≡ mid) (whole_is : lent1 ≡ whole) where
-    pub fits_at : RequestFits w1.cluster (node_at w1.nodes r) request lent1
-    fits_at = subst (λ (z : World × Lent). RequestFits z.0.cluster (node_at z.0.nodes r) request z.1) (λ i. (sym mid_is i, sym whole_is i)) (fits_lent w c r request hand held next shown room lent is_lent)
+  -- while the iteration is lent
+  module _ (hand1 : InHand) (it1 : Option KeptIds) (tables1 : List TableState) (hand_is : hand1 ≡ hand_lending request hand) (it1_is : it1 ≡ iteration_lent request hand (kept_by w.tables c)) (tables_are : tables1 ≡ tables_lending request c hand.op w.tables) where
+    abbrev lent1 : Lent
+    lent1 = record lent { iteration = it1 }
 
-    -- the call is in hand still
-    pub still_held : hand_at w1.hands c ≡ Some (hand_lent request hand)
-    still_held = ap (λ (w : World). hand_at w.hands c) mid_is ∙ lent_held c w.hands hand held request
+    whole_is : lent1 ≡ whole
+    whole_is = ap (λ (it : Option KeptIds). record lent { iteration = it }) it1_is
 
-    pub keeps_at : (h : InHand) → hand_at w1.hands c ≡ Some h → CanKeep request h.op (kept_by w1.tables c)
-    keeps_at h held_now =
-        let same : hand.op ≡ h.op = sym (lent_op request hand) ∙ ap (λ (h : InHand). h.op) (same_Some (hand_lent request hand) h (sym still_held ∙ held_now)) in
-        subst (λ (z : World × Op). CanKeep request z.1 (kept_by z.0.tables c)) (λ i. (sym mid_is i, same i)) (keeps w c r request hand held next shown room)
+    pub fits_at : RequestFits w.cluster (node_at w.nodes r) request lent1
+    fits_at = subst (RequestFits w.cluster (node_at w.nodes r) request) (sym whole_is) (fits_lent w c r request hand held next shown room lent is_lent)
 
-    pub step_is : (reply : Reply) (nodes : List (List Replica)) (back : Lent) (it : Option KeptIds) (w3 : World) (hands : List (Option InHand)) (end : Option Outcome) (word : OpWord) (verb : Verb) (k : ℕ) (said : StepReply) (details : Details) → IsValidFor request (kept_by w.tables c) → ServedAs w1 r request lent1 back reply nodes → it ≡ back.iteration →
-        w3 ≡ record w1 { nodes = nodes; tables = tables_keeping request c (hand_lent request hand).op reply it w1.tables } → hands ≡ slice_set w3.hands c (left end (hand_taken (served_done w3.cluster request r reply) (hand_lent request hand))) → end ≡ end_by (served_done w3.cluster request r reply) reply (hand_lent request hand) →
-        word ≡ word_of_op hand.op → verb ≡ verb_of request → k ≡ ckpt_of request → said ≡ word_of reply → details ≡ ended_details end (details_told reply back) → IsStep c w (record w3 { hands = hands }) (Stepped hand.call word verb (Some k) (Some r) said end details)
-    step_is reply nodes back it w3 hands end word verb k said details valid served it_is w3_is hands_are end_is word_is verb_is k_is said_is details_are =
+    same_op : hand1.op ≡ hand.op
+    same_op = ap (λ (h : InHand). h.op) hand_is ∙ lent_op request hand
+
+    pub keeps_at : CanKeep request hand1.op (kept_by tables1 c)
+    keeps_at = subst (λ (z : List TableState × Op). CanKeep request z.1 (kept_by z.0 c)) (λ i. (sym tables_are i, sym same_op i)) (keeps w c r request hand held next shown room)
+
+    pub step_is : (reply : Reply) (nodes : List (List Replica)) (back : Lent) (it : Option KeptIds) (tables : List TableState) (taken : InHand) (place : Option InHand) (end : Option Outcome) (word : OpWord) (verb : Verb) (k : ℕ) (said : StepReply) (details : Details) → IsValidFor request (kept_by w.tables c) → ServedAs w r request lent1 back reply nodes → it ≡ back.iteration →
+        tables ≡ tables_keeping request c hand1.op reply it tables1 → taken ≡ hand_taken (served_done w.cluster request r reply) hand1 → end ≡ hand_end (served_done w.cluster request r reply) reply taken → place ≡ left end taken →
+        word ≡ word_of_op hand.op → verb ≡ verb_of request → k ≡ ckpt_of request → said ≡ word_of reply → details ≡ ended_details end (details_told reply back) → IsStep c w (record w { nodes = nodes; tables = tables; hands = slice_set w.hands c place }) (Stepped hand.call word verb (Some k) (Some r) said end details)
+    step_is reply nodes back it tables taken place end word verb k said details valid served it_is kept_are taken_is end_is place_is word_is verb_is k_is said_is details_are =
         let p : Payload = payload_of whole in
         let done : StepDone = its_done w c r request hand p reply in
-        let got : ServedAs mid r request whole back reply nodes = subst (λ (z : World × Lent). ServedAs z.0 r request z.1 back reply nodes) (λ i. (mid_is i, whole_is i)) served in
+        let got : ServedAs w r request whole back reply nodes = subst (λ (z : Lent). ServedAs w r request z back reply nodes) whole_is served in
         let its : it ≡ its_iteration w c r request hand p reply = it_is ∙ got.iteration in
-        let world_is : w3 ≡ record mid { nodes = nodes_after w.cluster w.nodes r request p reply; tables = tables_keeping request c hand.op reply (its_iteration w c r request hand p reply) mid.tables }
-        = w3_is ∙ (λ i. record (mid_is i) { nodes = got.nodes_are i; tables = tables_keeping request c (lent_op request hand i) reply (its i) (mid_is i).tables }) in
-        let ends : end ≡ its_end w c r request hand p reply
-        = end_is ∙ ap (λ (w : World). end_by (served_done w.cluster request r reply) reply (hand_lent request hand)) world_is ∙ lent_end request hand done reply in
-        let hands_is : hands ≡ slice_set w.hands c (left (its_end w c r request hand p reply) (hand_taken done hand))
-        = hands_are ∙ (λ i. slice_set (world_is i).hands c (left (ends i) (hand_taken (served_done (world_is i).cluster request r reply) (hand_lent request hand))))
-        ∙ lent_left c w.hands hand held request done (its_end w c r request hand p reply) (ends_its w c r request hand held next shown p reply got.may) in
-        let new_is : record w3 { hands = hands } ≡ served_world w c r request hand p reply = λ i. record (world_is i) { hands = hands_is i } in
+        let then_tables : tables ≡ tables_keeping request c hand.op reply (its_iteration w c r request hand p reply) (tables_lending request c hand.op w.tables) = kept_are ∙ (λ i. tables_keeping request c (same_op i) reply (its i) (tables_are i)) in
+        let takes : taken ≡ hand_taken done (hand_lending request hand) = taken_is ∙ ap (hand_taken done) hand_is in
+        let ends : end ≡ its_end w c r request hand p reply = end_is ∙ ap (hand_end done reply) takes ∙ lent_end request hand done reply in
+        let left_is : place ≡ left (its_end w c r request hand p reply) (hand_taken done hand)
+        = place_is ∙ (λ i. left (ends i) (takes i)) ∙ lent_left request hand done (its_end w c r request hand p reply) (ends_its w c r request hand held next shown p reply got.may) in
+        let new_is : record w { nodes = nodes; tables = tables; hands = slice_set w.hands c place } ≡ served_world w c r request hand p reply = λ i. record w { nodes = got.nodes_are i; tables = then_tables i; hands = slice_set w.hands c (left_is i) } in
         let told : details ≡ ended_details (its_end w c r request hand p reply) (its_details w c r request hand p reply) = details_are ∙ (λ i. ended_details (ends i) (got.details i)) in
         subst (λ (z : World × OpWord × Verb × ℕ × StepReply × Option Outcome × Details). IsStep c w z.0 (Stepped hand.call z.1 z.2 (Some z.3) (Some r) z.4 z.5 z.6))
         (λ i. (sym new_is i, sym word_is i, sym verb_is i, sym k_is i, sym said_is i, sym ends i, sym told i))

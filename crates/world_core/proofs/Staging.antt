@@ -1,6 +1,6 @@
--- The steps of an update, as the code takes them: a stage, a commit, and a refusal of either.
+-- The steps of an update, as the code takes them: a stage, the refusal of one, and a commit.
 use Rattle.std.proofs.Common.{◌≡◌, ℕ, ℤ, Bool, false, List, refl, sym, ap, subst, ◌∙◌}
-use Rattle.std.specs.Prelude.{Option, Some, None, IsSomeAnd, slice_set}
+use Rattle.std.specs.Prelude.{Option, Some, None, Result, Ok, Err, IfSome, IsSomeAnd, slice_set}
 use Rattle.ckpt_types.specs.declared.answers.Answer.{Answer}
 use Rattle.ckpt_types.specs.declared.answers.Answer.TheVariants as answers
 use Rattle.ckpt_types.specs.declared.answers.Outcome.{Outcome}
@@ -9,6 +9,7 @@ use Rattle.ckpt_types.specs.declared.update.Update.{Update}
 use Rattle.ckpt_types.specs.declared.update.Update.TheVariants as updates
 use Rattle.ckpt_types.specs.Asks.{update_of}
 use Rattle.ckpt_types.specs.Sections.{Section}
+use Rattle.ckpt_types.specs.Updates.{Refusal}
 use Rattle.node_msgs.specs.declared.next.Next.TheVariants.{Serve}
 use Rattle.node_msgs.specs.declared.replies.Reply.{Reply}
 use Rattle.node_msgs.specs.declared.replies.Reply.TheVariants as replies
@@ -31,24 +32,27 @@ use Rattle.ckpt_machine.specs.Drivers.{Driver}
 use Rattle.ckpt_machine.specs.Drivers as drivers
 use Rattle.ckpt_machine.specs.Driving.{driver_taken, done_end}
 use Rattle.ckpt_machine.specs.Steps.{ended_details}
-use Rattle.replica.specs.Replicas.{Replica}
-use Rattle.stage_slot.specs.Slots.{Slot}
+use Rattle.replica.specs.declared.replica.StageRefused.{StageRefused}
+use Rattle.replica.specs.Replicas.{Replica, answer_unless, committed, outcome_on, staged}
+use Rattle.stage_slot.specs.Slots.{Slot, IsOwnedBy, owner_of}
+use Rattle.node_core.specs.Fitting.{TakesUpdate}
 use Rattle.node_core.specs.Nodes.{MayReply, replica_served}
 use Rattle.node_core.specs.Payloads.{Payload, no_payload, update_alone}
 use Rattle.node_core.specs.Seen.{RecordSeen, record_seen}
-use Rattle.node_core.specs.Serving.{reply_at, details_at, commit_answer, slot_id}
+use Rattle.node_core.specs.Serving.{reply_at, details_at, commit_answer, slot_id, stage_reply}
+use Rattle.node_core.specs.StageReplies.{reply_refused, reply_told}
 use Rattle.world_core.specs.declared.hands.InHand.{InHand}
 use Rattle.world_core.specs.declared.world.World.{World}
-use Rattle.world_core.specs.Nodes.{node_at, nodes_after}
+use Rattle.world_core.specs.Nodes.{node_at, nodes_after, replica_in, with_replica}
 use Rattle.world_core.specs.Lending.{IsValidFor, tables_lending, tables_keeping}
 use Rattle.world_core.specs.Happenings.{IsNext, IsStep}
 use Rattle.world_core.specs.HandSteps.{hand_taken, hand_end, end_by, served_done}
-use Rattle.world_core.specs.Shows.{IsShown, hand_at}
+use Rattle.world_core.specs.Shows.{IsShown, HasNumbersLeft, hand_at}
 use Rattle.world_core.specs.TableState.{kept_by}
 use Rattle.world_core.specs.UpdateSteps.{IsUpdate, is_creation, ended_unless}
 use Rattle.world_core.proofs.Carrying.{GoesToReplica, Carries, payload_with}
 use Rattle.world_core.proofs.Serve.{its_end, its_details, its_iteration, served_world}
-use Rattle.world_core.proofs.Stepping.{its_replica, its_served, its_own, answered_is}
+use Rattle.world_core.proofs.Stepping.{its_nodes, its_own, its_ready, its_replica, its_room, its_served, its_there, answered_is}
 
 -- ---- what is answered, and told beside it
 
@@ -59,6 +63,12 @@ ended_none (Some end) = refl
 stage_details : (call : CallId) (k : ℕ) (t : ℤ) (p : Payload) (seen : RecordSeen) (y : Option Replica) → beside.Nothing ≡ details_at (requests.Stage call k t) p seen y
 stage_details call k t p seen None = refl
 stage_details call k t p seen (Some x) = refl
+
+-- a stage is answered as the replica tells it
+stage_told : (after : Result (List Section) Refusal) (slot : Option Slot) → reply_told answers.Nothing (answer_unless (owner_of slot) after) ≡ stage_reply after slot
+stage_told (Ok sections) None = refl
+stage_told (Err why) None = refl
+stage_told after (Some slot) = refl
 
 -- the commit of an update that makes no section tells none
 tells_none : (u : Update) (sections : List Section) (slot : Slot) → slot.update ≡ u → is_creation u ≡ false → (commit_answer (Some slot) ≡ answers.Nothing) × (slot_id sections (Some slot) ≡ beside.Nothing)
@@ -94,64 +104,82 @@ module _ (w : World) (c r : ℕ) (request : Request) (hand : InHand) (held : han
       subst (λ (z : World × OpWord × Option Outcome × Details). IsStep c w z.0 (Stepped hand.call z.1 (verb_of request) (Some (ckpt_of request)) (Some r) (word_of reply) z.2 z.3)) (λ i. (sym new_is i, sym word_is i, sym end_is i, sym told i))
       (answered_is w c r request hand held next shown goes p reply carries may valid)
 
-module _ (w : World) (c r : ℕ) (call : CallId) (k : ℕ) (t : ℤ) (hand : InHand) (held : hand_at w.hands c ≡ Some hand) (next : IsNext w c (Serve r (requests.Stage call k t))) (shown : IsShown w) (update : Update) (update_is : update ≡ update_of hand.op) (nodes : List (List Replica)) (word : OpWord) (word_is : word ≡ word_of_op hand.op) (reply : Reply) where
+-- a stage
+module _ (w : World) (c r : ℕ) (call : CallId) (k : ℕ) (t : ℤ) (hand : InHand) (held : hand_at w.hands c ≡ Some hand) (next : IsNext w c (Serve r (requests.Stage call k t))) (shown : IsShown w) where
   abbrev stage : Request
   stage = requests.Stage call k t
 
-  abbrev lent : Payload
-  lent = update_alone update
+  abbrev here : Replica
+  here = its_replica w c r stage hand held next shown tt
 
-  module _ (is : reply ≡ reply_at stage lent (record_seen w.cluster k r) (replica_served w.cluster (node_at w.nodes r) k)) (nodes_are : nodes ≡ nodes_after w.cluster w.nodes r stage lent reply) where
+  -- the replica there takes an update
+  pub takes : HasNumbersLeft w → IsSomeAnd (replica_in w.nodes k r) TakesUpdate
+  takes room = subst (λ (o : Option Replica). IsSomeAnd o TakesUpdate) (sym (its_there w c r stage hand held next shown tt)) (record { unmarked = its_ready w c r stage hand held next shown tt; room = its_room w c r stage hand held next shown tt room })
+
+  -- and has answered so
+  module _ (update : Update) (update_is : update ≡ update_of hand.op) (told : Result (Unit {0}) StageRefused) (is : IfSome (replica_in w.nodes k r) (λ x. told ≡ answer_unless (owner_of x.slot) (outcome_on x update t))) (nodes : List (List Replica)) (nodes_are : nodes ≡ with_replica k r (staged call update t) w.nodes) (word : OpWord)
+      (word_is : word ≡ word_of_op hand.op) where
+    abbrev lent : Payload
+    lent = update_alone update
+
+    answered : (reply : Reply) → reply_told answers.Nothing told ≡ reply → reply ≡ reply_at stage lent (record_seen w.cluster k r) (replica_served w.cluster (node_at w.nodes r) k)
+    answered reply so =
+        let here_told : told ≡ answer_unless (owner_of here.slot) (outcome_on here update t) = subst (λ (o : Option Replica). IfSome o (λ x. told ≡ answer_unless (owner_of x.slot) (outcome_on x update t))) (its_there w c r stage hand held next shown tt) is in
+        sym so ∙ ap (reply_told answers.Nothing) here_told ∙ stage_told (outcome_on here update t) here.slot ∙ ap (reply_at stage lent (record_seen w.cluster k r)) (sym (its_served w c r stage hand held next shown tt))
+
     nothing : (reply : Reply) → beside.Nothing ≡ its_details w c r stage hand lent reply
     nothing reply = stage_details call k t lent (record_seen w.cluster k r) (replica_served w.cluster (node_at w.nodes r) k)
 
-    -- the node has staged it
-    pub stage_is : (a : Answer) (hands : List (Option InHand)) (label : Label) → IsUpdate hand.driver → reply ≡ replies.Done a →
-        hands ≡ slice_set w.hands c (Some (hand_taken (done_of w.cluster verbs.Stage (Some k) (Some r) words.Ok) hand)) → label ≡ Stepped hand.call word verbs.Stage (Some k) (Some r) words.Ok None beside.Nothing →
-        IsStep c w (record w { nodes = nodes; hands = hands }) label
-    stage_is a hands label update_driver done hands_are label_is =
-        subst (IsStep c w (record w { nodes = nodes; hands = hands })) (sym label_is)
-        (named_is w c r stage hand held next shown tt lent update_is tt nodes word word_is (replies.Done a) hands None (sym done ∙ is) (nothing (replies.Done a)) nodes_are refl (stage_goes_on w.cluster (Some k) (Some r) a hand.driver update_driver) hands_are)
+    told_so : (reply : Reply) (hands : List (Option InHand)) (end : Option Outcome) → reply_told answers.Nothing told ≡ reply → end ≡ its_end w c r stage hand lent reply → hands ≡ slice_set w.hands c (left end (hand_taken (served_done w.cluster stage r reply) hand)) →
+        IsStep c w (record w { nodes = nodes; hands = hands }) (Stepped hand.call word verbs.Stage (Some k) (Some r) (word_of reply) end beside.Nothing)
+    told_so reply hands end so end_is hands_are =
+        named_is w c r stage hand held next shown tt lent update_is tt nodes word word_is reply hands end (answered reply so) (nothing reply) (nodes_are ∙ its_nodes w c r stage hand held next shown tt lent reply) refl end_is hands_are
 
-    -- the node has refused it
-    pub stage_refused : (new : World) → (let d = served_done w.cluster stage r reply in new ≡ record w { nodes = nodes; hands = slice_set w.hands c (left (end_by d reply hand) (hand_taken d hand)) }) →
-        IsStep c w new (Stepped hand.call word verbs.Stage (Some k) (Some r) (word_of reply) (end_by (served_done w.cluster stage r reply) reply hand) beside.Nothing)
-    stage_refused new new_is =
-        let d = served_done w.cluster stage r reply in
-        subst (λ (new : World). IsStep c w new (Stepped hand.call word verbs.Stage (Some k) (Some r) (word_of reply) (end_by d reply hand) beside.Nothing)) (sym new_is)
-        (named_is w c r stage hand held next shown tt lent update_is tt nodes word word_is reply (slice_set w.hands c (left (end_by d reply hand) (hand_taken d hand))) (end_by d reply hand) is (nothing reply) nodes_are refl refl refl)
+    -- it is staged
+    pub stage_is : (taken : InHand) (label : Label) → IsUpdate hand.driver → reply_told answers.Nothing told ≡ replies.Done answers.Nothing →
+        taken ≡ hand_taken (done_of w.cluster verbs.Stage (Some k) (Some r) words.Ok) hand → label ≡ Stepped hand.call word verbs.Stage (Some k) (Some r) words.Ok None beside.Nothing → IsStep c w (record w { nodes = nodes; hands = slice_set w.hands c (Some taken) }) label
+    stage_is taken label update_driver so taken_is label_is =
+        subst (IsStep c w (record w { nodes = nodes; hands = slice_set w.hands c (Some taken) })) (sym label_is)
+        (told_so (replies.Done answers.Nothing) (slice_set w.hands c (Some taken)) None so (stage_goes_on w.cluster (Some k) (Some r) answers.Nothing hand.driver update_driver) (ap (λ (h : InHand). slice_set w.hands c (Some h)) taken_is))
 
-module _ (w : World) (c r : ℕ) (call : CallId) (k : ℕ) (hand : InHand) (held : hand_at w.hands c ≡ Some hand) (next : IsNext w c (Serve r (requests.Commit call k))) (shown : IsShown w) (plain : is_creation (update_of hand.op) ≡ false) (nodes : List (List Replica)) (word : OpWord) (word_is : word ≡ word_of_op hand.op) (reply : Reply) where
+    -- it is refused
+    pub stage_refused : (refused : StageRefused) (place : Option InHand) → told ≡ Err refused → (let d = served_done w.cluster stage r (reply_refused refused) in place ≡ left (end_by d (reply_refused refused) hand) (hand_taken d hand)) →
+        IsStep c w (record w { nodes = nodes; hands = slice_set w.hands c place }) (Stepped hand.call word verbs.Stage (Some k) (Some r) (word_of (reply_refused refused)) (end_by (served_done w.cluster stage r (reply_refused refused)) (reply_refused refused) hand) beside.Nothing)
+    stage_refused refused place so place_is =
+        let reply = reply_refused refused in
+        told_so reply (slice_set w.hands c place) (end_by (served_done w.cluster stage r reply) reply hand) (ap (reply_told answers.Nothing) so) refl (ap (slice_set w.hands c) place_is)
+
+-- a commit
+module _ (w : World) (c r : ℕ) (call : CallId) (k : ℕ) (hand : InHand) (held : hand_at w.hands c ≡ Some hand) (next : IsNext w c (Serve r (requests.Commit call k))) (shown : IsShown w) where
   abbrev commit : Request
   commit = requests.Commit call k
 
   abbrev its : Replica
   its = its_replica w c r commit hand held next shown tt
 
-  -- the slot there is the call's own
-  tells : (commit_answer its.slot ≡ answers.Nothing) × (slot_id its.sections its.slot ≡ beside.Nothing)
-  tells = by_slot (update_of hand.op) its.sections its.slot (its_own w c r commit hand held next shown tt) plain
+  -- the slot of the replica there is the call's
+  pub owns : IsSomeAnd (replica_in w.nodes k r) (λ x. IsOwnedBy call x.slot)
+  owns = subst (λ (o : Option Replica). IsSomeAnd o (λ x. IsOwnedBy call x.slot)) (sym (its_there w c r commit hand held next shown tt)) (its_ready w c r commit hand held next shown tt)
 
-  module _ (is : reply ≡ reply_at commit no_payload (record_seen w.cluster k r) (replica_served w.cluster (node_at w.nodes r) k)) (nodes_are : nodes ≡ nodes_after w.cluster w.nodes r commit no_payload reply) where
-    none_told : (reply : Reply) → beside.Nothing ≡ its_details w c r commit hand no_payload reply
-    none_told reply = sym (ap (details_at commit no_payload (record_seen w.cluster k r)) (its_served w c r commit hand held next shown tt) ∙ tells.1)
+  module _ (plain : is_creation (update_of hand.op) ≡ false) (nodes : List (List Replica)) (nodes_are : nodes ≡ with_replica k r (λ x. committed x x.slot) w.nodes) (word : OpWord) (word_is : word ≡ word_of_op hand.op) where
+    -- so it tells no identifier
+    tells : (commit_answer its.slot ≡ answers.Nothing) × (slot_id its.sections its.slot ≡ beside.Nothing)
+    tells = by_slot (update_of hand.op) its.sections its.slot (its_own w c r commit hand held next shown tt) plain
 
-    is_done : reply ≡ replies.Done answers.Nothing
-    is_done = is ∙ ap (reply_at commit no_payload (record_seen w.cluster k r)) (its_served w c r commit hand held next shown tt) ∙ ap replies.Done tells.0
+    abbrev done : Reply
+    done = replies.Done answers.Nothing
 
-    -- the node has committed it; the call goes on while it has a slot
-    pub commit_is : (goes_on : Bool) (hands : List (Option InHand)) (label : Label) →
-        (let d = done_of w.cluster verbs.Commit (Some k) (Some r) words.Ok in ended_unless goes_on ≡ hand_end d (replies.Done answers.Nothing) (hand_taken d hand)) →
-        (let d = done_of w.cluster verbs.Commit (Some k) (Some r) words.Ok in hands ≡ slice_set w.hands c (left (ended_unless goes_on) (hand_taken d hand))) → label ≡ Stepped hand.call word verbs.Commit (Some k) (Some r) words.Ok (ended_unless goes_on) beside.Nothing →
-        IsStep c w (record w { nodes = nodes; hands = hands }) label
-    commit_is goes_on hands label end_is hands_are label_is =
-        subst (IsStep c w (record w { nodes = nodes; hands = hands })) (sym label_is)
-        (named_is w c r commit hand held next shown tt no_payload tt tt nodes word word_is (replies.Done answers.Nothing) hands (ended_unless goes_on) (sym is_done ∙ is) (none_told (replies.Done answers.Nothing)) nodes_are refl end_is hands_are)
+    done_by : done ≡ reply_at commit no_payload (record_seen w.cluster k r) (replica_served w.cluster (node_at w.nodes r) k)
+    done_by = sym (ap (reply_at commit no_payload (record_seen w.cluster k r)) (its_served w c r commit hand held next shown tt) ∙ ap replies.Done tells.0)
 
-    -- the node has no replica of it
-    pub commit_refused : (new : World) → (let d = served_done w.cluster commit r reply in new ≡ record w { nodes = nodes; hands = slice_set w.hands c (left (end_by d reply hand) (hand_taken d hand)) }) →
-        IsStep c w new (Stepped hand.call word verbs.Commit (Some k) (Some r) (word_of reply) (end_by (served_done w.cluster commit r reply) reply hand) beside.Nothing)
-    commit_refused new new_is =
-        let d = served_done w.cluster commit r reply in
-        subst (λ (new : World). IsStep c w new (Stepped hand.call word verbs.Commit (Some k) (Some r) (word_of reply) (end_by d reply hand) beside.Nothing)) (sym new_is)
-        (named_is w c r commit hand held next shown tt no_payload tt tt nodes word word_is reply (slice_set w.hands c (left (end_by d reply hand) (hand_taken d hand))) (end_by d reply hand) is (none_told reply) nodes_are refl refl refl)
+    none_told : beside.Nothing ≡ its_details w c r commit hand no_payload done
+    none_told = sym (ap (details_at commit no_payload (record_seen w.cluster k r)) (its_served w c r commit hand held next shown tt) ∙ tells.1)
+
+    -- it is committed; the call goes on while it has a slot
+    pub commit_is : (goes_on : Bool) (taken : InHand) (place : Option InHand) (label : Label) → (let d = done_of w.cluster verbs.Commit (Some k) (Some r) words.Ok in (taken ≡ hand_taken d hand) × (ended_unless goes_on ≡ hand_end d (replies.Done answers.Nothing) taken)) →
+        place ≡ left (ended_unless goes_on) taken → label ≡ Stepped hand.call word verbs.Commit (Some k) (Some r) words.Ok (ended_unless goes_on) beside.Nothing → IsStep c w (record w { nodes = nodes; hands = slice_set w.hands c place }) label
+    commit_is goes_on taken place label (taken_is, end_is) place_is label_is =
+        let d = done_of w.cluster verbs.Commit (Some k) (Some r) words.Ok in
+        subst (IsStep c w (record w { nodes = nodes; hands = slice_set w.hands c place })) (sym label_is)
+        (named_is w c r commit hand held next shown tt no_payload tt tt nodes word word_is done (slice_set w.hands c place) (ended_unless goes_on) done_by none_told (nodes_are ∙ its_nodes w c r commit hand held next shown tt no_payload done) refl
+        (end_is ∙ ap (hand_end d (replies.Done answers.Nothing)) taken_is) (ap (slice_set w.hands c) (place_is ∙ ap (left (ended_unless goes_on)) taken_is)))

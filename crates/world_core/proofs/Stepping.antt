@@ -1,6 +1,6 @@
 -- The steps of a call in hand, with the call that the code finds there.
-use Rattle.std.proofs.Common.{◌≡◌, ◌≢◌, ℕ, ◌-◌, ◌^◌, ◌<◌, Bool, false, List, length, refl, sym, ap, subst, ◌∙◌}
-use Rattle.std.specs.Prelude.{Option, Some, None, IfSome, IsSome, IsSomeAnd, slice_set}
+use Rattle.std.proofs.Common.{◌≡◌, ℕ, ◌-◌, ◌^◌, ◌<◌, Bool, false, List, length, refl, sym, ap, subst, cond, ◌∙◌}
+use Rattle.std.specs.Prelude.{Option, Some, None, IsSome, IsSomeAnd, slice_set}
 use Rattle.ckpt_types.specs.declared.answers.Answer.{Answer}
 use Rattle.ckpt_types.specs.declared.answers.Answer.TheVariants as answers
 use Rattle.ckpt_types.specs.declared.answers.Outcome.{Outcome}
@@ -27,7 +27,7 @@ use Rattle.replica.specs.Replicas.{Replica}
 use Rattle.world_core.specs.declared.world.World.{World}
 use Rattle.cluster_record.specs.declared.entries.Entry.{Entry}
 use Rattle.cluster_record.specs.Calls.{left}
-use Rattle.cluster_record.specs.Places.{find_key}
+use Rattle.cluster_record.specs.Places.{change_key, find_key}
 use Rattle.cluster_record.specs.RecordState.{RecordState, entry_of}
 use Rattle.cluster_record.specs.StepDone.{StepDone}
 use Rattle.node_msgs.specs.Requests.{ckpt_of}
@@ -37,14 +37,14 @@ use Rattle.node_core.specs.Fitting.{HasCountLeft, RequestFits, ReplicaFits, IsRe
 use Rattle.node_core.specs.Nodes.{NodeState, MayReply, replica_key, replica_served, seen_from}
 use Rattle.node_core.specs.Payloads.{Payload}
 use Rattle.node_core.specs.Seen.{record_seen, is_complete}
-use Rattle.node_core.specs.Serving.{reply_at}
+use Rattle.node_core.specs.Serving.{reply_at, replica_after}
 use Rattle.ckpt_machine.specs.Drivers.{Driver}
 use Rattle.ckpt_machine.specs.Drivers as drivers
 use Rattle.ckpt_machine.specs.Driving.{driver_next, driver_taken, driver_end, making_in}
 use Rattle.ckpt_machine.specs.Facts.{Facts, IsActive, IsReservable, IsServable}
 use Rattle.ckpt_machine.specs.Machine.{Machine, CallState}
 use Rattle.ckpt_machine.specs.Steps.{due, driver_of, ended_details, look_word}
-use Rattle.world_core.specs.Nodes.{node_at, replica_in}
+use Rattle.world_core.specs.Nodes.{node_at, nodes_after, replica_in, with_replica}
 use Rattle.world_core.specs.Lending.{IsLentBy, IsValidFor, CanLend, CanKeep, iteration_lent, tables_lending}
 use Rattle.world_core.specs.HandSteps.{hand_taken, served_done}
 use Rattle.world_core.specs.Settling.{looked, without_making_of}
@@ -52,19 +52,16 @@ use Rattle.world_core.specs.TableState.{TableState, kept_by}
 use Rattle.world_core.specs.Shows.{Does, IsShown, HasNumbersLeft, History, HistoryFits, machine_of, hand_at}
 use Rattle.world_core.specs.Happenings.{rooms_at, IsNext, IsStep}
 use Rattle.world_core.proofs.CallSteps.{IsKnown, known}
-use Rattle.world_core.proofs.Carrying.{GoesToReplica, Carries, IsOfCall, payload_with, has_lent}
-use Rattle.world_core.proofs.Finding.{IsReservationOr, next_goes}
+use Rattle.world_core.proofs.Carrying.{GoesToReplica, Carries, IsOfCall, payload_with, has_lent, reserves_none}
+use Rattle.world_core.proofs.Finding.{IsReservationOr}
 use Rattle.world_core.proofs.Finding as finding
 use Rattle.world_core.proofs.Held.{state_in, in_hand_is, driver_is, next_for}
+use Rattle.world_core.proofs.HoldingLaws.{replicas_served}
 use Rattle.world_core.proofs.IterationSteps.{TablesReady, HasIterationRoom, EndsIts, can_lend, can_keep}
 use Rattle.world_core.proofs.Look.{look_done}
 use Rattle.world_core.proofs.OpenRoom.{iterate_room}
 use Rattle.world_core.proofs.Reserve.{reserve_does}
 use Rattle.world_core.proofs.Serve.{its_done, its_end, its_details, served_world, served_label, serve_does}
-
--- what is there is not none
-pub some_held : (o : Option InHand) (hand : InHand) → o ≡ Some hand → o ≢ None
-some_held o hand is none = let z : None ≡ Some hand = sym none ∙ is in absurd (cc z)
 
 -- the calls in hand are as they were where a making is undone
 unmade_hands : (making : Option ℕ) (w : World) → (without_making_of making w).hands ≡ w.hands
@@ -113,6 +110,8 @@ fits_by request m r n lent goes servable fits = fits goes
 
 count_left : (request : Request) (x : Replica) → x.count < 2 ^ 64 - 1 → HasCountLeft request x
 count_left (requests.Stage call k t) x room = room
+count_left (requests.Apply call k) x room = room
+count_left (requests.Mark call k) x room = room
 count_left request x room = tt
 
 has_own_place : (request : Request) (w : World) (c r : ℕ) (x : Driver) → driver_next w.cluster (rooms_at w c) x ≡ Serve r request → HasIterationRoom request (kept_by w.tables c)
@@ -151,9 +150,6 @@ module _ (w : World) (c r : ℕ) (request : Request) (hand : InHand) (held : han
   abbrev its_next : driver_next w.cluster (rooms_at w c) hand.driver ≡ Serve r request
   its_next = next_for w c (Serve r request) hand held next
 
-  goes : IsReservationOr request
-  goes = next_goes w.cluster (rooms_at w c) hand.driver r request its_next
-
   -- what is lent, with the iteration that goes with the request
   abbrev pub with_iteration : Lent → Lent
   with_iteration lent = record lent { iteration = iteration_lent request hand kept }
@@ -176,6 +172,9 @@ module _ (w : World) (c r : ℕ) (request : Request) (hand : InHand) (held : han
 
     due_here : due m s ≡ Serve r request
     due_here = finding.due_here w h c r request hand facts fitting held its_next
+
+    goes : IsReservationOr request
+    goes = finding.built w h c r request hand facts fitting held its_next
 
     ready : TablesReady request m s hand kept
     ready = finding.tables_ready w h c r hand facts fitting held request due_here
@@ -217,11 +216,14 @@ module _ (w : World) (c r : ℕ) (request : Request) (hand : InHand) (held : han
       pub its_ready : IsReadyFor request its_replica
       its_ready = (finding.found w h c r request hand facts fitting held its_next to).holds
 
-      pub its_there : IsSome (replica_served w.cluster (node_at w.nodes r) (ckpt_of request))
-      its_there = subst (λ (o : Option Replica). IsSome o) (sym its_served) refl
+      -- it is the one that the node has
+      pub its_there : replica_in w.nodes (ckpt_of request) r ≡ Some its_replica
+      its_there = (finding.found w h c r request hand facts fitting held its_next to).is
 
-      pub its_may : IsSomeAnd (replica_served w.cluster (node_at w.nodes r) (ckpt_of request)) (IsReadyFor request)
-      its_may = subst (λ (o : Option Replica). IsSomeAnd o (IsReadyFor request)) (sym its_served) its_ready
+      -- and becomes what the request makes of it
+      pub its_nodes : (p : Payload) (reply : Reply) → with_replica (ckpt_of request) r (replica_after request p (record_seen w.cluster (ckpt_of request) r)) w.nodes ≡ nodes_after w.cluster w.nodes r request p reply
+      its_nodes p reply = ap (slice_set w.nodes r) (sym (replicas_served w.cluster (node_at w.nodes r) request p reply (reserves_none request to)
+          ∙ ap (λ b. cond b (change_key replica_key (ckpt_of request) (replica_after request p (record_seen w.cluster (ckpt_of request) r)) (node_at w.nodes r).replicas) (node_at w.nodes r).replicas) (finding.seen_complete w h c r request hand facts fitting held its_next to)))
 
       -- which has the call's own
       pub its_own : IsOfCall request hand kept its_replica
@@ -230,10 +232,8 @@ module _ (w : World) (c r : ℕ) (request : Request) (hand : InHand) (held : han
           finding.of_call w h c r hand facts fitting held request due_here (h.effects (ckpt_of request) r) (h.origins (ckpt_of request) r) f.replica f.entry f.at f.attributes (finding.shown w h c r request hand facts fitting held its_next to)
 
       -- and a number left for an update
-      pub its_room : HasNumbersLeft w → IfSome (replica_in w.nodes (ckpt_of request) r) (λ x. x.count < 2 ^ 64 - 1)
-      its_room room =
-          subst (λ (o : Option Replica). IfSome o (λ x. x.count < 2 ^ 64 - 1)) (sym (finding.found w h c r request hand facts fitting held its_next to).is)
-          (room.updates (ckpt_of request) r its_replica (finding.complete_is w h c r request hand facts fitting held its_next to))
+      pub its_room : HasNumbersLeft w → its_replica.count < 2 ^ 64 - 1
+      its_room room = room.updates (ckpt_of request) r its_replica (finding.complete_is w h c r request hand facts fitting held its_next to)
 
       pub answered_is : (p : Payload) (reply : Reply) → Carries request p (payload_with hand kept) → MayReply w.cluster (node_at w.nodes r) request p reply → IsValidFor request kept →
           IsStep c w (served_world w c r request hand p reply) (served_label w c r request hand p reply)
@@ -245,8 +245,8 @@ module _ (w : World) (c r : ℕ) (request : Request) (hand : InHand) (held : han
       to_replica : GoesToReplica request → ReplicaFits (is_complete (record_seen w.cluster (ckpt_of request) r)) request (with_iteration lent) (replica_in w.nodes (ckpt_of request) r)
       to_replica to =
           subst (λ (z : Bool × Option Replica). ReplicaFits z.0 request (with_iteration lent) z.1)
-          (λ i. (sym (finding.seen_complete w h c r request hand facts fitting held its_next to) i, sym (finding.found w h c r request hand facts fitting held its_next to).is i)) (record {
+          (λ i. (sym (finding.seen_complete w h c r request hand facts fitting held its_next to) i, sym (its_there to) i)) (record {
             ready = its_ready to;
-            room = count_left request (its_replica to) (room.updates (ckpt_of request) r (its_replica to) (finding.complete_is w h c r request hand facts fitting held its_next to));
-            beside = has_lent request hand kept lent (its_replica to) is (its_own to);
+            room = count_left request (its_replica to) (its_room to room);
+            beside = has_lent request hand kept lent (its_replica to) to is (its_own to);
           })

@@ -1,13 +1,11 @@
 -- What a call lends to a request, and what becomes of the iteration that travels beside it.
-use Rattle.std.specs.Option.{option_map}
-use Rattle.std.specs.Prelude.{◌≡◌, ℕ, ◌-◌, ◌^◌, ◌<◌, List, Option, Some, None, IsSome, true, slice_get, slice_set}
+use Rattle.std.specs.Prelude.{◌≡◌, ℕ, ◌-◌, ◌^◌, ◌<◌, List, Option, Some, None, IsSome, true}
 use Rattle.ckpt_types.specs.Limits.{places_max}
 use Rattle.ckpt_types.specs.declared.operation.Op.{Op}
 use Rattle.ckpt_types.specs.Asks.{Ask, asked, update_of, elements_of, IsBuilt}
 use Rattle.ckpt_types.specs.Asks as asks
 use Rattle.section_iter.specs.KeptIds.{KeptIds}
 use Rattle.client_handles.specs.ClientState.{ClientState, iteration_at, has_iteration_room, lent, returned, IsLent, IsNotLent, IsValid}
-use Rattle.cluster_record.specs.Places.{or_none}
 use Rattle.node_msgs.specs.declared.requests.Request.{Request}
 use Rattle.node_msgs.specs.declared.requests.Request.TheVariants as requests
 use Rattle.node_msgs.specs.declared.replies.Reply.{Reply}
@@ -20,15 +18,22 @@ use Rattle.world_core.specs.TableState.{TableState, with_client, at_client}
 
 -- ---- what is made before the step
 
+-- a share of the call's update, with room for the identifier that it tells where it is made at once
+pub record IsLentUpdate (op : Op) (lent : Lent) : Type 0 where
+  pub update : lent.update ≡ Some (update_of op)
+  pub room : HasRoomToTell (update_of op) lent.read
+
 -- the elements of a read, with an empty buffer that has room for what they may give
 pub record IsLentRead (op : Op) (lent : Lent) : Type 0 where
   pub vector : lent.vector ≡ Some (elements_of op)
   pub room : HasRoomToRead (elements_of op) lent.read
 
--- a share of the call's update, room for the identifier that its commit tells, what a read wants, a place for a status, or one for a section
+-- a share of the call's update, room for the identifier that its commit tells, both where it is made at once, what a read wants, a place for a status, or one for a section
 abbrev pub IsLentBy : Op → Request → Lent → Type 0
 IsLentBy op (requests.Stage call k t) lent = lent.update ≡ Some (update_of op)
 IsLentBy op (requests.Commit call k) lent = HasRoomToTell (update_of op) lent.read
+IsLentBy op (requests.Apply call k) lent = IsLentUpdate op lent
+IsLentBy op (requests.Mark call k) lent = lent.update ≡ Some (update_of op)
 IsLentBy op (requests.Read k) lent = IsLentRead op lent
 IsLentBy op (requests.Status k) lent = IsSome lent.status
 IsLentBy op (requests.Next call k) lent = IsSome lent.section
@@ -52,14 +57,10 @@ iteration_lent (requests.Iterate call k choice) h t = h.iteration
 iteration_lent (requests.Next call k) h t = kept_asked (asked h.op) t
 iteration_lent request h t = None
 
--- the call in hand has no room of its own any more
-abbrev pub without_room : InHand → InHand
-without_room h = record h { iteration = None }
-
--- the calls in hand without the iteration that goes with a request
-abbrev pub hands_lending : Request → ℕ → List (Option InHand) → List (Option InHand)
-hands_lending (requests.Iterate call k choice) c hands = slice_set hands c (option_map without_room (or_none (slice_get hands c)))
-hands_lending request c hands = hands
+-- the call in hand without the iteration that goes with a request: it has no room of its own any more where one starts
+abbrev pub hand_lending : Request → InHand → InHand
+hand_lending (requests.Iterate call k choice) h = record h { iteration = None }
+hand_lending request h = h
 
 -- the iteration with which a call goes on is out
 abbrev pub lending : Ask → ClientState → ClientState

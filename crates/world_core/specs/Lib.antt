@@ -12,6 +12,7 @@ pub mod CallStates
 pub mod IterationPlaces
 pub mod Lending
 pub mod HandsView
+pub mod HandLending
 pub mod HandSteps
 pub mod Shows
 pub mod Parts

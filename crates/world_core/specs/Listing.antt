@@ -10,13 +10,15 @@ use Rattle.cluster_record.specs.RecordState.{entry_of}
 use Rattle.ckpt_machine.specs.Listing.{is_active, section_listed}
 use Rattle.replica.specs.Replicas.{Replica}
 use Rattle.stage_slot.specs.Slots.{Slot}
+use Rattle.weak_marks.specs.Marks.{Marked}
 use Rattle.world_core.specs.Nodes.{replica_in}
 use Rattle.world_core.specs.declared.world.World.{World}
 
--- the call that owns the slot
-abbrev pub kept_slot_listed : Option Slot → ShownSlot
-kept_slot_listed None = slots.Free
-kept_slot_listed (Some slot) = slots.Held slot.owner
+-- the call that owns the slot, or whose marks stand
+abbrev pub kept_slot_listed : Option Slot → Option Marked → ShownSlot
+kept_slot_listed (Some slot) marks = slots.Held slot.owner
+kept_slot_listed None (Some marked) = slots.Mark marked.call
+kept_slot_listed None None = slots.Free
 
 -- the replica that a node keeps
 abbrev pub kept_replica_listed : ℤ → Option ℕ → ℕ → Replica → ShownReplica
@@ -25,7 +27,7 @@ kept_replica_listed t active r x = record {
   active = is_active active r;
   generation = x.generation;
   count = x.count;
-  slot = kept_slot_listed x.slot;
+  slot = kept_slot_listed x.slot x.marks;
   sections = map section_listed (present t x.sections);
 }
 

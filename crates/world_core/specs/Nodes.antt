@@ -3,7 +3,7 @@ use Rattle.std.specs.Prelude.{◌≡◌, ℕ, List, length, map, Option, Some, s
 use Rattle.ckpt_types.specs.Limits.{nodes_max}
 use Rattle.node_msgs.specs.declared.replies.Reply.{Reply}
 use Rattle.node_msgs.specs.declared.requests.Request.{Request}
-use Rattle.cluster_record.specs.Places.{find_key, list_or}
+use Rattle.cluster_record.specs.Places.{find_key, change_key, list_or}
 use Rattle.cluster_record.specs.RecordState.{RecordState}
 use Rattle.replica.specs.Replicas.{Replica}
 use Rattle.node_core.specs.Nodes.{NodeState, replica_key, replicas_after}
@@ -20,6 +20,10 @@ replica_in nodes k r = find_key replica_key k (list_or (slice_get nodes r))
 -- the nodes after a request to one of them, which it answered so
 abbrev pub nodes_after : RecordState → List (List Replica) → ℕ → Request → Payload → Reply → List (List Replica)
 nodes_after R nodes r request p reply = slice_set nodes r (replicas_after R (node_at nodes r) request p reply)
+
+-- the nodes with the replica of a checkpoint on one of them changed
+abbrev pub with_replica : ℕ → ℕ → (Replica → Replica) → List (List Replica) → List (List Replica)
+with_replica k r change nodes = slice_set nodes r (change_key replica_key k change (list_or (slice_get nodes r)))
 
 -- ---- how they are kept
 

@@ -1,5 +1,5 @@
 //! The events by which the nodes come up and a call begins.
-ghost use Rattle.std.specs.Prelude.{◌≡◌, ◌<◌, ◌≤◌, None, IfOk, OnOk, OnErr};
+ghost use Rattle.std.specs.Prelude.{◌≡◌, ◌<◌, ◌≤◌, None, Some, IfOk, IsSome, OnOk, OnErr};
 ghost use Rattle.ckpt_types.specs.declared.identities.ActorName.TheVariants.{Client};
 ghost use Rattle.ckpt_types.specs.declared.identities.Who.TheVariants.{Actor};
 ghost use Rattle.ckpt_types.specs.Limits.{client_numbers, nodes_max};
@@ -8,7 +8,9 @@ ghost use Rattle.run_labels.specs.declared.labels.Label.TheVariants as labels;
 ghost use Rattle.section_iter.specs.Room.{room_declared};
 ghost use Rattle.cluster_record.specs.RecordState.{empty_record};
 ghost use Rattle.ckpt_types.specs.Asks.{asked, IsBuilt};
-ghost use Rattle.ckpt_machine.specs.Steps.{MayBegin, IsBeginEnd, room_at};
+ghost use Rattle.cluster_record.specs.Calls.{client_of};
+ghost use Rattle.ckpt_machine.specs.Driving.{driver_start};
+ghost use Rattle.ckpt_machine.specs.Steps.{MayBegin, IsBeginEnd, kept_at_beginning, room_at};
 ghost use Rattle.ckpt_machine.specs.Tables.{ckpt_of_handle};
 ghost use Rattle.world_core.specs.Shows.{IsShown, HasNumbersLeft, hand_at, room_for};
 ghost use Rattle.world_core.specs.Happenings.{Adds, BringsUp, Begins};
@@ -98,6 +100,7 @@ impl World {
         ensures ok { OnOk result (Adds log.old log.new (Begins c op self.old self.new)) }
         ensures err { OnErr result ((self.new ≡ self.old) × (log.new.labels ≡ log.old.labels)) }
     {
+        let slot = self.hands.at(c);
         let call = CallId {
             actor: ActorName::Client(c),
             number: self.tables.number(c),
@@ -106,21 +109,13 @@ impl World {
         let due = begin_end(self.cluster.is_live_client(c), &handle, &op);
         let (end, iteration) = take_room(alloc, &op, &self.cluster, &handle, due);
         if end.is_some() {
-            self.hands.covers(c);
             self.tables.begin(c, &op, &end);
             log.push(Label::Began { call, op, end });
             return Ok(());
         }
-        let driver = Driver::start(call, &op, &handle, &self.cluster)?;
-        let own = copy(&op)?;
-        let hand = InHand {
-            call,
-            op: own,
-            driver,
-            iteration,
-        };
+        let hand = in_hand(call, &op, &handle, &self.cluster, iteration)?;
         self.tables.begin(c, &op, &None);
-        self.hands.begin(c, hand);
+        *slot = Some(hand);
         log.push(Label::Began {
             call,
             op,
@@ -168,6 +163,28 @@ fn said(c: u8, op: OpWord, said: Said) -> Label
     ensures { result ≡ labels.Word (Actor (Client c)) (linewords.Op op) said }
 {
     Label::Word(Who::Actor(ActorName::Client(c)), LineWord::Op(op), said)
+}
+
+// A call that goes on, as it is in hand from its beginning.
+fn in_hand(
+    call: CallId,
+    op: &Op,
+    handle: &Option<HandleView>,
+    cluster: &Record,
+    iteration: Option<Iteration>,
+) -> Result<InHand, AllocError>
+    requires goes_on { IsSome (driver_start call (asked op.now) (kept_at_beginning cluster.now (client_of call) handle.now)) }
+    ensures hand { IfOk result (λ hand. hand ≡ record hand { call = call; op = op.now; iteration = iteration }) }
+    ensures driver { IfOk result (λ hand. driver_start call (asked op.now) (kept_at_beginning cluster.now (client_of call) handle.now) ≡ Some hand.driver) }
+{
+    let driver = Driver::start(call, op, handle, cluster)?;
+    let op = copy(op)?;
+    Ok(InHand {
+        call,
+        op,
+        driver,
+        iteration,
+    })
 }
 
 fn copy(op: &Op) -> Result<Op, AllocError>

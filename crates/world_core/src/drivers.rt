@@ -3,7 +3,7 @@ ghost use Rattle.std.specs.Prelude.{◌≡◌, ◌-◌, ◌^◌, ◌<◌, Some, 
 ghost use Rattle.ckpt_types.specs.Limits.{client_numbers, nodes_max};
 ghost use Rattle.node_msgs.specs.Requests.{ckpt_of};
 ghost use Rattle.node_msgs.specs.Steps.{verb_of, word_of, event_verb};
-ghost use Rattle.ckpt_machine.specs.Driving.{driver_next, driver_taken, driver_end, driver_start, on_kept, update_start, active_start, done_end, event_ckpt, event_node, event_end, event_refusal, making_in, opened_end, refusal_in, takes_memory, refused_cause};
+ghost use Rattle.ckpt_machine.specs.Driving.{driver_next, driver_taken, driver_end, driver_start, on_kept, change_start, active_start, done_end, event_ckpt, event_node, event_end, event_refusal, making_in, opened_end, refusal_in, takes_memory, refused_cause};
 ghost use Rattle.cluster_record.specs.StepDone.{done_of, names_live};
 ghost use Rattle.cluster_record.specs.DueUpdate.{update_taken};
 ghost use Rattle.cluster_record.specs.Calls.{client_of};
@@ -11,7 +11,7 @@ ghost use Rattle.cluster_record.specs.LookUps.{node_of_client};
 ghost use Rattle.cluster_record.specs.Places.{find_key};
 ghost use Rattle.cluster_record.specs.RecordState.{client_key};
 ghost use Rattle.ckpt_types.specs.Asks.{asked};
-ghost use Rattle.ckpt_machine.specs.Steps.{kept_at_beginning};
+ghost use Rattle.ckpt_machine.specs.Steps.{all_at, kept_at_beginning};
 ghost use Rattle.ckpt_machine.specs.Tables.{rooms_in};
 ghost use Rattle.world_core.specs.CallStates.{driver_in, step_in};
 ghost use Rattle.node_msgs.specs.declared.steps.StepReply.TheVariants as words;
@@ -25,7 +25,7 @@ ghost use Rattle.cluster_record.specs.DueOnce.{Close, Retain};
 use crate::beginning::{choice_of, ckpt_of_handle};
 use crate::one_step::OneStep;
 use crate::tables::Tables;
-use ckpt_types::{AisError, Answer, CallId, Cause, CkptId, NodeId, Op, Outcome};
+use ckpt_types::{AisError, Answer, CallId, Cause, CkptId, NodeId, Op, Outcome, WR_ALL_REPLICAS};
 use client_handles::HandleView;
 use cluster_record::{ActiveKind, OpenAnswer, Record, number_of};
 use drive_active::ActiveCall;
@@ -106,7 +106,7 @@ impl Driver {
             | Op::Delete(_, _)
             | Op::Expire(_, _)
             | Op::Write(_, _)
-            | Op::Over(_, _) => Ok(update_start(call, ckpt_of_handle(handle))),
+            | Op::Over(_, _) => Ok(change_start(call, cluster, ckpt_of_handle(handle))),
             Op::Read(_, _) => Ok(active_start(call, ActiveKind::Read, ckpt_of_handle(handle))),
             Op::Status(_) => Ok(active_start(call, ActiveKind::Status, ckpt_of_handle(handle))),
             Op::Iter(_, _, chosen, time) => Ok(active_start(
@@ -279,12 +279,27 @@ fn refused_cause(op: &Op, index: u32) -> Cause
     }
 }
 
-fn update_start(call: CallId, ckpt: Option<CkptId>) -> Driver
-    requires { IsSome (update_start call ckpt) }
-    ensures { update_start call ckpt ≡ Some result }
+// An update of all replicas, or of the active alone, as its checkpoint declares.
+fn change_start(call: CallId, cluster: &Record, ckpt: Option<CkptId>) -> Driver
+    requires { IsSome (change_start call (all_at cluster.now ckpt) ckpt) }
+    ensures { change_start call (all_at cluster.now ckpt) ckpt ≡ Some result }
 {
     let Some(ckpt) = ckpt else { unreachable!() };
-    Driver::by(DriverKind::Update(UpdateCall::begin(call, ckpt)))
+    if is_all(cluster, ckpt) {
+        Driver::by(DriverKind::Update(UpdateCall::begin(call, ckpt)))
+    } else {
+        Driver::by(DriverKind::Active(ActiveCall::begin(call, ckpt, ActiveKind::Apply)))
+    }
+}
+
+// Whether updates of a checkpoint are on all its replicas.
+fn is_all(cluster: &Record, ckpt: CkptId) -> bool
+    ensures { result ≡ all_at cluster.now (Some ckpt) }
+{
+    match cluster.declared(ckpt) {
+        None => false,
+        Some(attributes) => attributes.creation_flags == WR_ALL_REPLICAS,
+    }
 }
 
 fn active_start(call: CallId, kind: ActiveKind, ckpt: Option<CkptId>) -> Driver

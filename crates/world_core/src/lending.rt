@@ -1,9 +1,9 @@
 //! What the call of a client lends to a request, and what comes back of it.
-ghost use Rattle.std.specs.Prelude.{◌≡◌, ◌<◌, [], length, None, Some, IfOk, IfSome, IsSome, MatchOption, OnOk};
+ghost use Rattle.std.specs.Prelude.{◌≡◌, ◌<◌, [], length, None, Some, IfOk, IsSome, MatchOption, OnOk};
 ghost use Rattle.ckpt_types.specs.Asks.{update_of, elements_of};
 ghost use Rattle.ckpt_types.specs.declared.update.Update.TheVariants as updates;
 ghost use Rattle.node_core.specs.Lending.{bytes_asked, HasRoomToTell};
-ghost use Rattle.world_core.specs.Lending.{IsLentBy, IsLentRead};
+ghost use Rattle.world_core.specs.Lending.{IsLentBy, IsLentUpdate, IsLentRead};
 ghost use Rattle.world_core.specs.UpdateSteps.{is_creation};
 
 use crate::begins::DECLARES_NOTHING;
@@ -11,7 +11,7 @@ use ckpt_types::{
     Apart, CheckpointDescriptor, GENERATED_ID_BYTES, NewId, Op, ReadBuf, ReadElement, ReadVector,
     SectionDescriptor, SectionId, SectionState, SharedReads, SharedUpdate, Update,
 };
-use node_core::Lent;
+use node_core::{Lent, bytes_asked};
 use node_msgs::Request;
 use std::alloc::{AllocError, Global};
 
@@ -39,8 +39,9 @@ fn lend(alloc: Global, op: &Op, request: &Request, lent: &mut Lent) -> Result<()
     ensures iteration { OnOk result (lent.new.iteration ≡ lent.old.iteration) }
 {
     match request {
-        Request::Stage(_, _, _) => lend_update(alloc, op, lent),
+        Request::Stage(_, _, _) | Request::Mark(_, _) => lend_update(alloc, op, lent),
         Request::Commit(_, _) => lend_identifier(alloc, op, lent),
+        Request::Apply(_, _) => lend_change(alloc, op, lent),
         Request::Read(_) => lend_read(alloc, op, lent),
         Request::Status(_) => lend_status(alloc, lent),
         Request::Next(_, _) => lend_section(alloc, lent),
@@ -50,6 +51,7 @@ fn lend(alloc: Global, op: &Op, request: &Request, lent: &mut Lent) -> Result<()
 
 fn lend_update(alloc: Global, op: &Op, lent: &mut Lent) -> Result<(), AllocError>
     ensures update { OnOk result (lent.new.update ≡ Some (update_of op.now)) }
+    ensures read { OnOk result (lent.new.read ≡ lent.old.read) }
     ensures iteration { OnOk result (lent.new.iteration ≡ lent.old.iteration) }
 {
     lent.update = Some(share_update(alloc, op)?);
@@ -64,6 +66,15 @@ fn lend_identifier(alloc: Global, op: &Op, lent: &mut Lent) -> Result<(), AllocE
         return Ok(());
     };
     reserve_id(alloc, update, &mut lent.read)
+}
+
+// What an update wants that is made at once: a share of it, and room for the identifier that it tells.
+fn lend_change(alloc: Global, op: &Op, lent: &mut Lent) -> Result<(), AllocError>
+    ensures lent { OnOk result (IsLentUpdate op.now lent.new) }
+    ensures iteration { OnOk result (lent.new.iteration ≡ lent.old.iteration) }
+{
+    lend_identifier(alloc, op, lent)?;
+    lend_update(alloc, op, lent)
 }
 
 fn reserve_id(alloc: Global, update: &Update, read: &mut ReadBuf) -> Result<(), AllocError>
@@ -151,20 +162,6 @@ fn reserve_for(alloc: Global, elements: &[ReadElement]) -> Result<ReadBuf, Alloc
         return Err(AllocError);
     };
     ReadBuf::reserve(alloc, elements.len(), bytes)
-}
-
-// How many bytes the elements ask for at most, where that can be counted.
-fn bytes_asked(elements: &[ReadElement]) -> Option<usize>
-    ensures { IfSome result (λ n. n ≡ bytes_asked elements.now) }
-{
-    let mut total: u64 = 0;
-    for element in elements {
-        let Some(more) = total.checked_add(element.len) else {
-            return None;
-        };
-        total = more;
-    }
-    usize::try_from(total).ok()
 }
 
 /// A share of the update that an operation asks for.

@@ -21,7 +21,8 @@ pub fn look_word(end: &Outcome) -> StepReply
     }
 }
 
-/// The step of a call, told with what it is about, what was answered, and how the call ends by it.
+/// The step of a call, told with what it is about, what was answered, and how the call ends by it. Nothing is told
+/// beside.
 #[inline(always)]
 pub fn stepped(
     call: CallId,
@@ -31,9 +32,8 @@ pub fn stepped(
     node: Option<NodeId>,
     reply: StepReply,
     end: Option<Outcome>,
-    details: Details,
 ) -> Label
-    ensures { result ≡ labels.Stepped call op verb ckpt node reply end details }
+    ensures { result ≡ labels.Stepped call op verb ckpt node reply end beside.Nothing }
 {
     Label::Stepped {
         call,
@@ -43,7 +43,7 @@ pub fn stepped(
         node,
         reply,
         end,
-        details,
+        details: Details::Nothing,
     }
 }
 
@@ -61,7 +61,16 @@ pub fn served(
 ) -> Label
     ensures { result ≡ labels.Stepped call op verb (Some ckpt) (Some r) reply end details }
 {
-    stepped(call, op, verb, Some(ckpt), Some(r), reply, end, details)
+    Label::Stepped {
+        call,
+        op,
+        verb,
+        ckpt: Some(ckpt),
+        node: Some(r),
+        reply,
+        end,
+        details,
+    }
 }
 
 /// A node has done what a call asked, and the call goes on.
@@ -69,16 +78,7 @@ pub fn served(
 pub fn goes_on(call: CallId, op: OpWord, verb: Verb, ckpt: CkptId, r: NodeId) -> Label
     ensures { result ≡ labels.Stepped call op verb (Some ckpt) (Some r) words.Ok None beside.Nothing }
 {
-    served(
-        call,
-        op,
-        verb,
-        ckpt,
-        r,
-        StepReply::Ok,
-        None,
-        Details::Nothing,
-    )
+    stepped(call, op, verb, Some(ckpt), Some(r), StepReply::Ok, None)
 }
 
 /// A node has done what a call asked, and the call ends with OK, with nothing told beside it.
@@ -86,14 +86,6 @@ pub fn goes_on(call: CallId, op: OpWord, verb: Verb, ckpt: CkptId, r: NodeId) ->
 pub fn done(call: CallId, op: OpWord, verb: Verb, ckpt: CkptId, r: NodeId) -> Label
     ensures { result ≡ labels.Stepped call op verb (Some ckpt) (Some r) words.Ok (Some (Done answers.Nothing)) beside.Nothing }
 {
-    served(
-        call,
-        op,
-        verb,
-        ckpt,
-        r,
-        StepReply::Ok,
-        Some(Outcome::Done(Answer::Nothing)),
-        Details::Nothing,
-    )
+    let end = Some(Outcome::Done(Answer::Nothing));
+    stepped(call, op, verb, Some(ckpt), Some(r), StepReply::Ok, end)
 }

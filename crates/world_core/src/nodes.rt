@@ -1,22 +1,22 @@
 //! The nodes n0 to n7, and the requests that they serve.
-ghost use Rattle.std.specs.Prelude.{◌≡◌, ◌-◌, ◌^◌, ◌<◌, [], None, Some, IfOk, IfSome, IsSome, IsSomeAnd, MatchOption, length, replicate};
+ghost use Rattle.std.specs.Prelude.{◌≡◌, ◌<◌, [], None, Some, IfOk, IfSome, IsSomeAnd, MatchOption, length, replicate};
 ghost use Rattle.ckpt_types.specs.Limits.{nodes_max};
 ghost use Rattle.node_msgs.specs.Requests.{ckpt_of};
-ghost use Rattle.node_msgs.specs.declared.requests.Request.TheVariants as requests;
 ghost use Rattle.node_core.specs.Details.{details_told};
-ghost use Rattle.node_core.specs.Fitting.{RequestFits, IsReadyFor};
+ghost use Rattle.node_core.specs.Fitting.{RequestFits, TakesUpdate};
 ghost use Rattle.node_core.specs.Nodes.{MayReply, replica_served, seen_from};
-ghost use Rattle.node_core.specs.Payloads.{no_payload, payload_of, update_alone};
-ghost use Rattle.node_core.specs.Seen.{record_seen};
-ghost use Rattle.node_core.specs.Serving.{details_at, iteration_behind, reply_at};
+ghost use Rattle.node_core.specs.Payloads.{payload_of};
+ghost use Rattle.node_core.specs.Serving.{details_at, iteration_behind};
+ghost use Rattle.replica.specs.Replicas.{answer_unless, committed, outcome_on, staged};
+ghost use Rattle.stage_slot.specs.Slots.{IsOwnedBy, owner_of};
 ghost use Rattle.world_core.specs.Freeing.{freed};
-ghost use Rattle.world_core.specs.Nodes.{node_at, nodes_after, nodes_shown, replica_in, StandByNumber};
+ghost use Rattle.world_core.specs.Nodes.{node_at, nodes_after, nodes_shown, replica_in, with_replica, StandByNumber};
 
 use ckpt_types::{CallId, CkptId, Moment, NODES_MAX, NodeId, SharedUpdate};
 use cluster_record::Record;
 use node_core::{Lent, Node};
 use node_msgs::{Reply, Request};
-use replica::Replica;
+use replica::{Replica, StageRefused};
 use std::alloc::{AllocError, Global};
 use std::marker::Model;
 
@@ -70,43 +70,33 @@ impl Nodes {
         serve_node(self.list.as_mut_slice(), alloc, r, seen, request, lent)
     }
 
-    /// A node stages an update of a call, as `serve` does. It takes no memory.
+    /// The replica of a checkpoint on a node stages an update of a call, as it does where `serve` asks for it.
     #[inline(always)]
     pub fn stage(
         &mut self,
         r: NodeId,
-        seen: &Record,
         call: CallId,
         ckpt: CkptId,
         moment: Moment,
         update: SharedUpdate,
-    ) -> Reply
+    ) -> Result<(), StageRefused>
         requires node { r < nodes_max }
-        requires room { IfSome (replica_in self.old ckpt r) (λ x. x.count < 2 ^ 64 - 1) }
-        requires there { IsSome (replica_served seen.now (node_at self.old r) ckpt) }
-        ensures reply { result ≡ reply_at (requests.Stage call ckpt moment) (update_alone update) (record_seen seen.now ckpt r) (replica_served seen.now (node_at self.old r) ckpt) }
-        ensures new { self.new ≡ nodes_after seen.now self.old r (requests.Stage call ckpt moment) (update_alone update) result }
+        requires there { IsSomeAnd (replica_in self.old ckpt r) TakesUpdate }
+        ensures answer { IfSome (replica_in self.old ckpt r) (λ x. result ≡ answer_unless (owner_of x.slot) (outcome_on x update moment)) }
+        ensures new { self.new ≡ with_replica ckpt r (staged call update moment) self.old }
     {
-        stage_node(
-            self.list.as_mut_slice(),
-            r,
-            seen,
-            call,
-            ckpt,
-            moment,
-            update,
-        )
+        stage_node(self.list.as_mut_slice(), r, call, ckpt, moment, update)
     }
 
-    /// A node commits what a call has staged there, as `serve` does, and tells no identifier. It takes no memory.
+    /// The replica of a checkpoint on a node commits what a call has staged there, as it does where `serve` asks for
+    /// it, and no identifier is told.
     #[inline(always)]
-    pub fn commit(&mut self, r: NodeId, seen: &Record, call: CallId, ckpt: CkptId) -> Reply
+    pub fn commit(&mut self, r: NodeId, call: CallId, ckpt: CkptId)
         requires node { r < nodes_max }
-        requires own { IsSomeAnd (replica_served seen.now (node_at self.old r) ckpt) (IsReadyFor (requests.Commit call ckpt)) }
-        ensures reply { result ≡ reply_at (requests.Commit call ckpt) no_payload (record_seen seen.now ckpt r) (replica_served seen.now (node_at self.old r) ckpt) }
-        ensures new { self.new ≡ nodes_after seen.now self.old r (requests.Commit call ckpt) no_payload result }
+        requires own { IsSomeAnd (replica_in self.old ckpt r) (λ x. IsOwnedBy call x.slot) }
+        ensures { self.new ≡ with_replica ckpt r (λ x. committed x x.slot) self.old }
     {
-        commit_node(self.list.as_mut_slice(), r, seen, call, ckpt)
+        commit_node(self.list.as_mut_slice(), r, call, ckpt);
     }
 
     /// The replica that a node has of a checkpoint, complete or reserved.
@@ -162,35 +152,32 @@ fn serve_node(
 fn stage_node(
     nodes: &mut [Node],
     r: NodeId,
-    seen: &Record,
     call: CallId,
     ckpt: CkptId,
     moment: Moment,
     update: SharedUpdate,
-) -> Reply
+) -> Result<(), StageRefused>
     requires numbered { StandByNumber nodes.old }
     requires node { r < length nodes.old }
-    requires room { IfSome (replica_in (nodes_shown nodes.old) ckpt r) (λ x. x.count < 2 ^ 64 - 1) }
-    requires there { IsSome (replica_served seen.now (node_at (nodes_shown nodes.old) r) ckpt) }
+    requires there { IsSomeAnd (replica_in (nodes_shown nodes.old) ckpt r) TakesUpdate }
     ensures numbered { StandByNumber nodes.new }
-    ensures reply { result ≡ reply_at (requests.Stage call ckpt moment) (update_alone update) (record_seen seen.now ckpt r) (replica_served seen.now (node_at (nodes_shown nodes.old) r) ckpt) }
-    ensures new { nodes_shown nodes.new ≡ nodes_after seen.now (nodes_shown nodes.old) r (requests.Stage call ckpt moment) (update_alone update) result }
+    ensures answer { IfSome (replica_in (nodes_shown nodes.old) ckpt r) (λ x. result ≡ answer_unless (owner_of x.slot) (outcome_on x update moment)) }
+    ensures new { nodes_shown nodes.new ≡ with_replica ckpt r (staged call update moment) (nodes_shown nodes.old) }
 {
     let node = &mut nodes[r as usize];
-    node.stage(seen, call, ckpt, moment, update)
+    node.stage(call, ckpt, moment, update)
 }
 
 #[inline(always)]
-fn commit_node(nodes: &mut [Node], r: NodeId, seen: &Record, call: CallId, ckpt: CkptId) -> Reply
+fn commit_node(nodes: &mut [Node], r: NodeId, call: CallId, ckpt: CkptId)
     requires numbered { StandByNumber nodes.old }
     requires node { r < length nodes.old }
-    requires own { IsSomeAnd (replica_served seen.now (node_at (nodes_shown nodes.old) r) ckpt) (IsReadyFor (requests.Commit call ckpt)) }
+    requires own { IsSomeAnd (replica_in (nodes_shown nodes.old) ckpt r) (λ x. IsOwnedBy call x.slot) }
     ensures numbered { StandByNumber nodes.new }
-    ensures reply { result ≡ reply_at (requests.Commit call ckpt) no_payload (record_seen seen.now ckpt r) (replica_served seen.now (node_at (nodes_shown nodes.old) r) ckpt) }
-    ensures new { nodes_shown nodes.new ≡ nodes_after seen.now (nodes_shown nodes.old) r (requests.Commit call ckpt) no_payload result }
+    ensures new { nodes_shown nodes.new ≡ with_replica ckpt r (λ x. committed x x.slot) (nodes_shown nodes.old) }
 {
     let node = &mut nodes[r as usize];
-    node.commit(seen, call, ckpt)
+    node.commit(call, ckpt);
 }
 
 fn find_at(nodes: &[Node], r: NodeId, ckpt: CkptId) -> Option<&Replica>

@@ -22,6 +22,7 @@ use run_labels::{
 use section_store::Store;
 use stage_slot::Slot;
 use std::alloc::{AllocError, Global};
+use weak_marks::Marks;
 
 impl World {
     /// The replicas of a checkpoint are told. Want of memory leaves the log as it was.
@@ -124,7 +125,7 @@ fn list_replica(
         active: is_active(active, r),
         generation: replica.generation(),
         count: replica.count(),
-        slot: list_slot(replica.slot()),
+        slot: list_slot(replica.slot(), replica.marks()),
         sections,
     })
 }
@@ -138,12 +139,15 @@ fn is_active(active: Option<NodeId>, r: NodeId) -> bool
     }
 }
 
-fn list_slot(slot: &Slot) -> ShownSlot
-    ensures { result ≡ kept_slot_listed slot.now }
+fn list_slot(slot: &Slot, marks: &Marks) -> ShownSlot
+    ensures { result ≡ kept_slot_listed slot.now marks.now }
 {
     match slot.owner() {
-        None => ShownSlot::Free,
         Some(owner) => ShownSlot::Held(owner),
+        None => match marks.call() {
+            Some(call) => ShownSlot::Mark(call),
+            None => ShownSlot::Free,
+        },
     }
 }
 

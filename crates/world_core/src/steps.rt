@@ -25,13 +25,15 @@ ghost use Rattle.ckpt_types.specs.Limits.{client_numbers, nodes_max};
 use crate::applying::apply;
 use crate::details::told_details;
 use crate::drivers::{DriverKind, event_ckpt, event_end, event_node, event_refusal};
+use crate::hands::let_go;
+use crate::iterating::{keep_iteration, lend_iteration};
 use crate::lending::lent_by;
 use crate::messages::{look_word, served, stepped};
 use crate::tables::Tables;
 use crate::world::World;
 use ckpt_types::{ActorName, CkptId, NodeId, Op, Outcome, Who};
 use cluster_record::Record;
-use node_msgs::{Details, Next, RecordStep, Request, StepReply, Verb};
+use node_msgs::{Next, RecordStep, Request, StepReply, Verb};
 use run_labels::{Label, LineWord, RunLog, Said};
 use std::alloc::{AllocError, Global};
 
@@ -104,18 +106,25 @@ impl World {
         ensures ok { OnOk result (Adds log.old log.new (IsStep c self.old self.new)) }
         ensures err { OnErr result ((self.new ≡ self.old) × (log.new.labels ≡ log.old.labels)) }
     {
-        let Some(hand) = self.hands.find(c) else {
-            unreachable!()
-        };
+        let slot = self.hands.at(c);
+        let Some(hand) = slot else { unreachable!() };
         let call = hand.call;
         let op = hand.word();
         let mut lent = lent_by(alloc, &hand.op, request)?;
-        self.lend_iteration(c, request, &mut lent);
+        lent.iteration = lend_iteration(&mut self.tables, c, hand, request);
         let reply = self
             .nodes
             .serve(alloc, r, &self.cluster, request, &mut lent);
-        self.keep_iteration(c, request, &reply, lent.iteration.take());
-        let end = self.hands.take(c, &self.cluster, r, request, &reply);
+        keep_iteration(
+            &mut self.tables,
+            c,
+            &hand.op,
+            request,
+            &reply,
+            lent.iteration.take(),
+        );
+        let end = hand.take(&self.cluster, r, request, &reply);
+        let_go(slot, &end);
         let details = told_details(&end, &reply, lent);
         log.push(served(
             call,
@@ -196,24 +205,14 @@ impl World {
         requires spare { 1 ≤ log.old.spare }
         ensures { Adds log.old log.new (IsStep c self.old self.new) }
     {
-        let Some(hand) = self.hands.find(c) else {
-            unreachable!()
-        };
+        let slot = self.hands.at(c);
+        let Some(hand) = slot else { unreachable!() };
         let call = hand.call;
         let op = hand.word();
         let ckpt = event_ckpt(&self.cluster, &hand.driver, &step);
         let node = event_node(&hand.driver, &step);
-        self.hands.clear(c);
-        log.push(stepped(
-            call,
-            op,
-            step.verb(),
-            ckpt,
-            node,
-            reply,
-            Some(end),
-            Details::Nothing,
-        ));
+        *slot = None;
+        log.push(stepped(call, op, step.verb(), ckpt, node, reply, Some(end)));
     }
 
     // The call takes a step that the record does not refuse; where its memory is refused, the call ends. A client
@@ -228,33 +227,25 @@ impl World {
         requires spare { 1 ≤ log.old.spare }
         ensures { Adds log.old log.new (IsStep c self.old self.new) }
     {
-        let Some(hand) = self.hands.find(c) else {
-            unreachable!()
-        };
+        let slot = self.hands.at(c);
+        let Some(hand) = slot else { unreachable!() };
         let call = hand.call;
         let op = hand.word();
         let ckpt = event_ckpt(&self.cluster, &hand.driver, &step);
         let node = event_node(&hand.driver, &step);
         let verb = step.verb();
         if apply(&mut self.cluster, call, &hand.driver, step).is_err() {
-            self.refuse_step(c, step, StepReply::Memory, Outcome::NoMemory, log);
+            *slot = None;
+            let end = Some(Outcome::NoMemory);
+            log.push(stepped(call, op, verb, ckpt, node, StepReply::Memory, end));
             return;
         }
         settle(&mut self.tables, &self.cluster, c, &hand.op, &step, ckpt);
         let end = event_end(&step, ckpt);
-        self.hands
-            .told(c, &self.cluster, &step, ckpt, node, StepReply::Ok, &end);
+        hand.told(&self.cluster, &step, ckpt, node, StepReply::Ok);
+        let_go(slot, &end);
         self.nodes.free_gone(&self.cluster);
-        log.push(stepped(
-            call,
-            op,
-            verb,
-            ckpt,
-            node,
-            StepReply::Ok,
-            end,
-            Details::Nothing,
-        ));
+        log.push(stepped(call, op, verb, ckpt, node, StepReply::Ok, end));
     }
 
     /// The record alone decides how the call ends; what it is making is undone.
@@ -265,26 +256,16 @@ impl World {
         requires spare { 1 ≤ log.old.spare }
         ensures { Adds log.old log.new (IsStep c self.old self.new) }
     {
-        let Some(hand) = self.hands.find(c) else {
-            unreachable!()
-        };
+        let slot = self.hands.at(c);
+        let Some(hand) = slot else { unreachable!() };
         let call = hand.call;
         let op = hand.word();
         let reply = look_word(&end);
         let making = hand.driver.making();
         settle_look(&mut self.tables, c, &hand.op, &end);
-        self.hands.clear(c);
+        *slot = None;
         self.unmake(making);
-        log.push(stepped(
-            call,
-            op,
-            Verb::Look,
-            None,
-            None,
-            reply,
-            Some(end),
-            Details::Nothing,
-        ));
+        log.push(stepped(call, op, Verb::Look, None, None, reply, Some(end)));
     }
 
     // What a call is making is undone, if it is making something; what is over goes too, and its replicas.

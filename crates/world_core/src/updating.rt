@@ -1,5 +1,5 @@
 //! The steps by which an update is staged on the nodes, and committed.
-ghost use Rattle.std.specs.Prelude.{◌≡◌, ◌≢◌, [], ◌∷◌, ◌++◌, ◌<◌, ◌≤◌, Some, None, OnOk, OnErr, slice_set};
+ghost use Rattle.std.specs.Prelude.{◌≡◌, ◌≢◌, [], ◌∷◌, ◌++◌, ◌<◌, ◌≤◌, Some, None, OnOk, OnErr};
 ghost use Rattle.ckpt_types.specs.Limits.{client_numbers, nodes_max};
 ghost use Rattle.node_msgs.specs.declared.next.Next.TheVariants as nexts;
 ghost use Rattle.node_msgs.specs.declared.requests.Request.TheVariants as requests;
@@ -9,18 +9,23 @@ ghost use Rattle.node_msgs.specs.declared.details.Details.TheVariants as beside;
 ghost use Rattle.run_labels.specs.declared.labels.Label.TheVariants as labels;
 ghost use Rattle.cluster_record.specs.Calls.{left};
 ghost use Rattle.drive_update.specs.UpdateStates.{IsOfUpdate};
-ghost use Rattle.world_core.specs.declared.hands.InHand.{InHand};
+ghost use Rattle.ckpt_types.specs.OpWord.{word_of_op};
+ghost use Rattle.node_core.specs.StageReplies.{reply_refused};
 ghost use Rattle.world_core.specs.HandSteps.{end_by, hand_taken, served_done};
 ghost use Rattle.world_core.specs.Happenings.{Adds, IsNext, IsStep};
 ghost use Rattle.world_core.specs.Shows.{IsShown, HasNumbersLeft, hand_at};
 ghost use Rattle.world_core.specs.UpdateSteps.{IsUpdate};
 
+use crate::hands::{InHand, let_go};
 use crate::lending::{creates, share_update};
 use crate::messages::{done, goes_on, served};
 use crate::world::World;
 use ckpt_types::{CallId, CkptId, Moment, NodeId};
-use node_msgs::{Details, Next, Reply, Request, Verb};
-use run_labels::{OpWord, RunLog};
+use cluster_record::Record;
+use node_core::reply_refused;
+use node_msgs::{Details, Next, Request, Verb};
+use replica::StageRefused;
+use run_labels::RunLog;
 use std::alloc::{AllocError, Global};
 
 impl World {
@@ -79,54 +84,19 @@ impl World {
         ensures ok { OnOk result (Adds log.old log.new (IsStep c self.old self.new)) }
         ensures err { OnErr result ((self.new ≡ self.old) × (log.new.labels ≡ log.old.labels)) }
     {
-        let Some(hand) = self.hands.find(c) else {
-            unreachable!()
-        };
+        let slot = self.hands.at(c);
+        let Some(hand) = slot else { unreachable!() };
         let call = hand.call;
         let op = hand.word();
         let update = share_update(alloc, &hand.op)?;
-        let reply = self
-            .nodes
-            .stage(r, &self.cluster, asked, ckpt, moment, update);
-        let Reply::Done(_) = reply else {
+        if let Err(refused) = self.nodes.stage(r, asked, ckpt, moment, update) {
             let request = Request::Stage(asked, ckpt, moment);
-            self.refused_step(c, r, call, op, &request, &reply, log);
+            refuse_stage(slot, &self.cluster, r, &request, refused, log);
             return Ok(());
-        };
-        self.hands.staged(c, &self.cluster, ckpt, r);
+        }
+        hand.staged(&self.cluster, ckpt, r);
         log.push(goes_on(call, op, Verb::Stage, ckpt, r));
         Ok(())
-    }
-
-    // A node has refused what an update asked of it, which ends by that unless the owner of the slot there is gone.
-    #[inline(never)]
-    fn refused_step(
-        &mut self,
-        c: u8,
-        r: NodeId,
-        call: CallId,
-        op: OpWord,
-        request: &Request,
-        reply: &Reply,
-        log: &mut RunLog,
-    )
-        requires held { hand_at self.old.hands c ≢ None }
-        requires node { r < nodes_max }
-        requires spare { 1 ≤ log.old.spare }
-        ensures world { (h : InHand) → hand_at self.old.hands c ≡ Some h → self.new ≡ record self.old { hands = slice_set self.old.hands c (left (end_by (served_done self.old.cluster request.now r reply.now) reply.now h) (hand_taken (served_done self.old.cluster request.now r reply.now) h)) } }
-        ensures label { (h : InHand) → hand_at self.old.hands c ≡ Some h → log.new.labels ≡ log.old.labels ++ labels.Stepped call op (verb_of request.now) (Some (ckpt_of request.now)) (Some r) (word_of reply.now) (end_by (served_done self.old.cluster request.now r reply.now) reply.now h) beside.Nothing ∷ [] }
-    {
-        let end = self.hands.take(c, &self.cluster, r, request, reply);
-        log.push(served(
-            call,
-            op,
-            request.verb(),
-            request.ckpt(),
-            r,
-            reply.word(),
-            end,
-            Details::Nothing,
-        ));
     }
 
     // A node commits what the call has staged there. A creation tells the identifier of its section.
@@ -149,25 +119,54 @@ impl World {
         ensures ok { OnOk result (Adds log.old log.new (IsStep c self.old self.new)) }
         ensures err { OnErr result ((self.new ≡ self.old) × (log.new.labels ≡ log.old.labels)) }
     {
-        let Some(hand) = self.hands.find(c) else {
-            unreachable!()
-        };
+        let slot = self.hands.at(c);
+        let Some(hand) = slot else { unreachable!() };
         if creates(&hand.op) {
             return self.serve_step(alloc, c, r, &Request::Commit(asked, ckpt), log);
         }
         let call = hand.call;
         let op = hand.word();
-        let reply = self.nodes.commit(r, &self.cluster, asked, ckpt);
-        let Reply::Done(_) = reply else {
-            let request = Request::Commit(asked, ckpt);
-            self.refused_step(c, r, call, op, &request, &reply, log);
-            return Ok(());
-        };
-        if self.hands.committed(c, &self.cluster, ckpt, r) {
+        self.nodes.commit(r, asked, ckpt);
+        if hand.committed(&self.cluster, ckpt, r) {
             log.push(goes_on(call, op, Verb::Commit, ckpt, r));
         } else {
+            *slot = None;
             log.push(done(call, op, Verb::Commit, ckpt, r));
         }
         Ok(())
     }
+}
+
+// A node has refused to stage an update, which ends by that unless the owner of the slot there is gone.
+#[inline(never)]
+fn refuse_stage(
+    slot: &mut Option<InHand>,
+    cluster: &Record,
+    r: NodeId,
+    request: &Request,
+    refused: StageRefused,
+    log: &mut RunLog,
+)
+    requires held { slot.old ≢ None }
+    requires node { r < nodes_max }
+    requires spare { 1 ≤ log.old.spare }
+    ensures slot { (h : InHand) → slot.old ≡ Some h → slot.new ≡ left (end_by (served_done cluster.now request.now r (reply_refused refused)) (reply_refused refused) h) (hand_taken (served_done cluster.now request.now r (reply_refused refused)) h) }
+    ensures label { (h : InHand) → slot.old ≡ Some h → log.new.labels ≡ log.old.labels ++ labels.Stepped h.call (word_of_op h.op) (verb_of request.now) (Some (ckpt_of request.now)) (Some r) (word_of (reply_refused refused)) (end_by (served_done cluster.now request.now r (reply_refused refused)) (reply_refused refused) h) beside.Nothing ∷ [] }
+{
+    let Some(hand) = slot else { unreachable!() };
+    let call = hand.call;
+    let op = hand.word();
+    let reply = reply_refused(refused);
+    let end = hand.take(cluster, r, request, &reply);
+    let_go(slot, &end);
+    log.push(served(
+        call,
+        op,
+        request.verb(),
+        request.ckpt(),
+        r,
+        reply.word(),
+        end,
+        Details::Nothing,
+    ));
 }

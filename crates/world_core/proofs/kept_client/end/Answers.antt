@@ -1,7 +1,7 @@
 use Rattle.std.proofs.Common.{◌≡◌, sym, subst}
 use Rattle.client_handles.specs.ClientState.{IsValid, ended}
 use Rattle.client_handles.proofs.ClientLaws.{IsValid-ended}
-use Rattle.world_core.proofs.Ended.{ended-either}
+use Rattle.world_core.proofs.LentPlaces.{ended-either}
 use Rattle.world_core.proofs.kept_client.end.Goals as goal
 
 pub returns-clause-new : goal.returns-clause-new

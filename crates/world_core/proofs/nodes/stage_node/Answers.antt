@@ -1,25 +1,29 @@
-use Rattle.std.proofs.Common.{◌≡◌, ℤ, w64, of_z, to_z, sym, ap, ◌∙◌}
+use Rattle.std.proofs.Common.{◌≡◌, ℤ, w64, of_z, to_z, sym, ap, subst, ◌∙◌}
 use Rattle.std.proofs.lemmas.Int.{to_z-of_z}
-use Rattle.std.specs.Prelude.{slice_index_or, slice_set}
-use Rattle.node_msgs.specs.declared.requests.Request.TheVariants as requests
-use Rattle.node_core.specs.Nodes.{NodeState, replica_served, replicas_after, seen_from}
-use Rattle.node_core.specs.Payloads.{update_alone}
-use Rattle.node_core.specs.Serving.{reply_at}
+use Rattle.std.specs.Prelude.{IfSome, IsSomeAnd, slice_set}
+use Rattle.cluster_record.specs.Places.{find_key, change_key}
+use Rattle.stage_slot.specs.Slots.{owner_of}
+use Rattle.replica.specs.Replicas.{answer_unless, outcome_on, staged}
+use Rattle.node_core.specs.Fitting.{TakesUpdate}
+use Rattle.node_core.specs.Nodes.{NodeState, replica_key}
 use Rattle.world_core.specs.Nodes.{nodes_shown}
 use Rattle.world_core.proofs.Numbered.{node_is, shown_set}
 use Rattle.world_core.proofs.nodes.stage_node.Goals as goal
 
-pub returns-clause-reply : goal.returns-clause-reply
-returns-clause-reply c =
+pub stage-requires : goal.stage-requires
+stage-requires c =
+    record { there = subst (λ (n : NodeState). IsSomeAnd (find_key replica_key c.args.ckpt n.replicas) TakesUpdate) (node_is c.args.nodes.now c.requires.numbered c.args.r c.index-nodes-r.result c.requires.node) c.requires.there }
+
+pub returns-clause-answer : goal.returns-clause-answer
+returns-clause-answer c =
     let now : to_z w64 (of_z w64 c.args.moment) ≡ c.args.moment = to_z-of_z w64 c.args.moment c.ranges.moment in
-    c.stage.ensures.reply
-    ∙ ap (λ (t : ℤ). reply_at (requests.Stage c.args.call c.args.ckpt t) (update_alone c.args.update) (seen_from c.args.seen.now (slice_index_or c.args.nodes.now c.args.r c.index-nodes-r.result) c.args.ckpt) (replica_served c.args.seen.now (slice_index_or c.args.nodes.now c.args.r c.index-nodes-r.result) c.args.ckpt)) now
-    ∙ ap (λ (n : NodeState). reply_at (requests.Stage c.args.call c.args.ckpt c.args.moment) (update_alone c.args.update) (seen_from c.args.seen.now n c.args.ckpt) (replica_served c.args.seen.now n c.args.ckpt)) (sym (node_is c.args.nodes.now c.requires.numbered c.args.r c.index-nodes-r.result c.requires.node))
+    let is = node_is c.args.nodes.now c.requires.numbered c.args.r c.index-nodes-r.result c.requires.node in
+    subst (λ (z : NodeState × ℤ). IfSome (find_key replica_key c.args.ckpt z.0.replicas) (λ x. c.stage.result ≡ answer_unless (owner_of x.slot) (outcome_on x c.args.update z.1))) (λ i. (sym is i, now i)) c.stage.ensures.answer
 
 pub returns-clause-new : goal.returns-clause-new
 returns-clause-new c =
     let now : to_z w64 (of_z w64 c.args.moment) ≡ c.args.moment = to_z-of_z w64 c.args.moment c.ranges.moment in
+    let is = node_is c.args.nodes.now c.requires.numbered c.args.r c.index-nodes-r.result c.requires.node in
     ap (λ (n : NodeState). nodes_shown (slice_set c.args.nodes.now c.args.r n)) c.stage.ensures.new
     ∙ shown_set c.args.nodes.now c.requires.numbered c.args.r c.index-nodes-r.result c.requires.node _
-    ∙ ap (λ (t : ℤ). slice_set (nodes_shown c.args.nodes.now) c.args.r (replicas_after c.args.seen.now (slice_index_or c.args.nodes.now c.args.r c.index-nodes-r.result) (requests.Stage c.args.call c.args.ckpt t) (update_alone c.args.update) c.stage.result)) now
-    ∙ ap (λ (n : NodeState). slice_set (nodes_shown c.args.nodes.now) c.args.r (replicas_after c.args.seen.now n (requests.Stage c.args.call c.args.ckpt c.args.moment) (update_alone c.args.update) c.stage.result)) (sym (node_is c.args.nodes.now c.requires.numbered c.args.r c.index-nodes-r.result c.requires.node))
+    ∙ (λ i. slice_set (nodes_shown c.args.nodes.now) c.args.r (change_key replica_key c.args.ckpt (staged c.args.call c.args.update (now i)) (sym is i).replicas))

@@ -1,64 +1,56 @@
-use Rattle.std.proofs.Common.{sym, ap, ◌∙◌}
-use Rattle.std.specs.Prelude.{Bool, Some}
+use Rattle.std.proofs.Common.{◌≡◌, Some, sym, ap, subst, ◌∙◌}
+use Rattle.std.specs.Prelude.{Bool, None, OnOk, OnErr}
 use Rattle.node_msgs.specs.declared.steps.StepReply.TheVariants as words
 use Rattle.node_msgs.specs.declared.steps.Verb.TheVariants as verbs
 use Rattle.node_msgs.specs.declared.details.Details.TheVariants as beside
 use Rattle.run_labels.specs.declared.labels.Label.TheVariants.{Stepped}
+use Rattle.cluster_record.specs.Calls.{left}
+use Rattle.world_core.specs.declared.world.World.{World}
+use Rattle.world_core.specs.Happenings.{Adds, IsStep}
+use Rattle.world_core.specs.Shows.{IsShown}
 use Rattle.world_core.specs.UpdateSteps.{ended_unless}
-use Rattle.world_core.proofs.Staging.{commit_is, commit_refused}
-use Rattle.world_core.proofs.Stepping.{its_may, node_there, some_held}
+use Rattle.world_core.proofs.HandPlaces.{same_world}
+use Rattle.world_core.proofs.Staging.{owns, commit_is}
+use Rattle.world_core.proofs.Stepping.{node_there}
 use Rattle.world_core.proofs.world.World.commit_step.Goals as goal
 
-pub commit-reply-requires-clause-node : goal.commit-reply-requires-clause-node
-commit-reply-requires-clause-node c = node_there c.args.self.now c.args.c c.args.r _ c.in-Some.hand.now c.in-Some.ensures c.requires.next c.requires.shown
+-- a creation goes on as it was
+pub serve_step-requires-clause-shown : goal.serve_step-requires-clause-shown
+serve_step-requires-clause-shown c = subst IsShown (sym (same_world c.args.self.now c.args.c (Some c.in-Some.hand) (c.at-slot.ensures.value ∙ c.in-Some.is))) c.requires.shown
 
-pub commit-reply-requires-clause-own : goal.commit-reply-requires-clause-own
-commit-reply-requires-clause-own c = its_may c.args.self.now c.args.c c.args.r _ c.in-Some.hand.now c.in-Some.ensures c.requires.next c.requires.shown tt
+pub returns-then-creates-clause-ok : goal.returns-then-creates-clause-ok
+returns-then-creates-clause-ok c =
+    subst (λ (w : World). OnOk c.serve_step.result (Adds c.args.log.now c.serve_step.new.log (IsStep c.args.c w c.serve_step.new.self))) (same_world c.args.self.now c.args.c (Some c.in-Some.hand) (c.at-slot.ensures.value ∙ c.in-Some.is)) c.serve_step.ensures.ok
+
+pub returns-then-creates-clause-err : goal.returns-then-creates-clause-err
+returns-then-creates-clause-err c =
+    subst (λ (w : World). OnErr c.serve_step.result ((c.serve_step.new.self ≡ w) × (c.serve_step.new.log.labels ≡ c.args.log.now.labels))) (same_world c.args.self.now c.args.c (Some c.in-Some.hand) (c.at-slot.ensures.value ∙ c.in-Some.is)) c.serve_step.ensures.err
+
+pub commit-requires-clause-node : goal.commit-requires-clause-node
+commit-requires-clause-node c = node_there c.args.self.now c.args.c c.args.r _ c.in-Some.hand (c.at-slot.ensures.value ∙ c.in-Some.is) c.requires.next c.requires.shown
+
+pub commit-requires-clause-own : goal.commit-requires-clause-own
+commit-requires-clause-own c = owns c.args.self.now c.args.c c.args.r c.args.asked c.args.ckpt c.in-Some.hand (c.at-slot.ensures.value ∙ c.in-Some.is) c.requires.next c.requires.shown
 
 pub committed-requires-clause-node : goal.committed-requires-clause-node
-committed-requires-clause-node c = node_there c.args.self.now c.args.c c.args.r _ c.in-Some.hand.now c.in-Some.ensures c.requires.next c.requires.shown
-
-pub refused_step-requires : goal.refused_step-requires
-refused_step-requires c = record {
-  held = some_held _ c.in-Some.hand.now c.in-Some.ensures;
-  node = node_there c.args.self.now c.args.c c.args.r _ c.in-Some.hand.now c.in-Some.ensures c.requires.next c.requires.shown;
-  spare = c.requires.spare;
-}
-
-pub returns-in_default-reply : goal.returns-in_default-reply
-returns-in_default-reply c =
-    let w = c.args.self.now in
-    let hand = c.in-Some.hand.now in
-    let held = c.in-Some.ensures in
-    record {
-      ok = record {
-        label = _;
-        labels = c.refused_step.ensures.label hand held;
-        is = commit_refused w c.args.c c.args.r c.args.asked c.args.ckpt hand held c.requires.next c.requires.shown (sym c.creates.ensures ∙ c.if-creates.false) c.commit-reply.new.self c.word-op.result c.word-op.ensures c.commit-reply.result c.commit-reply.ensures.reply c.commit-reply.ensures.new _ (c.refused_step.ensures.world hand held);
-      };
-      err = tt;
-    }
+committed-requires-clause-node c = node_there c.args.self.now c.args.c c.args.r _ c.in-Some.hand (c.at-slot.ensures.value ∙ c.in-Some.is) c.requires.next c.requires.shown
 
 pub returns-then-committed-clause-ok : goal.returns-then-committed-clause-ok
 returns-then-committed-clause-ok c =
-    let w = c.args.self.now in
-    let hand = c.in-Some.hand.now in
-    let held = c.in-Some.ensures in
     record {
       label = _;
       labels = c.push.ensures.labels;
-      is = commit_is w c.args.c c.args.r c.args.asked c.args.ckpt hand held c.requires.next c.requires.shown (sym c.creates.ensures ∙ c.if-creates.false) c.commit-reply.new.self c.word-op.result c.word-op.ensures c.commit-reply.result c.commit-reply.ensures.reply c.commit-reply.ensures.new c.committed.result c.committed.new.self _
-          (c.committed.ensures.end hand held) (c.committed.ensures.new hand held) (c.goes_on.ensures ∙ ap (λ (b : Bool). Stepped hand.call c.word-op.result verbs.Commit (Some c.args.ckpt) (Some c.args.r) words.Ok (ended_unless b) beside.Nothing) (sym c.if-committed.true));
+      is = commit_is c.args.self.now c.args.c c.args.r c.args.asked c.args.ckpt c.in-Some.hand (c.at-slot.ensures.value ∙ c.in-Some.is) c.requires.next c.requires.shown (sym c.creates.ensures ∙ c.if-creates.false) c.commit.new.self c.commit.ensures c.word-op.result c.word-op.ensures
+          c.committed.result c.committed.new.self (Some c.committed.new.self) _ (c.committed.ensures.new, c.committed.ensures.end) (ap (λ (b : Bool). left (ended_unless b) c.committed.new.self) (sym c.if-committed.true))
+          (c.goes_on.ensures ∙ ap (λ (b : Bool). Stepped c.in-Some.hand.call c.word-op.result verbs.Commit (Some c.args.ckpt) (Some c.args.r) words.Ok (ended_unless b) beside.Nothing) (sym c.if-committed.true));
     }
 
 pub returns-else-committed-clause-ok : goal.returns-else-committed-clause-ok
 returns-else-committed-clause-ok c =
-    let w = c.args.self.now in
-    let hand = c.in-Some.hand.now in
-    let held = c.in-Some.ensures in
     record {
       label = _;
       labels = c.push-else-committed.ensures.labels;
-      is = commit_is w c.args.c c.args.r c.args.asked c.args.ckpt hand held c.requires.next c.requires.shown (sym c.creates.ensures ∙ c.if-creates.false) c.commit-reply.new.self c.word-op.result c.word-op.ensures c.commit-reply.result c.commit-reply.ensures.reply c.commit-reply.ensures.new c.committed.result c.committed.new.self _
-          (c.committed.ensures.end hand held) (c.committed.ensures.new hand held) (c.done.ensures ∙ ap (λ (b : Bool). Stepped hand.call c.word-op.result verbs.Commit (Some c.args.ckpt) (Some c.args.r) words.Ok (ended_unless b) beside.Nothing) (sym c.if-committed.false));
+      is = commit_is c.args.self.now c.args.c c.args.r c.args.asked c.args.ckpt c.in-Some.hand (c.at-slot.ensures.value ∙ c.in-Some.is) c.requires.next c.requires.shown (sym c.creates.ensures ∙ c.if-creates.false) c.commit.new.self c.commit.ensures c.word-op.result c.word-op.ensures
+          c.committed.result c.committed.new.self None _ (c.committed.ensures.new, c.committed.ensures.end) (ap (λ (b : Bool). left (ended_unless b) c.committed.new.self) (sym c.if-committed.false))
+          (c.done.ensures ∙ ap (λ (b : Bool). Stepped c.in-Some.hand.call c.word-op.result verbs.Commit (Some c.args.ckpt) (Some c.args.r) words.Ok (ended_unless b) beside.Nothing) (sym c.if-committed.false));
     }

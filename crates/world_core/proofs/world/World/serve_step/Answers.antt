@@ -1,75 +1,43 @@
-use Rattle.std.proofs.Common.{sym, ap, subst, ◌∙◌}
-use Rattle.std.proofs.lemmas.Option.{same_Some}
+use Rattle.std.proofs.Common.{Some, sym, ap, subst, ◌∙◌}
 use Rattle.ckpt_machine.specs.Steps.{ended_details}
-use Rattle.world_core.specs.declared.hands.InHand.{InHand}
-use Rattle.world_core.specs.declared.world.World.{World}
 use Rattle.world_core.specs.Happenings.{IsStep}
-use Rattle.world_core.specs.Lending.{CanLend}
-use Rattle.world_core.specs.Shows.{hand_at}
-use Rattle.world_core.specs.TableState.{kept_by}
-use Rattle.world_core.proofs.IterationSteps.{hand_lent}
-use Rattle.world_core.proofs.ServedSteps.{fits_at, keeps_at, still_held, step_is, told_still}
-use Rattle.world_core.proofs.Stepping.{lends, node_there, some_held}
+use Rattle.world_core.proofs.HandPlaces.{left_alone}
+use Rattle.world_core.proofs.ServedSteps.{fits_at, keeps_at, step_is, told_still}
+use Rattle.world_core.proofs.Stepping.{lends, node_there}
 use Rattle.world_core.proofs.world.World.serve_step.Goals as goal
 
-pub lend_iteration-requires : goal.lend_iteration-requires
-lend_iteration-requires c = record {
-  client = c.requires.client;
-  held = some_held _ c.in-Some.hand.now c.in-Some.ensures;
-  can = λ h held. subst (λ (h : InHand). CanLend c.args.request.now h.op (kept_by c.args.self.now.tables c.args.c)) (same_Some c.in-Some.hand.now h (sym c.in-Some.ensures ∙ held))
-      (lends c.args.self.now c.args.c c.args.r c.args.request.now c.in-Some.hand.now c.in-Some.ensures c.requires.next c.requires.shown);
-}
+pub returns-in_err-lent-clause-err : goal.returns-in_err-lent-clause-err
+returns-in_err-lent-clause-err c = left_alone c.from_residual.result c.args.self.now c.args.c (Some c.in-Some.hand) c.args.log.now.labels (c.at-slot.ensures.value ∙ c.in-Some.is)
 
-pub serve-reply-requires : goal.serve-reply-requires
-serve-reply-requires c =
-    let hand = c.in-Some.hand.now in
-    let held = c.in-Some.ensures in
-    record {
-      node = node_there c.args.self.now c.args.c c.args.r c.args.request.now hand held c.requires.next c.requires.shown;
-      fits = fits_at c.args.self.now c.args.c c.args.r c.args.request.now hand held c.requires.next c.requires.shown c.requires.roomy c.in_ok-lent.lent c.in_ok-lent.ensures.lent
-          c.lend_iteration.new.self c.lend_iteration.new.lent (c.lend_iteration.ensures.world hand held) (c.lend_iteration.ensures.lent hand held);
-    }
+pub lend_iteration-requires-clause-can : goal.lend_iteration-requires-clause-can
+lend_iteration-requires-clause-can c = lends c.args.self.now c.args.c c.args.r c.args.request.now c.in-Some.hand (c.at-slot.ensures.value ∙ c.in-Some.is) c.requires.next c.requires.shown
 
-pub keep_iteration-requires : goal.keep_iteration-requires
-keep_iteration-requires c =
-    let hand = c.in-Some.hand.now in
-    let held = c.in-Some.ensures in
-    record {
-      client = c.requires.client;
-      held = some_held _ (hand_lent c.args.request.now hand) (still_held c.args.self.now c.args.c c.args.r c.args.request.now hand held c.requires.next c.requires.shown c.requires.roomy c.in_ok-lent.lent c.in_ok-lent.ensures.lent
-          c.lend_iteration.new.self c.lend_iteration.new.lent (c.lend_iteration.ensures.world hand held) (c.lend_iteration.ensures.lent hand held));
-      can = keeps_at c.args.self.now c.args.c c.args.r c.args.request.now hand held c.requires.next c.requires.shown c.requires.roomy c.in_ok-lent.lent c.in_ok-lent.ensures.lent
-          c.lend_iteration.new.self c.lend_iteration.new.lent (c.lend_iteration.ensures.world hand held) (c.lend_iteration.ensures.lent hand held);
-    }
+pub serve-reply-requires-clause-node : goal.serve-reply-requires-clause-node
+serve-reply-requires-clause-node c = node_there c.args.self.now c.args.c c.args.r c.args.request.now c.in-Some.hand (c.at-slot.ensures.value ∙ c.in-Some.is) c.requires.next c.requires.shown
+
+pub serve-reply-requires-clause-fits : goal.serve-reply-requires-clause-fits
+serve-reply-requires-clause-fits c = fits_at c.args.self.now c.args.c c.args.r c.args.request.now c.in-Some.hand (c.at-slot.ensures.value ∙ c.in-Some.is) c.requires.next c.requires.shown c.requires.roomy c.in_ok-lent.lent c.in_ok-lent.ensures.lent
+    c.lend_iteration.new.hand c.lend_iteration.result c.lend_iteration.new.tables c.lend_iteration.ensures.hand c.lend_iteration.ensures.lent c.lend_iteration.ensures.tables
+
+pub keep_iteration-requires-clause-can : goal.keep_iteration-requires-clause-can
+keep_iteration-requires-clause-can c = keeps_at c.args.self.now c.args.c c.args.r c.args.request.now c.in-Some.hand (c.at-slot.ensures.value ∙ c.in-Some.is) c.requires.next c.requires.shown c.requires.roomy c.in_ok-lent.lent c.in_ok-lent.ensures.lent
+    c.lend_iteration.new.hand c.lend_iteration.result c.lend_iteration.new.tables c.lend_iteration.ensures.hand c.lend_iteration.ensures.lent c.lend_iteration.ensures.tables
 
 pub take-end-requires : goal.take-end-requires
-take-end-requires c =
-    let hand = c.in-Some.hand.now in
-    let held = c.in-Some.ensures in
-    let still = still_held c.args.self.now c.args.c c.args.r c.args.request.now hand held c.requires.next c.requires.shown c.requires.roomy c.in_ok-lent.lent c.in_ok-lent.ensures.lent
-    c.lend_iteration.new.self c.lend_iteration.new.lent (c.lend_iteration.ensures.world hand held) (c.lend_iteration.ensures.lent hand held) in
-    record {
-      held = some_held _ (hand_lent c.args.request.now hand) (ap (λ (w : World). hand_at w.hands c.args.c) (c.keep_iteration.ensures (hand_lent c.args.request.now hand) still) ∙ still);
-      node = node_there c.args.self.now c.args.c c.args.r c.args.request.now hand held c.requires.next c.requires.shown;
-    }
+take-end-requires c = node_there c.args.self.now c.args.c c.args.r c.args.request.now c.in-Some.hand (c.at-slot.ensures.value ∙ c.in-Some.is) c.requires.next c.requires.shown
 
 pub returns-clause-ok : goal.returns-clause-ok
 returns-clause-ok c =
-    let hand = c.in-Some.hand.now in
-    let held = c.in-Some.ensures in
-    let lending = c.lend_iteration.ensures.world hand held in
-    let whole = c.lend_iteration.ensures.lent hand held in
-    let still = still_held c.args.self.now c.args.c c.args.r c.args.request.now hand held c.requires.next c.requires.shown c.requires.roomy c.in_ok-lent.lent c.in_ok-lent.ensures.lent
-    c.lend_iteration.new.self c.lend_iteration.new.lent lending whole in
-    let keeping = c.keep_iteration.ensures (hand_lent c.args.request.now hand) still in
-    let still_then = ap (λ (w : World). hand_at w.hands c.args.c) keeping ∙ still in
+    let w = c.args.self.now in
+    let hand = c.in-Some.hand in
     record {
       label = _;
       labels = c.push.ensures.labels;
       is = subst (IsStep c.args.c _ _) (sym c.served.ensures)
-          (step_is c.args.self.now c.args.c c.args.r c.args.request.now hand held c.requires.next c.requires.shown c.requires.roomy c.in_ok-lent.lent c.in_ok-lent.ensures.lent
-          c.lend_iteration.new.self c.lend_iteration.new.lent lending whole c.serve-reply.result c.serve-reply.new.self c.serve-reply.new.lent c.take.result c.keep_iteration.new.self c.take-end.new.self c.take-end.result c.word-op.result c.verb.result c.ckpt.result c.word.result c.told_details-details.result
+          (step_is w c.args.c c.args.r c.args.request.now hand (c.at-slot.ensures.value ∙ c.in-Some.is) c.requires.next c.requires.shown c.requires.roomy c.in_ok-lent.lent c.in_ok-lent.ensures.lent
+          c.lend_iteration.new.hand c.lend_iteration.result c.lend_iteration.new.tables c.lend_iteration.ensures.hand c.lend_iteration.ensures.lent c.lend_iteration.ensures.tables
+          c.serve-reply.result c.serve-reply.new.self c.serve-reply.new.lent c.take.result c.keep_iteration.new.tables c.take-end.new.self c.let_go.new.slot c.take-end.result c.word-op.result c.verb.result c.ckpt.result c.word.result c.told_details-details.result
           c.lend_iteration.ensures.valid (record { there = c.serve-reply.ensures.there; may = c.serve-reply.ensures.reply; nodes_are = c.serve-reply.ensures.new; details = c.serve-reply.ensures.details; iteration = c.serve-reply.ensures.iteration }) c.take.ensures.value
-          keeping (c.take-end.ensures.new (hand_lent c.args.request.now hand) still_then) (c.take-end.ensures.end (hand_lent c.args.request.now hand) still_then) c.word-op.ensures c.verb.ensures c.ckpt.ensures c.word.ensures
+          c.keep_iteration.ensures c.take-end.ensures.new c.take-end.ensures.end c.let_go.ensures c.word-op.ensures c.verb.ensures c.ckpt.ensures c.word.ensures
           (c.told_details-details.ensures ∙ ap (ended_details c.take-end.result) (told_still c.serve-reply.result c.serve-reply.new.lent c.take.new.self)));
     }

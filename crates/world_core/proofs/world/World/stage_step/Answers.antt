@@ -1,65 +1,58 @@
-use Rattle.std.proofs.Common.{◌≡◌, w64, to_z, of_z, ap, ◌∙◌}
+use Rattle.std.proofs.Common.{◌≡◌, ℤ, Some, w64, to_z, of_z, refl, ap, subst, ◌∙◌}
 use Rattle.std.proofs.lemmas.Int.{to_z-of_z}
-use Rattle.node_msgs.specs.declared.requests.Request.TheVariants.{Stage}
-use Rattle.node_core.specs.Nodes.{replica_served}
-use Rattle.node_core.specs.Payloads.{update_alone}
-use Rattle.node_core.specs.Seen.{record_seen}
-use Rattle.node_core.specs.Serving.{reply_at}
-use Rattle.world_core.specs.Nodes.{node_at, nodes_after}
-use Rattle.world_core.proofs.Staging.{stage_is, stage_refused}
-use Rattle.world_core.proofs.Stepping.{its_room, its_there, node_there, some_held}
+use Rattle.std.specs.Prelude.{IfSome}
+use Rattle.ckpt_types.specs.declared.answers.Answer.TheVariants as answers
+use Rattle.node_core.specs.StageReplies.{reply_told}
+use Rattle.replica.specs.Replicas.{answer_unless, outcome_on, staged}
+use Rattle.stage_slot.specs.Slots.{owner_of}
+use Rattle.ckpt_types.specs.OpWord.{word_of_op}
+use Rattle.world_core.specs.Nodes.{replica_in, with_replica}
+use Rattle.world_core.proofs.HandPlaces.{left_alone}
+use Rattle.world_core.proofs.Staging.{takes, stage_is, stage_refused}
+use Rattle.world_core.proofs.Stepping.{node_there}
 use Rattle.world_core.proofs.world.World.stage_step.Goals as goal
 
-pub stage-reply-requires : goal.stage-reply-requires
-stage-reply-requires c =
-    let w = c.args.self.now in
-    let hand = c.in-Some.hand.now in
-    let request = Stage c.args.asked c.args.ckpt c.args.moment in
-    record {
-      node = node_there w c.args.c c.args.r request hand c.in-Some.ensures c.requires.next c.requires.shown;
-      room = its_room w c.args.c c.args.r request hand c.in-Some.ensures c.requires.next c.requires.shown tt c.requires.roomy;
-      there = its_there w c.args.c c.args.r request hand c.in-Some.ensures c.requires.next c.requires.shown tt;
-    }
+pub returns-in_err-update-clause-err : goal.returns-in_err-update-clause-err
+returns-in_err-update-clause-err c = left_alone c.from_residual.result c.args.self.now c.args.c (Some c.in-Some.hand) c.args.log.now.labels (c.at-slot.ensures.value ∙ c.in-Some.is)
+
+pub stage-requires-clause-node : goal.stage-requires-clause-node
+stage-requires-clause-node c = node_there c.args.self.now c.args.c c.args.r _ c.in-Some.hand (c.at-slot.ensures.value ∙ c.in-Some.is) c.requires.next c.requires.shown
+
+pub stage-requires-clause-there : goal.stage-requires-clause-there
+stage-requires-clause-there c = takes c.args.self.now c.args.c c.args.r c.args.asked c.args.ckpt c.args.moment c.in-Some.hand (c.at-slot.ensures.value ∙ c.in-Some.is) c.requires.next c.requires.shown c.requires.roomy
+
+pub refuse_stage-requires-clause-node : goal.refuse_stage-requires-clause-node
+refuse_stage-requires-clause-node c = node_there c.args.self.now c.args.c c.args.r _ c.in-Some.hand (c.at-slot.ensures.value ∙ c.in-Some.is) c.requires.next c.requires.shown
 
 pub staged-requires-clause-node : goal.staged-requires-clause-node
-staged-requires-clause-node c = node_there c.args.self.now c.args.c c.args.r _ c.in-Some.hand.now c.in-Some.ensures c.requires.next c.requires.shown
+staged-requires-clause-node c = node_there c.args.self.now c.args.c c.args.r _ c.in-Some.hand (c.at-slot.ensures.value ∙ c.in-Some.is) c.requires.next c.requires.shown
 
-pub refused_step-requires : goal.refused_step-requires
-refused_step-requires c = record {
-  held = some_held _ c.in-Some.hand.now c.in-Some.ensures;
-  node = node_there c.args.self.now c.args.c c.args.r _ c.in-Some.hand.now c.in-Some.ensures c.requires.next c.requires.shown;
-  spare = c.requires.spare;
-}
-
-pub returns-in_default-reply : goal.returns-in_default-reply
-returns-in_default-reply c =
+pub returns-in-Err-clause-ok : goal.returns-in-Err-clause-ok
+returns-in-Err-clause-ok c =
     let w = c.args.self.now in
-    let hand = c.in-Some.hand.now in
-    let held = c.in-Some.ensures in
+    let hand = c.in-Some.hand in
+    let update = c.in_ok-update.update in
     let moment : to_z w64 (of_z w64 c.args.moment) ≡ c.args.moment = to_z-of_z w64 c.args.moment (record { sfits = c.ranges.moment.sfits }) in
-    let p = update_alone c.in_ok-update.update in
-    let nodes = c.stage-reply.ensures.new ∙ ap (λ t. nodes_after w.cluster w.nodes c.args.r (Stage c.args.asked c.args.ckpt t) p c.stage-reply.result) moment in
-    let reply = c.stage-reply.ensures.reply ∙ ap (λ t. reply_at (Stage c.args.asked c.args.ckpt t) p (record_seen w.cluster c.args.ckpt c.args.r) (replica_served w.cluster (node_at w.nodes c.args.r) c.args.ckpt)) moment in
+    let answer = subst (λ (t : ℤ). IfSome (replica_in w.nodes c.args.ckpt c.args.r) (λ x. c.stage.result ≡ answer_unless (owner_of x.slot) (outcome_on x update t))) moment c.stage.ensures.answer in
+    let nodes = c.stage.ensures.new ∙ ap (λ (t : ℤ). with_replica c.args.ckpt c.args.r (staged c.args.asked update t) w.nodes) moment in
     record {
-      ok = record {
-        label = _;
-        labels = c.refused_step.ensures.label hand held;
-        is = stage_refused w c.args.c c.args.r c.args.asked c.args.ckpt c.args.moment hand held c.requires.next c.requires.shown c.in_ok-update.update c.in_ok-update.ensures c.stage-reply.new.self c.word-op.result c.word-op.ensures c.stage-reply.result reply nodes _ (c.refused_step.ensures.world hand held);
-      };
-      err = tt;
+      label = _;
+      labels = c.refuse_stage.ensures.label hand refl;
+      is = stage_refused w c.args.c c.args.r c.args.asked c.args.ckpt c.args.moment hand (c.at-slot.ensures.value ∙ c.in-Some.is) c.requires.next c.requires.shown update c.in_ok-update.ensures c.stage.result answer c.stage.new.self nodes (word_of_op hand.op) refl
+          c.in-Err.refused c.refuse_stage.new.slot c.in-Err.is (c.refuse_stage.ensures.slot hand refl);
     }
 
 pub returns-clause-ok : goal.returns-clause-ok
 returns-clause-ok c =
     let w = c.args.self.now in
-    let hand = c.in-Some.hand.now in
-    let held = c.in-Some.ensures in
+    let hand = c.in-Some.hand in
+    let update = c.in_ok-update.update in
     let moment : to_z w64 (of_z w64 c.args.moment) ≡ c.args.moment = to_z-of_z w64 c.args.moment (record { sfits = c.ranges.moment.sfits }) in
-    let p = update_alone c.in_ok-update.update in
-    let nodes = c.stage-reply.ensures.new ∙ ap (λ t. nodes_after w.cluster w.nodes c.args.r (Stage c.args.asked c.args.ckpt t) p c.stage-reply.result) moment in
-    let reply = c.stage-reply.ensures.reply ∙ ap (λ t. reply_at (Stage c.args.asked c.args.ckpt t) p (record_seen w.cluster c.args.ckpt c.args.r) (replica_served w.cluster (node_at w.nodes c.args.r) c.args.ckpt)) moment in
+    let answer = subst (λ (t : ℤ). IfSome (replica_in w.nodes c.args.ckpt c.args.r) (λ x. c.stage.result ≡ answer_unless (owner_of x.slot) (outcome_on x update t))) moment c.stage.ensures.answer in
+    let nodes = c.stage.ensures.new ∙ ap (λ (t : ℤ). with_replica c.args.ckpt c.args.r (staged c.args.asked update t) w.nodes) moment in
     record {
       label = _;
       labels = c.push.ensures.labels;
-      is = stage_is w c.args.c c.args.r c.args.asked c.args.ckpt c.args.moment hand held c.requires.next c.requires.shown c.in_ok-update.update c.in_ok-update.ensures c.stage-reply.new.self c.word-op.result c.word-op.ensures c.stage-reply.result reply nodes c.in-Done.field-0 c.staged.new.self _ (c.requires.update hand held) c.in-Done.is (c.staged.ensures hand held) c.goes_on.ensures;
+      is = stage_is w c.args.c c.args.r c.args.asked c.args.ckpt c.args.moment hand (c.at-slot.ensures.value ∙ c.in-Some.is) c.requires.next c.requires.shown update c.in_ok-update.ensures c.stage.result answer c.stage.new.self nodes c.word-op.result c.word-op.ensures
+          c.staged.new.self _ (c.requires.update hand (c.at-slot.ensures.value ∙ c.in-Some.is)) (ap (reply_told answers.Nothing) c.in_default-stage.is) c.staged.ensures c.goes_on.ensures;
     }
