@@ -1,6 +1,6 @@
 -- What was answered OK is on every complete replica of its checkpoint, or where updates go to the active alone, on the active's; and it stays there.
-use Rattle.std.proofs.Common.{◌≡◌, ◌⊎◌, ℕ, zero, suc, ◌+◌, ◌-◌, ◌≤◌, inl, inr, List, [], ◌∷◌, ◌++◌, filter, Option, Some, None, Bool, true, false, cond, not, ◌==◌, ◌&&◌, ℤ, refl, sym, ap, subst, ◌∙◌, append_assoc, arith}
-use Rattle.std.specs.Prelude.{IsSomeAnd, slice_index, slice_set}
+use Rattle.std.proofs.Common.{◌≡◌, ◌⊎◌, ℕ, zero, suc, ◌+◌, ◌≤◌, inl, inr, List, [], ◌∷◌, ◌++◌, Option, Some, None, Bool, true, false, cond, not, ◌==◌, ◌&&◌, ℤ, refl, sym, ap, subst, ◌∙◌, append_assoc, arith}
+use Rattle.std.specs.Prelude.{slice_index}
 use Rattle.std.proofs.lemmas.Bool.{eqb-true, eq-eqb, and_parts}
 use Rattle.std.proofs.lemmas.Option.{same_Some}
 use Rattle.ckpt_types.specs.declared.answers.Answer.{Answer}
@@ -23,15 +23,14 @@ use Rattle.cluster_record.specs.declared.entries.Entry.{Entry}
 use Rattle.cluster_record.specs.Calls.{client_of}
 use Rattle.cluster_record.specs.Makings.{making_of}
 use Rattle.cluster_record.specs.Identities.{IdentitiesRise, AllUpTo}
-use Rattle.cluster_record.specs.Places.{change_key, put2}
-use Rattle.cluster_record.specs.RecordState.{RecordState, entry_of, identity_of, complete_of, stays, swept, moved, entered, created_as, new_entry, finished, opened, closed, unlinked, referred, made_with, unreferred, released_all, unnamed, retaining, is_call_of, departed, undone, has_references}
-use Rattle.cluster_record.proofs.IdentityLaws.{KeepsIdentity, IdentitiesRise-change_key, IdentitiesRise-filter, IdentitiesRise-map, IdentitiesRise-push}
+use Rattle.cluster_record.specs.Places.{put2}
+use Rattle.cluster_record.specs.RecordState.{RecordState, entry_of, complete_of, stays, swept, moved, entered, finished, opened, closed, unlinked, referred, unreferred, unnamed, departed, undone}
+use Rattle.cluster_record.proofs.IdentityLaws.{IdentitiesRise-filter}
 use Rattle.ckpt_machine.specs.Acknowledged.{IsUpdateWord, Acknowledges, ckpt_named, HasBegun, IsUpdateBy, HasUpdate, IsToHave, IsOnItsReplicas}
 use Rattle.ckpt_machine.specs.AllOrNone.{OneUpdate, IsOfOne}
-use Rattle.ckpt_types.specs.Asks.{Ask, asked, update_of}
-use Rattle.ckpt_types.specs.Asks as asks
+use Rattle.ckpt_types.specs.Asks.{asked, update_of}
 use Rattle.ckpt_machine.specs.Complete.{with_replica, replicas_from, complete_replicas}
-use Rattle.ckpt_machine.specs.Guards.{OnEach, OnAll, OnActive, CommitOk, ApplyOk, Row, Allowed, ends_update}
+use Rattle.ckpt_machine.specs.Guards.{OnEach, OnAll, OnActive, CommitOk, ApplyOk, Allowed, ends_update}
 use Rattle.ckpt_machine.specs.Invariant.{Invariant}
 use Rattle.ckpt_machine.specs.Laws.{AcknowledgedStays}
 use Rattle.ckpt_machine.specs.Machine.{Machine, Applied, Effect, ReplicaState, Staged, CallState}
@@ -41,23 +40,23 @@ use Rattle.ckpt_machine.specs.Runs.{last_from, last, IsRunFrom, IsRun}
 use Rattle.node_core.specs.Serving.{update_answer}
 use Rattle.ckpt_machine.specs.Shape.{IsCompleteOn}
 use Rattle.ckpt_machine.specs.Steps.{Told, IsDue, with_record, record_step, created_for, retained_for, change_replica, with_committed, committed_slot, with_applied, having_taken, with_slot, effect_of, changed, on_ok, on_look, without_making, at_some, replica_under, opened_state, stepped, step_of, staged_moment, after}
-use Rattle.ckpt_machine.proofs.OwnMaking.{making_there}
 use Rattle.ckpt_machine.proofs.AllOrNone.{all_or_none}
-use Rattle.ckpt_machine.proofs.Entries.{ComesOf-filter, ComesOf-change_key, ComesOf-map, ComesOf-then}
-use Rattle.ckpt_machine.proofs.EntryLists.{find_key-key, find_key-change_key, entry_of-given}
+use Rattle.ckpt_machine.proofs.Entries.{ComesOf-filter}
+use Rattle.ckpt_machine.proofs.EachReplica.{made_where_complete}
+use Rattle.ckpt_machine.proofs.EntryLists.{entry_of-given}
 use Rattle.ckpt_machine.proofs.Follows.{IsBare}
-use Rattle.ckpt_machine.proofs.Histories.{HasHistory, slot_owned, maker_incomplete, on_replica-there, keeps_history, run_history}
+use Rattle.ckpt_machine.proofs.Histories.{HasHistory, slot_owned, on_replica-there, keeps_history, run_history}
 use Rattle.ckpt_machine.proofs.Lawful.{lawful}
 use Rattle.ckpt_machine.proofs.OptionLemmas.{IsSomeAnd-at}
-use Rattle.ckpt_machine.proofs.OwnMaking.{making_there}
 use Rattle.ckpt_machine.proofs.Actors.{same_call-true}
 use Rattle.ckpt_machine.proofs.Owning.{owner_update}
-use Rattle.ckpt_machine.proofs.References.{released-identity, released_all-identity}
+use Rattle.ckpt_machine.proofs.References.{released-identity}
 use Rattle.ckpt_machine.proofs.RefusedRuns.{owns_nothing}
 use Rattle.ckpt_machine.proofs.BegunBefore.{all_began}
 use Rattle.ckpt_machine.proofs.BegunOnce.{begins_once}
 use Rattle.ckpt_machine.proofs.UpdateAnswers.{begin_not_done, IsTakenOn, done_by_taking}
 use Rattle.ckpt_machine.proofs.ReplicaSteps.{put_actor-here}
+use Rattle.ckpt_machine.proofs.StaysMade.{IsMadeAs, StaysMade, StaysMade-same, StaysMade-kept, MadeOn, MadeOn-swept, released_made, same_on, changed_on, filter_on, departed_on, finished_on, created_for_on, retained_for_on, StepNeeds, row_needs}
 use Rattle.ckpt_machine.proofs.Runs.{last_from-append, run_before, run_front, IsRunFrom-back}
 
 -- ---- effects
@@ -94,145 +93,12 @@ applied_has : (o : Option Entry) (by : CallId) (new : Update) (t : ℤ) (x : Rep
 applied_has None by new t x d u has = has
 applied_has (Some e) by new t x d u has = has_more d u x.effects (Applied by new t ∷ []) has
 
--- ---- a checkpoint that is made
-
--- it is made, on the same nodes with the same active, and declares the same
-record IsMadeAs (e f : Entry) : Type 0 where
-  made : f.making ≡ None
-  complete : f.complete ≡ e.complete
-  active : f.active ≡ e.active
-  attributes : f.attributes ≡ e.attributes
-
--- it stays made
-abbrev StaysMade : Entry → Entry → Type 0
-StaysMade e f = e.making ≡ None → IsMadeAs e f
-
-StaysMade-same : (e : Entry) → StaysMade e e
-StaysMade-same e made = record { made = made; complete = refl; active = refl; attributes = refl }
-
--- where none of that is changed
-StaysMade-kept : (e f : Entry) → f.making ≡ e.making → f.complete ≡ e.complete → f.active ≡ e.active → f.attributes ≡ e.attributes → StaysMade e f
-StaysMade-kept e f making complete active attributes made = record { made = making ∙ made; complete = complete; active = active; attributes = attributes }
-
-StaysMade-then : (e f g : Entry) → StaysMade e f → StaysMade f g → StaysMade e g
-StaysMade-then e f g first second made =
-    let between = first made in
-    let later = second between.made in
-    record { made = later.made; complete = later.complete ∙ between.complete; active = later.active ∙ between.active; attributes = later.attributes ∙ between.attributes }
-
 -- a node that is to have its updates was to have them before
 to_have_before : (e f : Entry) → IsMadeAs e f → (r : ℕ) → IsToHave (Some f) r → IsToHave (Some e) r
 to_have_before e f same r (inl all) = inl (ap is_all (sym same.attributes) ∙ all)
 to_have_before e f same r (inr active) = inr (sym same.active ∙ active)
 
--- whether any references are left or not
-left_made : (e : Entry) (t : ℤ) (references : List ℕ) (none left : Bool) → StaysMade e (cond none e (cond left (record e { references = references }) (record e { references = references; idle = t })))
-left_made e t references true left = StaysMade-same e
-left_made e t references false true = StaysMade-kept e (record e { references = references }) refl refl refl refl
-left_made e t references false false = StaysMade-kept e (record e { references = references; idle = t }) refl refl refl refl
-
-released_made : (c : ℕ) (t : ℤ) (e : Entry) → StaysMade e (unreferred c t e)
-released_made c t e = left_made e t (slice_set e.references c (slice_index e.references c - 1)) (slice_index e.references c == 0) (has_references (record e { references = slice_set e.references c (slice_index e.references c - 1) }))
-
-released_all_made : (c : ℕ) (t : ℤ) (e : Entry) → StaysMade e (released_all c t e)
-released_all_made c t e = left_made e t (slice_set e.references c 0) (slice_index e.references c == 0) (has_references (record e { references = slice_set e.references c 0 }))
-
--- what a step makes of the record, of this checkpoint
-record MadeOn (k : ℕ) (R S : RecordState) : Type 0 where
-  last : R.last_identity ≤ S.last_identity
-  rises : IdentitiesRise S.entries
-  made : (f : Entry) → entry_of k S.entries ≡ Some f → (e : Entry) × (entry_of k R.entries ≡ Some e) × StaysMade e f
-
-MadeOn-swept : (k : ℕ) (R S : RecordState) → MadeOn k R S → MadeOn k R (swept S)
-MadeOn-swept k R S on = record {
-  last = on.last;
-  rises = IdentitiesRise-filter (stays S.moment) S.entries on.rises;
-  made = λ f found.
-      let (g, between, same) = ComesOf-filter (λ e f. e ≡ f) (λ e. refl) (stays S.moment) S.entries on.rises k f found in
-      let (e, was, keeps) = on.made g between in
-      (e, was, subst (StaysMade e) same keeps);
-}
-
-module _ (k : ℕ) (R : RecordState) (given : k ≤ R.last_identity) (rises : IdentitiesRise R.entries) (up_to : AllUpTo R.last_identity R.entries) where
-  same_on : MadeOn k R R
-  same_on = record { last = omega arith; rises = rises; made = λ f found. (f, found, StaysMade-same f) }
-
-  changed_on : (j : ℕ) (f : Entry → Entry) → KeepsIdentity f → ((e : Entry) → StaysMade e (f e)) → MadeOn k R (record R { entries = change_key identity_of j f R.entries })
-  changed_on j f keeps made = record {
-    last = omega arith;
-    rises = IdentitiesRise-change_key f keeps j R.entries rises;
-    made = ComesOf-change_key StaysMade StaysMade-same f keeps made j R.entries k;
-  }
-
-  filter_on : (p : Entry → Bool) → MadeOn k R (record R { entries = filter p R.entries })
-  filter_on p = record { last = omega arith; rises = IdentitiesRise-filter p R.entries rises; made = ComesOf-filter StaysMade StaysMade-same p R.entries rises k }
-
-  departed_on : (c : ℕ) → MadeOn k R (departed c R)
-  departed_on c = record {
-    last = omega arith;
-    rises = IdentitiesRise-map (released_all c R.moment) (released_all-identity c R.moment) (filter others R.entries) (IdentitiesRise-filter others R.entries rises);
-    made = ComesOf-then StaysMade StaysMade StaysMade StaysMade-then R.entries (filter others R.entries) (departed c R).entries (ComesOf-filter StaysMade StaysMade-same others R.entries rises)
-        (ComesOf-map StaysMade (released_all c R.moment) (released_all-identity c R.moment) (released_all_made c R.moment) (filter others R.entries)) k;
-  }
-    where
-      others : Entry → Bool
-      others e = not (is_call_of c e.making)
-
-  -- an entry that is found was there, or is the new one
-  found_push : (es : List Entry) (new e : Entry) → entry_of k (es ++ new ∷ []) ≡ Some e → (entry_of k es ≡ Some e) ⊎ (new ≡ e)
-  found_push [] new e found = elim (new.identity == k) as (λ b. cond b (Some new) None ≡ Some e → (entry_of k [] ≡ Some e) ⊎ (new ≡ e)) [ true ↦ λ here. inr (same_Some new e here) | false ↦ λ none. absurd (cc none) ] found
-  found_push (x ∷ xs) new e found = elim (x.identity == k) as (λ b. cond b (Some x) (entry_of k (xs ++ new ∷ [])) ≡ Some e → (cond b (Some x) (entry_of k xs) ≡ Some e) ⊎ (new ≡ e)) [
-    | true ↦ λ here. inl here
-    | false ↦ λ there. found_push xs new e there
-  ] found
-
-  -- a new one has another identity
-  created_on : (call : CallId) (name : List ℕ) (a : Option CreationAttributes) → MadeOn k R (created_as call name a R)
-  created_on call name None = same_on
-  created_on call name (Some a) = record {
-    last = omega arith;
-    rises = IdentitiesRise-push R.last_identity R.entries (new_entry call name a R) rises up_to (omega arith);
-    made = λ f found. elim (found_push R.entries (new_entry call name a R) f found) [
-      | inl was ↦ (f, was, StaysMade-same f)
-      | inr new ↦ absurd (
-          let is : R.last_identity + 1 ≡ k = ap (λ (e : Entry). e.identity) new ∙ find_key-key identity_of k (R.entries ++ new_entry call name a R ∷ []) f found in
-          omega (arith, is, given))
-    ];
-  }
-
-  -- what was in the making is not this one
-  finished_on : (call : CallId) (j c : ℕ) → IsSomeAnd (entry_of j R.entries) (λ e. e.making ≡ Some call) → MadeOn k R (record R { entries = change_key identity_of j (made_with R.up c) R.entries })
-  finished_on call j c by = record {
-    last = omega arith;
-    rises = IdentitiesRise-change_key (made_with R.up c) (λ e. refl) j R.entries rises;
-    made = λ f found.
-        let (x, there, making) = IsSomeAnd-at (entry_of j R.entries) (λ e. e.making ≡ Some call) by in
-        elim (k == j) as (λ b. (k == j) ≡ b → cond b (Some (made_with R.up c x)) (entry_of k R.entries) ≡ Some f → (e : Entry) × (entry_of k R.entries ≡ Some e) × StaysMade e f) [
-          | true ↦ λ same here. (x, subst (λ i. entry_of i R.entries ≡ Some x) (sym (eqb-true k j same)) there, λ none. absurd (let w : Some call ≡ None = sym making ∙ none in cc w))
-          | false ↦ λ other here. (f, here, StaysMade-same f)
-        ] refl (sym (find_key-change_key identity_of j k (made_with R.up c) (λ e. refl) R.entries x there) ∙ found);
-  }
-
-  -- by what is asked for
-  created_for_on : (call : CallId) (ask : Ask) → MadeOn k R (created_for call ask R)
-  created_for_on call (asks.Open place name flags timeout a) = created_on call name a
-  created_for_on call ask = same_on
-
-  retained_for_on : (ask : Ask) (j : ℕ) → MadeOn k R (retained_for ask j R)
-  retained_for_on (asks.Retain place duration) j = changed_on j (retaining duration) (λ e. refl) (λ e. StaysMade-kept e (retaining duration e) refl refl refl refl)
-  retained_for_on ask j = same_on
-
 -- ---- the update stays
-
--- what a step needs of its row: what it finishes was in the making by its call
-abbrev StepNeeds : RecordState → CallId → Verb → Option ℕ → StepReply → Type 0
-StepNeeds R call verbs.Finish (Some j) words.Ok = IsSomeAnd (entry_of j R.entries) (λ e. e.making ≡ Some call)
-StepNeeds R call verb j reply = Unit {0}
-
-row_needs : (m : Machine) → Invariant m → (s : CallState) (verb : Verb) (j q : Option ℕ) (reply : StepReply) (end : Option Outcome) (details : Details) → Row m s verb (record { verb = verb; ckpt = j; node = q; reply = reply; end = end; details = details }) → StepNeeds m.cluster s.call verb j reply
-row_needs m inv s verbs.Finish (Some j) None words.Ok end details row = making_there m.cluster inv.holds.rises s.call j row.0.3.0
-row_needs m inv s verbs.Finish (Some j) (Some q) words.Ok end details row = absurd row.0
-row_needs m inv s verb j q reply end details row = tt
 
 -- the checkpoint was given and is made, if it is there, and each of its replicas that is to have the update has it
 record StaysIn (k : ℕ) (call : CallId) (update : Update) (R : RecordState) (replicas : ℕ → ℕ → Option ReplicaState) : Type 0 where
@@ -253,7 +119,7 @@ module _ (k : ℕ) (call : CallId) (update : Update) (m : Machine) (stay : Stays
   record_stays : (R : RecordState) → MadeOn k m.cluster R → Stays k call update (with_record m R)
   record_stays R on = record {
     given = (let a = on.last in let b = stay.given in omega (arith, a, b));
-    made = λ f found. (let (e, was, keeps) = on.made f found in (keeps (stay.made e was)).made);
+    made = λ f found. (let (e, was, keeps) = on.made f found in (keeps.made (stay.made e was)).made);
     its = λ r y is to_have. had (entry_of k R.entries) refl r y is to_have;
   }
     where
@@ -261,7 +127,7 @@ module _ (k : ℕ) (call : CallId) (update : Update) (m : Machine) (stay : Stays
       had None found r y is to_have = absurd (cc is)
       had (Some f) found r y is to_have =
           let (e, was, keeps) = on.made f found in
-          let still = keeps (stay.made e was) in
+          let still = keeps.made (stay.made e was) in
           let same : complete_of (entry_of k m.cluster.entries) ≡ f.complete = ap complete_of was ∙ sym still.complete in
           let came : m.replicas k r ≡ Some y = kept (slice_index f.complete r == 0) (opened_state f) (m.replicas k r) y (subst (λ (nodes : List ℕ). cond (slice_index f.complete r == 0) None (cond (slice_index nodes r == 0) (Some (opened_state f)) (m.replicas k r)) ≡ Some y) same is) in
           stay.its r y came (subst (λ o. IsToHave o r) (sym was) (to_have_before e f still r to_have))
@@ -317,7 +183,7 @@ module _ (k : ℕ) (call : CallId) (update : Update) (m : Machine) (stay : Stays
     -- any step
     changed_stays : (s : CallState) (verb : Verb) (j q : Option ℕ) (reply : StepReply) → StepNeeds m.cluster s.call verb j reply → Stays k call update (changed m s verb j q reply)
     changed_stays s verbs.Enter j q reply needs = ok_stays reply _ (one_stays q _ (λ q. step_stays (entered (client_of s.call) q s.call.number) (record { last = omega arith; rises = rises; made = (same_on k m.cluster stay.given rises up_to).made })))
-    changed_stays s verbs.Open j q reply needs = ok_stays reply _ (one_stays j _ (λ j. step_stays (opened j (client_of s.call)) (changed_on k m.cluster stay.given rises up_to j (referred (client_of s.call)) (λ e. refl) (λ e. StaysMade-kept e (referred (client_of s.call) e) refl refl refl refl))))
+    changed_stays s verbs.Open j q reply needs = ok_stays reply _ (one_stays j _ (λ j. step_stays (opened j (client_of s.call)) (changed_on k m.cluster stay.given rises up_to j (referred (client_of s.call)) (λ e. refl) (λ e. StaysMade-kept e (referred (client_of s.call) e) refl refl refl refl refl))))
     changed_stays s verbs.Create j q reply needs = ok_stays reply _ (step_stays (created_for s.call (asked s.op)) (created_for_on k m.cluster stay.given rises up_to s.call (asked s.op)))
     changed_stays s verbs.Reserve j q reply needs = ok_stays reply _ (both_stay j q _ (λ j q. record { given = stay.given; made = stay.made; its = stay.its }))
     changed_stays s verbs.Finish j q reply needs = finished_stays s j q reply needs
@@ -331,7 +197,7 @@ module _ (k : ℕ) (call : CallId) (update : Update) (m : Machine) (stay : Stays
     changed_stays s verbs.Leave j q reply needs = ok_stays reply _ (step_stays (departed (client_of s.call)) (departed_on k m.cluster stay.given rises up_to (client_of s.call)))
     changed_stays s verbs.Close j q reply needs = ok_stays reply _ (one_stays j _ (λ j. step_stays (closed j (client_of s.call))
         (changed_on k m.cluster stay.given rises up_to j (unreferred (client_of s.call) m.cluster.moment) (released-identity (client_of s.call) m.cluster.moment) (released_made (client_of s.call) m.cluster.moment))))
-    changed_stays s verbs.Unlink j q reply needs = ok_stays reply _ (one_stays j _ (λ j. step_stays (unlinked j) (changed_on k m.cluster stay.given rises up_to j unnamed (λ e. refl) (λ e. StaysMade-kept e (unnamed e) refl refl refl refl))))
+    changed_stays s verbs.Unlink j q reply needs = ok_stays reply _ (one_stays j _ (λ j. step_stays (unlinked j) (changed_on k m.cluster stay.given rises up_to j unnamed (λ e. refl) (λ e. StaysMade-kept e (unnamed e) refl refl refl refl refl))))
     changed_stays s verbs.Retain j q reply needs = ok_stays reply _ (one_stays j _ (λ j. step_stays (retained_for (asked s.op) j) (retained_for_on k m.cluster stay.given rises up_to (asked s.op) j)))
     changed_stays s verbs.Look j q reply needs = look_stays reply _ _ stay (making_stays (making_of s.call m.cluster))
     changed_stays s verb j q reply needs = stay
@@ -420,16 +286,11 @@ committed_new a x (Some other) slot d u is origin update =
 put2-here : (f : ℕ → ℕ → Option ReplicaState) (k r : ℕ) (x : Option ReplicaState) → put2 f k r x k r ≡ x
 put2-here f k r x = ap (λ b. cond (b && (r == r)) x (f k r)) (eq-eqb k k refl) ∙ ap (λ b. cond b x (f k r)) (eq-eqb r r refl)
 
--- the checkpoint on which a node is complete is made
+-- the checkpoint of which a node has a replica is made
 is_made : (m : Machine) (inv : Invariant m) (bare : IsBare m) (k r : ℕ) (e : Entry) (x : ReplicaState) → entry_of k m.cluster.entries ≡ Some e → m.replicas k r ≡ Some x → e.making ≡ None
-is_made m inv bare k r e x found there = by_making e.making refl
-  where
-    by_making : (o : Option CallId) → e.making ≡ o → e.making ≡ None
-    by_making None is = is
-    by_making (Some c) is =
-        let (f, at, complete) = IsSomeAnd-at (entry_of k m.cluster.entries) (λ e. IsCompleteOn e r) (bare.complete k r x there) in
-        let same : e ≡ f = same_Some e f (sym found ∙ at) in
-        absurd (let w : true ≡ false = sym (maker_incomplete m inv c k r e found is) ∙ ap (λ (z : Entry). slice_index z.complete r == 0) same ∙ complete in cc w)
+is_made m inv bare k r e x found there =
+    let (f, at, complete) = IsSomeAnd-at (entry_of k m.cluster.entries) (λ e. IsCompleteOn e r) (bare.complete k r x there) in
+    made_where_complete m inv k r e found (subst (λ e. IsCompleteOn e r) (same_Some f e (sym at ∙ found)) complete)
 
 module _ (m : Machine) (inv : Invariant m) (history : HasHistory m) (d : CallId) (op : OpWord) (j r : ℕ) (answer : Answer) (details : Details) where
   -- a node has taken an update, and this ends the call

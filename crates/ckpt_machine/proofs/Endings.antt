@@ -36,7 +36,7 @@ use Rattle.ckpt_machine.specs.Laws.{EndsAsItMay}
 use Rattle.ckpt_machine.specs.Machine.{Machine, CallState}
 use Rattle.node_core.specs.Serving.{update_answer}
 use Rattle.ckpt_machine.specs.Steps.{Told, ids_asked}
-use Rattle.ckpt_machine.proofs.Refusing.{row_at_ckpt, at_node, at_none, at_node_alone, on_replica, on_all, on_active}
+use Rattle.ckpt_machine.proofs.Refusing.{row_at_ckpt, at_node, at_none, at_node_alone, on_replica, on_all, on_active_replica}
 
 -- ---- which calls take memory
 
@@ -149,9 +149,9 @@ module _ (m : Machine) (s : CallState) (end : Option Outcome) (amiss : EndsAmiss
   commit_ends update k r reply details row = absurd row
 
   apply_ends : (update : Update) (k r : ℕ) (t : Told) (reply : StepReply) → t.end ≡ end → ApplyRow m s update k r t reply → ⊥
-  apply_ends update k r t words.Ok is row = on_active m k r (ApplyOk m update t) row (λ e x (ok : ApplyOk m update t e x). done (update_answer update) (sym is ∙ ok.answer))
-  apply_ends update k r t words.Refused is row = on_active m k r (ApplyRefused m s update t) row (λ e x (by : ApplyRefused m s update t e x). refused by.why.error (refused_cause s.op by.why.index) (sym is ∙ by.answer))
-  apply_ends update k r t (words.Held by) is row = on_active m k r (λ e x. ApplyHeld m s.call by t x) row (λ e x (held : ApplyHeld m s.call by t x). refused errors.TryAgain (Holder by) (sym is ∙ held.answer))
+  apply_ends update k r t words.Ok is row = on_active_replica m k r (ApplyOk m update t) row (λ e x (ok : ApplyOk m update t e x). done (update_answer update) (sym is ∙ ok.answer))
+  apply_ends update k r t words.Refused is row = on_active_replica m k r (ApplyRefused m s update t) row (λ e x (by : ApplyRefused m s update t e x). refused by.why.error (refused_cause s.op by.why.index) (sym is ∙ by.answer))
+  apply_ends update k r t (words.Held by) is row = on_active_replica m k r (λ e x. ApplyHeld m s.call by t x) row (λ e x (held : ApplyHeld m s.call by t x). refused errors.TryAgain (Holder by) (sym is ∙ held.answer))
   apply_ends update k r t reply is row = absurd row
 
   read_ends : (elements : List ReadElement) (k r : ℕ) (ckpt place : Option ℕ) (reply : StepReply) (details : Details) → ReadRow m elements k r (record { verb = verbs.Read; ckpt = ckpt; node = place; reply = reply; end = end; details = details }) → ⊥

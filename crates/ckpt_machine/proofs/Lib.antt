@@ -9,12 +9,14 @@ pub mod Commit
 pub mod Finished
 pub mod StepsLeft
 pub mod Moment
+pub mod Replaying
 pub mod ReplicaSteps
 pub mod NodeLists
 pub mod Owning
 pub mod RecordSteps
 pub mod Stage
 pub mod StagedMoment
+pub mod StaysMade
 pub mod AtRest
 pub mod ClientTables
 pub mod AllOrNone
@@ -70,3 +72,7 @@ pub mod Follows
 pub mod Histories
 pub mod RefusedRuns
 pub mod RefusedRows
+pub mod EachReplica
+pub mod EffectsOnce
+pub mod ActiveAhead
+pub mod EffectsTell

@@ -21,7 +21,7 @@ use Rattle.ckpt_machine.specs.Guards.{IsMadeBy, CommitRow, Row, Allowed}
 use Rattle.ckpt_machine.specs.Invariant.{IsGoodIn, Invariant}
 use Rattle.ckpt_machine.specs.Machine.{Machine, ReplicaState, CallState}
 use Rattle.ckpt_machine.specs.Owned.{OwnsNothing, HasNoEffect, HasNothing}
-use Rattle.ckpt_machine.specs.Refusals.{IsRefused, IsRefusal, LeavesAll, UndoesOwn, LeavesBy, unmade, unmade_swept, Refuses, call_of}
+use Rattle.ckpt_machine.specs.Refusals.{IsRefused, IsRefusal, LeavesAll, UndoesOwn, LeavesBy, unmade, unmade_swept, Refuses, call_told}
 use Rattle.ckpt_machine.specs.Runs.{last}
 use Rattle.ckpt_machine.specs.Shape.{IsCompleteOn}
 use Rattle.ckpt_machine.specs.Steps.{Told, IsDone, IsDue, due, begun, changed, step_of, after, replica_under, replicas_under, reservation_under, opened_state}
@@ -97,7 +97,7 @@ begun_none : (m : Machine) → HasHistory m → (call : CallId) (op : Op) (end :
 begun_none m history call op end number k r x there has = let below = history.given k r call (record { replica = x; there = there; effect = has }) in omega (arith, below, number)
 
 -- what is refused has nothing
-pub refused_has_nothing : (m : Machine) (l : Label) → Invariant m → HasHistory m → Allowed m l → IsDue m l → IsRefusal l → IsSomeAnd (call_of l) (HasNothing (after m l))
+pub refused_has_nothing : (m : Machine) (l : Label) → Invariant m → HasHistory m → Allowed m l → IsDue m l → IsRefusal l → IsSomeAnd (call_told l) (HasNothing (after m l))
 refused_has_nothing m (labels.Began call op end) inv history allowed is refused = record {
   owns = owns_nothing (begun m call op end) (lawful m (labels.Began call op end) inv is).1 (keeps_history m (labels.Began call op end) inv history allowed is).bare call (put_actor-here m.in_hand call.actor _ ∙ none_begun end call op _ refused);
   effects = begun_none m history call op end is.number;

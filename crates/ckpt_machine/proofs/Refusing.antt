@@ -68,8 +68,8 @@ on_replica m k r P p not_so = none_of_some (entry_of k m.cluster.entries) (λ e.
 pub on_all : (m : Machine) (k r : ℕ) (P : Entry → ReplicaState → Type 0) → OnAll m k r P → ((e : Entry) (x : ReplicaState) → P e x → ⊥) → ⊥
 on_all m k r P p not_so = on_replica m k r (λ e x. (is_all e.attributes ≡ true) × P e x) p (λ e x p. not_so e x p.1)
 
-pub on_active : (m : Machine) (k r : ℕ) (P : Entry → ReplicaState → Type 0) → OnActive m k r P → ((e : Entry) (x : ReplicaState) → P e x → ⊥) → ⊥
-on_active m k r P p not_so = on_replica m k r (λ e x. (is_all e.attributes ≡ false) × (e.active ≡ Some r) × P e x) p (λ e x p. not_so e x p.2)
+pub on_active_replica : (m : Machine) (k r : ℕ) (P : Entry → ReplicaState → Type 0) → OnActive m k r P → ((e : Entry) (x : ReplicaState) → P e x → ⊥) → ⊥
+on_active_replica m k r P p not_so = on_replica m k r (λ e x. (is_all e.attributes ≡ false) × (e.active ≡ Some r) × P e x) p (λ e x p. not_so e x p.2)
 
 -- ---- an end that is no refusal
 
@@ -89,7 +89,7 @@ commit_ends m call update k r end details row refused = on_all m k r (λ e x. Co
 
 -- nor does an update that is applied
 apply_ends : (m : Machine) (update : Update) (k r : ℕ) (t : Told) → OnActive m k r (ApplyOk m update t) → IsRefused t.end → ⊥
-apply_ends m update k r t row refused = on_active m k r (ApplyOk m update t) row (λ e x (ok : ApplyOk m update t e x). no_refusal_done t.end (update_answer update) ok.answer refused)
+apply_ends m update k r t row refused = on_active_replica m k r (ApplyOk m update t) row (λ e x (ok : ApplyOk m update t e x). no_refusal_done t.end (update_answer update) ok.answer refused)
 
 given_next : (next : Option NextGiven) (end : Option Outcome) (details : Details) → NextAnswer next words.Ok end details → IsRefused end → ⊥
 given_next (Some next) end details answer refused = no_refusal_done end answers.Section answer.0 refused

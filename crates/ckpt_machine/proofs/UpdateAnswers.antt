@@ -25,7 +25,7 @@ use Rattle.ckpt_machine.specs.Driving.{refused_cause}
 use Rattle.ckpt_machine.specs.Guards.{AtNode, StageRefused, StageHeld, StageRow, CommitRow, ApplyRefused, ApplyHeld, ApplyRow, LookDone, LookRow, Row}
 use Rattle.ckpt_machine.specs.Machine.{Machine, CallState}
 use Rattle.ckpt_machine.specs.Steps.{Told}
-use Rattle.ckpt_machine.proofs.Refusing.{row_at_ckpt, at_node, at_none, at_node_alone, on_all, on_active}
+use Rattle.ckpt_machine.proofs.Refusing.{row_at_ckpt, at_node, at_none, at_node_alone, on_all, on_active_replica}
 
 -- ---- an update asks for no other thing
 
@@ -100,8 +100,8 @@ module _ (m : Machine) (s : CallState) (word : IsUpdateWord (word_of_op s.op)) (
   -- one that is refused, or held off, is not answered OK
   applied_ok : (update : Update) (k r : ℕ) (t : Told) (reply : StepReply) → t.end ≡ Some (Done answer) → ApplyRow m s update k r t reply → reply ≡ words.Ok
   applied_ok update k r t words.Ok is row = refl
-  applied_ok update k r t words.Refused is row = absurd (on_active m k r (ApplyRefused m s update t) row (λ e x (by : ApplyRefused m s update t e x). refused by.why.error (refused_cause s.op by.why.index) (sym is ∙ by.answer)))
-  applied_ok update k r t (words.Held by) is row = absurd (on_active m k r (λ e x. ApplyHeld m s.call by t x) row (λ e x (held : ApplyHeld m s.call by t x). refused TryAgain (Holder by) (sym is ∙ held.answer)))
+  applied_ok update k r t words.Refused is row = absurd (on_active_replica m k r (ApplyRefused m s update t) row (λ e x (by : ApplyRefused m s update t e x). refused by.why.error (refused_cause s.op by.why.index) (sym is ∙ by.answer)))
+  applied_ok update k r t (words.Held by) is row = absurd (on_active_replica m k r (λ e x. ApplyHeld m s.call by t x) row (λ e x (held : ApplyHeld m s.call by t x). refused TryAgain (Holder by) (sym is ∙ held.answer)))
   applied_ok update k r t reply is row = absurd row
 
   apply_done : (k r : Option ℕ) (reply : StepReply) (details : Details) → Row m s verbs.Apply (record { verb = verbs.Apply; ckpt = k; node = r; reply = reply; end = Some (Done answer); details = details }) → IsTakenOn verbs.Apply k r reply

@@ -17,6 +17,7 @@ use Rattle.ckpt_machine.specs.Facts.{Facts}
 use Rattle.ckpt_machine.specs.Guards.{Allowed}
 use Rattle.ckpt_machine.specs.Left.{steps_left}
 use Rattle.ckpt_machine.specs.Machine.{Machine, CallState, empty_cluster}
+use Rattle.ckpt_machine.specs.Replays.{EffectsTellThroughout}
 use Rattle.ckpt_machine.specs.Refusals.{IsRefusal, LeavesBy, EachRefusalLeaves, unmade_swept}
 use Rattle.ckpt_machine.specs.Runs.{last, IsRun, Counts}
 use Rattle.ckpt_machine.specs.Steps.{IsDue, after, driver_of}
@@ -65,3 +66,7 @@ IsOnAllOrNone = (log : List Label) → IsRun log → IsAllOrNoneThroughout log
 -- what was answered OK is on each complete replica of its checkpoint from then on, or where updates go to the active alone, on the active's
 abbrev pub AcknowledgedStays : Type 0
 AcknowledgedStays = (log : List Label) → IsRun log → AcknowledgedStay log
+
+-- at every time of a run, each replica is the replay of its effects, of each call one at most, and where updates go to the active alone, each has what the active has taken first
+abbrev pub RunEffectsTell : Type 0
+RunEffectsTell = (log : List Label) → IsRun log → EffectsTellThroughout log

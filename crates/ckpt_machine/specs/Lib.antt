@@ -12,6 +12,7 @@ pub mod Guards
 pub mod Runs
 pub mod Owned
 pub mod Refusals
+pub mod Replays
 pub mod Endings
 pub mod Left
 pub mod Facts

@@ -29,10 +29,10 @@ IsRefusal (labels.Stepped call op verb k r reply end details) = IsRefused end
 IsRefusal label = ⊥
 
 -- the call of a label
-abbrev pub call_of : Label → Option CallId
-call_of (labels.Began call op end) = Some call
-call_of (labels.Stepped call op verb k r reply end details) = Some call
-call_of label = None
+abbrev pub call_told : Label → Option CallId
+call_told (labels.Began call op end) = Some call
+call_told (labels.Stepped call op verb k r reply end details) = Some call
+call_told label = None
 
 -- m' is as n, but that this actor has no call in hand
 pub record LeavesAll (actor : ActorName) (n m' : Machine) : Type 0 where
@@ -80,7 +80,7 @@ LeavesBy undo label m m' = ⊥
 -- A call that ends with a refusal owns no slot, no marks, no making and no hold after it, and no replica has an effect of it; and the label that refuses it leaves all else as it was.
 pub record Refuses (l : Label) (m m' : Machine) : Type 0 where
   pub leaves : LeavesBy unmade l m m'
-  pub nothing : IsSomeAnd (call_of l) (HasNothing m')
+  pub nothing : IsSomeAnd (call_told l) (HasNothing m')
 
 -- OF EACH LABEL OF A LOG that is a refusal: it is so by the states before and after it
 abbrev pub EachRefusalLeaves : List Label → Type 0

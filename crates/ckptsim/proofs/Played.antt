@@ -8,9 +8,11 @@ use Rattle.script_lang.specs.Grammar.{script_of, text_lines, start, take_lines, 
 use Rattle.ckpt_machine.specs.Acknowledged.{AcknowledgedStay}
 use Rattle.ckpt_machine.specs.AllOrNone.{IsAllOrNoneThroughout}
 use Rattle.ckpt_machine.specs.Refusals.{EachRefusalLeaves}
+use Rattle.ckpt_machine.specs.Replays.{EffectsTellThroughout}
 use Rattle.ckpt_machine.specs.Runs.{IsRun}
 use Rattle.ckpt_machine.proofs.Acknowledged.{acknowledged_stay}
 use Rattle.ckpt_machine.proofs.AllOrNone.{on_all_or_none}
+use Rattle.ckpt_machine.proofs.EffectsTell.{effects_tell}
 use Rattle.ckpt_machine.proofs.RefusedRuns.{run_leaves}
 use Rattle.world_core.specs.declared.world.World.{World}
 use Rattle.world_core.specs.Runs.{IsNew, IsRunTo}
@@ -38,7 +40,7 @@ read_too_long Q (Some input) (Some rest) bytes read = λ is_script.
     let is_none : is_ok (script_of input) ≡ false = too_long input (omega (arith, size, read.1)) in
     absurd (cc)
 
--- in a log without labels nothing is refused, no checkpoint is there, and nothing was answered
+-- in a log without labels nothing is refused, no checkpoint is there, nothing was answered, and no replica is there
 pub none_refused : (log : List Label) → log ≡ [] → EachRefusalLeaves log
 none_refused log none = run_leaves log (subst IsRun (sym none) tt)
 
@@ -47,3 +49,6 @@ all_of_none log none = on_all_or_none log (subst IsRun (sym none) tt)
 
 pub stays_of_none : (log : List Label) → log ≡ [] → AcknowledgedStay log
 stays_of_none log none = acknowledged_stay log (subst IsRun (sym none) tt)
+
+pub tell_of_none : (log : List Label) → log ≡ [] → EffectsTellThroughout log
+tell_of_none log none = effects_tell log (subst IsRun (sym none) tt)

@@ -3,6 +3,7 @@ ghost use Rattle.std.specs.Prelude.{◌≡◌, ◌+◌, ◌-◌, ◌*◌, ◌<�
 ghost use Rattle.ckpt_types.specs.Limits.{built_line_labels, played_lines_max};
 ghost use Rattle.script_lang.specs.Grammar.{moment_behind};
 ghost use Rattle.ckpt_machine.specs.Acknowledged.{AcknowledgedStay};
+ghost use Rattle.ckpt_machine.specs.Replays.{EffectsTellThroughout};
 ghost use Rattle.ckpt_machine.specs.AllOrNone.{IsAllOrNoneThroughout};
 ghost use Rattle.ckpt_machine.specs.Refusals.{EachRefusalLeaves};
 ghost use Rattle.ckpt_machine.specs.Runs.{last};
@@ -48,6 +49,9 @@ pub fn session<R: Threads + Wait + Sync, G: Gate>(
 
     // What was answered OK is on each complete replica from then on.
     ensures acknowledged { AcknowledgedStay log.new.labels }
+
+    // Each replica is the replay of the updates that it has taken.
+    ensures effects { EffectsTellThroughout log.new.labels }
 {
     // Where room is refused at once, it is asked for again as it is needed.
     let _ = log.reserve(LABELS_A_LINE * script.as_slice().len());

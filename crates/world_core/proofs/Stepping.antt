@@ -222,8 +222,10 @@ module _ (w : World) (c r : ℕ) (request : Request) (hand : InHand) (held : han
 
       -- and becomes what the request makes of it
       pub its_nodes : (p : Payload) (reply : Reply) → with_replica (ckpt_of request) r (replica_after request p (record_seen w.cluster (ckpt_of request) r)) w.nodes ≡ nodes_after w.cluster w.nodes r request p reply
-      its_nodes p reply = ap (slice_set w.nodes r) (sym (replicas_served w.cluster (node_at w.nodes r) request p reply (reserves_none request to)
-          ∙ ap (λ b. cond b (change_key replica_key (ckpt_of request) (replica_after request p (record_seen w.cluster (ckpt_of request) r)) (node_at w.nodes r).replicas) (node_at w.nodes r).replicas) (finding.seen_complete w h c r request hand facts fitting held its_next to)))
+      its_nodes p reply =
+          let n = node_at w.nodes r in
+          ap (slice_set w.nodes r) (sym (replicas_served w.cluster n request p reply (reserves_none request to)
+          ∙ ap (λ b. cond b (change_key replica_key (ckpt_of request) (replica_after request p (record_seen w.cluster (ckpt_of request) r)) n.replicas) n.replicas) (finding.seen_complete w h c r request hand facts fitting held its_next to)))
 
       -- which has the call's own
       pub its_own : IsOfCall request hand kept its_replica

@@ -25,7 +25,10 @@ ghost use Rattle.cluster_record.specs.DueOnce.{Close, Retain};
 use crate::beginning::{choice_of, ckpt_of_handle};
 use crate::one_step::OneStep;
 use crate::tables::Tables;
-use ckpt_types::{AisError, Answer, CallId, Cause, CkptId, NodeId, Op, Outcome, WR_ALL_REPLICAS};
+use ckpt_types::{
+    AisError, Answer, CallId, Cause, CkptId, NodeId, Op, Outcome, SharedAttributes, SharedName,
+    WR_ALL_REPLICAS,
+};
 use client_handles::HandleView;
 use cluster_record::{ActiveKind, OpenAnswer, Record, number_of};
 use drive_active::ActiveCall;
@@ -92,13 +95,7 @@ impl Driver {
         match op {
             Op::Client(r, _, _) => Ok(Driver::once(OneStep::Enter(*r))),
             Op::Open(_, name, _, timeout, attributes) => {
-                let client = number_of(&call.actor);
-                let ask = SharedAsk {
-                    name: name.share()?,
-                    attributes: attributes.share()?,
-                    client,
-                    node: node_of(cluster, client),
-                };
+                let ask = open_ask(name, attributes, number_of(&call.actor), cluster)?;
                 let deadline = cluster.moment_after(*timeout);
                 Ok(Driver::by(DriverKind::Open(OpenCall::begin(call, ask, Some(deadline)))))
             }
@@ -215,6 +212,23 @@ impl Driver {
             open_call.told(cluster, step, ckpt, node, word);
         }
     }
+}
+
+// What an open asks of the record for its client.
+fn open_ask(
+    name: &SharedName,
+    attributes: &SharedAttributes,
+    client: u8,
+    cluster: &Record,
+) -> Result<SharedAsk, AllocError>
+    ensures { IfOk result (λ ask. ask ≡ record { name = name.now; attrs = attributes.now; client = client; node = node_of_client (find_key client_key client cluster.now.clients) }) }
+{
+    Ok(SharedAsk {
+        name: name.share()?,
+        attributes: attributes.share()?,
+        client,
+        node: node_of(cluster, client),
+    })
 }
 
 // An update takes a node's answer. What its operation ends with, if it ends.

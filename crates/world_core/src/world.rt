@@ -5,6 +5,7 @@ ghost use Rattle.world_core.specs.Parts.{record_in, call_in_hand};
 ghost use Rattle.world_core.specs.Happenings.{Adds, ComesNow, IsAnswered};
 ghost use Rattle.world_core.specs.Runs.{IsNew, IsRunTo, MayHappen, Happens};
 ghost use Rattle.ckpt_machine.specs.Acknowledged.{AcknowledgedStay};
+ghost use Rattle.ckpt_machine.specs.Replays.{EffectsTellThroughout};
 ghost use Rattle.ckpt_machine.specs.AllOrNone.{IsAllOrNoneThroughout};
 ghost use Rattle.ckpt_machine.specs.Refusals.{EachRefusalLeaves};
 ghost use Rattle.world_core.specs.StepsLeft.{ComesNearer};
@@ -91,6 +92,10 @@ impl World {
 
         // What was answered OK is on each complete replica from then on.
         ensures acknowledged { AcknowledgedStay log.new.labels }
+
+        // Each replica is the replay of the updates that it has taken, each once; of the active's first ones, where they
+        // go to the active alone.
+        ensures effects { EffectsTellThroughout log.new.labels }
         ensures err { OnErr result ((self.new ≡ self.old) × (log.new.labels ≡ log.old.labels)) }
 
         // For whoever steps a call to its end.

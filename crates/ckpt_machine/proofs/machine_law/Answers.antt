@@ -1,5 +1,6 @@
 use Rattle.ckpt_machine.proofs.Acknowledged.{acknowledged_stay}
 use Rattle.ckpt_machine.proofs.Counting.{counts_empty, counts_up}
+use Rattle.ckpt_machine.proofs.EffectsTell.{effects_tell}
 use Rattle.ckpt_machine.proofs.Endings.{ends_as_it_may}
 use Rattle.ckpt_machine.proofs.Facts.{facts}
 use Rattle.ckpt_machine.proofs.Lawful.{lawful}
@@ -43,3 +44,6 @@ returns-clause-all_or_none c = on_all_or_none
 
 pub returns-clause-acknowledged : goal.returns-clause-acknowledged
 returns-clause-acknowledged c = acknowledged_stay
+
+pub returns-clause-effects : goal.returns-clause-effects
+returns-clause-effects c = effects_tell

@@ -4,7 +4,7 @@ use Rattle.run_labels.specs.declared.labels.Label.{Label}
 use Rattle.session_run.proofs.Playable.{playable}
 use Rattle.ckptsim.specs.Headline.{asks_steps, printed}
 use Rattle.ckptsim.specs.Reading.{HasRead}
-use Rattle.ckptsim.proofs.Played.{read_too_long, none_refused, all_of_none, stays_of_none}
+use Rattle.ckptsim.proofs.Played.{read_too_long, none_refused, all_of_none, stays_of_none, tell_of_none}
 use Rattle.ckptsim.proofs.Written.{part_of_all}
 use Rattle.ckptsim.proofs.running.ckpt_run.Goals as goal
 
@@ -88,3 +88,21 @@ returns-in-Err-Fault-clause-acknowledged g c = stays_of_none c.args.log.now.labe
 
 pub returns-in-Err-NoMemory-clause-acknowledged : goal.returns-in-Err-NoMemory-clause-acknowledged
 returns-in-Err-NoMemory-clause-acknowledged g c = stays_of_none c.args.log.now.labels c.requires.log
+
+pub returns-then-not-is_command-clause-effects : goal.returns-then-not-is_command-clause-effects
+returns-then-not-is_command-clause-effects g c = tell_of_none c.args.log.now.labels c.requires.log
+
+pub returns-in-Err-Failed-clause-effects : goal.returns-in-Err-Failed-clause-effects
+returns-in-Err-Failed-clause-effects g c = tell_of_none c.args.log.now.labels c.requires.log
+
+pub returns-in-Err-Memory-clause-effects : goal.returns-in-Err-Memory-clause-effects
+returns-in-Err-Memory-clause-effects g c = tell_of_none c.args.log.now.labels c.requires.log
+
+pub returns-in-TooLong-clause-effects : goal.returns-in-TooLong-clause-effects
+returns-in-TooLong-clause-effects g c = tell_of_none c.args.log.now.labels c.requires.log
+
+pub returns-in-Err-Fault-clause-effects : goal.returns-in-Err-Fault-clause-effects
+returns-in-Err-Fault-clause-effects g c = tell_of_none c.args.log.now.labels c.requires.log
+
+pub returns-in-Err-NoMemory-clause-effects : goal.returns-in-Err-NoMemory-clause-effects
+returns-in-Err-NoMemory-clause-effects g c = tell_of_none c.args.log.now.labels c.requires.log

@@ -1,5 +1,6 @@
 use Rattle.ckpt_machine.proofs.Acknowledged.{acknowledged_stay}
 use Rattle.ckpt_machine.proofs.AllOrNone.{on_all_or_none}
+use Rattle.ckpt_machine.proofs.EffectsTell.{effects_tell}
 use Rattle.ckpt_machine.proofs.RefusedRuns.{run_leaves}
 use Rattle.session_run.proofs.playing.session.Goals as goal
 
@@ -11,3 +12,6 @@ returns-clause-all_or_none g c = on_all_or_none c.play.new.log.labels c.play.ens
 
 pub returns-clause-acknowledged : goal.returns-clause-acknowledged
 returns-clause-acknowledged g c = acknowledged_stay c.play.new.log.labels c.play.ensures.run.run
+
+pub returns-clause-effects : goal.returns-clause-effects
+returns-clause-effects g c = effects_tell c.play.new.log.labels c.play.ensures.run.run

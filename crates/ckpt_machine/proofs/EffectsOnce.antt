@@ -1,0 +1,133 @@
+-- No replica has two effects of one call, and none has an effect of the call whose update is staged on it.
+use Rattle.std.proofs.Common.{◌≡◌, ◌≢◌, ℕ, inl, inr, List, [], ◌∷◌, ◌++◌, Option, Some, None, false, ℤ, refl, sym, ap, subst, ◌∙◌}
+use Rattle.std.proofs.lemmas.Option.{same_Some}
+use Rattle.ckpt_types.specs.declared.identities.CallId.{CallId}
+use Rattle.ckpt_types.specs.declared.update.Update.{Update}
+use Rattle.ckpt_types.specs.Asks.{update_of}
+use Rattle.node_msgs.specs.declared.steps.Verb.{Verb}
+use Rattle.node_msgs.specs.declared.steps.Verb.TheVariants as verbs
+use Rattle.run_labels.specs.declared.labels.Label.{Label}
+use Rattle.cluster_record.specs.declared.calls.UpdatePhase.TheVariants.{Committing}
+use Rattle.cluster_record.specs.declared.entries.Entry.{Entry}
+use Rattle.cluster_record.specs.DueUpdate.{UpdateState, update_on, by_phase, commit_at}
+use Rattle.cluster_record.specs.RecordState.{entry_of}
+use Rattle.cluster_record.specs.StepDone.{first_lacking, last_having}
+use Rattle.ckpt_machine.specs.Drivers as drivers
+use Rattle.ckpt_machine.specs.Driving.{driver_next}
+use Rattle.ckpt_machine.specs.Invariant.{IsGoodIn, Invariant}
+use Rattle.ckpt_machine.specs.Machine.{Machine, Effect, Applied, Broken, Staged, ReplicaState, CallState}
+use Rattle.ckpt_machine.specs.Options.{is_all}
+use Rattle.ckpt_machine.specs.Owned.{IsEffectOf, HasEffect}
+use Rattle.ckpt_machine.specs.Replays.{call_of_effect, EachCallOnce}
+use Rattle.ckpt_machine.specs.Runs.{last, IsRun}
+use Rattle.ckpt_machine.specs.Shape.{IsCompleteOn, IsShapedBy}
+use Rattle.ckpt_machine.specs.Steps.{Told, IsDone, due, driver_of, rooms_of, with_committed, with_applied, committed_slot, effect_of, staged_moment}
+use Rattle.ckpt_machine.proofs.EachReplica.{StepsOn, made_where_complete, IsKept, run_each}
+use Rattle.ckpt_machine.proofs.Follows.{IsBare, effect_more}
+use Rattle.ckpt_machine.proofs.Histories.{IsCommittingAt}
+use Rattle.ckpt_machine.proofs.OptionLemmas.{IsSomeAnd-at}
+
+-- ---- effects
+
+-- whose an effect is, it is of
+effect_own : (d : CallId) (x : Effect) → IsEffectOf d x → call_of_effect x ≡ d
+effect_own d (Applied call update t) is = is
+effect_own d (Broken call update t done) is = is
+
+-- one more, of a call that had none
+once_more : (xs : List Effect) (new : Effect) → EachCallOnce xs → (HasEffect (call_of_effect new) xs → ⊥) → EachCallOnce (xs ++ new ∷ [])
+once_more [] new once none = (λ has. has, tt)
+once_more (x ∷ xs) new once none = (first, once_more xs new once.1 (λ has. none (inr has)))
+  where
+    first : HasEffect (call_of_effect x) (xs ++ new ∷ []) → ⊥
+    first has = elim (effect_more (call_of_effect x) xs new has) [
+      | inl was ↦ once.0 was
+      | inr is ↦ none (inl (own x (sym (effect_own (call_of_effect x) new is))))
+    ]
+      where
+        own : (x : Effect) → call_of_effect x ≡ call_of_effect new → IsEffectOf (call_of_effect new) x
+        own (Applied call update t) is = is
+        own (Broken call update t done) is = is
+
+-- ---- a replica
+
+-- no call has two of its effects, and none is of the call whose update is staged on it
+pub record IsOnce (x : ReplicaState) : Type 0 where
+  pub each : EachCallOnce x.effects
+  pub fresh : (slot : Staged) → x.slot ≡ Some slot → HasEffect slot.origin x.effects → ⊥
+
+-- behind a commit
+committed_once : (o : Option Entry) (x : ReplicaState) → IsOnce x → IsOnce (with_committed o x)
+committed_once None x once = once
+committed_once (Some e) x once = by_slot x.slot refl
+  where
+    by_slot : (o : Option Staged) → x.slot ≡ o → IsOnce (committed_slot e.attributes x o)
+    by_slot None is = once
+    by_slot (Some slot) is = record { each = once_more x.effects (effect_of slot) once.each (once.fresh slot is); fresh = λ other none. absurd (cc none) }
+
+-- behind an update in one step, of a call of which it had no effect, where nothing is staged
+applied_once : (call : CallId) (update : Update) (t : ℤ) (o : Option Entry) (x : ReplicaState) → x.slot ≡ None → (HasEffect call x.effects → ⊥) → IsOnce x → IsOnce (with_applied call update t o x)
+applied_once call update t None x free none once = once
+applied_once call update t (Some e) x free none once = record { each = once_more x.effects (Applied call update t) once.each none; fresh = λ slot staged. absurd (let w : None ≡ Some slot = sym free ∙ staged in cc w) }
+
+-- ---- a step of the call
+
+-- one that commits takes no step but a commit and a look
+data CommitsOrLooks (t : Told) : Type 0 where
+  commit : t.verb ≡ verbs.Commit → CommitsOrLooks t
+  look : t.verb ≡ verbs.Look → CommitsOrLooks t
+
+commits_or_looks : (m : Machine) (s : CallState) (u : UpdateState) (t : Told) → driver_of s ≡ drivers.Update u → u.phase ≡ Committing → IsDone m s (due m s) t → CommitsOrLooks t
+commits_or_looks m s u t is phase done = by_entry (entry_of u.ckpt m.cluster.entries) (subst (λ d. IsDone m s (driver_next m.cluster (rooms_of m s) d) t) is done)
+  where
+    at : (last : Option ℕ) → IsDone m s (commit_at u last) t → CommitsOrLooks t
+    at None looked = look (ap (λ (t : Told). t.verb) looked)
+    at (Some r) served = commit served.verb
+
+    by_entry : (o : Option Entry) → IsDone m s (update_on u m.cluster.moment o) t → CommitsOrLooks t
+    by_entry None looked = look (ap (λ (t : Told). t.verb) looked)
+    by_entry (Some e) step =
+        at (last_having 0 e.complete u.owned)
+        (subst (λ ph. IsDone m s (by_phase u m.cluster.moment (first_lacking 0 e.complete u.owned) (last_having 0 e.complete u.owned) ph) t) phase step)
+
+-- so the replica has no effect of a call that takes another on it
+none_yet : (m : Machine) (s : CallState) (verb : Verb) (k r : ℕ) (x : ReplicaState) → StepsOn m s verb k r x → verbs.Commit ≢ verb → verbs.Look ≢ verb → HasEffect s.call x.effects → ⊥
+none_yet m s verb k r x step no_commit no_look has =
+    let at : IsCommittingAt k (driver_of s) = step.history.commits k r s step.held (record { replica = x; there = step.there; effect = has }) in
+    elim (commits_or_looks m s at.update step.told at.driver_is at.phase step.done) [
+      | commit is ↦ no_commit (sym is ∙ step.verb_is)
+      | look is ↦ no_look (sym is ∙ step.verb_is)
+    ]
+
+-- where updates are on the active alone, nothing is staged
+pub alone_free : (m : Machine) → Invariant m → IsBare m → (k r : ℕ) (x : ReplicaState) (e : Entry) → m.replicas k r ≡ Some x → entry_of k m.cluster.entries ≡ Some e → is_all e.attributes ≡ false → x.slot ≡ None
+alone_free m inv bare k r x e there found alone =
+    let (f, at, complete_f) = IsSomeAnd-at (entry_of k m.cluster.entries) (λ e. IsCompleteOn e r) (bare.complete k r x there) in
+    let complete : IsCompleteOn e r = subst (λ e. IsCompleteOn e r) (same_Some f e (sym at ∙ found)) complete_f in
+    let spread = subst (λ maker. IsGoodIn m k (inv.shapes k) e maker) (made_where_complete m inv k r e found complete) (inv.holds.entries k e found) in
+    let (y, is, shaped) = IsSomeAnd-at (m.replicas k r) (IsShapedBy (is_all e.attributes) (inv.shapes k) ((inv.shapes k).owners r)) (spread.replicas r complete) in
+    let apart = subst (λ all. IsShapedBy all (inv.shapes k) ((inv.shapes k).owners r) y) alone shaped in
+    ap (λ (z : ReplicaState). z.slot) (same_Some x y (sym there ∙ is)) ∙ apart.free
+
+-- ---- every step
+
+-- it is so of each replica, whatever its checkpoint declares
+kept_once : IsKept (λ o r x. IsOnce x)
+kept_once = record {
+  opened = λ e r. record { each = tt; fresh = λ slot none. absurd (cc none) };
+  stays = λ e f r x stays made once. once;
+  staged = λ m s k r x step once. record {
+    each = once.each;
+    fresh = λ slot is has.
+        let same = same_Some (record { owner = s.call; origin = s.call; update = update_of s.op; moment = staged_moment m k }) slot is in
+        none_yet m s verbs.Stage k r x step (λ is. cc is) (λ is. cc is) (subst (λ d. HasEffect d x.effects) (sym (ap (λ (z : Staged). z.origin) same)) has);
+  };
+  committed = λ m s k r x step all once. committed_once (entry_of k m.cluster.entries) x once;
+  applied = λ m s k r x step active once.
+      let (e, found, alone) = IsSomeAnd-at (entry_of k m.cluster.entries) (λ e. (is_all e.attributes ≡ false) × (e.active ≡ Some r)) active in
+      applied_once s.call (update_of s.op) m.cluster.moment (entry_of k m.cluster.entries) x (alone_free m step.inv step.history.bare k r x e step.there found alone.0) (none_yet m s verbs.Apply k r x step (λ is. cc is) (λ is. cc is)) once;
+}
+
+-- THE LAW: no replica has two effects of one call
+pub run_once : (log : List Label) → IsRun log → (k r : ℕ) (x : ReplicaState) → (last log).replicas k r ≡ Some x → EachCallOnce x.effects
+run_once log run k r x there = (run_each (λ o r x. IsOnce x) kept_once log run k r x there).each
