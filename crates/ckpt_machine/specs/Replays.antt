@@ -3,12 +3,11 @@ use Rattle.std.specs.Prelude.{◌≡◌, ℕ, List, [], ◌∷◌, ◌++◌, tak
 use Rattle.ckpt_types.specs.declared.attributes.CreationAttributes.{CreationAttributes}
 use Rattle.ckpt_types.specs.declared.identities.CallId.{CallId}
 use Rattle.ckpt_types.specs.declared.update.IoElement.{IoElement}
-use Rattle.ckpt_types.specs.declared.update.Update.TheVariants as updates
 use Rattle.ckpt_types.specs.Sections.{Section, opening}
 use Rattle.ckpt_types.specs.Updates.{outcome}
 use Rattle.run_labels.specs.declared.labels.Label.{Label}
 use Rattle.weak_marks.specs.Marks.{Marked, elements_in}
-use Rattle.replica.specs.Replicas.{or_same, all_corrupted}
+use Rattle.replica.specs.Replicas.{or_same, first_written, all_corrupted}
 use Rattle.cluster_record.specs.declared.entries.Entry.{Entry}
 use Rattle.cluster_record.specs.RecordState.{entry_of}
 use Rattle.ckpt_machine.specs.Machine.{Machine, Effect, Applied, Broken, ReplicaState}
@@ -18,10 +17,10 @@ use Rattle.ckpt_machine.specs.Runs.{last}
 
 -- ---- effects, done again
 
--- these elements of a write, each alone
+-- these elements of a write, each alone, from the first
 abbrev pub each_done : CreationAttributes → ℤ → List IoElement → List Section → List Section
 each_done a t [] sections = sections
-each_done a t (e ∷ elements) sections = each_done a t elements (or_same (outcome a (updates.Write (e ∷ [])) t sections) sections)
+each_done a t (e ∷ elements) sections = each_done a t elements (first_written a t (e ∷ elements) sections)
 
 -- one effect: an update; or the first elements of a weak write that was cut short, whose sections are all corrupted then
 abbrev pub effect_done : CreationAttributes → Effect → List Section → List Section

@@ -118,11 +118,12 @@ pub fn ckpt_run<R: Threads + Wait + Sync, S: Source, K: Sink, G: Gate>(
     ensures run { IsRunTo world.new log.new.labels }
 
     // Each refusal leaves all but the making of its own call as it was, and its call has nothing then; and after each
-    // front of the log an update is on all complete replicas of its checkpoint or on none.
+    // front of the log an update of all replicas is on all complete ones of its checkpoint or on none.
     ensures refused { EachRefusalLeaves log.new.labels }
     ensures all_or_none { IsAllOrNoneThroughout log.new.labels }
 
-    // What was answered OK is on each complete replica from then on.
+    // What was answered OK is on each complete replica from then on, or where updates go to the active alone, on the
+    // active's.
     ensures acknowledged { AcknowledgedStay log.new.labels }
 
     // Each replica is the replay of the updates that it has taken, each once; of the active's first ones, where they go

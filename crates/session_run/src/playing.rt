@@ -42,15 +42,17 @@ pub fn session<R: Threads + Wait + Sync, G: Gate>(
     ensures follows { OnOk result (Follows script.now log.new.labels) }
     ensures front { FollowsFront script.now log.new.labels }
 
-    // Each refusal leaves all but the making of its own call as it was; and after each front of the log an update is on
-    // all replicas of its checkpoint or on none.
+    // Each refusal leaves all but the making of its own call as it was; and after each front of the log an update of
+    // all replicas is on all of its checkpoint or on none.
     ensures refused { EachRefusalLeaves log.new.labels }
     ensures all_or_none { IsAllOrNoneThroughout log.new.labels }
 
-    // What was answered OK is on each complete replica from then on.
+    // What was answered OK is on each complete replica from then on, or where updates go to the active alone, on the
+    // active's.
     ensures acknowledged { AcknowledgedStay log.new.labels }
 
-    // Each replica is the replay of the updates that it has taken.
+    // Each replica is the replay of the updates that it has taken, each once; of the active's first ones, where they go
+    // to the active alone.
     ensures effects { EffectsTellThroughout log.new.labels }
 {
     // Where room is refused at once, it is asked for again as it is needed.

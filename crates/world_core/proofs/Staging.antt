@@ -43,7 +43,7 @@ use Rattle.node_core.specs.Serving.{reply_at, details_at, commit_answer, slot_id
 use Rattle.node_core.specs.StageReplies.{reply_refused, reply_told}
 use Rattle.world_core.specs.declared.hands.InHand.{InHand}
 use Rattle.world_core.specs.declared.world.World.{World}
-use Rattle.world_core.specs.Nodes.{node_at, nodes_after, replica_in, with_replica}
+use Rattle.world_core.specs.Nodes.{node_at, nodes_after, replica_in, with_changed}
 use Rattle.world_core.specs.Lending.{IsValidFor, tables_lending, tables_keeping}
 use Rattle.world_core.specs.Happenings.{IsNext, IsStep}
 use Rattle.world_core.specs.HandSteps.{hand_taken, hand_end, end_by, served_done}
@@ -117,7 +117,7 @@ module _ (w : World) (c r : ℕ) (call : CallId) (k : ℕ) (t : ℤ) (hand : InH
   takes room = subst (λ (o : Option Replica). IsSomeAnd o TakesUpdate) (sym (its_there w c r stage hand held next shown tt)) (record { unmarked = its_ready w c r stage hand held next shown tt; room = its_room w c r stage hand held next shown tt room })
 
   -- and has answered so
-  module _ (update : Update) (update_is : update ≡ update_of hand.op) (told : Result (Unit {0}) StageRefused) (is : IfSome (replica_in w.nodes k r) (λ x. told ≡ answer_unless (owner_of x.slot) (outcome_on x update t))) (nodes : List (List Replica)) (nodes_are : nodes ≡ with_replica k r (staged call update t) w.nodes) (word : OpWord)
+  module _ (update : Update) (update_is : update ≡ update_of hand.op) (told : Result (Unit {0}) StageRefused) (is : IfSome (replica_in w.nodes k r) (λ x. told ≡ answer_unless (owner_of x.slot) (outcome_on x update t))) (nodes : List (List Replica)) (nodes_are : nodes ≡ with_changed k r (staged call update t) w.nodes) (word : OpWord)
       (word_is : word ≡ word_of_op hand.op) where
     abbrev lent : Payload
     lent = update_alone update
@@ -161,7 +161,7 @@ module _ (w : World) (c r : ℕ) (call : CallId) (k : ℕ) (hand : InHand) (held
   pub owns : IsSomeAnd (replica_in w.nodes k r) (λ x. IsOwnedBy call x.slot)
   owns = subst (λ (o : Option Replica). IsSomeAnd o (λ x. IsOwnedBy call x.slot)) (sym (its_there w c r commit hand held next shown tt)) (its_ready w c r commit hand held next shown tt)
 
-  module _ (plain : is_creation (update_of hand.op) ≡ false) (nodes : List (List Replica)) (nodes_are : nodes ≡ with_replica k r (λ x. committed x x.slot) w.nodes) (word : OpWord) (word_is : word ≡ word_of_op hand.op) where
+  module _ (plain : is_creation (update_of hand.op) ≡ false) (nodes : List (List Replica)) (nodes_are : nodes ≡ with_changed k r (λ x. committed x x.slot) w.nodes) (word : OpWord) (word_is : word ≡ word_of_op hand.op) where
     -- so it tells no identifier
     tells : (commit_answer its.slot ≡ answers.Nothing) × (slot_id its.sections its.slot ≡ beside.Nothing)
     tells = by_slot (update_of hand.op) its.sections its.slot (its_own w c r commit hand held next shown tt) plain

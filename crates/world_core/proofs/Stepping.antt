@@ -44,7 +44,7 @@ use Rattle.ckpt_machine.specs.Driving.{driver_next, driver_taken, driver_end, ma
 use Rattle.ckpt_machine.specs.Facts.{Facts, IsActive, IsReservable, IsServable}
 use Rattle.ckpt_machine.specs.Machine.{Machine, CallState}
 use Rattle.ckpt_machine.specs.Steps.{due, driver_of, ended_details, look_word}
-use Rattle.world_core.specs.Nodes.{node_at, nodes_after, replica_in, with_replica}
+use Rattle.world_core.specs.Nodes.{node_at, nodes_after, replica_in, with_changed}
 use Rattle.world_core.specs.Lending.{IsLentBy, IsValidFor, CanLend, CanKeep, iteration_lent, tables_lending}
 use Rattle.world_core.specs.HandSteps.{hand_taken, served_done}
 use Rattle.world_core.specs.Settling.{looked, without_making_of}
@@ -221,7 +221,7 @@ module _ (w : World) (c r : ℕ) (request : Request) (hand : InHand) (held : han
       its_there = (finding.found w h c r request hand facts fitting held its_next to).is
 
       -- and becomes what the request makes of it
-      pub its_nodes : (p : Payload) (reply : Reply) → with_replica (ckpt_of request) r (replica_after request p (record_seen w.cluster (ckpt_of request) r)) w.nodes ≡ nodes_after w.cluster w.nodes r request p reply
+      pub its_nodes : (p : Payload) (reply : Reply) → with_changed (ckpt_of request) r (replica_after request p (record_seen w.cluster (ckpt_of request) r)) w.nodes ≡ nodes_after w.cluster w.nodes r request p reply
       its_nodes p reply =
           let n = node_at w.nodes r in
           ap (slice_set w.nodes r) (sym (replicas_served w.cluster n request p reply (reserves_none request to)

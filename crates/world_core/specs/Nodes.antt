@@ -22,8 +22,8 @@ abbrev pub nodes_after : RecordState → List (List Replica) → ℕ → Request
 nodes_after R nodes r request p reply = slice_set nodes r (replicas_after R (node_at nodes r) request p reply)
 
 -- the nodes with the replica of a checkpoint on one of them changed
-abbrev pub with_replica : ℕ → ℕ → (Replica → Replica) → List (List Replica) → List (List Replica)
-with_replica k r change nodes = slice_set nodes r (change_key replica_key k change (list_or (slice_get nodes r)))
+abbrev pub with_changed : ℕ → ℕ → (Replica → Replica) → List (List Replica) → List (List Replica)
+with_changed k r change nodes = slice_set nodes r (change_key replica_key k change (list_or (slice_get nodes r)))
 
 -- ---- how they are kept
 

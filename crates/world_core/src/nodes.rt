@@ -10,7 +10,7 @@ ghost use Rattle.node_core.specs.Serving.{details_at, iteration_behind};
 ghost use Rattle.replica.specs.Replicas.{answer_unless, committed, outcome_on, staged};
 ghost use Rattle.stage_slot.specs.Slots.{IsOwnedBy, owner_of};
 ghost use Rattle.world_core.specs.Freeing.{freed};
-ghost use Rattle.world_core.specs.Nodes.{node_at, nodes_after, nodes_shown, replica_in, with_replica, StandByNumber};
+ghost use Rattle.world_core.specs.Nodes.{node_at, nodes_after, nodes_shown, replica_in, with_changed, StandByNumber};
 
 use ckpt_types::{CallId, CkptId, Moment, NODES_MAX, NodeId, SharedUpdate};
 use cluster_record::Record;
@@ -83,7 +83,7 @@ impl Nodes {
         requires node { r < nodes_max }
         requires there { IsSomeAnd (replica_in self.old ckpt r) TakesUpdate }
         ensures answer { IfSome (replica_in self.old ckpt r) (λ x. result ≡ answer_unless (owner_of x.slot) (outcome_on x update moment)) }
-        ensures new { self.new ≡ with_replica ckpt r (staged call update moment) self.old }
+        ensures new { self.new ≡ with_changed ckpt r (staged call update moment) self.old }
     {
         stage_node(self.list.as_mut_slice(), r, call, ckpt, moment, update)
     }
@@ -94,7 +94,7 @@ impl Nodes {
     pub fn commit(&mut self, r: NodeId, call: CallId, ckpt: CkptId)
         requires node { r < nodes_max }
         requires own { IsSomeAnd (replica_in self.old ckpt r) (λ x. IsOwnedBy call x.slot) }
-        ensures { self.new ≡ with_replica ckpt r (λ x. committed x x.slot) self.old }
+        ensures { self.new ≡ with_changed ckpt r (λ x. committed x x.slot) self.old }
     {
         commit_node(self.list.as_mut_slice(), r, call, ckpt);
     }
@@ -162,7 +162,7 @@ fn stage_node(
     requires there { IsSomeAnd (replica_in (nodes_shown nodes.old) ckpt r) TakesUpdate }
     ensures numbered { StandByNumber nodes.new }
     ensures answer { IfSome (replica_in (nodes_shown nodes.old) ckpt r) (λ x. result ≡ answer_unless (owner_of x.slot) (outcome_on x update moment)) }
-    ensures new { nodes_shown nodes.new ≡ with_replica ckpt r (staged call update moment) (nodes_shown nodes.old) }
+    ensures new { nodes_shown nodes.new ≡ with_changed ckpt r (staged call update moment) (nodes_shown nodes.old) }
 {
     let node = &mut nodes[r as usize];
     node.stage(call, ckpt, moment, update)
@@ -174,7 +174,7 @@ fn commit_node(nodes: &mut [Node], r: NodeId, call: CallId, ckpt: CkptId)
     requires node { r < length nodes.old }
     requires own { IsSomeAnd (replica_in (nodes_shown nodes.old) ckpt r) (λ x. IsOwnedBy call x.slot) }
     ensures numbered { StandByNumber nodes.new }
-    ensures new { nodes_shown nodes.new ≡ with_replica ckpt r (λ x. committed x x.slot) (nodes_shown nodes.old) }
+    ensures new { nodes_shown nodes.new ≡ with_changed ckpt r (λ x. committed x x.slot) (nodes_shown nodes.old) }
 {
     let node = &mut nodes[r as usize];
     node.commit(call, ckpt);

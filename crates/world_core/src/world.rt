@@ -87,10 +87,11 @@ impl World {
         // undone; it owns nothing then, and no replica has an effect of it.
         ensures refused { EachRefusalLeaves log.new.labels }
 
-        // An update is on all replicas of its checkpoint or on none, after each front of the log.
+        // Where updates are on all replicas, one is on all of its checkpoint or on none, after each front of the log.
         ensures all_or_none { IsAllOrNoneThroughout log.new.labels }
 
-        // What was answered OK is on each complete replica from then on.
+        // What was answered OK is on each complete replica from then on, or where updates go to the active alone, on
+        // the active's.
         ensures acknowledged { AcknowledgedStay log.new.labels }
 
         // Each replica is the replay of the updates that it has taken, each once; of the active's first ones, where they

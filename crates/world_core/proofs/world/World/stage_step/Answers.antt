@@ -6,7 +6,7 @@ use Rattle.node_core.specs.StageReplies.{reply_told}
 use Rattle.replica.specs.Replicas.{answer_unless, outcome_on, staged}
 use Rattle.stage_slot.specs.Slots.{owner_of}
 use Rattle.ckpt_types.specs.OpWord.{word_of_op}
-use Rattle.world_core.specs.Nodes.{replica_in, with_replica}
+use Rattle.world_core.specs.Nodes.{replica_in, with_changed}
 use Rattle.world_core.proofs.HandPlaces.{left_alone}
 use Rattle.world_core.proofs.Staging.{takes, stage_is, stage_refused}
 use Rattle.world_core.proofs.Stepping.{node_there}
@@ -34,7 +34,7 @@ returns-in-Err-clause-ok c =
     let update = c.in_ok-update.update in
     let moment : to_z w64 (of_z w64 c.args.moment) ≡ c.args.moment = to_z-of_z w64 c.args.moment (record { sfits = c.ranges.moment.sfits }) in
     let answer = subst (λ (t : ℤ). IfSome (replica_in w.nodes c.args.ckpt c.args.r) (λ x. c.stage.result ≡ answer_unless (owner_of x.slot) (outcome_on x update t))) moment c.stage.ensures.answer in
-    let nodes = c.stage.ensures.new ∙ ap (λ (t : ℤ). with_replica c.args.ckpt c.args.r (staged c.args.asked update t) w.nodes) moment in
+    let nodes = c.stage.ensures.new ∙ ap (λ (t : ℤ). with_changed c.args.ckpt c.args.r (staged c.args.asked update t) w.nodes) moment in
     record {
       label = _;
       labels = c.refuse_stage.ensures.label hand refl;
@@ -49,7 +49,7 @@ returns-clause-ok c =
     let update = c.in_ok-update.update in
     let moment : to_z w64 (of_z w64 c.args.moment) ≡ c.args.moment = to_z-of_z w64 c.args.moment (record { sfits = c.ranges.moment.sfits }) in
     let answer = subst (λ (t : ℤ). IfSome (replica_in w.nodes c.args.ckpt c.args.r) (λ x. c.stage.result ≡ answer_unless (owner_of x.slot) (outcome_on x update t))) moment c.stage.ensures.answer in
-    let nodes = c.stage.ensures.new ∙ ap (λ (t : ℤ). with_replica c.args.ckpt c.args.r (staged c.args.asked update t) w.nodes) moment in
+    let nodes = c.stage.ensures.new ∙ ap (λ (t : ℤ). with_changed c.args.ckpt c.args.r (staged c.args.asked update t) w.nodes) moment in
     record {
       label = _;
       labels = c.push.ensures.labels;
