@@ -89,10 +89,10 @@ pub record RegistersNone (callbacks : CallbackSet) : Type 0 where
   pub opens : callbacks.opens ≡ false
   pub syncs : callbacks.syncs ≡ false
 
--- of the attributes that pass their check, these are not built yet: collocated checkpoints, and weak updates
+-- of the attributes that pass their check, those of a collocated checkpoint are not built yet
 pub record IsBuiltAttributes (a : CreationAttributes) : Type 0 where
-  pub not_collocated : a.creation_flags ≢ wr_active_replica + checkpoint_collocated
-  pub not_weak : (a.creation_flags ≢ wr_active_replica_weak) × (a.creation_flags ≢ wr_active_replica_weak + checkpoint_collocated)
+  pub not_active : a.creation_flags ≢ wr_active_replica + checkpoint_collocated
+  pub not_weak : a.creation_flags ≢ wr_active_replica_weak + checkpoint_collocated
 
 -- attributes are of a kind that is built, where they are given
 abbrev pub AreBuilt : Option CreationAttributes → Type 0

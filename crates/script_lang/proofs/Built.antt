@@ -36,8 +36,8 @@ none_registered set h = go set.opens set.syncs h refl refl
 
 built_attributes : (a : CreationAttributes) → is_later_declared a ≡ false → IsBuiltAttributes a
 built_attributes a h = record {
-  not_collocated = grind (arith, h);
-  not_weak = (grind (arith, h), grind (arith, h));
+  not_active = grind (arith, h);
+  not_weak = grind (arith, h);
 }
 
 all_built : (o : Option CreationAttributes) → is_later_attributes o ≡ false → AreBuilt o

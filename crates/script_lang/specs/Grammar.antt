@@ -186,9 +186,9 @@ limit_fault m x =
 
 -- THE NARROWER FORMS THAT ARE NOT BUILT YET
 
--- creation flags of weak updates, or of a collocated checkpoint
+-- creation flags of a collocated checkpoint
 abbrev pub is_later_declared : CreationAttributes → Bool
-is_later_declared a = a.creation_flags == wr_active_replica_weak || a.creation_flags == wr_active_replica + checkpoint_collocated || a.creation_flags == wr_active_replica_weak + checkpoint_collocated
+is_later_declared a = a.creation_flags == wr_active_replica + checkpoint_collocated || a.creation_flags == wr_active_replica_weak + checkpoint_collocated
 
 -- attributes that are given, with such flags
 abbrev pub is_later_attributes : Option CreationAttributes → Bool

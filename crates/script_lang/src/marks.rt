@@ -227,12 +227,11 @@ fn is_later_attributes(attributes: &Option<CreationAttributes>) -> bool
     }
 }
 
-// Weak updates, and collocated checkpoints.
+// Collocated checkpoints.
 fn is_later_declared(declared: &CreationAttributes) -> bool
     ensures { result ≡ spec_is_later_declared declared.now }
 {
     let flags = declared.creation_flags;
-    flags == WR_ACTIVE_REPLICA_WEAK
-        || flags == WR_ACTIVE_REPLICA + CHECKPOINT_COLLOCATED
+    flags == WR_ACTIVE_REPLICA + CHECKPOINT_COLLOCATED
         || flags == WR_ACTIVE_REPLICA_WEAK + CHECKPOINT_COLLOCATED
 }
