@@ -1,5 +1,5 @@
 -- What a call does next, by its own steps and the record: the steps of each call, decision by decision.
-use Rattle.std.specs.Prelude.{ℕ, ◌+◌, List, [], ◌∷◌, Option, Some, None, Bool, true, false, if◌then◌else◌, ℤ}
+use Rattle.std.specs.Prelude.{ℕ, ◌+◌, List, [], ◌∷◌, length, Option, Some, None, Bool, true, false, if◌then◌else◌, ℤ}
 use Rattle.moment_rules.specs.Times.{sum_until_end}
 use Rattle.ckpt_types.specs.declared.ais_error.AisError.TheVariants.{NotExist, TryAgain}
 use Rattle.ckpt_types.specs.declared.answers.Answer.{Answer}
@@ -10,6 +10,8 @@ use Rattle.ckpt_types.specs.declared.answers.Outcome.{Outcome}
 use Rattle.ckpt_types.specs.declared.answers.Outcome.TheVariants.{Done, Refused, NoMemory}
 use Rattle.ckpt_types.specs.declared.identities.CallId.{CallId}
 use Rattle.ckpt_types.specs.declared.operation.Op.{Op}
+use Rattle.ckpt_types.specs.declared.update.Update.{Update}
+use Rattle.ckpt_types.specs.declared.update.Update.TheVariants as updates
 use Rattle.ckpt_types.specs.declared.operation.Op.TheVariants as ops
 use Rattle.node_msgs.specs.declared.replies.Reply.{Reply}
 use Rattle.node_msgs.specs.declared.replies.Reply.TheVariants as replies
@@ -34,7 +36,7 @@ use Rattle.cluster_record.specs.declared.opening.OpenAnswer.TheVariants as openi
 use Rattle.cluster_record.specs.Opening.{open_answer}
 use Rattle.cluster_record.specs.DueOpen.{open_begun, open_next, open_taken, making_ckpt}
 use Rattle.cluster_record.specs.DueUpdate.{update_begun, update_next, update_taken, done_end_by}
-use Rattle.cluster_record.specs.DueActive.{active_begun, active_next}
+use Rattle.cluster_record.specs.DueActive.{active_begun, active_next, active_taken, active_end}
 use Rattle.cluster_record.specs.DueOnce.{Enter, Leave, Close, Unlink, Retain, once_next}
 
 -- a refusal of a vector tells the index of its first refused element
@@ -55,14 +57,14 @@ abbrev pub driver_taken : StepDone → Driver → Driver
 driver_taken d (drivers.Once x) = drivers.Once x
 driver_taken d (drivers.Open o) = drivers.Open (open_taken d o)
 driver_taken d (drivers.Update u) = drivers.Update (update_taken d u)
-driver_taken d (drivers.Active a) = drivers.Active a
+driver_taken d (drivers.Active a) = drivers.Active (active_taken d a)
 
 -- how the call ends where a node has done what it asked
 abbrev pub done_end : StepDone → Answer → Driver → Option Outcome
 done_end d answer (drivers.Once x) = None
 done_end d answer (drivers.Open o) = None
 done_end d answer (drivers.Update u) = done_end_by d answer u d.verb
-done_end d answer (drivers.Active a) = Some (Done answer)
+done_end d answer (drivers.Active a) = active_end answer d.verb
 
 -- how a call of an operation ends by a node's reply; where nothing comes of it, the call goes on
 abbrev pub driver_end : Op → StepDone → Reply → Driver → Option Outcome
@@ -132,11 +134,12 @@ takes_memory events.Open = true
 takes_memory events.Create = true
 takes_memory step = false
 
--- what a call keeps of the tables and of the record at its beginning: the checkpoint of its handle, the room for the identifiers that this one declares, whether its updates are on all replicas, the client's node, and the moment
+-- what a call keeps of the tables and of the record at its beginning: the checkpoint of its handle, the room for the identifiers that this one declares, whether its updates are on all replicas, whether its writes are weak, the client's node, and the moment
 pub record Kept : Type 0 where
   pub ckpt : Option ℕ
   pub room : Room
   pub all : Bool
+  pub weak : Bool
   pub node : ℕ
   pub moment : ℤ
 
@@ -158,16 +161,21 @@ update_start call ckpt = on_kept ckpt (λ k. drivers.Update (update_begun call k
 abbrev pub active_start : CallId → ActiveKind → Option ℕ → Option Driver
 active_start call kind ckpt = on_kept ckpt (λ k. drivers.Active (active_begun call k kind))
 
--- an update is of all replicas, or is done by the active in one step
-abbrev pub change_start : CallId → Bool → Option ℕ → Option Driver
-change_start call true ckpt = update_start call ckpt
-change_start call false ckpt = active_start call kinds.Apply ckpt
+-- how the active does an update, of a checkpoint that is weak or not: a weak write element by element, any other in one step
+abbrev pub kind_of_change : Bool → Update → ActiveKind
+kind_of_change true (updates.Write elements) = kinds.Weak (length elements)
+kind_of_change weak update = kinds.Apply
+
+-- an update is of all replicas, or is done by the active
+abbrev pub change_start : CallId → Bool → ActiveKind → Option ℕ → Option Driver
+change_start call true kind ckpt = update_start call ckpt
+change_start call false kind ckpt = active_start call kind ckpt
 
 -- what drives a call that goes on behind its beginning; a call on no checkpoint does not, nor does one that is answered at its beginning, or is not built
 abbrev pub driver_start : CallId → Ask → Kept → Option Driver
 driver_start call (asks.Enter r version callbacks) kept = Some (drivers.Once (Enter r))
 driver_start call (asks.Open place name flags timeout a) kept = Some (drivers.Open (open_begun call (record { name = name; attrs = a; client = client_of call; node = kept.node }) (Some (sum_until_end kept.moment timeout))))
-driver_start call (asks.Change place update) kept = change_start call kept.all kept.ckpt
+driver_start call (asks.Change place update) kept = change_start call kept.all (kind_of_change kept.weak update) kept.ckpt
 driver_start call (asks.Read place elements) kept = active_start call kinds.Read kept.ckpt
 driver_start call (asks.Status place) kept = active_start call kinds.Status kept.ckpt
 driver_start call (asks.Iterate iteration place chosen time) kept = active_start call (kinds.Iterate (choice_of chosen time)) kept.ckpt

@@ -41,7 +41,8 @@ use Rattle.ckpt_machine.specs.Driving.{deadline_from, refused_cause}
 use Rattle.node_core.specs.Serving.{update_answer, told_id}
 use Rattle.ckpt_machine.specs.Machine.{Machine, Staged, ReplicaState, CallState}
 use Rattle.ckpt_machine.specs.Listing.{listing_at}
-use Rattle.ckpt_machine.specs.Options.{is_all}
+use Rattle.ckpt_machine.specs.Options.{is_all, is_weak, is_by_element}
+use Rattle.weak_marks.specs.Marks.{Marked, is_left}
 use Rattle.ckpt_machine.specs.Steps.{Told, rooms_of, ids_asked, staged_moment, effect_of}
 
 -- ---- the complete replicas of a checkpoint, at once
@@ -76,9 +77,9 @@ OnReplica m k r P = IsSomeAnd (entry_of k m.cluster.entries) (λ e. IsSomeAnd (m
 abbrev pub OnAll : Machine → ℕ → ℕ → (Entry → ReplicaState → Type 0) → Type 0
 OnAll m k r P = OnReplica m k r (λ e x. (is_all e.attributes ≡ true) × P e x)
 
--- its updates are on the active alone, which this node has
-abbrev pub OnActive : Machine → ℕ → ℕ → (Entry → ReplicaState → Type 0) → Type 0
-OnActive m k r P = OnReplica m k r (λ e x. (is_all e.attributes ≡ false) × (e.active ≡ Some r) × P e x)
+-- its updates are on the active alone, which this node has, and there this one is done element by element, or at once
+abbrev pub OnActive : Machine → Update → Bool → ℕ → ℕ → (Entry → ReplicaState → Type 0) → Type 0
+OnActive m update by_element k r P = OnReplica m k r (λ e x. (is_all e.attributes ≡ false) × (e.active ≡ Some r) × (is_by_element (is_weak e.attributes) update ≡ by_element) × P e x)
 
 -- ---- all-replicas updates
 
@@ -139,15 +140,8 @@ CommitRow m call update k r reply end details = ⊥
 
 -- ---- updates of the active alone
 
--- applied: no marks stand, and the update has an outcome at the record's moment; it is answered OK, and a creation tells its identifier
-pub record ApplyOk (m : Machine) (update : Update) (t : Told) (e : Entry) (x : ReplicaState) : Type 0 where
-  pub unmarked : x.marks ≡ None
-  pub fits : IsOk (outcome e.attributes update m.cluster.moment x.sections)
-  pub answer : t.end ≡ Some (Done (update_answer update))
-  pub told : t.details ≡ told_id update m.cluster.moment x.sections
-
 -- refused: no marks stand, and the outcome at the record's moment is the refusal
-pub record ApplyRefused (m : Machine) (s : CallState) (update : Update) (t : Told) (e : Entry) (x : ReplicaState) : Type 0 where
+pub record ActiveRefused (m : Machine) (s : CallState) (update : Update) (t : Told) (e : Entry) (x : ReplicaState) : Type 0 where
   pub unmarked : x.marks ≡ None
   pub why : Refusal
   pub refused : outcome e.attributes update m.cluster.moment x.sections ≡ Err why
@@ -156,19 +150,57 @@ pub record ApplyRefused (m : Machine) (s : CallState) (update : Update) (t : Tol
   pub told : t.details ≡ beside.Nothing
 
 -- held: the marks of another call stand, which is live; this one is to try again
-pub record ApplyHeld (m : Machine) (call by : CallId) (t : Told) (x : ReplicaState) : Type 0 where
+pub record ActiveHeld (m : Machine) (call by : CallId) (t : Told) (x : ReplicaState) : Type 0 where
   pub marks : IsSomeAnd x.marks (λ marks. marks.call ≡ by)
   pub another : same_call by call ≡ false
   pub live : is_live m.cluster by ≡ true
   pub answer : t.end ≡ Some (Refused errors.TryAgain (Holder by))
   pub told : t.details ≡ beside.Nothing
 
--- an update is applied, refused by the sections, or held off by the marks of another call
+-- what an update that begins on the active is answered: it goes ahead so, or is refused by the sections, or held off by the marks of another call
+abbrev pub BeginsOnActive : Machine → CallState → Update → Bool → ℕ → ℕ → Told → (Entry → ReplicaState → Type 0) → StepReply → Type 0
+BeginsOnActive m s update by_element k r t Ahead words.Ok = OnActive m update by_element k r Ahead
+BeginsOnActive m s update by_element k r t Ahead words.Refused = OnActive m update by_element k r (ActiveRefused m s update t)
+BeginsOnActive m s update by_element k r t Ahead (words.Held by) = OnActive m update by_element k r (λ e x. ActiveHeld m s.call by t x)
+BeginsOnActive m s update by_element k r t Ahead reply = ⊥
+
+-- applied: no marks stand, and the update has an outcome at the record's moment; it is answered OK, and a creation tells its identifier
+pub record ApplyOk (m : Machine) (update : Update) (t : Told) (e : Entry) (x : ReplicaState) : Type 0 where
+  pub unmarked : x.marks ≡ None
+  pub fits : IsOk (outcome e.attributes update m.cluster.moment x.sections)
+  pub answer : t.end ≡ Some (Done (update_answer update))
+  pub told : t.details ≡ told_id update m.cluster.moment x.sections
+
+-- an update in one step
 abbrev pub ApplyRow : Machine → CallState → Update → ℕ → ℕ → Told → StepReply → Type 0
-ApplyRow m s update k r t words.Ok = OnActive m k r (ApplyOk m update t)
-ApplyRow m s update k r t words.Refused = OnActive m k r (ApplyRefused m s update t)
-ApplyRow m s update k r t (words.Held by) = OnActive m k r (λ e x. ApplyHeld m s.call by t x)
-ApplyRow m s update k r t reply = ⊥
+ApplyRow m s update k r t reply = BeginsOnActive m s update false k r t (ApplyOk m update t) reply
+
+-- marked: no marks stand, and the write has an outcome at the record's moment; it goes on
+pub record MarkOk (m : Machine) (update : Update) (t : Told) (e : Entry) (x : ReplicaState) : Type 0 where
+  pub unmarked : x.marks ≡ None
+  pub fits : IsOk (outcome e.attributes update m.cluster.moment x.sections)
+  pub answer : t.end ≡ None
+  pub told : t.details ≡ beside.Nothing
+
+-- the beginning of a weak write
+abbrev pub MarkRow : Machine → CallState → Update → ℕ → ℕ → Told → StepReply → Type 0
+MarkRow m s update k r t reply = BeginsOnActive m s update true k r t (MarkOk m update t) reply
+
+-- the marks are of the call's write, of which an element is left, or none
+pub record AreMarksOf (call : CallId) (update : Update) (left : Bool) (marks : Marked) : Type 0 where
+  pub call_is : marks.call ≡ call
+  pub update_is : marks.update ≡ update
+  pub left_is : is_left marks ≡ left
+
+-- an element is done: the call's own marks stand, with one that is left; it goes on
+abbrev pub ElementRow : Machine → CallId → Update → ℕ → ℕ → Told → StepReply → Type 0
+ElementRow m call update k r t words.Ok = OnActive m update true k r (λ e x. IsSomeAnd x.marks (AreMarksOf call update true)) × (t.end ≡ None) × (t.details ≡ beside.Nothing)
+ElementRow m call update k r t reply = ⊥
+
+-- a weak write has been done: the call's own marks stand, with no element left; it is answered OK
+abbrev pub UnmarkRow : Machine → CallId → Update → ℕ → ℕ → Told → StepReply → Type 0
+UnmarkRow m call update k r t words.Ok = OnActive m update true k r (λ e x. IsSomeAnd x.marks (AreMarksOf call update false)) × (t.end ≡ Some (Done answers.Nothing)) × (t.details ≡ beside.Nothing)
+UnmarkRow m call update k r t reply = ⊥
 
 -- ---- reads, on the active
 
@@ -469,6 +501,9 @@ Row m s verbs.Undo t = AtCkpt t.ckpt t.node (λ k. (name : List ℕ) × (a : Opt
 Row m s verbs.Stage t = AtNode t.ckpt t.node (λ k r. (place : ℕ) × (update : Update) × (asked s.op ≡ asks.Change place update) × StageRow m s update k r t.reply t.end) × (t.details ≡ beside.Nothing)
 Row m s verbs.Commit t = AtNode t.ckpt t.node (λ k r. (place : ℕ) × (update : Update) × (asked s.op ≡ asks.Change place update) × CommitRow m s.call update k r t.reply t.end t.details)
 Row m s verbs.Apply t = AtNode t.ckpt t.node (λ k r. (place : ℕ) × (update : Update) × (asked s.op ≡ asks.Change place update) × ApplyRow m s update k r t t.reply)
+Row m s verbs.Mark t = AtNode t.ckpt t.node (λ k r. (place : ℕ) × (update : Update) × (asked s.op ≡ asks.Change place update) × MarkRow m s update k r t t.reply)
+Row m s verbs.Element t = AtNode t.ckpt t.node (λ k r. (place : ℕ) × (update : Update) × (asked s.op ≡ asks.Change place update) × ElementRow m s.call update k r t t.reply)
+Row m s verbs.Unmark t = AtNode t.ckpt t.node (λ k r. (place : ℕ) × (update : Update) × (asked s.op ≡ asks.Change place update) × UnmarkRow m s.call update k r t t.reply)
 Row m s verbs.Read t = AtNode t.ckpt t.node (λ k r. (place : ℕ) × (elements : List ReadElement) × (asked s.op ≡ asks.Read place elements) × ReadRow m elements k r t)
 Row m s verbs.Status t = AtNode t.ckpt t.node (λ k r. (place : ℕ) × (asked s.op ≡ asks.Status place) × StatusRow m k r t.reply t.end t.details)
 Row m s verbs.Iter t = AtNode t.ckpt t.node (λ k r. (iteration place chosen : ℕ) × (time : ℤ) × (asked s.op ≡ asks.Iterate iteration place chosen time) × IterRow m s k r t.reply t.end) × (t.details ≡ beside.Nothing)
@@ -485,6 +520,9 @@ abbrev pub IsOnOwn : Verb → Option ℕ → Option ℕ → Type 0
 IsOnOwn verbs.Stage ckpt own = ckpt ≡ own
 IsOnOwn verbs.Commit ckpt own = ckpt ≡ own
 IsOnOwn verbs.Apply ckpt own = ckpt ≡ own
+IsOnOwn verbs.Mark ckpt own = ckpt ≡ own
+IsOnOwn verbs.Element ckpt own = ckpt ≡ own
+IsOnOwn verbs.Unmark ckpt own = ckpt ≡ own
 IsOnOwn verbs.Read ckpt own = ckpt ≡ own
 IsOnOwn verbs.Status ckpt own = ckpt ≡ own
 IsOnOwn verbs.Iter ckpt own = ckpt ≡ own

@@ -1,23 +1,26 @@
 -- Where a call in hand is: what is so of it, by what drives it.
-use Rattle.std.specs.Prelude.{◌≡◌, ℕ, ◌<◌, length, Option, Some, None, IsSome, IsSomeAnd, IfSome, true, false, ℤ, pos, ◌≤ℤ◌, slice_index, Bool}
+use Rattle.std.specs.Prelude.{◌≡◌, ℕ, ◌<◌, ◌≤◌, length, Option, Some, None, is_some, IsSome, IsSomeAnd, IfSome, true, false, ℤ, pos, ◌≤ℤ◌, slice_index, Bool}
 use Rattle.ckpt_types.specs.declared.attributes.CreationAttributes.{CreationAttributes}
 use Rattle.ckpt_types.specs.declared.calls.CallbackSet.{CallbackSet}
 use Rattle.ckpt_types.specs.declared.calls.Version.{Version}
 use Rattle.ckpt_types.specs.declared.update.Update.{Update}
 use Rattle.ckpt_types.specs.declared.identities.ActorName.{ActorName}
 use Rattle.ckpt_types.specs.Attributes.{is_malformed}
-use Rattle.ckpt_types.specs.Limits.{client_numbers, nodes_max}
+use Rattle.ckpt_types.specs.Limits.{client_numbers, nodes_max, vector_max}
 use Rattle.ckpt_machine.specs.Drivers.{Driver}
 use Rattle.cluster_record.specs.declared.calls.Making.{Making}
 use Rattle.cluster_record.specs.DueOpen.{OpenState}
 use Rattle.cluster_record.specs.DueActive.{ActiveState}
+use Rattle.cluster_record.specs.declared.calls.MarksMade.{MarksMade}
+use Rattle.weak_marks.specs.Marks.{Marked}
 use Rattle.cluster_record.specs.declared.calls.ActiveKind.{ActiveKind}
 use Rattle.cluster_record.specs.declared.entries.Entry.{Entry}
 use Rattle.cluster_record.specs.DueUpdate.{UpdateState}
 use Rattle.cluster_record.specs.declared.calls.UpdatePhase.TheVariants.{Staging, Committing}
-use Rattle.cluster_record.specs.Calls.{IsClient, client_of}
+use Rattle.cluster_record.specs.Calls.{IsClient, client_of, same_call}
+use Rattle.ckpt_types.specs.declared.identities.CallId.{CallId}
 use Rattle.cluster_record.specs.RecordState.{entry_of, is_live_client, is_up, is_live}
-use Rattle.ckpt_machine.specs.Driving.{deadline_from}
+use Rattle.ckpt_machine.specs.Driving.{deadline_from, kind_of_change}
 use Rattle.cluster_record.specs.DueOnce.{OneStep}
 use Rattle.cluster_record.specs.DueOnce as once
 use Rattle.ckpt_types.specs.Asks.{Ask, asked, IsBuilt}
@@ -26,7 +29,7 @@ use Rattle.ckpt_machine.specs.Beginning.{name_is_bad}
 use Rattle.ckpt_machine.specs.Guards.{AsksToOpen}
 use Rattle.ckpt_machine.specs.Tables.{choice_of}
 use Rattle.ckpt_machine.specs.Machine.{Machine, CallState}
-use Rattle.ckpt_machine.specs.Options.{is_all}
+use Rattle.ckpt_machine.specs.Options.{is_all, is_weak}
 use Rattle.ckpt_machine.specs.Steps.{driver_of, IsDriven, rooms_of, asked_handle}
 use Rattle.section_iter.specs.Room.{room_declared}
 use Rattle.cluster_record.specs.declared.calls.UpdatePhase.{UpdatePhase}
@@ -36,19 +39,19 @@ use Rattle.ckpt_machine.specs.Drivers as drivers
 use Rattle.cluster_record.specs.declared.calls.ActiveKind.TheVariants as kinds
 use Rattle.ckpt_machine.specs.Entries.{WasMade}
 
--- an update of all replicas is none of these; any other is
-abbrev pub change_kind : Bool → Option ActiveKind
-change_kind true = None
-change_kind false = Some kinds.Apply
+-- an update of all replicas is none of these; any other is of this kind
+abbrev pub change_kind : Bool → ActiveKind → Option ActiveKind
+change_kind true kind = None
+change_kind false kind = Some kind
 
--- by what is asked of the active, the kind of the call, on a checkpoint whose updates are on all replicas or not
-abbrev pub active_kind : Bool → Ask → Option ActiveKind
-active_kind all (asking.Change place update) = change_kind all
-active_kind all (asking.Read place elements) = Some kinds.Read
-active_kind all (asking.Status place) = Some kinds.Status
-active_kind all (asking.Iterate iteration place chosen time) = Some (kinds.Iterate (choice_of chosen time))
-active_kind all (asking.Next iteration) = Some kinds.Next
-active_kind all ask = None
+-- by what is asked of the active, the kind of the call, on a checkpoint whose updates are on all replicas or not, and whose writes are weak or not
+abbrev pub active_kind : Bool → Bool → Ask → Option ActiveKind
+active_kind all weak (asking.Change place update) = change_kind all (kind_of_change weak update)
+active_kind all weak (asking.Read place elements) = Some kinds.Read
+active_kind all weak (asking.Status place) = Some kinds.Status
+active_kind all weak (asking.Iterate iteration place chosen time) = Some (kinds.Iterate (choice_of chosen time))
+active_kind all weak (asking.Next iteration) = Some kinds.Next
+active_kind all weak ask = None
 
 -- attributes that were given passed their check
 abbrev pub AreGoodAttributes : Option CreationAttributes → Type 0
@@ -107,16 +110,33 @@ pub record IsUpdateIn (m : Machine) (shapes : ℕ → Shape) (s : CallState) (u 
   pub owns : (e : Entry) → entry_of u.ckpt m.cluster.entries ≡ Some e → OwnsIn (shapes u.ckpt) s u e
   pub some : (e : Entry) → entry_of u.ckpt m.cluster.entries ≡ Some e → HasSome u e u.phase
 
+-- the marks are of the call
+abbrev pub is_marked_by : CallId → Option Marked → Bool
+is_marked_by call None = false
+is_marked_by call (Some marks) = same_call marks.call call
+
+-- a weak write alone makes marks; it has no more elements than a vector may, and no more of them left
+abbrev pub MarksFit : ActiveKind → Option MarksMade → Type 0
+MarksFit (kinds.Weak n) None = n ≤ vector_max
+MarksFit (kinds.Weak n) (Some marks) = (n ≤ vector_max) × (marks.left ≤ n)
+MarksFit kind None = Unit {0}
+MarksFit kind (Some marks) = ⊥
+
 -- a call to the active is of the kind of its operation, on a checkpoint that was made, and its handle is there
-pub record IsActiveIn (m : Machine) (s : CallState) (a : ActiveState) : Type 0 where
+pub record IsActiveIn (m : Machine) (shapes : ℕ → Shape) (s : CallState) (a : ActiveState) : Type 0 where
   pub call : a.call ≡ s.call
-  pub kind : active_kind s.kept.all (asked s.op) ≡ Some a.kind
+  pub kind : active_kind s.kept.all s.kept.weak (asked s.op) ≡ Some a.kind
+  pub fit : MarksFit a.kind a.marks
   pub made : WasMade m.cluster a.ckpt
   pub kept : s.kept.ckpt ≡ Some a.ckpt
   -- where its checkpoint is still there, it declares what it did at the beginning
   pub room : IfSome (entry_of a.ckpt m.cluster.entries) (λ e. s.kept.room ≡ room_declared e.attributes)
   pub all : IfSome (entry_of a.ckpt m.cluster.entries) (λ e. s.kept.all ≡ is_all e.attributes)
+  pub weak : IfSome (entry_of a.ckpt m.cluster.entries) (λ e. s.kept.weak ≡ is_weak e.attributes)
   pub handle : IsSome (asked_handle m s.call.actor s.op)
+  -- and has its marks just where it has made some, which are of the present generation
+  pub marks : (e : Entry) → entry_of a.ckpt m.cluster.entries ≡ Some e → is_marked_by s.call (shapes a.ckpt).marks ≡ is_some a.marks
+  pub generation : (e : Entry) → entry_of a.ckpt m.cluster.entries ≡ Some e → IfSome a.marks (λ marks. marks.generation ≡ e.generation)
 
 -- a client that is live leaves
 pub record IsLeaveAt (m : Machine) (s : CallState) : Type 0 where
@@ -150,7 +170,7 @@ abbrev pub IsInPlace : Machine → (ℕ → Shape) → CallState → Driver → 
 IsInPlace m shapes s (drivers.Once x) = IsOnceAt m s x
 IsInPlace m shapes s (drivers.Open o) = IsOpenIn m s o
 IsInPlace m shapes s (drivers.Update u) = IsUpdateIn m shapes s u
-IsInPlace m shapes s (drivers.Active a) = IsActiveIn m s a
+IsInPlace m shapes s (drivers.Active a) = IsActiveIn m shapes s a
 
 -- an Initialize becomes live, and all other calls of one step are of a client that is
 abbrev pub enters : OneStep → Bool

@@ -10,7 +10,8 @@ use Rattle.cluster_record.specs.RecordState.{RecordState, entry_of, client_key, 
 use Rattle.ckpt_machine.specs.Entries.{AllStay}
 use Rattle.ckpt_machine.specs.Invariant.{IsMaker, IsGoodClient}
 use Rattle.ckpt_machine.specs.Machine.{Machine, CallState}
-use Rattle.ckpt_machine.specs.Shape.{Shape, IsOwner}
+use Rattle.ckpt_machine.specs.Shape.{Shape, IsOwner, IsMarker}
+use Rattle.weak_marks.specs.Marks.{Marked}
 
 -- the same as far as the invariant looks
 pub record IsLaterEntry (e f : Entry) : Type 0 where
@@ -37,6 +38,7 @@ pub record IsLaterRecord (m : Machine) (R : RecordState) (hands : ActorName → 
   pub live : (a : ActorName) (z : CallState) → hands a ≡ Some z → is_live m.cluster z.call ≡ true → is_live R z.call ≡ true
   pub lives : (a : ActorName) (z : CallState) → hands a ≡ Some z → is_live_client (client_of z.call) R ≡ is_live_client (client_of z.call) m.cluster
   pub makes : (a : ActorName) (z : CallState) (k : ℕ) (e : Entry) → hands a ≡ Some z → entry_of k m.cluster.entries ≡ Some e → e.making ≡ Some z.call → IsSome (entry_of k R.entries)
-  -- those who own slots, or are making what is left, are left
+  -- those who own slots, have marks, or are making what is left, are left
   pub owners : (k : ℕ) (sh : Shape) (call : CallId) → IsOwner m k sh call → hands call.actor ≡ m.in_hand call.actor
+  pub markers : (k : ℕ) (marks : Marked) → IsSome (entry_of k R.entries) → IsMarker m k marks → hands marks.call.actor ≡ m.in_hand marks.call.actor
   pub makers : (k : ℕ) (call : CallId) → IsSome (entry_of k R.entries) → IsMaker m k call → hands call.actor ≡ m.in_hand call.actor

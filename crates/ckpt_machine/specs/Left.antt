@@ -2,7 +2,10 @@
 use Rattle.std.specs.Prelude.{ℕ, ◌+◌, ◌*◌, List, [], ◌∷◌, Option, Some, None, if◌then◌else◌}
 use Rattle.ckpt_machine.specs.Drivers.{Driver}
 use Rattle.ckpt_machine.specs.Drivers as drivers
+use Rattle.cluster_record.specs.declared.calls.ActiveKind.{ActiveKind}
+use Rattle.cluster_record.specs.declared.calls.ActiveKind.TheVariants as kinds
 use Rattle.cluster_record.specs.declared.calls.Making.{Making}
+use Rattle.cluster_record.specs.declared.calls.MarksMade.{MarksMade}
 use Rattle.cluster_record.specs.declared.calls.UpdatePhase.{UpdatePhase}
 use Rattle.cluster_record.specs.declared.calls.UpdatePhase.TheVariants.{Staging, Committing}
 use Rattle.cluster_record.specs.RecordState.{RecordState, entry_of, complete_of}
@@ -30,9 +33,15 @@ abbrev pub update_left : List ℕ → List ℕ → UpdatePhase → ℕ
 update_left complete owned Staging = 2 * lacking complete owned + having complete owned + 1
 update_left complete owned Committing = having complete owned + 1
 
+-- a weak write makes its marks, does each element and ends them; any other call to the active is of one step
+abbrev pub active_left : ActiveKind → Option MarksMade → ℕ
+active_left (kinds.Weak n) None = n + 2
+active_left kind None = 1
+active_left kind (Some marks) = marks.left + 1
+
 -- at most so many steps are left of a call
 abbrev pub steps_left : RecordState → Driver → ℕ
 steps_left R (drivers.Once x) = 1
 steps_left R (drivers.Open o) = making_left R o.making
 steps_left R (drivers.Update u) = update_left (complete_of (entry_of u.ckpt R.entries)) u.owned u.phase
-steps_left R (drivers.Active a) = 1
+steps_left R (drivers.Active a) = active_left a.kind a.marks

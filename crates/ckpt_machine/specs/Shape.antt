@@ -1,5 +1,5 @@
 -- What stands behind the replicas of a checkpoint: where its updates are on all of them, one equation for each node, with a witness.
-use Rattle.std.specs.Prelude.{◌≡◌, ℕ, ◌<◌, List, [], ◌∷◌, ◌++◌, length, Option, Some, None, IsSome, IsSomeAnd, Ok, Bool, true, false, ◌==◌, if◌then◌else◌, ℤ, slice_index}
+use Rattle.std.specs.Prelude.{◌≡◌, ℕ, ◌+◌, ◌<◌, List, [], ◌∷◌, ◌++◌, length, Option, Some, None, IsSome, IsSomeAnd, Ok, Bool, true, false, ◌==◌, if◌then◌else◌, ℤ, slice_index}
 use Rattle.ckpt_types.specs.declared.identities.CallId.{CallId}
 use Rattle.ckpt_types.specs.declared.update.Update.{Update}
 use Rattle.ckpt_types.specs.Sections.{Section}
@@ -9,7 +9,10 @@ use Rattle.cluster_record.specs.declared.entries.Entry.{Entry}
 use Rattle.cluster_record.specs.declared.calls.UpdatePhase.{UpdatePhase}
 use Rattle.cluster_record.specs.declared.calls.UpdatePhase.TheVariants.{Staging, Committing}
 use Rattle.cluster_record.specs.Calls.{same_call}
+use Rattle.cluster_record.specs.DueActive.{ActiveState}
 use Rattle.cluster_record.specs.DueUpdate.{UpdateState}
+use Rattle.cluster_record.specs.declared.calls.MarksMade.{MarksMade}
+use Rattle.weak_marks.specs.Marks.{Marked, elements_in}
 use Rattle.cluster_record.specs.RecordState.{first_complete}
 use Rattle.ckpt_machine.specs.Drivers as drivers
 use Rattle.ckpt_types.specs.Asks.{update_of}
@@ -17,7 +20,7 @@ use Rattle.ckpt_machine.specs.Machine.{Machine, Effect, Applied, Staged, Replica
 use Rattle.ckpt_machine.specs.Options.{is_all}
 use Rattle.ckpt_machine.specs.Steps.{driver_of}
 
--- the slots by node, each with its owner; the update that is staged; the contents under it, and those after it, which the replicas without a slot have where it is done
+-- the slots by node, each with its owner; the update that is staged; the contents under it, and those after it, which the replicas without a slot have where it is done; and where updates go to the active alone, the marks that stand there
 pub record Shape : Type 0 where
   pub owners : ℕ → Option CallId
   pub origin : CallId
@@ -27,6 +30,7 @@ pub record Shape : Type 0 where
   pub effects : List Effect
   pub outcome : List Section
   pub done : Bool
+  pub marks : Option Marked
 
 -- ---- the replica of a node, by the owner of its slot
 
@@ -52,15 +56,20 @@ pub record IsShaped (sh : Shape) (owner : Option CallId) (x : ReplicaState) : Ty
   pub effects : x.effects ≡ effects_by sh owner
   pub unmarked : x.marks ≡ None
 
--- a replica of a checkpoint whose updates are on the active alone: nothing is staged on it, and no marks stand; what it has is its own
-pub record IsApart (x : ReplicaState) : Type 0 where
-  pub free : x.slot ≡ None
-  pub unmarked : x.marks ≡ None
+-- the marks on a node, where the active has these
+abbrev pub marks_at : Option ℕ → Option Marked → ℕ → Option Marked
+marks_at None marks r = None
+marks_at (Some active) marks r = if r == active then marks else None
 
--- where updates are on all replicas, it is as the shape says
-abbrev pub IsShapedBy : Bool → Shape → Option CallId → ReplicaState → Type 0
-IsShapedBy true sh owner x = IsShaped sh owner x
-IsShapedBy false sh owner x = IsApart x
+-- a replica of a checkpoint whose updates are on the active alone: nothing is staged on it, and these marks stand; what it has is its own
+pub record IsApart (marks : Option Marked) (x : ReplicaState) : Type 0 where
+  pub free : x.slot ≡ None
+  pub marks_are : x.marks ≡ marks
+
+-- where updates are on all replicas, the replica of a node is as the shape says
+abbrev pub IsShapedBy : Bool → Shape → Option ℕ → ℕ → ReplicaState → Type 0
+IsShapedBy true sh active r x = IsShaped sh (sh.owners r) x
+IsShapedBy false sh active r x = IsApart (marks_at active sh.marks r) x
 
 -- the owner of a slot, where it has one, is this call
 abbrev pub is_owner : CallId → Option CallId → Bool
@@ -105,16 +114,30 @@ pub record IsOwner (m : Machine) (k : ℕ) (sh : Shape) (call : CallId) : Type 0
   pub ckpt : driver.ckpt ≡ k
   pub phase : PhaseFits sh state driver driver.phase
 
+-- the call of these marks is in hand, a weak write of this checkpoint, which has made them, and has as many of its elements left
+pub record IsMarker (m : Machine) (k : ℕ) (marks : Marked) : Type 0 where
+  pub state : CallState
+  pub in_hand : held m marks.call ≡ Some state
+  pub call_is : state.call ≡ marks.call
+  pub driver : ActiveState
+  pub driver_is : driver_of state ≡ drivers.Active driver
+  pub ckpt : driver.ckpt ≡ k
+  pub made : MarksMade
+  pub made_is : driver.marks ≡ Some made
+  pub update : marks.update ≡ update_of state.op
+  pub left : marks.done + made.left ≡ length (elements_in marks.update)
+
 -- ---- the whole
 
--- a checkpoint that is made has its replicas on its complete nodes, of which the lowest is the active; the slots are on the lowest of them, each of a call in hand
+-- a checkpoint that is made has its replicas on its complete nodes, of which the lowest is the active; the slots are on the lowest of them, each of a call in hand, and so are the marks on the active
 pub record IsSpread (m : Machine) (k : ℕ) (sh : Shape) (e : Entry) : Type 0 where
   pub nodes : length e.complete ≡ nodes_max
   pub some : IsSome (first_complete 0 e.complete)
   pub active : e.active ≡ first_complete 0 e.complete
-  pub replicas : (r : ℕ) → IsCompleteOn e r → IsSomeAnd (m.replicas k r) (IsShapedBy (is_all e.attributes) sh (sh.owners r))
+  pub replicas : (r : ℕ) → IsCompleteOn e r → IsSomeAnd (m.replicas k r) (IsShapedBy (is_all e.attributes) sh e.active r)
   -- what is staged has this outcome
   pub fits : (r : ℕ) (call : CallId) → sh.owners r ≡ Some call → outcome e.attributes sh.update sh.moment sh.sections ≡ Ok sh.outcome
   pub complete : (r : ℕ) (call : CallId) → sh.owners r ≡ Some call → IsCompleteOn e r
   pub lowest : (q r : ℕ) (call : CallId) → q < r → IsCompleteOn e q → sh.owners r ≡ Some call → IsSome (sh.owners q)
   pub owned : (r : ℕ) (call : CallId) → sh.owners r ≡ Some call → IsOwner m k sh call
+  pub marked : (marks : Marked) → sh.marks ≡ Some marks → IsMarker m k marks

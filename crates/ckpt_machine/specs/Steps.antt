@@ -55,11 +55,12 @@ use Rattle.cluster_record.specs.RecordState.{RecordState, entry_of, complete_of,
 use Rattle.node_msgs.specs.Requests.{ckpt_of}
 use Rattle.node_core.specs.Serving.{made_id, reply_at, details_at}
 use Rattle.node_core.specs.Seen.{record_seen}
-use Rattle.replica.specs.Replicas.{or_same}
+use Rattle.replica.specs.Replicas.{or_same, first_written, elements_left}
+use Rattle.weak_marks.specs.Marks.{Marked, with_next_done}
 use Rattle.node_msgs.specs.Steps.{word_of, verb_of, event_verb}
 use Rattle.ckpt_machine.specs.Driving.{Kept, driver_start, driver_state, driver_next, driver_taken, driver_end, event_ckpt, event_node, event_end, event_refusal, takes_memory}
 use Rattle.ckpt_machine.specs.Listing.{listing_at}
-use Rattle.ckpt_machine.specs.Options.{is_all_in}
+use Rattle.ckpt_machine.specs.Options.{is_all, is_weak, if_declared}
 use Rattle.ckpt_machine.specs.Machine.{Machine, Effect, Applied, Staged, ReplicaState, CallState}
 use Rattle.client_handles.specs.ClientState.{ClientState, emptied}
 use Rattle.cluster_record.specs.Makings.{making_of}
@@ -198,14 +199,14 @@ abbrev pub room_at : RecordState → Option ℕ → Room
 room_at R None = room_in None
 room_at R (Some k) = room_in (declared_in (entry_of k R.entries))
 
--- whether updates of the checkpoint that a call keeps are on all replicas; not where it is gone
-abbrev pub all_at : RecordState → Option ℕ → Bool
-all_at R None = false
-all_at R (Some k) = is_all_in (declared_in (entry_of k R.entries))
+-- what holds of the attributes of the checkpoint that a call keeps; not where it is gone
+abbrev pub declares_at : (CreationAttributes → Bool) → RecordState → Option ℕ → Bool
+declares_at is R None = false
+declares_at is R (Some k) = if_declared is (declared_in (entry_of k R.entries))
 
 -- what a call keeps at its beginning
 abbrev pub kept_at_beginning : RecordState → ℕ → Option HandleView → Kept
-kept_at_beginning R c h = record { ckpt = ckpt_of_handle h; room = room_at R (ckpt_of_handle h); all = all_at R (ckpt_of_handle h); node = node_of_client (find_key client_key c R.clients); moment = R.moment }
+kept_at_beginning R c h = record { ckpt = ckpt_of_handle h; room = room_at R (ckpt_of_handle h); all = declares_at is_all R (ckpt_of_handle h); weak = declares_at is_weak R (ckpt_of_handle h); node = node_of_client (find_key client_key c R.clients); moment = R.moment }
 
 -- an Initialize begins for a client that is not live, on a node that is up
 abbrev pub MayBegin : RecordState → ℕ → Ask → Type 0
@@ -336,6 +337,35 @@ abbrev pub with_applied : CallId → Update → ℤ → Option Entry → Replica
 with_applied call update t None x = x
 with_applied call update t (Some e) x = having_taken e.attributes call update t x
 
+-- the marks of the weak write of a call stand on the replica, of which no element is done
+abbrev pub with_marks : CallId → Update → ℤ → ReplicaState → ReplicaState
+with_marks call update t x = record x { marks = Some (record { call = call; update = update; moment = t; done = 0; generation = x.generation }) }
+
+-- the next element of the weak write is done, at the moment of its marks
+abbrev pub element_written : CreationAttributes → ReplicaState → Option Marked → ReplicaState
+element_written a x None = x
+element_written a x (Some marked) = record x {
+  sections = first_written a marked.moment (elements_left marked) x.sections;
+  marks = with_next_done (Some marked);
+}
+
+-- by what its checkpoint declares
+abbrev pub with_element : Option Entry → ReplicaState → ReplicaState
+with_element None x = x
+with_element (Some e) x = element_written e.attributes x x.marks
+
+-- the weak write has been done, and its marks go
+abbrev pub marks_ended : ReplicaState → Option Marked → ReplicaState
+marks_ended x None = x
+marks_ended x (Some marked) = record x {
+  effects = x.effects ++ Applied marked.call marked.update marked.moment ∷ [];
+  marks = None;
+}
+
+-- whatever marks stand on it
+abbrev pub without_marks : ReplicaState → ReplicaState
+without_marks x = marks_ended x x.marks
+
 -- one replica is changed, where the node has it
 abbrev pub change_replica : Machine → ℕ → ℕ → Option ReplicaState → (ReplicaState → ReplicaState) → Machine
 change_replica m k r None change = m
@@ -425,6 +455,9 @@ changed m s verbs.Retain k r reply = on_ok reply m (at_some k m (λ k. record_st
 changed m s verbs.Stage k r reply = on_ok reply m (at_some k m (λ k. at_some r m (λ r. change_replica m k r (m.replicas k r) (with_slot s.call (update_of s.op) (staged_moment m k)))))
 changed m s verbs.Commit k r reply = on_ok reply m (at_some k m (λ k. at_some r m (λ r. change_replica m k r (m.replicas k r) (with_committed (entry_of k m.cluster.entries)))))
 changed m s verbs.Apply k r reply = on_ok reply m (at_some k m (λ k. at_some r m (λ r. change_replica m k r (m.replicas k r) (with_applied s.call (update_of s.op) m.cluster.moment (entry_of k m.cluster.entries)))))
+changed m s verbs.Mark k r reply = on_ok reply m (at_some k m (λ k. at_some r m (λ r. change_replica m k r (m.replicas k r) (with_marks s.call (update_of s.op) m.cluster.moment))))
+changed m s verbs.Element k r reply = on_ok reply m (at_some k m (λ k. at_some r m (λ r. change_replica m k r (m.replicas k r) (with_element (entry_of k m.cluster.entries)))))
+changed m s verbs.Unmark k r reply = on_ok reply m (at_some k m (λ k. at_some r m (λ r. change_replica m k r (m.replicas k r) without_marks)))
 changed m s verbs.Iter k r reply = on_ok reply m (at_some k m (λ k. at_some r m (λ r. with_started s k r m)))
 changed m s verbs.Next k r reply = on_ok reply m (at_some k m (λ k. at_some r m (λ r. with_gone_on s k r m)))
 changed m s verbs.Look k r reply = on_look reply m (with_closed s m) (without_making (making_of s.call m.cluster) m)

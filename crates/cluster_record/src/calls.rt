@@ -21,6 +21,15 @@ pub struct Making {
     pub refused: bool,
 }
 
+/// The marks that a weak write has made on the active.
+#[derive(Clone, Copy, Debug, PartialEq, Eq)]
+pub struct MarksMade {
+    /// The generation of its checkpoint then.
+    pub generation: u64,
+    /// How many of its elements are not done.
+    pub left: u32,
+}
+
 /// What a call asks of the active replica.
 #[derive(Clone, Copy, Debug, PartialEq, Eq)]
 pub enum ActiveKind {

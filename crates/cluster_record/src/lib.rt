@@ -9,7 +9,7 @@ mod opening;
 mod record;
 
 pub use by_node::{first_lacking, has_any, last_having};
-pub use calls::{ActiveKind, Making, UpdatePhase};
+pub use calls::{ActiveKind, Making, MarksMade, UpdatePhase};
 pub use clients::{LiveClient, number_of};
 pub use entries::{Entry, KeptName};
 pub use opening::{OpenAnswer, accepts};
