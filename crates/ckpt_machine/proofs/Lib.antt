@@ -38,7 +38,8 @@ pub mod BegunOnce
 pub mod UpdateAnswers
 pub mod Active
 pub mod ActiveNode
-pub mod Applied
+pub mod ActiveSteps
+pub mod MarksAt
 pub mod Apply
 pub mod Beginnings
 pub mod BeginRows
