@@ -31,7 +31,7 @@ use Rattle.ckpt_machine.specs.Acknowledged.{IsUpdateWord, Acknowledges, ckpt_nam
 use Rattle.ckpt_machine.specs.AllOrNone.{OneUpdate, IsOfOne}
 use Rattle.ckpt_types.specs.Asks.{asked, update_asked, update_of}
 use Rattle.ckpt_machine.specs.Complete.{with_replica, replicas_from, complete_replicas}
-use Rattle.ckpt_machine.specs.Guards.{OnEach, OnAll, OnActive, CommitOk, ApplyOk, AreMarksOf, Allowed, ends_update}
+use Rattle.ckpt_machine.specs.Guards.{OnEach, OnAll, CommitOk, ApplyOk, AreMarksOf, Allowed, ends_update}
 use Rattle.ckpt_machine.specs.Invariant.{Invariant}
 use Rattle.ckpt_machine.specs.Laws.{AcknowledgedStays}
 use Rattle.ckpt_machine.specs.Machine.{Machine, Applied, Effect, ReplicaState, Staged, CallState}

@@ -36,7 +36,7 @@ use Rattle.ckpt_machine.specs.Machine.{Machine, Applied, ReplicaState, Staged, C
 use Rattle.ckpt_machine.specs.Laws.{CountsUp}
 use Rattle.ckpt_machine.specs.Runs.{Counts}
 use Rattle.ckpt_machine.specs.Steps.{given_at, chosen_at}
-use Rattle.ckpt_machine.specs.Steps.{with_record, record_step, with_tables, with_given, with_started, with_gone_on, ids_asked, seen_at, created_for, retained_for, change_replica, with_committed, committed_slot, with_applied, with_marks, with_element, without_marks, marks_ended, effect_of, begun, begun_call, changed, step_of, on_ok, on_look, without_making, at_some, replica_under, opened_state}
+use Rattle.ckpt_machine.specs.Steps.{with_record, record_step, with_tables, with_given, with_started, with_gone_on, ids_asked, seen_at, created_for, retained_for, change_replica, with_committed, committed_slot, with_applied, with_marks, without_marks, marks_ended, effect_of, begun, begun_call, changed, step_of, on_ok, on_look, without_making, at_some, replica_under, opened_state}
 use Rattle.ckpt_machine.specs.Tables.{handle_given, with_iteration, started, with_next, gone_on, closing, ended_at_once}
 use Rattle.ckpt_machine.proofs.References.{released-identity, released_all-identity}
 use Rattle.ckpt_machine.proofs.Entries.{ComesOf, ComesOf-filter, ComesOf-change_key, ComesOf-map}
