@@ -39,7 +39,8 @@ pub mod GoodArguments
 pub mod UpdateAnswers
 pub mod Active
 pub mod ActiveNode
-pub mod Applied
+pub mod ActiveSteps
+pub mod MarksAt
 pub mod Apply
 pub mod Beginnings
 pub mod BeginRows
