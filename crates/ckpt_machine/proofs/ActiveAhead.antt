@@ -27,7 +27,7 @@ kept_ahead = record {
   staged = λ m s k r x step was. was;
   -- a commit is where updates are on all replicas
   committed = λ m s k r x e step all was f found alone. absurd (let w : true ≡ false = sym all.all ∙ ap (λ (e : Entry). is_all e.attributes) (same_Some e f found) ∙ alone in cc w);
-  -- and an update in one step is on the active, as a weak write is, which is none until its end
+  -- an update in one step is on the active, and so is a weak write, which is no effect until its end
   applied = λ m s k r x e step active none was f found alone. inl (ap (λ (e : Entry). e.active) (sym (same_Some e f found)) ∙ active.active);
   marked = λ m s k r x e step active can was. was;
   element = λ m s k r x e marks step active stand was. was;
