@@ -41,6 +41,8 @@ pub mod Active
 pub mod ActiveNode
 pub mod ActiveSteps
 pub mod MarksAt
+pub mod OnTheActive
+pub mod Weak
 pub mod Apply
 pub mod Beginnings
 pub mod BeginRows

@@ -1,11 +1,12 @@
 -- What a call asks_own of a replica it asks_own of the checkpoint that it was begun on.
-use Rattle.std.proofs.Common.{ℕ, Option, Some, refl, sym, subst}
+use Rattle.std.proofs.Common.{ℕ, Option, Some, None, Bool, true, false, cond, ◌==◌, refl, sym, subst}
 use Rattle.node_msgs.specs.Requests.{ckpt_of}
 use Rattle.node_msgs.specs.Steps.{verb_of, event_verb}
 use Rattle.node_msgs.specs.declared.next.Next.{Next}
 use Rattle.node_msgs.specs.declared.next.Next.TheVariants.{Serve, Event, End}
 use Rattle.node_msgs.specs.declared.next.RecordStep.{RecordStep}
 use Rattle.node_msgs.specs.declared.next.RecordStep.TheVariants as events
+use Rattle.node_msgs.specs.declared.requests.Request.TheVariants as requests
 use Rattle.cluster_record.specs.declared.calls.ActiveKind.{ActiveKind}
 use Rattle.cluster_record.specs.declared.calls.MarksMade.{MarksMade}
 use Rattle.cluster_record.specs.declared.calls.ActiveKind.TheVariants as kinds

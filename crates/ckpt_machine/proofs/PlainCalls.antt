@@ -71,6 +71,16 @@ IsLaterEntry-then e f g first second = record {
   clients = second.clients ∙ first.clients;
 }
 
+-- a call that makes nothing is refused by a look, and ends
+pub look_ends : (m : Machine) (shapes : ℕ → Shape) → InvariantIn shapes m → (s : CallState) → m.in_hand s.call.actor ≡ Some s → (error : AisError) (cause : Cause) (t : Told) → LookRefused m s (asked s.op) error cause → making_in (driver_of s) ≡ None → InvariantIn shapes (ending s m) → IsDone m s (End (Refused error cause)) t → Goes m s (driver_of s) t
+look_ends m shapes inv s held error cause t look makes ends done =
+    let none : making_of s.call m.cluster ≡ None = making_is m shapes inv s held ∙ makes in
+    subst (Goes m s (driver_of s)) (sym done) (record {
+      row = (refl, refl, look, refl);
+      holds = subst (λ k. let behind = without_making k m in Invariant (stepped behind (kept_behind m s behind.cluster verbs.Look None None words.Refused) (Some (Refused error cause)))) (sym none) (record { shapes = shapes; holds = ends });
+      nearer = λ none. absurd (cc none);
+    })
+
 module _ (m : Machine) (shapes : ℕ → Shape) (inv : InvariantIn shapes m) (s : CallState) (held : m.in_hand s.call.actor ≡ Some s) (plain : is_plain (driver_of s) ≡ true) where
   -- the calls in hand without it
   abbrev pub others : ActorName → Option CallState
@@ -125,13 +135,7 @@ module _ (m : Machine) (shapes : ℕ → Shape) (inv : InvariantIn shapes m) (s 
 
   -- by a look that refuses it
   pub look_goes : (error : AisError) (cause : Cause) (t : Told) → LookRefused m s (asked s.op) error cause → IsDone m s (End (Refused error cause)) t → Goes m s (driver_of s) t
-  look_goes error cause t look done =
-      let none : making_of s.call m.cluster ≡ None = making_is m shapes inv s held ∙ makes_none (driver_of s) plain in
-      subst (Goes m s (driver_of s)) (sym done) (record {
-        row = (refl, refl, look, refl);
-        holds = subst (λ k. let behind = without_making k m in Invariant (stepped behind (kept_behind m s behind.cluster verbs.Look None None words.Refused) (Some (Refused error cause)))) (sym none) (record { shapes = shapes; holds = plain_ends });
-        nearer = λ none. absurd (cc none);
-      })
+  look_goes error cause t look done = look_ends m shapes inv s held error cause t look (makes_none (driver_of s) plain) plain_ends done
 
   -- ---- it ends with a step of the record, and what is over is swept away
 
