@@ -35,6 +35,7 @@ pub mod Acknowledged
 pub mod AcknowledgedExamples
 pub mod BegunBefore
 pub mod BegunOnce
+pub mod GoodArguments
 pub mod UpdateAnswers
 pub mod Active
 pub mod ActiveNode
@@ -75,6 +76,7 @@ pub mod Follows
 pub mod Histories
 pub mod RefusedRuns
 pub mod RefusedRows
+pub mod ElementsDone
 pub mod EachReplica
 pub mod EffectsOnce
 pub mod ActiveAhead
