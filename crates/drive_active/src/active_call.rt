@@ -1,10 +1,15 @@
 //! The driver of the calls to the active replica alone.
-ghost use Rattle.std.specs.Prelude.{◌≡◌};
-ghost use Rattle.cluster_record.specs.DueActive.{active_begun, on_active, active_next, active_request, starts_iteration};
+ghost use Rattle.std.specs.Prelude.{◌≡◌, Some};
+ghost use Rattle.node_msgs.specs.Requests.{ckpt_of};
+ghost use Rattle.node_msgs.specs.Steps.{verb_of};
+ghost use Rattle.cluster_record.specs.DueActive.{active_begun, on_active, active_next, active_request, starts_iteration, unless_changed, weak_request, elements_of_kind, active_taken};
+ghost use Rattle.cluster_record.specs.RecordState.{entry_of};
+ghost use Rattle.cluster_record.specs.StepDone.{done_of, generation_in};
+ghost use Rattle.drive_active.specs.ActiveStates.{one_less};
 
 use ckpt_types::{AisError, CallId, Cause, CkptId, ITERATIONS_MAX, NodeId, Outcome};
-use cluster_record::{ActiveKind, Record};
-use node_msgs::{Next, Request};
+use cluster_record::{ActiveKind, MarksMade, Record};
+use node_msgs::{Next, Request, StepReply};
 use std::marker::Model;
 
 /// The driver of a call that goes to the active replica alone.
@@ -13,6 +18,8 @@ pub struct ActiveCall {
     call: CallId,
     ckpt: CkptId,
     kind: ActiveKind,
+    // The marks that it has made, where it is a weak write that has.
+    marks: Option<MarksMade>,
 }
 
 impl Model for ActiveCall {
@@ -30,22 +37,26 @@ impl ActiveCall {
     pub fn begin(call: CallId, ckpt: CkptId, kind: ActiveKind) -> ActiveCall
         ensures { result ≡ active_begun call ckpt kind }
     {
-        ActiveCall { call, ckpt, kind }
+        ActiveCall {
+            call,
+            ckpt,
+            kind,
+            marks: None,
+        }
     }
 
-    /// What it does next; `room` tells whether its client has a free place for an iteration. A step leaves it
-    /// as it is.
+    /// What it does next; `room` tells whether its client has a free place for an iteration.
     pub fn next(&self, cluster: &Record, room: bool) -> Next
         ensures { result ≡ active_next cluster.now room self.now }
     {
         match cluster.entry(self.ckpt) {
             None => Next::End(Outcome::Refused(AisError::NotExist, Cause::Plain)),
-            Some(entry) => self.active_next(entry.active, room),
+            Some(entry) => self.active_next(entry.generation, entry.active, room),
         }
     }
 
-    fn active_next(&self, active: Option<NodeId>, room: bool) -> Next
-        ensures { result ≡ on_active room self.now active }
+    fn active_next(&self, generation: u64, active: Option<NodeId>, room: bool) -> Next
+        ensures { result ≡ on_active room self.now generation active }
     {
         let Some(r) = active else {
             return Next::End(Outcome::Refused(AisError::NotExist, Cause::Plain));
@@ -56,7 +67,7 @@ impl ActiveCall {
                 Cause::Count(ITERATIONS_MAX as u32),
             ));
         }
-        Next::Serve(r, self.request())
+        unless_changed(&self.marks, generation, Next::Serve(r, self.request()))
     }
 
     fn starts_iteration(&self) -> bool
@@ -73,11 +84,98 @@ impl ActiveCall {
     {
         match self.kind {
             ActiveKind::Apply => Request::Apply(self.call, self.ckpt),
-            ActiveKind::Weak(_) => Request::Mark(self.call, self.ckpt),
+            ActiveKind::Weak(_) => self.weak_request(),
             ActiveKind::Read => Request::Read(self.ckpt),
             ActiveKind::Status => Request::Status(self.ckpt),
             ActiveKind::Iterate(choice) => Request::Iterate(self.call, self.ckpt, choice),
             ActiveKind::Next => Request::Next(self.call, self.ckpt),
         }
+    }
+
+    // A weak write asks for its marks, for one element after the other, and for the end of its marks.
+    fn weak_request(&self) -> Request
+        ensures { result ≡ weak_request self.now.call self.now.ckpt self.now.marks }
+    {
+        match &self.marks {
+            None => Request::Mark(self.call, self.ckpt),
+            Some(marks) => {
+                if marks.left == 0 {
+                    Request::Unmark(self.call, self.ckpt)
+                } else {
+                    Request::Element(self.call, self.ckpt)
+                }
+            }
+        }
+    }
+
+    /// It takes a node's answer: where its marks are made, it keeps them, and of them one element less is left
+    /// behind each that is done.
+    pub fn take(&mut self, cluster: &Record, r: NodeId, request: &Request, word: StepReply)
+        ensures { self.new ≡ active_taken (done_of cluster.now (verb_of request.now) (Some (ckpt_of request.now)) (Some r) word) self.old }
+    {
+        let StepReply::Ok = word else {
+            return;
+        };
+        match request {
+            Request::Mark(_, ckpt) => {
+                let generation = generation_of(cluster, *ckpt);
+                let left = self.elements();
+                self.marks = Some(MarksMade { generation, left });
+            }
+            Request::Element(_, _) => self.marks = one_less(&self.marks),
+            _ => {}
+        }
+    }
+
+    // How many elements are to be done of what it asks for.
+    fn elements(&self) -> u32
+        ensures { result ≡ elements_of_kind self.now.kind }
+    {
+        match self.kind {
+            ActiveKind::Weak(elements) => elements,
+            _ => 0,
+        }
+    }
+}
+
+// Where the generation is another than that of the marks, they are gone, and their call is to try again.
+fn unless_changed(marks: &Option<MarksMade>, generation: u64, next: Next) -> Next
+    ensures { result ≡ unless_changed marks.now generation next }
+{
+    match marks {
+        None => next,
+        Some(marks) => {
+            if marks.generation == generation {
+                next
+            } else {
+                Next::End(Outcome::Refused(
+                    AisError::TryAgain,
+                    Cause::Generations(marks.generation, generation),
+                ))
+            }
+        }
+    }
+}
+
+// The generation of a checkpoint; 0 where it is gone.
+fn generation_of(cluster: &Record, ckpt: CkptId) -> u64
+    ensures { result ≡ generation_in (entry_of ckpt cluster.now.entries) }
+{
+    match cluster.entry(ckpt) {
+        None => 0,
+        Some(entry) => entry.generation,
+    }
+}
+
+// The marks behind an element that was done.
+fn one_less(marks: &Option<MarksMade>) -> Option<MarksMade>
+    ensures { result ≡ one_less marks.now }
+{
+    match marks {
+        None => None,
+        Some(marks) => Some(MarksMade {
+            generation: marks.generation,
+            left: marks.left.saturating_sub(1),
+        }),
     }
 }

@@ -3,15 +3,17 @@ ghost use Rattle.std.specs.Prelude.{◌≡◌, ◌-◌, ◌^◌, ◌<◌, Some, 
 ghost use Rattle.ckpt_types.specs.Limits.{client_numbers, nodes_max};
 ghost use Rattle.node_msgs.specs.Requests.{ckpt_of};
 ghost use Rattle.node_msgs.specs.Steps.{verb_of, word_of, event_verb};
-ghost use Rattle.ckpt_machine.specs.Driving.{driver_next, driver_taken, driver_end, driver_start, on_kept, change_start, active_start, done_end, event_ckpt, event_node, event_end, event_refusal, making_in, opened_end, refusal_in, takes_memory, refused_cause};
+ghost use Rattle.ckpt_machine.specs.Driving.{driver_next, driver_taken, driver_end, driver_start, on_kept, kind_of_change, change_start, active_start, done_end, event_ckpt, event_node, event_end, event_refusal, making_in, opened_end, refusal_in, takes_memory, refused_cause};
 ghost use Rattle.cluster_record.specs.StepDone.{done_of, names_live};
+ghost use Rattle.cluster_record.specs.DueActive.{active_taken, active_end};
 ghost use Rattle.cluster_record.specs.DueUpdate.{update_taken};
 ghost use Rattle.cluster_record.specs.Calls.{client_of};
 ghost use Rattle.cluster_record.specs.LookUps.{node_of_client};
 ghost use Rattle.cluster_record.specs.Places.{find_key};
 ghost use Rattle.cluster_record.specs.RecordState.{client_key};
 ghost use Rattle.ckpt_types.specs.Asks.{asked};
-ghost use Rattle.ckpt_machine.specs.Steps.{all_at, kept_at_beginning};
+ghost use Rattle.ckpt_machine.specs.Options.{is_all, is_weak};
+ghost use Rattle.ckpt_machine.specs.Steps.{declares_at, kept_at_beginning};
 ghost use Rattle.ckpt_machine.specs.Tables.{rooms_in};
 ghost use Rattle.world_core.specs.CallStates.{driver_in, step_in};
 ghost use Rattle.node_msgs.specs.declared.steps.StepReply.TheVariants as words;
@@ -19,15 +21,15 @@ ghost use Rattle.node_msgs.specs.declared.steps.Verb.TheVariants as verbs;
 ghost use Rattle.ckpt_types.specs.declared.answers.Answer.TheVariants as answers;
 ghost use Rattle.world_core.specs.UpdateSteps.{IsUpdate, end_of_refused, ended_unless};
 ghost use Rattle.world_core.specs.TableState.{kept_by};
-ghost use Rattle.ckpt_machine.specs.Drivers.{Once, Update};
+ghost use Rattle.ckpt_machine.specs.Drivers.{Once, Update, Active};
 ghost use Rattle.cluster_record.specs.DueOnce.{Close, Retain};
 
 use crate::beginning::{choice_of, ckpt_of_handle};
 use crate::one_step::OneStep;
 use crate::tables::Tables;
 use ckpt_types::{
-    AisError, Answer, CallId, Cause, CkptId, NodeId, Op, Outcome, SharedAttributes, SharedName,
-    WR_ALL_REPLICAS,
+    AisError, Answer, CHECKPOINT_COLLOCATED, CallId, Cause, CkptId, NodeId, Op, Outcome,
+    SharedAttributes, SharedName, Update, WR_ACTIVE_REPLICA_WEAK, WR_ALL_REPLICAS,
 };
 use client_handles::HandleView;
 use cluster_record::{ActiveKind, OpenAnswer, Record, number_of};
@@ -99,11 +101,13 @@ impl Driver {
                 let deadline = cluster.moment_after(*timeout);
                 Ok(Driver::by(DriverKind::Open(OpenCall::begin(call, ask, Some(deadline)))))
             }
-            Op::Create(_, _)
-            | Op::Delete(_, _)
-            | Op::Expire(_, _)
-            | Op::Write(_, _)
-            | Op::Over(_, _) => Ok(change_start(call, cluster, ckpt_of_handle(handle))),
+            Op::Create(_, update)
+            | Op::Delete(_, update)
+            | Op::Expire(_, update)
+            | Op::Write(_, update)
+            | Op::Over(_, update) => {
+                Ok(change_start(call, update.value(), cluster, ckpt_of_handle(handle)))
+            }
             Op::Read(_, _) => Ok(active_start(call, ActiveKind::Read, ckpt_of_handle(handle))),
             Op::Status(_) => Ok(active_start(call, ActiveKind::Status, ckpt_of_handle(handle))),
             Op::Iter(_, _, chosen, time) => Ok(active_start(
@@ -158,10 +162,7 @@ impl Driver {
     {
         match &mut self.kind {
             DriverKind::Update(update) => take_update(update, op, cluster, r, request, reply),
-            DriverKind::Active(_) => match reply {
-                Reply::Done(answer) => Some(Outcome::Done(*answer)),
-                _ => end_of_refused(op, cluster, reply),
-            },
+            DriverKind::Active(active) => take_active(active, op, cluster, r, request, reply),
             DriverKind::Open(open_call) => {
                 open_call.take(cluster, r, request, reply.word());
                 end_of_refused(op, cluster, reply)
@@ -255,6 +256,35 @@ fn take_update(
     }
 }
 
+// A call to the active takes a node's answer. What its operation ends with, if it ends.
+fn take_active(
+    active: &mut ActiveCall,
+    op: &Op,
+    cluster: &Record,
+    r: NodeId,
+    request: &Request,
+    reply: &Reply,
+) -> Option<Outcome>
+    ensures new { active.new ≡ active_taken (done_of cluster.now (verb_of request.now) (Some (ckpt_of request.now)) (Some r) (word_of reply.now)) active.old }
+    ensures end { result ≡ driver_end op.now (done_of cluster.now (verb_of request.now) (Some (ckpt_of request.now)) (Some r) (word_of reply.now)) reply.now (Active active.new) }
+{
+    active.take(cluster, r, request, reply.word());
+    match reply {
+        Reply::Done(answer) => end_of_done(request, *answer),
+        _ => end_of_refused(op, cluster, reply),
+    }
+}
+
+// How a call to the active ends by a reply that was done: a weak write goes on behind its marks and its elements.
+fn end_of_done(request: &Request, answer: Answer) -> Option<Outcome>
+    ensures { result ≡ active_end answer (verb_of request.now) }
+{
+    match request {
+        Request::Mark(_, _) | Request::Element(_, _) => None,
+        _ => Some(Outcome::Done(answer)),
+    }
+}
+
 // How a call ends by a reply that was not done.
 fn end_of_refused(op: &Op, cluster: &Record, reply: &Reply) -> Option<Outcome>
     ensures { result ≡ end_of_refused op.now (names_live cluster.now (word_of reply.now)) reply.now }
@@ -294,25 +324,53 @@ fn refused_cause(op: &Op, index: u32) -> Cause
 }
 
 // An update of all replicas, or of the active alone, as its checkpoint declares.
-fn change_start(call: CallId, cluster: &Record, ckpt: Option<CkptId>) -> Driver
-    requires { IsSome (change_start call (all_at cluster.now ckpt) ckpt) }
-    ensures { change_start call (all_at cluster.now ckpt) ckpt ≡ Some result }
+fn change_start(call: CallId, update: &Update, cluster: &Record, ckpt: Option<CkptId>) -> Driver
+    requires { IsSome (change_start call (declares_at is_all cluster.now ckpt) (kind_of_change (declares_at is_weak cluster.now ckpt) update.now) ckpt) }
+    ensures { change_start call (declares_at is_all cluster.now ckpt) (kind_of_change (declares_at is_weak cluster.now ckpt) update.now) ckpt ≡ Some result }
 {
     let Some(ckpt) = ckpt else { unreachable!() };
     if is_all(cluster, ckpt) {
         Driver::by(DriverKind::Update(UpdateCall::begin(call, ckpt)))
     } else {
-        Driver::by(DriverKind::Active(ActiveCall::begin(call, ckpt, ActiveKind::Apply)))
+        let kind = kind_of_change(is_weak(cluster, ckpt), update);
+        Driver::by(DriverKind::Active(ActiveCall::begin(call, ckpt, kind)))
     }
 }
 
 // Whether updates of a checkpoint are on all its replicas.
 fn is_all(cluster: &Record, ckpt: CkptId) -> bool
-    ensures { result ≡ all_at cluster.now (Some ckpt) }
+    ensures { result ≡ declares_at is_all cluster.now (Some ckpt) }
 {
     match cluster.declared(ckpt) {
         None => false,
         Some(attributes) => attributes.creation_flags == WR_ALL_REPLICAS,
+    }
+}
+
+// Whether writes of a checkpoint are weak.
+fn is_weak(cluster: &Record, ckpt: CkptId) -> bool
+    ensures { result ≡ declares_at is_weak cluster.now (Some ckpt) }
+{
+    match cluster.declared(ckpt) {
+        None => false,
+        Some(attributes) => {
+            let flags = attributes.creation_flags;
+            flags == WR_ACTIVE_REPLICA_WEAK
+                || flags == WR_ACTIVE_REPLICA_WEAK + CHECKPOINT_COLLOCATED
+        }
+    }
+}
+
+// A weak write is done element by element, any other update at once.
+fn kind_of_change(weak: bool, update: &Update) -> ActiveKind
+    ensures { result ≡ kind_of_change weak update.now }
+{
+    if !weak {
+        return ActiveKind::Apply;
+    }
+    match update {
+        Update::Write(elements) => ActiveKind::Weak(elements.as_slice().len() as u32),
+        _ => ActiveKind::Apply,
     }
 }
 
