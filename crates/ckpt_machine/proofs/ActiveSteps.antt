@@ -160,6 +160,7 @@ module _ (m : Machine) (shapes : ℕ → Shape) (inv : InvariantIn shapes m) (s 
         | false ↦ λ same. refl
       ] refl;
     }
+
     -- the invariant holds after it, where the marks that stand then are of a call in hand, and what is left of the call is where its steps have led it
     pub active_keeps : LeavesMarks → ((w : Marked) → marks ≡ Some w → IsMarker then_machine a.ckpt w) → ((z : CallState) → o ≡ Some z → IsInHand then_machine then_shapes s.call.actor z) → InvariantIn then_shapes then_machine
     active_keeps leaves marked own = record {

@@ -20,9 +20,8 @@ use Rattle.node_msgs.specs.declared.replies.Reply.TheVariants as replies
 use Rattle.node_msgs.specs.declared.steps.StepReply.TheVariants as words
 use Rattle.node_msgs.specs.declared.steps.Verb.TheVariants as verbs
 use Rattle.node_core.specs.Seen.{record_seen}
-use Rattle.node_core.specs.Serving.{reply_at, reply_unless, details_at, done_or_refused, update_answer, told_id, applied_id}
+use Rattle.node_core.specs.Serving.{reply_at, reply_unless, details_at, update_answer, told_id, applied_id}
 use Rattle.ckpt_machine.specs.Drivers as drivers
-use Rattle.ckpt_machine.specs.Guards.{ApplyOk}
 use Rattle.ckpt_machine.specs.InHand.{is_marked_by}
 use Rattle.ckpt_machine.specs.Invariant.{InvariantIn, Invariant}
 use Rattle.ckpt_machine.specs.Machine.{Machine, ReplicaState, CallState}

@@ -1,6 +1,5 @@
 -- What the code relies on holds wherever the invariant does.
 use Rattle.std.proofs.Common.{◌≡◌, ℕ, ◌<◌, List, length, Option, Some, None, Bool, true, false, cond, not, ◌&&◌, ◌==◌, nat_le, ℤ, refl, sym, ap, subst, ◌∙◌}
-use Rattle.std.proofs.lemmas.Option.{same_Some}
 use Rattle.std.specs.Prelude.{is_some, IsSome, IsSomeAnd, IfSome, pos, ◌≤ℤ◌}
 use Rattle.std.proofs.lemmas.Bool.{leb-false}
 use Rattle.ckpt_types.specs.declared.ais_error.AisError.TheVariants.{NoResources, BadOperation, TryAgain}
@@ -27,14 +26,12 @@ use Rattle.cluster_record.specs.DueUpdate.{UpdateState, by_phase, stage_at, comm
 use Rattle.cluster_record.specs.RecordState.{entry_of, named}
 use Rattle.cluster_record.specs.StepDone.{has, first_lacking, last_having}
 use Rattle.ckpt_types.specs.Asks.{asked, update_asked, update_of, IsBuiltAsk, IsBuilt}
-use Rattle.ckpt_types.specs.Asks as asks
 use Rattle.ckpt_machine.specs.Drivers.{Driver, Rooms}
 use Rattle.ckpt_machine.specs.Drivers as drivers
 use Rattle.ckpt_machine.specs.Driving.{driver_next}
 use Rattle.ckpt_machine.specs.Machine.{Machine, CallState}
 use Rattle.node_core.specs.Fitting.{IsReadyFor}
 use Rattle.ckpt_machine.specs.Steps.{due, driver_of, room_in, room_at, rooms_of, seen_at, seen, seen_slot}
-use Rattle.ckpt_machine.specs.Tables.{choice_of}
 use Rattle.ckpt_machine.specs.Facts.{IsActive, IsServable, IsEventReady, IsStarting, IsGoingOn, Facts}
 use Rattle.ckpt_machine.specs.InHand.{MarksFit, IsEnterAt, IsOnceAt, IsInPlace, IsActiveIn}
 use Rattle.ckpt_machine.specs.Invariant.{InvariantIn, Invariant}

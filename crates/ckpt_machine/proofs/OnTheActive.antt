@@ -1,11 +1,10 @@
 -- A call with an update, on the active of its checkpoint: what is so of both, and how one that begins there is refused or held off.
-use Rattle.std.proofs.Common.{◌≡◌, ℕ, List, length, Option, Some, None, Bool, true, false, not, ◌&&◌, ◌==◌, refl, sym, ap, subst, ◌∙◌}
-use Rattle.std.specs.Prelude.{is_some, IfSome, IsSomeAnd, Result, Ok, Err}
+use Rattle.std.proofs.Common.{◌≡◌, ℕ, Option, Some, None, Bool, true, false, not, refl, sym, ap, subst, ◌∙◌}
+use Rattle.std.specs.Prelude.{is_some, IfSome, IsSomeAnd, Err}
 use Rattle.ckpt_types.specs.declared.ais_error.AisError.TheVariants.{TryAgain}
 use Rattle.ckpt_types.specs.declared.answers.Cause.TheVariants.{Holder}
 use Rattle.ckpt_types.specs.declared.answers.Outcome.TheVariants.{Refused}
 use Rattle.ckpt_types.specs.declared.identities.CallId.{CallId}
-use Rattle.ckpt_types.specs.declared.update.Update.TheVariants as updates
 use Rattle.ckpt_types.specs.Asks.{Ask, asked, update_asked, update_of}
 use Rattle.ckpt_types.specs.Asks as asks
 use Rattle.ckpt_types.specs.Updates.{Refusal, outcome}

@@ -1,14 +1,14 @@
 -- A weak write: its marks, its elements one after the other, and the end of its marks.
 use Rattle.std.proofs.Common.{◌≡◌, ◌≢◌, ℕ, zero, suc, ◌+◌, ◌-◌, ◌<◌, ◌≤◌, List, ◌∷◌, length, Option, Some, None, Result, Ok, Err, Bool, true, false, cond, not, ◌==◌, refl, sym, ap, subst, ◌∙◌, arith}
 use Rattle.std.specs.Prelude.{is_some, IsOk, IsSomeAnd, IfSome}
-use Rattle.std.proofs.lemmas.Bool.{lt-ltb, le-ltb, eqb-true, eqb-false, eq-eqb}
+use Rattle.std.proofs.lemmas.Bool.{lt-ltb, le-ltb, eqb-true, eq-eqb}
 use Rattle.std.proofs.lemmas.Option.{same_Some}
 use Rattle.ckpt_types.specs.declared.ais_error.AisError.TheVariants.{TryAgain}
 use Rattle.ckpt_types.specs.declared.answers.Answer.TheVariants as answers
 use Rattle.ckpt_types.specs.declared.answers.Cause.TheVariants.{Holder}
-use Rattle.ckpt_types.specs.declared.answers.Outcome.TheVariants.{Done, Refused}
+use Rattle.ckpt_types.specs.declared.answers.Outcome.TheVariants.{Refused}
 use Rattle.ckpt_types.specs.declared.identities.CallId.{CallId}
-use Rattle.ckpt_types.specs.Asks.{asked, update_asked, update_of}
+use Rattle.ckpt_types.specs.Asks.{update_asked, update_of}
 use Rattle.ckpt_types.specs.Sections.{Section}
 use Rattle.ckpt_types.specs.Updates.{Refusal, outcome}
 use Rattle.weak_marks.specs.Marks.{Marked, elements_in, call_of, IsMarkedBy, is_left, is_left_of, with_next_done}
@@ -18,7 +18,7 @@ use Rattle.cluster_record.specs.declared.entries.Entry.{Entry}
 use Rattle.cluster_record.specs.DueActive.{ActiveState}
 use Rattle.cluster_record.specs.Calls.{same_actor, same_call, put_actor}
 use Rattle.cluster_record.specs.Places.{put, put2}
-use Rattle.cluster_record.specs.RecordState.{RecordState, entry_of}
+use Rattle.cluster_record.specs.RecordState.{entry_of}
 use Rattle.cluster_record.specs.StepDone.{StepDone, done_of, counting, generation_in}
 use Rattle.node_msgs.specs.declared.details.Details.TheVariants as beside
 use Rattle.node_msgs.specs.declared.requests.Request.{Request}
@@ -29,15 +29,15 @@ use Rattle.node_msgs.specs.declared.steps.Verb.{Verb}
 use Rattle.node_msgs.specs.declared.steps.Verb.TheVariants as verbs
 use Rattle.node_msgs.specs.declared.next.Next.TheVariants.{Serve}
 use Rattle.node_core.specs.Seen.{record_seen}
-use Rattle.node_core.specs.Serving.{reply_at, reply_unless, details_at, done_or_refused}
+use Rattle.node_core.specs.Serving.{reply_at, reply_unless, details_at}
 use Rattle.ckpt_machine.specs.Drivers as drivers
 use Rattle.ckpt_machine.specs.Driving.{driver_taken}
-use Rattle.ckpt_machine.specs.Guards.{MarkOk, AreMarksOf}
+use Rattle.ckpt_machine.specs.Guards.{AreMarksOf}
 use Rattle.ckpt_machine.specs.InHand.{is_enter, is_marked_by, MarksFit, IsInPlace, IsActiveIn, IsInHand}
 use Rattle.ckpt_machine.specs.Invariant.{InvariantIn, Invariant}
 use Rattle.ckpt_machine.specs.Left.{steps_left}
 use Rattle.ckpt_machine.specs.Machine.{Machine, ReplicaState, CallState}
-use Rattle.ckpt_machine.specs.Shape.{Shape, IsApart, IsMarker}
+use Rattle.ckpt_machine.specs.Shape.{Shape, IsMarker}
 use Rattle.ckpt_machine.specs.Steps.{Told, IsDone, IsServed, ended_details, driver_of, payload_due, details_due, change_replica, with_marks, with_element, element_written, without_marks, marks_ended, kept_behind, stepped}
 use Rattle.ckpt_machine.proofs.Actors.{same_actor-refl, same_call-refl, same_call-true}
 use Rattle.ckpt_machine.proofs.ActiveNode.{ActiveOf, active_seen}
