@@ -20,7 +20,8 @@ use Rattle.cluster_record.specs.declared.calls.Making.{Making}
 use Rattle.ckpt_types.specs.Attributes.{same_but_retention}
 use Rattle.ckpt_types.specs.Limits.{handles_max, checkpoints_max}
 use Rattle.cluster_record.specs.LookUps.{at_ckpt}
-use Rattle.cluster_record.specs.RecordState.{RecordState, named, no_nodes, created_by_ask, opened, finished, undone}
+use Rattle.cluster_record.specs.RecordState.{home_of, RecordState, named, no_nodes, created_by_ask, opened, finished, undone}
+use Rattle.cluster_record.specs.Placement.{targets}
 use Rattle.ckpt_types.specs.declared.calls.OpenAsk.{OpenAsk}
 use Rattle.cluster_record.specs.StepDone.{StepDone, first_lacking, set_node, incarnation_of}
 
@@ -86,14 +87,23 @@ abbrev pub reserve_or_finish : ℕ → Option ℕ → Next
 reserve_or_finish k (Some r) = Serve r (requests.Reserve k)
 reserve_or_finish k None = Event events.Finish
 
--- a making before its deadline: each node that is up reserves, then it is finished; it is undone where memory was refused
-abbrev pub on_making : RecordState → Making → Next
-on_making R m = if m.refused then Event events.Undo else reserve_or_finish m.ckpt (first_lacking 0 R.up m.reserved)
+-- the nodes on which what is asked for is to be made, with their incarnations
+abbrev pub targets_by : Option CreationAttributes → ℕ → List ℕ → List ℕ
+targets_by None opener up = up
+targets_by (Some a) opener up = targets a opener up
+
+-- the same of an ask, by the record
+abbrev pub targets_of : OpenAsk → RecordState → List ℕ
+targets_of ask R = targets_by ask.attrs (home_of ask.client R) R.up
+
+-- a making before its deadline: each node on which it is made reserves, then it is finished; it is undone where memory was refused
+abbrev pub on_making : RecordState → OpenAsk → Making → Next
+on_making R ask m = if m.refused then Event events.Undo else reserve_or_finish m.ckpt (first_lacking 0 (targets_of ask R) m.reserved)
 
 -- an open that is making nothing looks for its name; one that is making a checkpoint goes on with that until its deadline
 abbrev pub by_making : RecordState → Bool → OpenState → Option Making → Next
 by_making R room o None = on_named R room o.deadline o.ask.attrs (named o.ask.name R.entries)
-by_making R room o (Some m) = in_time o.deadline R.moment (on_making R m)
+by_making R room o (Some m) = in_time o.deadline R.moment (on_making R o.ask m)
 
 -- what is next of an open, by the record and by whether its client has room for a handle
 abbrev pub open_next : RecordState → Bool → OpenState → Next

@@ -1,5 +1,6 @@
 pub mod Calls
 pub mod Places
+pub mod Placement
 pub mod RecordState
 pub mod RecordView
 pub mod Kept

@@ -10,11 +10,6 @@ abbrev pub node_in : Option LiveClient → Option ℕ
 node_in None = None
 node_in (Some live) = Some live.node
 
--- the node of a client; 0 where it is not live
-abbrev pub node_of_client : Option LiveClient → ℕ
-node_of_client None = 0
-node_of_client (Some live) = live.node
-
 -- the node of a client that is live, the incarnation in which it became so, and the number of its Initialize call
 abbrev pub life_of : Option LiveClient → Option (ℕ × ℕ × ℕ)
 life_of None = None

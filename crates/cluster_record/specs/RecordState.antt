@@ -9,6 +9,7 @@ use Rattle.ckpt_types.specs.declared.identities.CallId.{CallId}
 use Rattle.ckpt_types.specs.declared.attributes.CreationAttributes.{CreationAttributes}
 use Rattle.ckpt_types.specs.declared.calls.OpenAsk.{OpenAsk}
 use Rattle.ckpt_types.specs.Limits.{nodes_max, client_numbers}
+use Rattle.cluster_record.specs.Placement.{targets, is_collocated}
 use Rattle.cluster_record.specs.declared.entries.Entry.{Entry}
 use Rattle.cluster_record.specs.declared.clients.LiveClient.{LiveClient}
 use Rattle.cluster_record.specs.Places.{find_key, change_key}
@@ -71,6 +72,11 @@ is_live_client c R = is_some (find_key client_key c R.clients)
 -- it is one of the nodes of a cluster, and is up
 abbrev pub is_up : ℕ → RecordState → Bool
 is_up r R = nat_lt r nodes_max && not (slice_index R.up r == 0)
+
+-- the node of a client; 0 where it is not live
+abbrev pub node_of_client : Option LiveClient → ℕ
+node_of_client None = 0
+node_of_client (Some live) = live.node
 
 -- the call is not of an earlier life of its client
 abbrev pub is_live_from : Option LiveClient → ℕ → Bool
@@ -169,13 +175,21 @@ created_by_ask call ask R = created_as call ask.name ask.attrs R
 abbrev pub referred : ℕ → Entry → Entry
 referred c e = record e { references = slice_set e.references c (slice_index e.references c + 1) }
 
--- the making is finished: the nodes that are up are complete, the lowest is the active, and the maker has it open
-abbrev pub made_with : List ℕ → ℕ → Entry → Entry
-made_with up c e = referred c (record e { making = None; complete = up; active = first_complete 0 up; generation = 1 })
+-- its active, by the nodes on which it is complete: the lowest of them; a collocated one has none until a client sets it
+abbrev pub first_active : CreationAttributes → List ℕ → Option ℕ
+first_active a complete = if is_collocated a then None else first_complete 0 complete
+
+-- the making is finished by an opener on this node, where these nodes are up: it is complete on those on which it is made, and the maker has it open
+abbrev pub made_with : ℕ → List ℕ → ℕ → Entry → Entry
+made_with opener up c e = let complete = targets e.attributes opener up in referred c (record e { making = None; complete = complete; active = first_active e.attributes complete; generation = 1 })
+
+-- the node of a client that is live, and n0 for one that is not
+abbrev pub home_of : ℕ → RecordState → ℕ
+home_of c R = node_of_client (find_key client_key c R.clients)
 
 -- the making of a checkpoint is finished, for a client
 abbrev pub finished : ℕ → ℕ → RecordState → RecordState
-finished k c R = record R { entries = change_key identity_of k (made_with R.up c) R.entries }
+finished k c R = record R { entries = change_key identity_of k (made_with (home_of c R) R.up c) R.entries }
 
 -- the making is undone
 abbrev pub undone : ℕ → RecordState → RecordState
