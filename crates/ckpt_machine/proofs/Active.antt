@@ -1,6 +1,6 @@
 -- The calls to the active: a read, a status, and iterations, each answered by it in one step; and updates.
-use Rattle.std.proofs.Common.{◌≡◌, ℕ, List, Option, Some, None, Result, Ok, Err, Bool, true, false, cond, not, ◌&&◌, ◌==◌, refl, sym, ap, subst, ◌∙◌}
-use Rattle.std.specs.Prelude.{is_some}
+use Rattle.std.proofs.Common.{◌≡◌, ℕ, inl, inr, List, Option, Some, None, Result, Ok, Err, Bool, true, false, cond, not, ◌&&◌, ◌==◌, refl, sym, ap, subst, ◌∙◌}
+use Rattle.std.specs.Prelude.{is_some, IfSome}
 use Rattle.std.proofs.lemmas.Bool.{eq-eqb}
 use Rattle.ckpt_types.specs.declared.ais_error.AisError.TheVariants.{NoResources, NoSections, NotExist, TryAgain}
 use Rattle.ckpt_types.specs.declared.answers.Answer.TheVariants as answers
@@ -21,7 +21,7 @@ use Rattle.cluster_record.specs.declared.calls.ActiveKind.{ActiveKind}
 use Rattle.cluster_record.specs.declared.calls.ActiveKind.TheVariants as kinds
 use Rattle.cluster_record.specs.declared.entries.Entry.{Entry}
 use Rattle.cluster_record.specs.Calls.{put_actor}
-use Rattle.cluster_record.specs.DueActive.{unless_changed, active_on, request_by, starts_iteration}
+use Rattle.cluster_record.specs.DueActive.{unless_changed, on_active, active_on, request_by, starts_iteration}
 use Rattle.cluster_record.specs.declared.calls.MarksMade.{MarksMade}
 use Rattle.cluster_record.specs.RecordState.{entry_of, attributes_now}
 use Rattle.node_msgs.specs.declared.details.Details.TheVariants as beside
@@ -31,14 +31,15 @@ use Rattle.ckpt_machine.specs.Tables.{started, gone_on}
 use Rattle.ckpt_machine.specs.Drivers.{Driver, Rooms}
 use Rattle.ckpt_machine.specs.Drivers as drivers
 use Rattle.ckpt_machine.specs.Driving.{driver_next, kind_of_change, making_in, refused_cause}
-use Rattle.ckpt_machine.specs.InHand.{active_kind, change_kind, MarksFit, IsInPlace, IsActiveIn}
-use Rattle.ckpt_machine.specs.Invariant.{InvariantIn, Invariant}
+use Rattle.ckpt_machine.specs.InHand.{active_kind, change_kind, is_marked_by, MarksFit, IsInPlace, IsActiveIn}
+use Rattle.ckpt_machine.specs.Invariant.{IsGoodIn, InvariantIn, Invariant}
+use Rattle.weak_marks.specs.Marks.{Marked}
 use Rattle.ckpt_machine.specs.Machine.{Machine, CallState}
 use Rattle.node_core.specs.Serving.{read_details, reply_at, details_at, done_or_refused, next_reply, next_details}
 use Rattle.node_core.specs.Seen.{record_seen, entry_seen}
 use Rattle.ckpt_machine.specs.Steps.{Told, IsDone, IsServed, driver_of, seen, seen_at, rooms_of, ids_asked, payload_due, details_due, with_tables, given_at, chosen_at}
 use Rattle.ckpt_machine.specs.Guards.{IterOk, NextAnswer, LookRefused, ChangeLook, HasNoActive, NoActiveLook}
-use Rattle.ckpt_machine.specs.Shape.{Shape}
+use Rattle.ckpt_machine.specs.Shape.{Shape, IsSpread}
 use Rattle.ckpt_machine.proofs.ActiveNode.{AsksOf, by_kind, ActiveOf, active_of, active_seen, on_its_replica, active_next-there}
 use Rattle.ckpt_machine.proofs.ActiveSteps.{gone_ends}
 use Rattle.ckpt_machine.proofs.Apply.{apply_goes}
@@ -245,14 +246,29 @@ module _ (m : Machine) (shapes : ℕ → Shape) (inv : InvariantIn shapes m) (s 
     there_goes (kinds.Weak n) (Some w) is rooms t has done = marked_goes m shapes inv s call k n (Some w) held at is w refl t (subst (λ b. IsDone m s (cond b (Serve at.node (request_by call k (kinds.Weak n) (Some w))) (End (Refused TryAgain (Generations w.generation at.entry.generation)))) t) (same_generation (kinds.Weak n) w is) done)
     there_goes kind (Some w) is rooms t has done = absurd (fit_of kind (Some w) is)
 
-  no_active : (ckpt : Option ℕ) → ckpt ≡ Some k → entry_of k m.cluster.entries ≡ None → NoActiveLook m ckpt NotExist Plain
-  no_active ckpt kept gone = subst (λ o. NoActiveLook m o NotExist Plain) (sym kept) (subst (λ o. HasNoActive o) (sym gone) tt)
+  no_active : (ckpt : Option ℕ) → ckpt ≡ Some k → HasNoActive (entry_of k m.cluster.entries) → NoActiveLook m ckpt NotExist Plain
+  no_active ckpt kept none = subst (λ o. NoActiveLook m o NotExist Plain) (sym kept) none
 
   -- its checkpoint is gone: it is refused, and has nothing then
   gone_goes : (kind : ActiveKind) (made : Option MarksMade) → driver_of s ≡ drivers.Active (record { call = call; ckpt = k; kind = kind; marks = made }) → entry_of k m.cluster.entries ≡ None → (t : Told) → IsDone m s (End (Refused NotExist Plain)) t → Goes m s (driver_of s) t
   gone_goes kind made is gone t done =
       let at = at_made kind made is in
-      look_ends m shapes inv s held NotExist Plain t (LookRefused-active m s kind (asked s.op) at.kind (no_active s.kept.ckpt at.kept gone)) (ap making_in is) (gone_ends m shapes inv s _ held is gone) done
+      look_ends m shapes inv s held NotExist Plain t (LookRefused-active m s kind (asked s.op) at.kind (no_active s.kept.ckpt at.kept (subst (λ o. HasNoActive o) (sym gone) tt))) (ap making_in is) (gone_ends m shapes inv s _ held is gone) done
+
+  -- it has no active: a call that has made no marks there is refused
+  unled_goes : (kind : ActiveKind) (made : Option MarksMade) → driver_of s ≡ drivers.Active (record { call = call; ckpt = k; kind = kind; marks = made }) → (e : Entry) → entry_of k m.cluster.entries ≡ Some e → e.active ≡ None → (t : Told) → IsDone m s (End (Refused NotExist Plain)) t → Goes m s (driver_of s) t
+  unled_goes kind None is e found none t done =
+      let at = at_made kind None is in
+      look_goes m shapes inv s held (ap is_plain is) NotExist Plain t (LookRefused-active m s kind (asked s.op) at.kind (no_active s.kept.ckpt at.kept (subst (λ o. HasNoActive o) (sym found) none))) done
+  unled_goes kind (Some w) is e found none t done =
+      let at = at_made kind (Some w) is in
+      let made_is : e.making ≡ None = subst (λ o. IfSome o (λ (e : Entry). e.making ≡ None)) found at.made.made in
+      let spread : IsSpread m k (shapes k) e = subst (IsGoodIn m k (shapes k) e) made_is (inv.entries k e found) in
+      absurd (by_marks (shapes k).marks refl (at.marks e found) spread)
+    where
+      by_marks : (o : Option Marked) → (shapes k).marks ≡ o → is_marked_by s.call o ≡ true → IsSpread m k (shapes k) e → ⊥
+      by_marks None stand of_it spread = cc of_it
+      by_marks (Some marks) stand of_it spread = let w : false ≡ true = sym (ap is_some none) ∙ spread.led marks stand in cc w
 
   -- the next step of a call to the active
   pub active_goes : (kind : ActiveKind) (made : Option MarksMade) → driver_of s ≡ drivers.Active (record { call = call; ckpt = k; kind = kind; marks = made }) → (rooms : Rooms) (t : Told) → rooms_of m s ≡ rooms
@@ -261,6 +277,7 @@ module _ (m : Machine) (shapes : ℕ → Shape) (inv : InvariantIn shapes m) (s 
     where
       by_entry : (o : Option Entry) → entry_of k m.cluster.entries ≡ o → Goes m s (driver_of s) t
       by_entry None gone = gone_goes kind made is gone t (subst (λ next. IsDone m s next t) (ap (active_on rooms.iterations (record { call = call; ckpt = k; kind = kind; marks = made })) gone) done)
-      by_entry (Some e) found =
-          let at = active_of m shapes k e inv (at_made kind made is).made found in
-          there_goes at kind made is rooms t has (subst (λ next. IsDone m s next t) (active_next-there m (shapes k).marks k at call kind made rooms) done)
+      by_entry (Some e) found = elim (active_of m shapes k e inv (at_made kind made is).made found) [
+        | inl none ↦ unled_goes kind made is e found none t (subst (λ next. IsDone m s next t) (ap (active_on rooms.iterations (record { call = call; ckpt = k; kind = kind; marks = made })) found ∙ ap (on_active rooms.iterations (record { call = call; ckpt = k; kind = kind; marks = made }) e.generation) none) done)
+        | inr at ↦ there_goes at kind made is rooms t has (subst (λ next. IsDone m s next t) (active_next-there m (shapes k).marks k at call kind made rooms) done)
+      ]

@@ -1,5 +1,5 @@
 -- What is asked of the active, by the kind of the call; and the active of a checkpoint that is made.
-use Rattle.std.proofs.Common.{◌≡◌, ℕ, suc, ◌+◌, ◌<◌, List, [], ◌∷◌, length, Option, Some, None, Bool, true, false, cond, not, ◌&&◌, ◌==◌, refl, ap, subst, ◌∙◌, arith, ℤ}
+use Rattle.std.proofs.Common.{◌≡◌, ◌⊎◌, ℕ, inl, inr, suc, ◌+◌, ◌<◌, List, [], ◌∷◌, length, Option, Some, None, Bool, true, false, cond, not, ◌&&◌, ◌==◌, refl, ap, subst, ◌∙◌, arith, ℤ}
 use Rattle.std.specs.Prelude.{is_some, IfSome, slice_index}
 use Rattle.std.proofs.lemmas.Option.{same_Some}
 use Rattle.ckpt_types.specs.declared.ais_error.AisError.TheVariants.{NoResources}
@@ -14,6 +14,7 @@ use Rattle.cluster_record.specs.declared.entries.Entry.{Entry}
 use Rattle.cluster_record.specs.DueActive.{unless_changed, active_on, on_active, request_by, starts_iteration}
 use Rattle.cluster_record.specs.declared.calls.MarksMade.{MarksMade}
 use Rattle.weak_marks.specs.Marks.{Marked}
+use Rattle.cluster_record.specs.Placement.{is_collocated}
 use Rattle.cluster_record.specs.RecordState.{entry_of, first_complete}
 use Rattle.ckpt_types.specs.Asks.{Ask, asked, elements_asked, elements_of}
 use Rattle.ckpt_types.specs.Asks as asks
@@ -103,8 +104,9 @@ pub record ActiveOf (m : Machine) (marks : Option Marked) (k : ℕ) : Type 0 whe
   -- where updates go to it alone, nothing is staged on it, and these marks stand
   pub apart : is_all entry.attributes ≡ false → IsApart marks replica
 
-pub active_of : (m : Machine) (shapes : ℕ → Shape) (k : ℕ) (e : Entry) → InvariantIn shapes m → WasMade m.cluster k → entry_of k m.cluster.entries ≡ Some e → ActiveOf m (shapes k).marks k
-active_of m shapes k e inv made found = by_node (first_complete 0 e.complete) refl spread.some
+-- a collocated one may have none
+pub active_of : (m : Machine) (shapes : ℕ → Shape) (k : ℕ) (e : Entry) → InvariantIn shapes m → WasMade m.cluster k → entry_of k m.cluster.entries ≡ Some e → (e.active ≡ None) ⊎ ActiveOf m (shapes k).marks k
+active_of m shapes k e inv made found = by_kind (is_collocated e.attributes) spread.active
   where
     was_made : e.making ≡ None
     was_made = subst (λ o. IfSome o (λ (e : Entry). e.making ≡ None)) found made.made
@@ -112,14 +114,28 @@ active_of m shapes k e inv made found = by_node (first_complete 0 e.complete) re
     spread : IsSpread m k (shapes k) e
     spread = subst (IsGoodIn m k (shapes k) e) was_made (inv.entries k e found)
 
-    by_node : (o : Option ℕ) → first_complete 0 e.complete ≡ o → is_some o ≡ true → ActiveOf m (shapes k).marks k
-    by_node None none some = absurd (cc some)
-    by_node (Some r) first some =
+    by_node : e.active ≡ first_complete 0 e.complete → (o : Option ℕ) → first_complete 0 e.complete ≡ o → is_some o ≡ true → ActiveOf m (shapes k).marks k
+    by_node active None none some = absurd (cc some)
+    by_node active (Some r) first some =
         let at_r = first_complete-node 0 e.complete r first in
         let is : r ≡ 0 + at_r.0 = at_r.1 in
         let there : IsCompleteOn e r = subst (λ (q : ℕ). (slice_index e.complete q == 0) ≡ false) (omega (arith, is)) at_r.2 in
         let (x, here, shaped) = IsSomeAnd-at (m.replicas k r) (IsShapedBy (is_all e.attributes) (shapes k) e.active r) (spread.replicas r there) in
-        record { entry = e; found = found; made = was_made; node = r; within = subst (λ (n : ℕ). r < n) spread.nodes (index-within e.complete r there); active = spread.active ∙ first; replica = x; there = here; apart = λ alone. subst (λ marks. IsApart marks x) (marks_here e.active (shapes k).marks r (spread.active ∙ first)) (subst (λ b. IsShapedBy b (shapes k) e.active r x) alone shaped) }
+        record {
+          entry = e;
+          found = found;
+          made = was_made;
+          node = r;
+          within = subst (λ (n : ℕ). r < n) spread.nodes (index-within e.complete r there);
+          active = active ∙ first;
+          replica = x;
+          there = here;
+          apart = λ alone. subst (λ marks. IsApart marks x) (marks_here e.active (shapes k).marks r (active ∙ first)) (subst (λ b. IsShapedBy b (shapes k) e.active r x) alone shaped);
+        }
+
+    by_kind : (b : Bool) → e.active ≡ cond b None (first_complete 0 e.complete) → (e.active ≡ None) ⊎ ActiveOf m (shapes k).marks k
+    by_kind true none = inl none
+    by_kind false active = inr (by_node active (first_complete 0 e.complete) refl spread.some)
 
 module _ (m : Machine) (marks : Option Marked) (k : ℕ) (at : ActiveOf m marks k) where
   -- what the code sees of the replica

@@ -1,6 +1,6 @@
 -- A call to the active changes the replica there, and its marks: what holds of every other call and of every other checkpoint stays.
 use Rattle.std.proofs.Common.{◌≡◌, ℕ, inl, inr, Option, Some, None, Bool, true, false, cond, ◌&&◌, ◌==◌, refl, sym, ap, subst, ◌∙◌}
-use Rattle.std.specs.Prelude.{IsSomeAnd}
+use Rattle.std.specs.Prelude.{is_some, IsSomeAnd}
 use Rattle.std.proofs.lemmas.Bool.{eqb-true, eq-eqb}
 use Rattle.std.proofs.lemmas.Option.{same_Some}
 use Rattle.ckpt_types.specs.declared.identities.CallId.{CallId}
@@ -136,6 +136,7 @@ module _ (m : Machine) (shapes : ℕ → Shape) (inv : InvariantIn shapes m) (s 
       owned = λ q d owns.
           let own = was.owned q d owns in
           IsOwner-alike m then_machine a.ckpt (marked_so (shapes a.ckpt) marks) d (put_actor-other m.in_hand s.call.actor o d.actor (owner_other a.ckpt (shapes a.ckpt) d own)) (IsOwner-marked m a.ckpt (shapes a.ckpt) marks d own);
+      led = λ w same. ap is_some active;
       marked = marked;
     }
 
@@ -148,7 +149,7 @@ module _ (m : Machine) (shapes : ℕ → Shape) (inv : InvariantIn shapes m) (s 
       up = λ r up. up;
       lives = refl;
       tables = refl;
-      making = λ v at. making_still m then_machine z v (λ w at. record { there = at.there; nodes = at.nodes; reserved = at.reserved }) at;
+      making = λ v at. making_still m then_machine z v (λ w at. record { there = at.there; declares = at.declares; nodes = at.nodes; reserved = at.reserved }) at;
       made = λ k was. was;
       later = λ k was e found. (e, found, refl, refl, refl);
       owners = λ j was q. elim (j == a.ckpt) as (λ b. (j == a.ckpt) ≡ b → is_owner z.call ((cond b (marked_so (shapes a.ckpt) marks) (shapes j)).owners q) ≡ is_owner z.call ((shapes j).owners q)) [

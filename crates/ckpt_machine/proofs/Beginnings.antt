@@ -26,9 +26,9 @@ use Rattle.cluster_record.specs.declared.calls.ActiveKind.TheVariants as kinds
 use Rattle.cluster_record.specs.declared.clients.LiveClient.{LiveClient}
 use Rattle.cluster_record.specs.declared.entries.Entry.{Entry}
 use Rattle.cluster_record.specs.Calls.{number_of, IsClient, same_call}
-use Rattle.cluster_record.specs.LookUps.{node_of_client, declared_in}
+use Rattle.cluster_record.specs.LookUps.{declared_in}
 use Rattle.cluster_record.specs.Places.{find_key}
-use Rattle.cluster_record.specs.RecordState.{entry_of, client_key, is_live, is_live_client, is_up}
+use Rattle.cluster_record.specs.RecordState.{entry_of, client_key, node_of_client, is_live, is_live_client, is_up}
 use Rattle.ckpt_types.specs.Asks.{Ask, asked, IsBuiltAsk, IsBuilt}
 use Rattle.ckpt_types.specs.Asks as asks
 use Rattle.ckpt_machine.specs.Beginning.{begin_end, if_live, on_handle, open_begin, may_always, may_write, update_is_bad, attributes_are_bad, name_is_bad}

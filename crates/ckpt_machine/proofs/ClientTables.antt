@@ -26,7 +26,7 @@ module _ (m : Machine) (shapes : ℕ → Shape) (inv : InvariantIn shapes m) (a 
     up = λ r up. up;
     lives = refl;
     tables = put_actor-other m.tables a (change (m.tables a)) z.call.actor other;
-    making = λ o at. making_still m then_machine z o (λ w at. record { there = at.there; nodes = at.nodes; reserved = at.reserved }) at;
+    making = λ o at. making_still m then_machine z o (λ w at. record { there = at.there; declares = at.declares; nodes = at.nodes; reserved = at.reserved }) at;
     made = λ k was. was;
     later = λ k was e found. (e, found, refl, refl, refl);
     owners = λ k was r. refl;

@@ -243,6 +243,7 @@ module _ (m : Machine) (shapes : ℕ → Shape) (inv : InvariantIn shapes m) (s 
     complete = λ q d owns. spread.complete q d (owners_left q d owns).1;
     lowest = lowest_then;
     owned = owned;
+    led = spread.led;
     marked = λ marks is_some. IsMarker-other m shapes inv s u held is (put2 m.replicas u.ckpt r (Some with_commit)) o u.ckpt marks (spread.marked marks is_some);
   }
 

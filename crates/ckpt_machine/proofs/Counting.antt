@@ -28,7 +28,7 @@ use Rattle.cluster_record.specs.Identities.{IdentitiesRise, AllUpTo}
 use Rattle.cluster_record.specs.LookUps.{creation_flags_of}
 use Rattle.cluster_record.specs.Makings.{making_of}
 use Rattle.cluster_record.specs.Places.{change_key, put2}
-use Rattle.cluster_record.specs.RecordState.{RecordState, entry_of, identity_of, has_references, stays, swept, entered, created_as, new_entry, referred, made_with, unreferred, released_all, unnamed, retaining, is_call_of, departed, moved, undone, complete_of}
+use Rattle.cluster_record.specs.RecordState.{RecordState, entry_of, identity_of, has_references, stays, swept, entered, created_as, new_entry, referred, home_of, made_with, unreferred, released_all, unnamed, retaining, is_call_of, departed, moved, undone, complete_of}
 use Rattle.cluster_record.proofs.IdentityLaws.{KeepsIdentity, IdentitiesRise-change_key, IdentitiesRise-filter, IdentitiesRise-map, IdentitiesRise-push}
 use Rattle.ckpt_types.specs.Asks.{Ask, asked, update_of}
 use Rattle.ckpt_types.specs.Asks as asks
@@ -155,8 +155,8 @@ OneMore-released_all c t e = left_fewer e t (slice_set e.references c 0) (λ d. 
 OneMore-referred : (c : ℕ) (e : Entry) → OneMore e (referred c e)
 OneMore-referred c e n few d = slice_index-one_more e.references c d n few
 
-OneMore-made : (up : List ℕ) (c : ℕ) (e : Entry) → OneMore e (made_with up c e)
-OneMore-made up c e n few d = slice_index-one_more e.references c d n few
+OneMore-made : (opener : ℕ) (up : List ℕ) (c : ℕ) (e : Entry) → OneMore e (made_with opener up c e)
+OneMore-made opener up c e n few d = slice_index-one_more e.references c d n few
 
 -- ---- the record
 
@@ -376,7 +376,7 @@ module _ (m : Machine) (n : ℕ) (rises : IdentitiesRise m.cluster.entries) (up_
   changed_counts verbs.Leave k r reply = ok_on m n counts reply _ (tables_on m n counts _ (on_step m n counts (departed (client_of s.call)) (departed_on m.cluster rises up_to (client_of s.call))) s.call.actor emptied (record { handles = omega arith; iterations = omega arith }))
   changed_counts verbs.Create k r reply = ok_on m n counts reply _ (on_step m n counts (created_for s.call (asked s.op)) (created_for_on m.cluster rises up_to s.call (asked s.op)))
   changed_counts verbs.Reserve k r reply = ok_on m n counts reply _ (both_on m n counts k r _ (λ k r. let c = more m n counts in record { next = c.next; last_handles = c.last_handles; last_iterations = c.last_iterations; effects = c.effects; identity = c.identity; references = c.references }))
-  changed_counts verbs.Finish k r reply = ok_on m n counts reply _ (some_on m n counts k _ (λ k. entry_given k (made_with m.cluster.up (client_of s.call)) (λ e. refl) (OneMore-made m.cluster.up (client_of s.call))))
+  changed_counts verbs.Finish k r reply = ok_on m n counts reply _ (some_on m n counts k _ (λ k. entry_given k (made_with (home_of (client_of s.call) m.cluster) m.cluster.up (client_of s.call)) (λ e. refl) (OneMore-made (home_of (client_of s.call) m.cluster) m.cluster.up (client_of s.call))))
   changed_counts verbs.Undo k r reply = ok_on m n counts reply _ (some_on m n counts k _ (undone_on m n counts rises up_to))
   changed_counts verbs.Open k r reply = ok_on m n counts reply _ (some_on m n counts k _ (λ k. entry_given k (referred (client_of s.call)) (λ e. refl) (OneMore-referred (client_of s.call))))
   changed_counts verbs.Close k r reply = ok_on m n counts reply _ (some_on m n counts k _ (λ k. tables_on m n counts _ (entry_changed k (unreferred (client_of s.call) m.cluster.moment) (released-identity (client_of s.call) m.cluster.moment) (OneMore-released (client_of s.call) m.cluster.moment)) s.call.actor (closing (asked s.op)) (CountsOne-closing (asked s.op) (m.tables s.call.actor))))

@@ -1,6 +1,6 @@
 -- A checkpoint is created: one entry more, in the making by a call that made nothing before; what holds of every other call and of every other checkpoint stays.
 use Rattle.std.proofs.Common.{◌≡◌, ℕ, ◌+◌, ◌≤◌, inl, inr, List, Option, Some, None, Bool, true, false, cond, ◌==◌, refl, sym, ap, subst, ◌∙◌, arith}
-use Rattle.std.specs.Prelude.{IfSome, slice_index}
+use Rattle.std.specs.Prelude.{IsSomeAnd, IfSome, slice_index}
 use Rattle.std.proofs.lemmas.Bool.{eqb-true, eq-eqb}
 use Rattle.std.proofs.lemmas.List.{length-replicate}
 use Rattle.std.proofs.lemmas.Option.{same_Some}
@@ -13,9 +13,10 @@ use Rattle.cluster_record.specs.DueOpen.{OpenState}
 use Rattle.cluster_record.specs.Calls.{put_actor}
 use Rattle.cluster_record.specs.RecordState.{RecordState, entry_of, identity_of, complete_of, new_entry, created_as}
 use Rattle.cluster_record.proofs.IdentityLaws.{entry_of-beyond, AllUpTo-push, IdentitiesRise-push}
+use Rattle.ckpt_types.specs.Asks.{asked}
 use Rattle.ckpt_machine.specs.Drivers as drivers
 use Rattle.ckpt_machine.specs.Entries.{WasMade}
-use Rattle.ckpt_machine.specs.InHand.{IsMakingIn, IsInHand}
+use Rattle.ckpt_machine.specs.InHand.{attributes_asked, IsMakingIn, IsInHand}
 use Rattle.ckpt_machine.specs.Invariant.{IsMaker, IsGoodIn, InvariantIn}
 use Rattle.ckpt_machine.specs.Machine.{Machine, CallState}
 use Rattle.ckpt_machine.specs.Steps.{driver_of, with_record, replica_under, reservation_under, opened_state}
@@ -115,6 +116,7 @@ module _ (m : Machine) (shapes : ℕ → Shape) (inv : InvariantIn shapes m) (s 
         let was : IsGoodIn m x.ckpt (shapes x.ckpt) e (Some z.call) = subst (IsGoodIn m x.ckpt (shapes x.ckpt) e) by (inv.entries x.ckpt e found) in
         record {
           there = IsSomeAnd-from (entry_of x.ckpt R.entries) (λ e. e.making ≡ Some z.call) e still by;
+          declares = subst (λ o. IsSomeAnd o (λ (e : Entry). attributes_asked (asked z.op) ≡ Some e.attributes)) (found ∙ sym still) at.declares;
           nodes = at.nodes;
           reserved = λ r had.
               ap (λ o. reservation_under o r (m.reserved x.ckpt r)) still

@@ -126,8 +126,8 @@ module _ (m : Machine) (s : CallState) (end : Option Outcome) (amiss : EndsAmiss
   create_ends name a k reply may row = absurd row
 
   reserve_ends : (k r : ℕ) (reply : StepReply) → ReserveRow m s k r reply end → ⊥
-  reserve_ends k r words.Ok row = goes_on row.3
-  reserve_ends k r words.Memory row = goes_on row.3
+  reserve_ends k r words.Ok row = goes_on row.4
+  reserve_ends k r words.Memory row = goes_on row.4
   reserve_ends k r reply row = absurd row
 
   finish_ends : (k : ℕ) (reply : StepReply) → FinishRow m s k reply end → ⊥

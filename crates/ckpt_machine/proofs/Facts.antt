@@ -1,5 +1,5 @@
 -- What the code relies on holds wherever the invariant does.
-use Rattle.std.proofs.Common.{◌≡◌, ℕ, ◌<◌, List, length, Option, Some, None, Bool, true, false, cond, not, ◌&&◌, ◌==◌, nat_le, ℤ, refl, sym, ap, subst, ◌∙◌}
+use Rattle.std.proofs.Common.{◌≡◌, ℕ, inl, inr, ◌<◌, List, length, Option, Some, None, Bool, true, false, cond, not, ◌&&◌, ◌==◌, nat_le, ℤ, refl, sym, ap, subst, ◌∙◌}
 use Rattle.std.specs.Prelude.{is_some, IsSome, IsSomeAnd, IfSome, pos, ◌≤ℤ◌}
 use Rattle.std.proofs.lemmas.Bool.{leb-false}
 use Rattle.ckpt_types.specs.declared.ais_error.AisError.TheVariants.{NoResources, BadOperation, TryAgain}
@@ -19,7 +19,7 @@ use Rattle.cluster_record.specs.declared.calls.ActiveKind.TheVariants as kinds
 use Rattle.cluster_record.specs.declared.calls.UpdatePhase.{UpdatePhase}
 use Rattle.cluster_record.specs.declared.calls.UpdatePhase.TheVariants.{Staging, Committing}
 use Rattle.cluster_record.specs.declared.entries.Entry.{Entry}
-use Rattle.cluster_record.specs.DueActive.{unless_changed, request_by, starts_iteration, active_on}
+use Rattle.cluster_record.specs.DueActive.{unless_changed, on_active, request_by, starts_iteration, active_on}
 use Rattle.cluster_record.specs.DueOnce.{OneStep, Enter, Leave, Close, Unlink, Retain, enter_next, close_of, unlink_of, unlink_of_making, retain_of, once_next}
 use Rattle.cluster_record.specs.DueOpen.{OpenState}
 use Rattle.cluster_record.specs.DueUpdate.{UpdateState, by_phase, stage_at, commit_at, update_next, update_on}
@@ -161,9 +161,10 @@ module _ (m : Machine) (shapes : ℕ → Shape) (inv : InvariantIn shapes m) (s 
     where
       by_entry : (o : Option Entry) → entry_of k m.cluster.entries ≡ o → IsDueReady m s driver (driver_next m.cluster rooms driver)
       by_entry None gone = subst (IsDueReady m s driver) (sym (ap (active_on rooms.iterations (record { call = call; ckpt = k; kind = kind; marks = made })) gone)) tt
-      by_entry (Some e) found =
-          let at = active_of m shapes k e inv at_active.made found in
-          subst (IsDueReady m s driver) (sym (active_next-there m (shapes k).marks k at call kind made rooms)) (by_kind at kind refl (asks_of_kind s.kept.all s.kept.weak (asked s.op) kind at_active.kind) at_active.fit (starts_iteration kind && not rooms.iterations))
+      by_entry (Some e) found = elim (active_of m shapes k e inv at_active.made found) [
+        | inl none ↦ subst (IsDueReady m s driver) (sym (ap (active_on rooms.iterations (record { call = call; ckpt = k; kind = kind; marks = made })) found ∙ ap (on_active rooms.iterations (record { call = call; ckpt = k; kind = kind; marks = made }) e.generation) none)) tt
+        | inr at ↦ subst (IsDueReady m s driver) (sym (active_next-there m (shapes k).marks k at call kind made rooms)) (by_kind at kind refl (asks_of_kind s.kept.all s.kept.weak (asked s.op) kind at_active.kind) at_active.fit (starts_iteration kind && not rooms.iterations))
+      ]
 
 -- ---- a call of one step of the record
 

@@ -11,11 +11,12 @@ use Rattle.cluster_record.specs.declared.entries.Entry.{Entry}
 use Rattle.cluster_record.specs.DueOpen.{OpenState}
 use Rattle.cluster_record.specs.Calls.{same_actor, put_actor}
 use Rattle.cluster_record.specs.Places.{put, change_key}
-use Rattle.cluster_record.specs.RecordState.{RecordState, entry_of, identity_of, complete_of, first_complete, made_with, finished}
+use Rattle.cluster_record.specs.RecordState.{RecordState, entry_of, identity_of, complete_of, first_complete, home_of, made_with, finished}
 use Rattle.cluster_record.proofs.IdentityLaws.{IdentitiesRise-change_key, AllUpTo-change_key}
 use Rattle.ckpt_machine.specs.Drivers as drivers
 use Rattle.ckpt_machine.specs.Entries.{AllStay, WasMade}
-use Rattle.ckpt_machine.specs.InHand.{is_marked_by, IsMakingIn}
+use Rattle.ckpt_machine.specs.InHand.{is_marked_by, attributes_asked, IsMakingIn}
+use Rattle.ckpt_types.specs.Asks.{asked}
 use Rattle.weak_marks.specs.Marks.{Marked}
 use Rattle.ckpt_machine.specs.Invariant.{IsMaker, IsGoodIn, InvariantIn}
 use Rattle.ckpt_machine.specs.Machine.{Machine, CallState}
@@ -25,13 +26,15 @@ use Rattle.ckpt_machine.proofs.ReplicaSteps.{put_actor-cases, put_actor-other}
 use Rattle.ckpt_machine.proofs.OtherCalls.{LooksAlike, making_still, IsInHand-alike, IsGoodIn-alike, IsLaterEntry-refl}
 use Rattle.ckpt_machine.proofs.OptionLemmas.{IsSomeAnd-at, IsSomeAnd-from}
 use Rattle.ckpt_machine.proofs.MarksAt.{none_marked}
+use Rattle.ckpt_machine.proofs.Targets.{targets-length}
+use Rattle.cluster_record.specs.Placement.{targets}
 use Rattle.ckpt_machine.proofs.Actors.{same_actor-refl, same_actor-true}
 use Rattle.ckpt_machine.proofs.EntryLists.{find_key-change_key}
 use Rattle.ckpt_machine.proofs.NodeLists.{slice_index-replicate}
 use Rattle.ckpt_machine.specs.Options.{is_all}
 
 module _ (m : Machine) (shapes : ℕ → Shape) (inv : InvariantIn shapes m) (s : CallState) (o : OpenState) (making : Making) (held : m.in_hand s.call.actor ≡ Some s) (is : driver_of s ≡ drivers.Open o) (makes : o.making ≡ Some making)
-    (c : ℕ) (e : Entry) (found : entry_of making.ckpt m.cluster.entries ≡ Some e) (by : e.making ≡ Some s.call) (some : IsSome (first_complete 0 m.cluster.up)) (stays : AllStay m.cluster.moment (change_key identity_of making.ckpt (made_with m.cluster.up c) m.cluster.entries)) where
+    (c : ℕ) (e : Entry) (found : entry_of making.ckpt m.cluster.entries ≡ Some e) (by : e.making ≡ Some s.call) (some : IsSome (first_complete 0 (targets e.attributes (home_of c m.cluster) m.cluster.up))) (stays : AllStay m.cluster.moment (change_key identity_of making.ckpt (made_with (home_of c m.cluster) m.cluster.up c) m.cluster.entries)) where
   abbrev k : ℕ
   k = making.ckpt
 
@@ -39,7 +42,7 @@ module _ (m : Machine) (shapes : ℕ → Shape) (inv : InvariantIn shapes m) (s 
   R = finished making.ckpt c m.cluster
 
   abbrev f : Entry
-  f = made_with m.cluster.up c e
+  f = made_with (home_of c m.cluster) m.cluster.up c e
 
   abbrev then_machine : Machine
   then_machine = record (with_record m R) { in_hand = put_actor m.in_hand s.call.actor None }
@@ -47,7 +50,7 @@ module _ (m : Machine) (shapes : ℕ → Shape) (inv : InvariantIn shapes m) (s 
   -- ---- entries
 
   entry_is : (j : ℕ) → entry_of j R.entries ≡ cond (j == making.ckpt) (Some f) (entry_of j m.cluster.entries)
-  entry_is j = find_key-change_key identity_of making.ckpt j (made_with m.cluster.up c) (λ x. refl) m.cluster.entries e found
+  entry_is j = find_key-change_key identity_of making.ckpt j (made_with (home_of c m.cluster) m.cluster.up c) (λ x. refl) m.cluster.entries e found
 
   entry_other : (j : ℕ) → (j == making.ckpt) ≡ false → entry_of j R.entries ≡ entry_of j m.cluster.entries
   entry_other j other = entry_is j ∙ ap (λ b. cond b (Some f) (entry_of j m.cluster.entries)) other
@@ -148,7 +151,7 @@ module _ (m : Machine) (shapes : ℕ → Shape) (inv : InvariantIn shapes m) (s 
   spread_here : IsSpread then_machine making.ckpt opened_shape f
   unfolding opened_shape
   spread_here = record {
-    nodes = ap length inv.up.1;
+    nodes = targets-length e.attributes (home_of c m.cluster) m.cluster.up (ap length inv.up.1);
     some = some;
     active = refl;
     replicas = λ r there. IsSomeAnd-from (then_machine.replicas making.ckpt r) (IsShapedBy (is_all f.attributes) opened_shape f.active r) (opened_state f) (replica_here r there) (opened_by (is_all f.attributes) r);
@@ -156,6 +159,7 @@ module _ (m : Machine) (shapes : ℕ → Shape) (inv : InvariantIn shapes m) (s 
     complete = λ r d none. absurd (cc none);
     lowest = λ q r d below there none. absurd (cc none);
     owned = λ r d none. absurd (cc none);
+    led = λ marks none. absurd (cc none);
     marked = λ marks none. absurd (cc none);
   }
 
@@ -169,6 +173,7 @@ module _ (m : Machine) (shapes : ℕ → Shape) (inv : InvariantIn shapes m) (s 
         let good : IsGoodIn m w.ckpt (shapes w.ckpt) g (Some z.call) = subst (IsGoodIn m w.ckpt (shapes w.ckpt) g) made_by (inv.entries w.ckpt g was) in
         record {
           there = subst (λ o. IsSomeAnd o (λ (x : Entry). x.making ≡ Some z.call)) (sym (entry_other w.ckpt apart)) at.there;
+          declares = subst (λ o. IsSomeAnd o (λ (x : Entry). attributes_asked (asked z.op) ≡ Some x.attributes)) (sym (entry_other w.ckpt apart)) at.declares;
           nodes = at.nodes;
           reserved = λ r had.
               ap (λ o. reservation_under o r (m.reserved w.ckpt r)) (entry_other w.ckpt apart ∙ was)
@@ -205,8 +210,8 @@ module _ (m : Machine) (shapes : ℕ → Shape) (inv : InvariantIn shapes m) (s 
   finish_keeps = record {
     up = inv.up;
     none_live = inv.none_live;
-    rises = IdentitiesRise-change_key (made_with m.cluster.up c) (λ x. refl) making.ckpt m.cluster.entries inv.rises;
-    up_to = AllUpTo-change_key (made_with m.cluster.up c) (λ x. refl) m.cluster.last_identity making.ckpt m.cluster.entries inv.up_to;
+    rises = IdentitiesRise-change_key (made_with (home_of c m.cluster) m.cluster.up c) (λ x. refl) making.ckpt m.cluster.entries inv.rises;
+    up_to = AllUpTo-change_key (made_with (home_of c m.cluster) m.cluster.up c) (λ x. refl) m.cluster.last_identity making.ckpt m.cluster.entries inv.up_to;
     swept = stays;
     entries = λ j g there. by_test j g there (j == making.ckpt) refl;
     handles = λ b h among. WasMade-then h.id (inv.handles b h among);

@@ -17,7 +17,7 @@ use Rattle.cluster_record.specs.declared.entries.Entry.{Entry}
 use Rattle.cluster_record.specs.Calls.{client_of}
 use Rattle.cluster_record.specs.Makings.{making_of}
 use Rattle.cluster_record.specs.Places.{change_key, put2}
-use Rattle.cluster_record.specs.RecordState.{RecordState, entry_of, identity_of, complete_of, has_references, stays, swept, entered, created_as, new_entry, referred, made_with, unreferred, released_all, unnamed, retaining, is_call_of, departed, undone}
+use Rattle.cluster_record.specs.RecordState.{RecordState, entry_of, identity_of, complete_of, has_references, stays, swept, entered, created_as, new_entry, referred, home_of, made_with, unreferred, released_all, unnamed, retaining, is_call_of, departed, undone}
 use Rattle.cluster_record.proofs.KeptLaws.{All-change_key}
 use Rattle.ckpt_types.specs.Asks.{Ask, asked, update_of}
 use Rattle.ckpt_types.specs.Asks as asks
@@ -317,7 +317,7 @@ module _ (m : Machine) (bare : IsBare m) (IsNew : ℕ → CallId → Type 0) whe
   changed_follows s verbs.Open k r reply new = ok_follows reply _ (one_follows k _ (λ k. entry_follows k (λ R. referred (client_of s.call)) (λ e. refl)))
   changed_follows s verbs.Create k r reply new = ok_follows reply _ (step_follows (created_for s.call (asked s.op)) (created_for_free m.cluster bare.free s.call (asked s.op)))
   changed_follows s verbs.Reserve k r reply new = reserved_follows s.call k r reply new
-  changed_follows s verbs.Finish k r reply new = ok_follows reply _ (one_follows k _ (λ k. entry_follows k (λ R. made_with R.up (client_of s.call)) (λ e. refl)))
+  changed_follows s verbs.Finish k r reply new = ok_follows reply _ (one_follows k _ (λ k. entry_follows k (λ R. made_with (home_of (client_of s.call) R) R.up (client_of s.call)) (λ e. refl)))
   changed_follows s verbs.Undo k r reply new = ok_follows reply _ (one_follows k _ undone_follows)
   changed_follows s verbs.Stage k r reply new = ok_follows reply _ (both_follow k r _ (λ k r. changed_replica k r (m.replicas k r) refl (with_slot s.call (update_of s.op) (staged_moment m k)) (λ x d there has. inl has)))
   changed_follows s verbs.Commit k r reply new = commit_follows s.call k r reply new

@@ -23,7 +23,8 @@ use Rattle.cluster_record.specs.declared.calls.UpdatePhase.TheVariants.{Staging,
 use Rattle.cluster_record.specs.RecordState.{RecordState, entry_of, named}
 use Rattle.cluster_record.specs.StepDone.{first_lacking, last_having}
 use Rattle.ckpt_machine.specs.Driving.{driver_next}
-use Rattle.cluster_record.specs.DueOpen.{accepts, create_next, entry_by, entry_next, on_named, reserve_or_finish, on_making, by_making}
+use Rattle.cluster_record.specs.DueOpen.{accepts, create_next, entry_by, entry_next, on_named, reserve_or_finish, targets_of, on_making, by_making}
+use Rattle.ckpt_types.specs.declared.calls.OpenAsk.{OpenAsk}
 use Rattle.cluster_record.specs.DueUpdate.{commit_at, stage_at, by_phase, update_on}
 use Rattle.cluster_record.specs.DueActive.{unless_changed, on_active, active_on, active_request, starts_iteration}
 use Rattle.cluster_record.specs.DueOnce.{OneStep, once_next, close_of, unlink_of_making, unlink_of, retain_of}
@@ -61,15 +62,15 @@ module _ (P : Next → Type 0) (ends : (o : Outcome) → P (End o)) (steps : (st
   of_reserve k None = steps Finish
   of_reserve k (Some r) = reserves r k
 
-  of_making : (R : RecordState) (m : Making) → P (on_making R m)
-  of_making R m = by_test m.refused where
-    by_test : (b : Bool) → P (cond b (Event Undo) (reserve_or_finish m.ckpt (first_lacking 0 R.up m.reserved)))
+  of_making : (R : RecordState) (ask : OpenAsk) (m : Making) → P (on_making R ask m)
+  of_making R ask m = by_test m.refused where
+    by_test : (b : Bool) → P (cond b (Event Undo) (reserve_or_finish m.ckpt (first_lacking 0 (targets_of ask R) m.reserved)))
     by_test true = steps Undo
-    by_test false = of_reserve m.ckpt (first_lacking 0 R.up m.reserved)
+    by_test false = of_reserve m.ckpt (first_lacking 0 (targets_of ask R) m.reserved)
 
   of_open : (R : RecordState) (room : Bool) (o : OpenState) (m : Option Making) → P (by_making R room o m)
   of_open R room o None = of_named R room o.deadline o.ask.attrs (named o.ask.name R.entries)
-  of_open R room o (Some m) = in_time-either P o.deadline R.moment (on_making R m) ends (of_making R m)
+  of_open R room o (Some m) = in_time-either P o.deadline R.moment (on_making R o.ask m) ends (of_making R o.ask m)
 
   -- ---- an update
 

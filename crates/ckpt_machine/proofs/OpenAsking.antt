@@ -31,7 +31,7 @@ use Rattle.ckpt_types.specs.Asks.{asked}
 use Rattle.ckpt_machine.specs.Drivers as drivers
 use Rattle.ckpt_machine.specs.Driving.{driver_taken, event_ckpt, event_node, event_refusal, refusal_in, opened_end}
 use Rattle.ckpt_machine.specs.Guards.{IsInTime, MayCreate, IsOpenable, MayOpen, OpenRow, MayExist, IsAccepted, OpenLook}
-use Rattle.ckpt_machine.specs.InHand.{AreGoodAttributes, is_enter, IsInPlace, IsInHand, IsOpenIn}
+use Rattle.ckpt_machine.specs.InHand.{attributes_asked, AreGoodAttributes, is_enter, IsInPlace, IsInHand, IsOpenIn}
 use Rattle.ckpt_machine.specs.Invariant.{IsMaker, IsGoodIn, InvariantIn, Invariant}
 use Rattle.ckpt_machine.specs.Left.{steps_left}
 use Rattle.ckpt_machine.specs.Machine.{Machine, CallState}
@@ -139,7 +139,7 @@ module _ (m : Machine) (shapes : ℕ → Shape) (inv : InvariantIn shapes m) (s 
         named = at_open.named;
         declared = at_open.declared;
         deadline = at_open.deadline;
-        making = record { there = IsSomeAnd-from (entry_of next after_it.entries) (λ e. e.making ≡ Some s.call) new found_new refl; nodes = refl; reserved = λ r had. absurd (none_reserved r (slice_index m.cluster.up r) had) };
+        making = record { there = IsSomeAnd-from (entry_of next after_it.entries) (λ e. e.making ≡ Some s.call) new found_new refl; declares = IsSomeAnd-from (entry_of next after_it.entries) _ new found_new (ap attributes_asked at_open.asks.asks ∙ given); nodes = refl; reserved = λ r had. absurd (none_reserved r (slice_index m.cluster.up r) had) };
         given = λ some. ap is_some given;
         room = λ some. room;
       });

@@ -1,7 +1,7 @@
 -- An open that is making a checkpoint reserves it on each node that is up, and finishes it; or undoes it, where memory was refused or its deadline is reached; with any calls of others in hand.
 use Rattle.std.proofs.Common.{◌≡◌, ℕ, ◌+◌, ◌<◌, inl, inr, ◌∷◌, length, Option, Some, None, Bool, true, false, cond, not, ◌==◌, ◌&&◌, nat_lt, ℤ, refl, sym, ap, subst, ◌∙◌, arith}
-use Rattle.std.specs.Prelude.{IsSome, IfSome, slice_index, slice_set}
-use Rattle.std.proofs.lemmas.Bool.{eqb-true, eq-eqb, lt-ltb, and_parts}
+use Rattle.std.specs.Prelude.{is_some, IsSome, IsSomeAnd, IfSome, slice_index, slice_set}
+use Rattle.std.proofs.lemmas.Bool.{eqb-true, eq-eqb, lt-ltb, ltb-true, and_parts}
 use Rattle.std.proofs.lemmas.Option.{same_Some}
 use Rattle.moment_rules.specs.Times.{is_reached}
 use Rattle.ckpt_types.specs.declared.ais_error.AisError.TheVariants.{Timeout}
@@ -19,16 +19,20 @@ use Rattle.node_msgs.specs.declared.steps.StepReply.TheVariants as words
 use Rattle.cluster_record.specs.declared.calls.Making.{Making}
 use Rattle.cluster_record.specs.declared.entries.Entry.{Entry}
 use Rattle.cluster_record.specs.Calls.{client_of, put_actor}
-use Rattle.cluster_record.specs.DueOpen.{OpenState, IsBefore, in_time, reserve_or_finish, on_making}
+use Rattle.cluster_record.specs.DueOpen.{OpenState, IsBefore, in_time, reserve_or_finish, targets_by, targets_of, on_making}
+use Rattle.cluster_record.specs.Placement.{targets}
+use Rattle.cluster_record.specs.declared.clients.LiveClient.{LiveClient}
 use Rattle.cluster_record.specs.Places.{put2}
-use Rattle.cluster_record.specs.RecordState.{RecordState, entry_of, identity_of, named, is_up, first_complete, made_with, finished, swept, stays}
+use Rattle.cluster_record.specs.Places.{find_key}
+use Rattle.ckpt_types.specs.Asks.{asked}
+use Rattle.cluster_record.specs.RecordState.{RecordState, entry_of, identity_of, named, is_up, is_live_client, client_key, node_of_client, first_complete, home_of, made_with, finished, swept, stays}
 use Rattle.cluster_record.specs.StepDone.{StepDone, done_of, first_lacking, has, lacks}
 use Rattle.ckpt_machine.specs.Drivers as drivers
 use Rattle.ckpt_machine.specs.Driving.{driver_taken}
-use Rattle.ckpt_machine.specs.Guards.{IsMadeBy, IsInTime}
+use Rattle.ckpt_machine.specs.Guards.{IsMadeBy, IsTarget, IsInTime}
 use Rattle.ckpt_machine.specs.Entries.{WasMade, IsMakingEntry, AllStay}
-use Rattle.ckpt_machine.specs.InHand.{is_enter, IsMakingIn, IsInPlace, IsOpenIn}
-use Rattle.ckpt_machine.specs.Invariant.{InvariantIn, Invariant}
+use Rattle.ckpt_machine.specs.InHand.{is_enter, attributes_asked, IsMakingIn, IsInPlace, IsOpenIn}
+use Rattle.ckpt_machine.specs.Invariant.{IsGoodClient, InvariantIn, Invariant}
 use Rattle.ckpt_machine.specs.Left.{steps_left, lacking}
 use Rattle.ckpt_machine.specs.Machine.{Machine, CallState}
 use Rattle.ckpt_machine.specs.Steps.{Told, IsDone, IsServed, IsEvent, driver_of, with_record, with_given, with_reservation, record_step, without_making}
@@ -40,6 +44,9 @@ use Rattle.ckpt_machine.proofs.EntryLists.{entry_of-given, find_key-change_key, 
 use Rattle.ckpt_machine.proofs.StepLabels.{IsServed-told, IsEvent-told}
 use Rattle.ckpt_machine.proofs.StepsLeft.{lacking-set}
 use Rattle.ckpt_machine.proofs.NodeLists.{first_lacking-is, first_lacking-None, index-other, length-slice_set, index-within, not-lacked, lacked-has, first_complete-there}
+use Rattle.ckpt_machine.proofs.OpenReady.{client_live}
+use Rattle.ckpt_machine.proofs.OptionLemmas.{IsSomeAnd-from}
+use Rattle.ckpt_machine.proofs.Targets.{targets-length, target-up, target-home}
 use Rattle.ckpt_machine.proofs.OpenFacts.{LookRefused-open, may_exist, given_ends}
 use Rattle.ckpt_machine.proofs.OwnMaking.{open_at, making_at, made_by, making_entry}
 use Rattle.ckpt_machine.proofs.PlainCalls.{ending}
@@ -119,26 +126,50 @@ module _ (m : Machine) (shapes : ℕ → Shape) (inv : InvariantIn shapes m) (s 
 
   -- the entry then
   abbrev made : Entry
-  made = made_with m.cluster.up ask.client entry.0
+  made = made_with (home_of ask.client m.cluster) m.cluster.up ask.client entry.0
 
   -- its maker has it open
   finished_stays : AllStay m.cluster.moment finished_then.entries
-  finished_stays = AllStay-change_key m.cluster.moment (made_with m.cluster.up ask.client) k m.cluster.entries inv.swept (λ e found stay.
+  finished_stays = AllStay-change_key m.cluster.moment (made_with (home_of ask.client m.cluster) m.cluster.up ask.client) k m.cluster.entries inv.swept (λ e found stay.
       let same : entry.0 ≡ e = same_Some entry.0 e (sym entry.1 ∙ found) in
-      subst (λ f. stays m.cluster.moment (made_with m.cluster.up ask.client f) ≡ true) same (open-stays m.cluster.moment made (list_any-first entry.0.references ask.client (subst (λ n. ask.client < n) (sym entry.3.clients) at_open.within))))
+      subst (λ f. stays m.cluster.moment (made_with (home_of ask.client m.cluster) m.cluster.up ask.client f) ≡ true) same (open-stays m.cluster.moment made (list_any-first entry.0.references ask.client (subst (λ n. ask.client < n) (sym entry.3.clients) at_open.within))))
 
   -- it is made now
   made_now : WasMade finished_then k
   made_now = record {
     given = entry_of-given m.cluster.last_identity k m.cluster.entries entry.0 inv.up_to entry.1;
-    made = subst (λ o. IfSome o (λ (e : Entry). e.making ≡ None)) (sym (find_key-change_key identity_of k k (made_with m.cluster.up ask.client) (λ x. refl) m.cluster.entries entry.0 entry.1 ∙ ap (λ b. cond b (Some made) (entry_of k m.cluster.entries)) (eq-eqb k k refl))) refl;
+    made = subst (λ o. IfSome o (λ (e : Entry). e.making ≡ None)) (sym (find_key-change_key identity_of k k (made_with (home_of ask.client m.cluster) m.cluster.up ask.client) (λ x. refl) m.cluster.entries entry.0 entry.1 ∙ ap (λ b. cond b (Some made) (entry_of k m.cluster.entries)) (eq-eqb k k refl))) refl;
   }
 
-  -- its node is up
-  some_up : IsSome (first_complete 0 m.cluster.up)
+  -- its client's node is up
+  home_up : is_up (home_of ask.client m.cluster) m.cluster ≡ true
+  home_up =
+      let hand = inv.hands s.call.actor s held in
+      home_is_up ask.client (subst (λ (c : ℕ). is_live_client c m.cluster ≡ true) (sym at_open.client) (client_live m.cluster s.call hand.client (hand.live (ap is_enter is))))
+    where
+      home_is_up : (c : ℕ) → is_live_client c m.cluster ≡ true → is_up (home_of c m.cluster) m.cluster ≡ true
+      home_is_up c live = by_client (find_key client_key c m.cluster.clients) live (inv.clients c)
+        where
+          by_client : (o : Option LiveClient) → is_some o ≡ true → IfSome o (IsGoodClient m.next m.cluster c) → is_up (node_of_client o) m.cluster ≡ true
+          by_client None live good = absurd (cc live)
+          by_client (Some x) live good = good.1
+
+  -- what is asked for is what the checkpoint declares, so these are the nodes on which it is made
+  targets_are : targets_of ask m.cluster ≡ targets entry.0.attributes (home_of ask.client m.cluster) m.cluster.up
+  targets_are = ap (λ a. targets_by a (home_of ask.client m.cluster) m.cluster.up) (sym (ap attributes_asked at_open.asks.asks) ∙ subst (λ o. IsSomeAnd o (λ (e : Entry). attributes_asked (asked s.op) ≡ Some e.attributes)) entry.1 its.declares)
+
+  targets_length : length (targets_of ask m.cluster) ≡ 8
+  targets_length = ap length targets_are ∙ targets-length entry.0.attributes (home_of ask.client m.cluster) m.cluster.up (ap length inv.up.1)
+
+  -- one of them is up, in its incarnation
+  there_up : (r : ℕ) → (slice_index (targets_of ask m.cluster) r == 0) ≡ false → slice_index (targets_of ask m.cluster) r ≡ slice_index m.cluster.up r
+  there_up r there = ap (λ nodes. slice_index nodes r) targets_are ∙ target-up entry.0.attributes (home_of ask.client m.cluster) m.cluster.up r (ap (λ nodes. slice_index nodes r == 0) (sym targets_are) ∙ there)
+
+  -- one is up
+  some_up : IsSome (first_complete 0 (targets entry.0.attributes (home_of ask.client m.cluster) m.cluster.up))
   some_up =
-      let (below, there) = and_parts (nat_lt ask.node 8) (not (slice_index m.cluster.up ask.node == 0)) at_open.node in
-      first_complete-there 0 m.cluster.up ask.node (not_not (slice_index m.cluster.up ask.node == 0) there)
+      let (below, there) = and_parts (nat_lt (home_of ask.client m.cluster) 8) (not (slice_index m.cluster.up (home_of ask.client m.cluster) == 0)) home_up in
+      first_complete-there 0 (targets entry.0.attributes (home_of ask.client m.cluster) m.cluster.up) (home_of ask.client m.cluster) (target-home entry.0.attributes (home_of ask.client m.cluster) m.cluster.up (ltb-true (home_of ask.client m.cluster) 8 below) (not_not (slice_index m.cluster.up (home_of ask.client m.cluster) == 0) there))
 
   -- the client of the call finishes it, and no sweep takes anything
   finished_is : swept (finished k (client_of s.call) m.cluster) ≡ finished_then
@@ -151,14 +182,14 @@ module _ (m : Machine) (shapes : ℕ → Shape) (inv : InvariantIn shapes m) (s 
     holds = given_ends (with_record m finished_then) _ s k (finish_keeps m shapes inv s at_making making held is refl ask.client entry.0 entry.1 entry.2 some_up finished_stays) made_now;
   })
 
-  -- every node that is up has reserved
-  all_reserved : first_lacking 0 m.cluster.up making.reserved ≡ None → (r : ℕ) → is_up r m.cluster ≡ true → m.reserved k r ≡ Some (slice_index m.cluster.up r)
-  all_reserved none r up =
-      let (below, there) = and_parts (nat_lt r 8) (not (slice_index m.cluster.up r == 0)) up in
-      its.reserved r (not-lacked (slice_index m.cluster.up r) (slice_index making.reserved r) (not_not (slice_index m.cluster.up r == 0) there) (first_lacking-None 0 m.cluster.up making.reserved (its.nodes ∙ sym (ap length inv.up.1)) none r))
+  -- every node on which it is made has reserved
+  all_reserved : first_lacking 0 (targets_of ask m.cluster) making.reserved ≡ None → (r : ℕ) → IsTarget m s k r → m.reserved k r ≡ Some (slice_index m.cluster.up r)
+  all_reserved none r target =
+      let there : (slice_index (targets_of ask m.cluster) r == 0) ≡ false = ap (λ nodes. slice_index nodes r == 0) targets_are ∙ ap (λ c. slice_index (targets entry.0.attributes (home_of c m.cluster) m.cluster.up) r == 0) at_open.client ∙ subst (λ o. IsSomeAnd o (λ (e : Entry). (slice_index (targets e.attributes (home_of (client_of s.call) m.cluster) m.cluster.up) r == 0) ≡ false)) entry.1 target in
+      its.reserved r (ap (λ n. has n (slice_index making.reserved r)) (sym (there_up r there)) ∙ not-lacked (slice_index (targets_of ask m.cluster) r) (slice_index making.reserved r) there (first_lacking-None 0 (targets_of ask m.cluster) making.reserved (its.nodes ∙ sym targets_length) none r))
 
   -- the finish
-  finish_goes : (t : Told) → IsBefore m.cluster.moment deadline → first_lacking 0 m.cluster.up making.reserved ≡ None → IsEvent m s events.Finish t → Goes m s (drivers.Open at_making) t
+  finish_goes : (t : Told) → IsBefore m.cluster.moment deadline → first_lacking 0 (targets_of ask m.cluster) making.reserved ≡ None → IsEvent m s events.Finish t → Goes m s (drivers.Open at_making) t
   finish_goes t before none event = elim (IsEvent-told m s events.Finish t (drivers.Open at_making) event is refl) [
     | inl ok ↦ subst (Goes m s (drivers.Open at_making)) (sym ok) (record {
       row = ((ask.name, ask.attrs, at_open.asks, (by, in_time_is before, all_reserved none, refl)), refl);
@@ -170,7 +201,7 @@ module _ (m : Machine) (shapes : ℕ → Shape) (inv : InvariantIn shapes m) (s 
 
   -- ---- reserved
 
-  module _ (r : ℕ) (lacked : lacks (slice_index m.cluster.up r) (slice_index making.reserved r) ≡ true) (was_given : making.refused ≡ false) (before : IsBefore m.cluster.moment deadline) where
+  module _ (r : ℕ) (target : (slice_index (targets_of ask m.cluster) r == 0) ≡ false) (lacked : lacks (slice_index m.cluster.up r) (slice_index making.reserved r) ≡ true) (was_given : making.refused ≡ false) (before : IsBefore m.cluster.moment deadline) where
     -- what it keeps with another making
     abbrev with_making : Making → OpenState
     with_making w = record { call = call; ask = ask; deadline = deadline; making = Some w }
@@ -201,6 +232,10 @@ module _ (m : Machine) (shapes : ℕ → Shape) (inv : InvariantIn shapes m) (s 
         let there : (slice_index m.cluster.up r == 0) ≡ false = (lacked-has (slice_index m.cluster.up r) (slice_index making.reserved r) lacked).0 in
         let within : r < 8 = subst (λ (n : ℕ). r < n) (ap length inv.up.1) (index-within m.cluster.up r there) in
         λ i. lt-ltb r 8 within i && not (there i)
+
+    -- it is to be made there
+    is_target : IsTarget m s k r
+    is_target = IsSomeAnd-from (entry_of k m.cluster.entries) _ entry.0 entry.1 (ap (λ c. slice_index (targets entry.0.attributes (home_of c m.cluster) m.cluster.up) r == 0) (sym at_open.client) ∙ ap (λ nodes. slice_index nodes r == 0) (sym targets_are) ∙ target)
 
     -- ---- where the call is then
 
@@ -261,14 +296,14 @@ module _ (m : Machine) (shapes : ℕ → Shape) (inv : InvariantIn shapes m) (s 
     reserved_holds = record {
       shapes = shapes;
       holds = goes_on reserve_done reserved put_there refl refl (λ j q other. ap (λ b. cond (b && (q == r)) (Some (slice_index m.cluster.up r)) (m.reserved j q)) other)
-          (record { there = its.there; nodes = length-slice_set making.reserved r (slice_index m.cluster.up r) ∙ its.nodes; reserved = reserved_then });
+          (record { there = its.there; declares = its.declares; nodes = length-slice_set making.reserved r (slice_index m.cluster.up r) ∙ its.nodes; reserved = reserved_then });
     }
 
     -- and after its refusal
     refused_holds : Invariant (going_on s memory_done m)
     refused_holds = record {
       shapes = shapes;
-      holds = goes_on memory_done refused m.reserved refl refl (λ j q other. refl) (record { there = its.there; nodes = its.nodes; reserved = its.reserved });
+      holds = goes_on memory_done refused m.reserved refl refl (λ j q other. refl) (record { there = its.there; declares = its.declares; nodes = its.nodes; reserved = its.reserved });
     }
 
     -- ---- nearer to its end
@@ -300,12 +335,12 @@ module _ (m : Machine) (shapes : ℕ → Shape) (inv : InvariantIn shapes m) (s 
     reserve_goes : (t : Told) → IsServed m s r (requests.Reserve k) t → Goes m s (drivers.Open at_making) t
     reserve_goes t served = elim served.may [
       | inl ok ↦ subst (Goes m s (drivers.Open at_making)) (sym (IsServed-told m s r (requests.Reserve k) t (drivers.Open at_making) (replies.Done answers.Nothing) served is ok)) (record {
-        row = ((ask.name, ask.attrs, at_open.asks, (up_there, by, in_time_is before, refl)), refl);
+        row = ((ask.name, ask.attrs, at_open.asks, (up_there, by, in_time_is before, is_target, refl)), refl);
         holds = reserved_holds;
         nearer = λ none. reserved_nearer;
       })
       | inr memory ↦ subst (Goes m s (drivers.Open at_making)) (sym (IsServed-told m s r (requests.Reserve k) t (drivers.Open at_making) replies.NoMemory served is memory)) (record {
-        row = ((ask.name, ask.attrs, at_open.asks, (up_there, by, in_time_is before, refl)), refl);
+        row = ((ask.name, ask.attrs, at_open.asks, (up_there, by, in_time_is before, is_target, refl)), refl);
         holds = refused_holds;
         nearer = λ none. refused_nearer;
       })
@@ -314,20 +349,22 @@ module _ (m : Machine) (shapes : ℕ → Shape) (inv : InvariantIn shapes m) (s 
   -- ---- any making
 
   -- what is lacked first is reserved next, and where none is lacked it is finished
-  reserve_or_finish-goes : (first : Option ℕ) → first_lacking 0 m.cluster.up making.reserved ≡ first → making.refused ≡ false → IsBefore m.cluster.moment deadline → (t : Told) → IsDone m s (reserve_or_finish k first) t → Goes m s (drivers.Open at_making) t
+  reserve_or_finish-goes : (first : Option ℕ) → first_lacking 0 (targets_of ask m.cluster) making.reserved ≡ first → making.refused ≡ false → IsBefore m.cluster.moment deadline → (t : Told) → IsDone m s (reserve_or_finish k first) t → Goes m s (drivers.Open at_making) t
   reserve_or_finish-goes (Some r) lacked was_given before t done =
-      let at_r = first_lacking-is 0 m.cluster.up making.reserved r lacked in
+      let at_r = first_lacking-is 0 (targets_of ask m.cluster) making.reserved r lacked in
       let here : r ≡ 0 + at_r.place = at_r.at in
       let same : at_r.place ≡ r = omega (arith, here) in
-      reserve_goes r (subst (λ (q : ℕ). lacks (slice_index m.cluster.up q) (slice_index making.reserved q) ≡ true) same at_r.lacked) was_given before t done
+      let lacked_there : lacks (slice_index (targets_of ask m.cluster) r) (slice_index making.reserved r) ≡ true = subst (λ (q : ℕ). lacks (slice_index (targets_of ask m.cluster) q) (slice_index making.reserved q) ≡ true) same at_r.lacked in
+      let target : (slice_index (targets_of ask m.cluster) r == 0) ≡ false = (lacked-has (slice_index (targets_of ask m.cluster) r) (slice_index making.reserved r) lacked_there).0 in
+      reserve_goes r target (ap (λ n. lacks n (slice_index making.reserved r)) (sym (there_up r target)) ∙ lacked_there) was_given before t done
   reserve_or_finish-goes None none was_given before t done = finish_goes t before none done
 
   -- one that was refused memory is undone
-  by_memory : (b : Bool) → making.refused ≡ b → IsBefore m.cluster.moment deadline → (t : Told) → IsDone m s (cond b (Event events.Undo) (reserve_or_finish k (first_lacking 0 m.cluster.up making.reserved))) t → Goes m s (drivers.Open at_making) t
+  by_memory : (b : Bool) → making.refused ≡ b → IsBefore m.cluster.moment deadline → (t : Told) → IsDone m s (cond b (Event events.Undo) (reserve_or_finish k (first_lacking 0 (targets_of ask m.cluster) making.reserved))) t → Goes m s (drivers.Open at_making) t
   by_memory true was_refused before t done = undo_goes t before done
-  by_memory false was_given before t done = reserve_or_finish-goes (first_lacking 0 m.cluster.up making.reserved) refl was_given before t done
+  by_memory false was_given before t done = reserve_or_finish-goes (first_lacking 0 (targets_of ask m.cluster) making.reserved) refl was_given before t done
 
   -- the next step of a making
-  pub making_goes : (t : Told) → IsDone m s (in_time deadline m.cluster.moment (on_making m.cluster making)) t → Goes m s (drivers.Open at_making) t
-  making_goes t done = in_time-cases (λ next. IsDone m s next t → Goes m s (drivers.Open at_making) t) deadline m.cluster.moment (on_making m.cluster making)
+  pub making_goes : (t : Told) → IsDone m s (in_time deadline m.cluster.moment (on_making m.cluster ask making)) t → Goes m s (drivers.Open at_making) t
+  making_goes t done = in_time-cases (λ next. IsDone m s next t → Goes m s (drivers.Open at_making) t) deadline m.cluster.moment (on_making m.cluster ask making)
       (λ d at_d late. late_goes t d at_d late) (λ before. by_memory making.refused refl before t) done

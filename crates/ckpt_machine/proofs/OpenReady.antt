@@ -1,6 +1,6 @@
 -- What the code relies on of an open in hand: what is due of it can be served, or done by the record; and its client has room for the handle.
 use Rattle.std.proofs.Common.{◌≡◌, ℕ, zero, suc, ◌+◌, ◌<◌, ◌≤◌, length, Option, Some, None, Bool, true, false, cond, not, ◌&&◌, ◌==◌, nat_le, nat_lt, refl, sym, ap, subst, ◌∙◌, arith}
-use Rattle.std.specs.Prelude.{is_some, IsSome, IfSome, slice_index}
+use Rattle.std.specs.Prelude.{is_some, IsSome, IsSomeAnd, IfSome, slice_index}
 use Rattle.std.proofs.lemmas.Bool.{leb-false, lt-ltb, ltb-false, or_parts}
 use Rattle.ckpt_types.specs.declared.ais_error.AisError.TheVariants.{Exist, NoResources}
 use Rattle.ckpt_types.specs.declared.answers.Cause.TheVariants.{Plain, Count}
@@ -21,18 +21,20 @@ use Rattle.cluster_record.specs.declared.calls.Making.{Making}
 use Rattle.cluster_record.specs.declared.clients.LiveClient.{LiveClient}
 use Rattle.cluster_record.specs.declared.entries.Entry.{Entry}
 use Rattle.cluster_record.specs.Calls.{IsClient, client_of, number_of}
-use Rattle.cluster_record.specs.DueOpen.{OpenState, create_next, entry_by, entry_next, on_named, on_free_name, accepts, reserve_or_finish, on_making, by_making, making_ckpt}
+use Rattle.cluster_record.specs.DueOpen.{OpenState, create_next, entry_by, entry_next, on_named, on_free_name, accepts, reserve_or_finish, targets_by, targets_of, on_making, by_making, making_ckpt}
+use Rattle.cluster_record.specs.Placement.{targets}
+use Rattle.ckpt_types.specs.Asks.{asked}
 use Rattle.cluster_record.specs.Makings.{IsMakingOf}
 use Rattle.cluster_record.specs.Places.{find_key}
 use Rattle.cluster_record.specs.RecordReady.{CanOpen}
-use Rattle.cluster_record.specs.RecordState.{RecordState, entry_of, named, client_key, is_live, is_live_client, is_live_from}
-use Rattle.cluster_record.specs.StepDone.{lacks, first_lacking}
+use Rattle.cluster_record.specs.RecordState.{RecordState, entry_of, home_of, named, client_key, is_live, is_live_client, is_live_from}
+use Rattle.cluster_record.specs.StepDone.{has, lacks, first_lacking}
 use Rattle.cluster_record.proofs.MakingLaws.{making-own}
 use Rattle.ckpt_machine.specs.Drivers as drivers
 use Rattle.ckpt_machine.specs.Driving.{driver_next}
 use Rattle.ckpt_machine.specs.Facts.{IsServable, IsReservable, IsFinishable, IsEventReady}
 use Rattle.ckpt_machine.specs.Entries.{IsMakingEntry}
-use Rattle.ckpt_machine.specs.InHand.{AreGoodAttributes, is_enter, IsMakingIn, IsOpenIn}
+use Rattle.ckpt_machine.specs.InHand.{AreGoodAttributes, attributes_asked, is_enter, IsMakingIn, IsOpenIn}
 use Rattle.ckpt_machine.specs.Invariant.{InvariantIn}
 use Rattle.ckpt_machine.specs.Machine.{Machine, CallState}
 use Rattle.ckpt_machine.specs.Steps.{due, driver_of, rooms_of}
@@ -40,6 +42,7 @@ use Rattle.ckpt_machine.specs.Shape.{Shape}
 use Rattle.ckpt_machine.proofs.Deadlines.{in_time-either}
 use Rattle.ckpt_machine.proofs.OptionLemmas.{IsSomeAnd-from}
 use Rattle.ckpt_machine.proofs.NodeLists.{first_lacking-is, first_lacking-None, not-lacked, lacked-has, index-within, slice_index-replicate}
+use Rattle.ckpt_machine.proofs.Targets.{targets-length, target-up}
 use Rattle.ckpt_machine.proofs.OwnMaking.{open_at, making_at, making_entry}
 
 -- a reservation is all that an open asks of a node
@@ -64,7 +67,7 @@ well_formed None good = tt
 well_formed (Some a) good = IsWellFormed-from_check a good
 
 -- the client of a call that is live is live
-client_live : (R : RecordState) (call : CallId) → IsClient call.actor → is_live R call ≡ true → is_live_client (client_of call) R ≡ true
+pub client_live : (R : RecordState) (call : CallId) → IsClient call.actor → is_live R call ≡ true → is_live_client (client_of call) R ≡ true
 client_live R call client live = by_actor call.actor call.number client live
   where
     -- it is found
@@ -139,9 +142,17 @@ module _ (m : Machine) (shapes : ℕ → Shape) (inv : InvariantIn shapes m) (s 
     abbrev entry : (e : Entry) × (entry_of making.ckpt m.cluster.entries ≡ Some e) × (e.making ≡ Some s.call) × IsMakingEntry e
     entry = making_entry m shapes inv s o making held is makes
 
+    -- what is asked for is what the checkpoint declares, so these are the nodes on which it is made
+    targets_are : targets_of o.ask m.cluster ≡ targets entry.0.attributes (home_of o.ask.client m.cluster) m.cluster.up
+    targets_are = ap (λ a. targets_by a (home_of o.ask.client m.cluster) m.cluster.up) (sym (ap attributes_asked at_open.asks.asks) ∙ subst (λ o. IsSomeAnd o (λ (e : Entry). attributes_asked (asked s.op) ≡ Some e.attributes)) entry.1 its.declares)
+
     -- it keeps one incarnation for each node
-    same_length : length making.reserved ≡ length m.cluster.up
-    same_length = its.nodes ∙ sym (ap length inv.up.1)
+    same_length : length making.reserved ≡ length (targets_of o.ask m.cluster)
+    same_length = its.nodes ∙ sym (ap length targets_are ∙ targets-length entry.0.attributes (home_of o.ask.client m.cluster) m.cluster.up (ap length inv.up.1))
+
+    -- one of them is up, in its incarnation
+    there_up : (r : ℕ) → (slice_index (targets_of o.ask m.cluster) r == 0) ≡ false → slice_index (targets_of o.ask m.cluster) r ≡ slice_index m.cluster.up r
+    there_up r there = ap (λ nodes. slice_index nodes r) targets_are ∙ target-up entry.0.attributes (home_of o.ask.client m.cluster) m.cluster.up r (ap (λ nodes. slice_index nodes r == 0) (sym targets_are) ∙ there)
 
     -- it is in the making by a call of the client
     own : IsMakingOf m.cluster o.ask.client (making_ckpt o.making)
@@ -152,12 +163,13 @@ module _ (m : Machine) (shapes : ℕ → Shape) (inv : InvariantIn shapes m) (s 
     none_complete r = ap (λ nodes. slice_index nodes r) entry.3.complete ∙ slice_index-replicate 8 r
 
     -- the node that is lacked first can reserve
-    reserve_ready : (r : ℕ) → first_lacking 0 m.cluster.up making.reserved ≡ Some r → IsReadyOpen m s o (Serve r (requests.Reserve making.ckpt))
+    reserve_ready : (r : ℕ) → first_lacking 0 (targets_of o.ask m.cluster) making.reserved ≡ Some r → IsReadyOpen m s o (Serve r (requests.Reserve making.ckpt))
     reserve_ready r lacked =
-        let at_r = first_lacking-is 0 m.cluster.up making.reserved r lacked in
+        let at_r = first_lacking-is 0 (targets_of o.ask m.cluster) making.reserved r lacked in
         let here : r ≡ 0 + at_r.place = at_r.at in
         let same : at_r.place ≡ r = omega (arith, here) in
-        let there : (slice_index m.cluster.up r == 0) ≡ false = (lacked-has (slice_index m.cluster.up r) (slice_index making.reserved r) (subst (λ (q : ℕ). lacks (slice_index m.cluster.up q) (slice_index making.reserved q) ≡ true) same at_r.lacked)).0 in
+        let target : (slice_index (targets_of o.ask m.cluster) r == 0) ≡ false = (lacked-has (slice_index (targets_of o.ask m.cluster) r) (slice_index making.reserved r) (subst (λ (q : ℕ). lacks (slice_index (targets_of o.ask m.cluster) q) (slice_index making.reserved q) ≡ true) same at_r.lacked)).0 in
+        let there : (slice_index m.cluster.up r == 0) ≡ false = ap (λ (n : ℕ). n == 0) (sym (there_up r target)) ∙ target in
         let within : r < 8 = subst (λ (n : ℕ). r < n) (ap length inv.up.1) (index-within m.cluster.up r there) in (
           within,
           IsSomeAnd-from (entry_of making.ckpt m.cluster.entries) (IsReservable m.cluster r) entry.0 entry.1 (record {
@@ -170,12 +182,15 @@ module _ (m : Machine) (shapes : ℕ → Shape) (inv : InvariantIn shapes m) (s 
         )
 
     -- where none is lacked it can be finished
-    finish_ready : first_lacking 0 m.cluster.up making.reserved ≡ None → IsReadyOpen m s o (Event events.Finish)
+    finish_ready : first_lacking 0 (targets_of o.ask m.cluster) making.reserved ≡ None → IsReadyOpen m s o (Event events.Finish)
     finish_ready none = (
-      subst (IsFinishable m) (sym makes) (
-        λ r up. its.reserved r (not-lacked (slice_index m.cluster.up r) (slice_index making.reserved r) up (first_lacking-None 0 m.cluster.up making.reserved same_length none r)),
-        IsSomeAnd-from (entry_of making.ckpt m.cluster.entries) (λ e. (e.generation ≡ 1) × ((r : ℕ) → slice_index e.complete r ≡ 0)) entry.0 entry.1 (entry.3.generation, none_complete),
-      ),
+      subst (IsFinishable m o.ask.client) (sym makes) (IsSomeAnd-from (entry_of making.ckpt m.cluster.entries) _ entry.0 entry.1 (
+        λ r there.
+            let target : (slice_index (targets_of o.ask m.cluster) r == 0) ≡ false = ap (λ nodes. slice_index nodes r == 0) targets_are ∙ there in
+            its.reserved r (ap (λ n. has n (slice_index making.reserved r)) (sym (there_up r target)) ∙ not-lacked (slice_index (targets_of o.ask m.cluster) r) (slice_index making.reserved r) target (first_lacking-None 0 (targets_of o.ask m.cluster) making.reserved same_length none r)),
+        entry.3.generation,
+        none_complete,
+      )),
       own,
     )
 
@@ -184,14 +199,14 @@ module _ (m : Machine) (shapes : ℕ → Shape) (inv : InvariantIn shapes m) (s 
     undo_ready = (IsSomeAnd-from o.making (λ making. Unit {0}) making makes tt, own)
 
     -- it is undone where memory was refused
-    by_memory : (refused : Bool) (first : Option ℕ) → first_lacking 0 m.cluster.up making.reserved ≡ first → IsReadyOpen m s o (cond refused (Event events.Undo) (reserve_or_finish making.ckpt first))
+    by_memory : (refused : Bool) (first : Option ℕ) → first_lacking 0 (targets_of o.ask m.cluster) making.reserved ≡ first → IsReadyOpen m s o (cond refused (Event events.Undo) (reserve_or_finish making.ckpt first))
     by_memory true first lacked = undo_ready
     by_memory false (Some r) lacked = reserve_ready r lacked
     by_memory false None none = finish_ready none
 
     -- before its deadline
     making_ready : IsReadyOpen m s o (by_making m.cluster (rooms_of m s).handles o (Some making))
-    making_ready = in_time-either (IsReadyOpen m s o) o.deadline m.cluster.moment (on_making m.cluster making) (λ outcome. tt) (by_memory making.refused (first_lacking 0 m.cluster.up making.reserved) refl)
+    making_ready = in_time-either (IsReadyOpen m s o) o.deadline m.cluster.moment (on_making m.cluster o.ask making) (λ outcome. tt) (by_memory making.refused (first_lacking 0 (targets_of o.ask m.cluster) making.reserved) refl)
 
   -- ---- any open
 

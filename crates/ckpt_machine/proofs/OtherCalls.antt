@@ -1,6 +1,6 @@
 -- A state that looks like the one before, to a call in hand or to a checkpoint: they are where they were.
 use Rattle.std.proofs.Common.{◌≡◌, ℕ, ◌<◌, List, length, Option, Some, None, true, false, ◌==◌, refl, sym, ap, subst, ◌∙◌}
-use Rattle.std.specs.Prelude.{IsSome, IsSomeAnd, IfSome, slice_index}
+use Rattle.std.specs.Prelude.{is_some, IsSome, IsSomeAnd, IfSome, slice_index}
 use Rattle.ckpt_types.specs.Attributes.{is_malformed}
 use Rattle.ckpt_types.specs.Updates.{outcome}
 use Rattle.ckpt_types.specs.declared.identities.ActorName.{ActorName}
@@ -16,7 +16,7 @@ use Rattle.cluster_record.specs.DueOnce.{OneStep}
 use Rattle.cluster_record.specs.DueOnce as once
 use Rattle.cluster_record.specs.DueOpen.{OpenState}
 use Rattle.cluster_record.specs.DueUpdate.{UpdateState}
-use Rattle.cluster_record.specs.RecordState.{entry_of, first_complete, is_live, is_live_client, is_up}
+use Rattle.cluster_record.specs.RecordState.{entry_of, first_complete, first_active, is_live, is_live_client, is_up}
 use Rattle.cluster_record.specs.StepDone.{has, last_having}
 use Rattle.ckpt_types.specs.Asks.{asked}
 use Rattle.ckpt_machine.specs.Drivers.{Driver}
@@ -151,12 +151,13 @@ module _ (m n : Machine) (k : ℕ) where
   IsGoodIn-alike sh e f later replicas owners markers makers None was = record {
     nodes = ap length later.complete ∙ was.nodes;
     some = subst (λ (cs : List ℕ). IsSome (first_complete 0 cs)) (sym later.complete) was.some;
-    active = later.active ∙ was.active ∙ sym (ap (first_complete 0) later.complete);
+    active = later.active ∙ was.active ∙ (λ i. first_active (sym later.attributes i) (sym later.complete i));
     replicas = λ r there. let before = was_complete r there in subst (λ (z : Option ReplicaState × CreationAttributes × Option ℕ). IsSomeAnd z.0 (IsShapedBy (is_all z.1) sh z.2 r)) (λ i. (sym (replicas r before) i, sym later.attributes i, sym later.active i)) (was.replicas r before);
     fits = λ r d owns. ap (λ a. outcome a sh.update sh.moment sh.sections) later.attributes ∙ was.fits r d owns;
     complete = λ r d owns. subst (λ (cs : List ℕ). (slice_index cs r == 0) ≡ false) (sym later.complete) (was.complete r d owns);
     lowest = λ q r d below there owns. was.lowest q r d below (was_complete q there) owns;
     owned = λ r d owns. let own = was.owned r d owns in IsOwner-alike sh d (owners d own) own;
+    led = λ marks is. ap is_some later.active ∙ was.led marks is;
     marked = λ marks is. let own = was.marked marks is in IsMarker-alike marks (markers marks own) own;
   }
     where
@@ -187,7 +188,7 @@ module _ (m : Machine) (shapes : ℕ → Shape) (next : ActorName → ℕ) (f : 
     up = λ r up. up;
     lives = refl;
     tables = refl;
-    making = λ o at. making_still m with_hands z o (λ w at. record { there = at.there; nodes = at.nodes; reserved = at.reserved }) at;
+    making = λ o at. making_still m with_hands z o (λ w at. record { there = at.there; declares = at.declares; nodes = at.nodes; reserved = at.reserved }) at;
     made = λ k was. was;
     later = λ k was e found. (e, found, refl, refl, refl);
     owners = λ k was r. refl;

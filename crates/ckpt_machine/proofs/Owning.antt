@@ -142,5 +142,6 @@ module _ (m : Machine) (shapes : ℕ → Shape) (inv : InvariantIn shapes m) (s 
         complete = was.complete;
         lowest = was.lowest;
         owned = λ q call owns. let own = was.owned q call owns in IsOwner-other m shapes inv s u held is m.replicas None u.ckpt (shapes u.ckpt) call (owner_same (shapes u.ckpt) call own (none e found q call owns)) own;
+        led = was.led;
         marked = λ marks is_some. IsMarker-other m shapes inv s u held is m.replicas None u.ckpt marks (was.marked marks is_some);
       }

@@ -1,6 +1,6 @@
 -- After a step of the record that takes entries away, the other calls are where they were, and the checkpoints that are left are as they were.
 use Rattle.std.proofs.Common.{◌≡◌, ℕ, ◌≤◌, Option, Some, None, true, false, cond, not, ◌&&◌, ◌==◌, refl, sym, ap, subst, ◌∙◌}
-use Rattle.std.specs.Prelude.{is_some, IsSome, IfSome, slice_index, nat_lt}
+use Rattle.std.specs.Prelude.{is_some, IsSome, IsSomeAnd, IfSome, slice_index, nat_lt}
 use Rattle.std.proofs.lemmas.Option.{same_Some}
 use Rattle.ckpt_types.specs.declared.identities.ActorName.{ActorName}
 use Rattle.ckpt_types.specs.declared.identities.CallId.{CallId}
@@ -9,7 +9,8 @@ use Rattle.cluster_record.specs.declared.entries.Entry.{Entry}
 use Rattle.cluster_record.specs.RecordState.{RecordState, entry_of, complete_of, no_nodes}
 use Rattle.cluster_record.specs.StepDone.{has}
 use Rattle.ckpt_machine.specs.Entries.{WasMade}
-use Rattle.ckpt_machine.specs.InHand.{IsMakingIn}
+use Rattle.ckpt_types.specs.Asks.{asked}
+use Rattle.ckpt_machine.specs.InHand.{attributes_asked, IsMakingIn}
 use Rattle.ckpt_machine.specs.Invariant.{IsGoodIn, InvariantIn}
 use Rattle.ckpt_machine.specs.Machine.{Machine, ReplicaState, CallState}
 use Rattle.ckpt_machine.specs.Steps.{opened_state, with_record, replica_under, reservation_under}
@@ -74,12 +75,16 @@ module _ (m : Machine) (shapes : ℕ → Shape) (inv : InvariantIn shapes m) (R 
             let none : f.complete ≡ no_nodes = later.complete ∙ ap (λ (x : Entry). x.complete) same ∙ good.0.complete in
             record {
               there = IsSomeAnd-from (entry_of making.ckpt R.entries) (λ e. e.making ≡ Some z.call) f is made_by;
+              declares = IsSomeAnd-from (entry_of making.ckpt R.entries) _ f is (declared_at e was at ∙ ap Some (sym (later.attributes ∙ ap (λ (x : Entry). x.attributes) same)));
               nodes = at.nodes;
               reserved = λ r had. reservation_kept making.ckpt r f is (ap (λ nodes. slice_index nodes r == 0) none ∙ zeros r)
                   ∙ at.reserved r (subst (λ nodes. has (slice_index nodes r) (slice_index making.reserved r) ≡ true) after_it.up had)
                   ∙ ap (λ nodes. Some (slice_index nodes r)) (sym after_it.up);
             }
           where
+            declared_at : (e : Entry) → entry_of making.ckpt m.cluster.entries ≡ Some e → IsMakingIn m z making → attributes_asked (asked z.op) ≡ Some e.attributes
+            declared_at e was at = subst (λ o. IsSomeAnd o (λ (e : Entry). attributes_asked (asked z.op) ≡ Some e.attributes)) was at.declares
+
             zeros : (r : ℕ) → (slice_index no_nodes r == 0) ≡ true
             zeros r = ap (λ n. n == 0) (slice_index-replicate 8 r)
 

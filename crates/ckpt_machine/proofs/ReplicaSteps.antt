@@ -140,7 +140,7 @@ module _ (m : Machine) (shapes : ℕ → Shape) (inv : InvariantIn shapes m) (s 
     up = λ r up. up;
     lives = refl;
     tables = refl;
-    making = λ v at. making_still m (with_step f o) z v (λ w at. record { there = at.there; nodes = at.nodes; reserved = at.reserved }) at;
+    making = λ v at. making_still m (with_step f o) z v (λ w at. record { there = at.there; declares = at.declares; nodes = at.nodes; reserved = at.reserved }) at;
     made = λ k was. was;
     later = λ k was e found. (e, found, refl, refl, refl);
     owners = λ k was q. owners_kept sh keeps z.call k q other;

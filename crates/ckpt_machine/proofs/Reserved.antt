@@ -66,6 +66,7 @@ module _ (m : Machine) (shapes : ℕ → Shape) (inv : InvariantIn shapes m) (s 
     complete = good.complete;
     lowest = good.lowest;
     owned = λ r d owns. IsOwner-then j sh d (good.owned r d owns);
+    led = good.led;
     marked = λ marks is. IsMarker-then j marks (good.marked marks is);
   }
   IsGoodIn-then j sh e (Some d) good = (good.0, IsMaker-then j d good.1)
@@ -74,7 +75,7 @@ module _ (m : Machine) (shapes : ℕ → Shape) (inv : InvariantIn shapes m) (s 
 
   -- another call makes what it made
   making_then : (z : CallState) → z.call ≢ s.call → (x : Making) → IsMakingIn m z x → IsMakingIn then_machine z x
-  making_then z other x at = record { there = at.there; nodes = at.nodes; reserved = λ r had. elsewhere x.ckpt r (not_own m shapes inv s o making held is makes z other x at) ∙ at.reserved r had }
+  making_then z other x at = record { there = at.there; declares = at.declares; nodes = at.nodes; reserved = λ r had. elsewhere x.ckpt r (not_own m shapes inv s o making held is makes z other x at) ∙ at.reserved r had }
 
   -- so it sees what it saw
   looks_then : (z : CallState) → z.call ≢ s.call → LooksAlike m then_machine shapes shapes z

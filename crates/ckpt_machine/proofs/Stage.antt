@@ -177,6 +177,7 @@ module _ (m : Machine) (shapes : ℕ → Shape) (inv : InvariantIn shapes m) (s 
         complete = λ q d has_it. elim (owners_then q d has_it).0 [ inl here ↦ subst (IsCompleteOn e) (sym here) complete | inr was ↦ spread.complete q d was ];
         lowest = lowest_then;
         owned = λ q d has_it. subst (IsOwner then_machine u.ckpt staged) (sym (owners_then q d has_it).1) owner_then;
+        led = spread.led;
         marked = λ marks is_some. IsMarker-other m shapes inv s u held is then_machine.replicas (Some then_state) u.ckpt marks (spread.marked marks is_some);
       }
 

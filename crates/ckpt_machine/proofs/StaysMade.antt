@@ -14,7 +14,7 @@ use Rattle.node_msgs.specs.declared.details.Details.{Details}
 use Rattle.cluster_record.specs.declared.entries.Entry.{Entry}
 use Rattle.cluster_record.specs.Identities.{IdentitiesRise, AllUpTo}
 use Rattle.cluster_record.specs.Places.{change_key}
-use Rattle.cluster_record.specs.RecordState.{RecordState, entry_of, identity_of, stays, swept, created_as, new_entry, made_with, unreferred, released_all, retaining, is_call_of, departed, has_references}
+use Rattle.cluster_record.specs.RecordState.{RecordState, entry_of, identity_of, stays, swept, created_as, new_entry, home_of, made_with, unreferred, released_all, retaining, is_call_of, departed, has_references}
 use Rattle.cluster_record.proofs.IdentityLaws.{KeepsIdentity, IdentitiesRise-change_key, IdentitiesRise-filter, IdentitiesRise-map, IdentitiesRise-push}
 use Rattle.ckpt_types.specs.Asks.{Ask, asked, update_of}
 use Rattle.ckpt_types.specs.Asks as asks
@@ -135,24 +135,24 @@ module _ (k : ℕ) (R : RecordState) (given : k ≤ R.last_identity) (rises : Id
   }
 
   -- what was in the making is not this one
-  pub finished_on : (call : CallId) (j c : ℕ) → IsSomeAnd (entry_of j R.entries) (λ e. e.making ≡ Some call) → MadeOn k R (record R { entries = change_key identity_of j (made_with R.up c) R.entries })
+  pub finished_on : (call : CallId) (j c : ℕ) → IsSomeAnd (entry_of j R.entries) (λ e. e.making ≡ Some call) → MadeOn k R (record R { entries = change_key identity_of j (made_with (home_of c R) R.up c) R.entries })
   finished_on call j c by = record {
     last = omega arith;
-    rises = IdentitiesRise-change_key (made_with R.up c) (λ e. refl) j R.entries rises;
+    rises = IdentitiesRise-change_key (made_with (home_of c R) R.up c) (λ e. refl) j R.entries rises;
     made = λ f found.
         let (x, there, making) = IsSomeAnd-at (entry_of j R.entries) (λ e. e.making ≡ Some call) by in
-        elim (k == j) as (λ b. (k == j) ≡ b → cond b (Some (made_with R.up c x)) (entry_of k R.entries) ≡ Some f → (e : Entry) × (entry_of k R.entries ≡ Some e) × StaysMade e f) [
+        elim (k == j) as (λ b. (k == j) ≡ b → cond b (Some (made_with (home_of c R) R.up c x)) (entry_of k R.entries) ≡ Some f → (e : Entry) × (entry_of k R.entries ≡ Some e) × StaysMade e f) [
           | true ↦ λ same here. (
             x,
             subst (λ i. entry_of i R.entries ≡ Some x) (sym (eqb-true k j same)) there,
             record {
               made = λ none. absurd (let w : Some call ≡ None = sym making ∙ none in cc w);
-              attributes = ap (λ (e : Entry). e.attributes) (sym (same_Some (made_with R.up c x) f here));
-              since = ap (λ (e : Entry). e.made) (sym (same_Some (made_with R.up c x) f here));
+              attributes = ap (λ (e : Entry). e.attributes) (sym (same_Some (made_with (home_of c R) R.up c x) f here));
+              since = ap (λ (e : Entry). e.made) (sym (same_Some (made_with (home_of c R) R.up c x) f here));
             },
           )
           | false ↦ λ other here. (f, here, StaysMade-same f)
-        ] refl (sym (find_key-change_key identity_of j k (made_with R.up c) (λ e. refl) R.entries x there) ∙ found);
+        ] refl (sym (find_key-change_key identity_of j k (made_with (home_of c R) R.up c) (λ e. refl) R.entries x there) ∙ found);
   }
 
   -- by what is asked for

@@ -237,6 +237,7 @@ module _ (m : Machine) (shapes : ℕ → Shape) (inv : InvariantIn shapes m) (s 
             complete = was.complete;
             lowest = was.lowest;
             owned = λ q d owns. absurd (nobody q d owns);
+            led = was.led;
             marked = was.marked;
           }
             where

@@ -20,7 +20,8 @@ use Rattle.cluster_record.specs.DueOpen.{OpenState}
 use Rattle.cluster_record.specs.declared.entries.Entry.{Entry}
 use Rattle.cluster_record.specs.Calls.{IsClient, client_of}
 use Rattle.cluster_record.specs.Identities.{IdentitiesRise, AllUpTo}
-use Rattle.cluster_record.specs.RecordState.{RecordState, entry_of, named, is_up, is_live_client}
+use Rattle.cluster_record.specs.Placement.{targets}
+use Rattle.cluster_record.specs.RecordState.{RecordState, entry_of, home_of, named, is_up, is_live_client}
 use Rattle.node_msgs.specs.Requests.{ckpt_of}
 use Rattle.node_core.specs.Fitting.{IsReadyFor}
 use Rattle.replica.specs.Replicas.{IsWrite}
@@ -49,14 +50,14 @@ IsServable m r request = IsSomeAnd (seen_at m (ckpt_of request) r) (IsReadyFor r
 abbrev pub HasNoSlot : ReplicaState → Type 0
 HasNoSlot x = x.slot ≡ None
 
--- every node that is up has reserved under its present incarnation
-abbrev pub AllReserved : Machine → ℕ → Type 0
-AllReserved m k = (r : ℕ) → (slice_index m.cluster.up r == 0) ≡ false → m.reserved k r ≡ Some (slice_index m.cluster.up r)
+-- every node on which a client's checkpoint is to be made has reserved under its present incarnation
+abbrev pub AllReserved : Machine → ℕ → ℕ → Entry → Type 0
+AllReserved m c k e = (r : ℕ) → (slice_index (targets e.attributes (home_of c m.cluster) m.cluster.up) r == 0) ≡ false → m.reserved k r ≡ Some (slice_index m.cluster.up r)
 
--- a making can be finished
-abbrev pub IsFinishable : Machine → Option Making → Type 0
-IsFinishable m None = ⊥
-IsFinishable m (Some making) = AllReserved m making.ckpt × IsSomeAnd (entry_of making.ckpt m.cluster.entries) (λ e. (e.generation ≡ 1) × ((r : ℕ) → slice_index e.complete r ≡ 0))
+-- a making of a client can be finished
+abbrev pub IsFinishable : Machine → ℕ → Option Making → Type 0
+IsFinishable m c None = ⊥
+IsFinishable m c (Some making) = IsSomeAnd (entry_of making.ckpt m.cluster.entries) (λ e. AllReserved m c making.ckpt e × (e.generation ≡ 1) × ((r : ℕ) → slice_index e.complete r ≡ 0))
 
 -- what a due step of the record asks of it
 abbrev pub IsEventReady : Machine → CallState → Driver → RecordStep → Type 0
@@ -67,7 +68,7 @@ IsEventReady m s (drivers.Once (once.Unlink name)) events.Unlink = IsSomeAnd (na
 IsEventReady m s (drivers.Once (once.Retain k duration)) events.Retain = IsSomeAnd (entry_of k m.cluster.entries) (λ e. IsSome e.name) × (pos 0 ≤ℤ duration)
 IsEventReady m s (drivers.Open o) events.Create = (length m.cluster.entries < checkpoints_max) × IsSomeAnd o.ask.attrs (λ a. Unit {0}) × (named o.ask.name m.cluster.entries ≡ None) × CanOpen o.ask m.cluster × IsClient s.call.actor
 IsEventReady m s (drivers.Open o) events.Open = IsSomeAnd (named o.ask.name m.cluster.entries) (λ e. e.making ≡ None → accepts o.ask.attrs e ≡ true) × CanOpen o.ask m.cluster × IsClient s.call.actor
-IsEventReady m s (drivers.Open o) events.Finish = IsFinishable m o.making × IsMakingOf m.cluster o.ask.client (making_ckpt o.making)
+IsEventReady m s (drivers.Open o) events.Finish = IsFinishable m o.ask.client o.making × IsMakingOf m.cluster o.ask.client (making_ckpt o.making)
 IsEventReady m s (drivers.Open o) events.Undo = IsSomeAnd o.making (λ making. Unit {0}) × IsMakingOf m.cluster o.ask.client (making_ckpt o.making)
 IsEventReady m s driver step = ⊥
 

@@ -30,7 +30,8 @@ use Rattle.run_labels.specs.declared.labels.Label.TheVariants as labels
 use Rattle.ckpt_types.specs.OpWord.{word_of_op}
 use Rattle.cluster_record.specs.declared.entries.Entry.{Entry}
 use Rattle.cluster_record.specs.Calls.{same_call, client_of}
-use Rattle.cluster_record.specs.RecordState.{entry_of, named, attributes_now, is_live, is_live_client, is_up, IsMomentFrom}
+use Rattle.cluster_record.specs.Placement.{targets}
+use Rattle.cluster_record.specs.RecordState.{entry_of, home_of, named, attributes_now, is_live, is_live_client, is_up, IsMomentFrom}
 use Rattle.cluster_record.specs.DueOpen.{IsBefore, accepts}
 use Rattle.ckpt_machine.specs.BeginRows.{IsAllowedBegin, IsAllowedWord}
 use Rattle.ckpt_machine.specs.Complete.{complete_replicas}
@@ -292,15 +293,19 @@ CreateRow m s name a k words.Ok end = MayCreate m s name a k × (end ≡ None)
 CreateRow m s name a k words.Memory end = MayCreate m s name a k × (end ≡ Some NoMemory)
 CreateRow m s name a k reply end = ⊥
 
--- a node that is up reserves for the making of the call, or is refused the memory
+-- what the call is making is to be made on this node
+abbrev pub IsTarget : Machine → CallState → ℕ → ℕ → Type 0
+IsTarget m s k r = IsSomeAnd (entry_of k m.cluster.entries) (λ e. (slice_index (targets e.attributes (home_of (client_of s.call) m.cluster) m.cluster.up) r == 0) ≡ false)
+
+-- a node on which it is to be made reserves for the making of the call, or is refused the memory
 abbrev pub ReserveRow : Machine → CallState → ℕ → ℕ → StepReply → Option Outcome → Type 0
-ReserveRow m s k r words.Ok end = (is_up r m.cluster ≡ true) × IsMadeBy m s.call k × IsInTime m s × (end ≡ None)
-ReserveRow m s k r words.Memory end = (is_up r m.cluster ≡ true) × IsMadeBy m s.call k × IsInTime m s × (end ≡ None)
+ReserveRow m s k r words.Ok end = (is_up r m.cluster ≡ true) × IsMadeBy m s.call k × IsInTime m s × IsTarget m s k r × (end ≡ None)
+ReserveRow m s k r words.Memory end = (is_up r m.cluster ≡ true) × IsMadeBy m s.call k × IsInTime m s × IsTarget m s k r × (end ≡ None)
 ReserveRow m s k r reply end = ⊥
 
--- every node that is up has reserved under its present incarnation
+-- every node on which it is to be made has reserved under its present incarnation
 abbrev pub FinishRow : Machine → CallState → ℕ → StepReply → Option Outcome → Type 0
-FinishRow m s k words.Ok end = IsMadeBy m s.call k × IsInTime m s × ((r : ℕ) → is_up r m.cluster ≡ true → m.reserved k r ≡ Some (slice_index m.cluster.up r)) × (end ≡ Some (Done (answers.Opened k)))
+FinishRow m s k words.Ok end = IsMadeBy m s.call k × IsInTime m s × ((r : ℕ) → IsTarget m s k r → m.reserved k r ≡ Some (slice_index m.cluster.up r)) × (end ≡ Some (Done (answers.Opened k)))
 FinishRow m s k reply end = ⊥
 
 -- what the call is making is undone

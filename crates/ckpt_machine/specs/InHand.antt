@@ -67,9 +67,15 @@ pub record IsEnterAt (m : Machine) (s : CallState) (r : ℕ) : Type 0 where
   pub up : is_up r m.cluster ≡ true
   pub not_live : is_live_client (client_of s.call) m.cluster ≡ false
 
--- what it makes is there and in the making by it, and each node that it has for reserved has
+-- the attributes that an open asks for
+abbrev pub attributes_asked : Ask → Option CreationAttributes
+attributes_asked (asking.Open place name flags timeout a) = a
+attributes_asked ask = None
+
+-- what it makes is there and in the making by it, and declares what was asked for; and each node that it has for reserved has
 pub record IsMakingIn (m : Machine) (s : CallState) (making : Making) : Type 0 where
   pub there : IsSomeAnd (entry_of making.ckpt m.cluster.entries) (λ e. e.making ≡ Some s.call)
+  pub declares : IsSomeAnd (entry_of making.ckpt m.cluster.entries) (λ e. attributes_asked (asked s.op) ≡ Some e.attributes)
   pub nodes : length making.reserved ≡ nodes_max
   pub reserved : (r : ℕ) → has (slice_index m.cluster.up r) (slice_index making.reserved r) ≡ true → m.reserved making.ckpt r ≡ Some (slice_index m.cluster.up r)
 

@@ -13,7 +13,7 @@ use Rattle.cluster_record.specs.DueActive.{ActiveState}
 use Rattle.cluster_record.specs.DueUpdate.{UpdateState}
 use Rattle.cluster_record.specs.declared.calls.MarksMade.{MarksMade}
 use Rattle.weak_marks.specs.Marks.{Marked, elements_in}
-use Rattle.cluster_record.specs.RecordState.{first_complete}
+use Rattle.cluster_record.specs.RecordState.{first_complete, first_active}
 use Rattle.ckpt_machine.specs.Drivers as drivers
 use Rattle.ckpt_types.specs.Asks.{update_of}
 use Rattle.ckpt_machine.specs.Machine.{Machine, Effect, Applied, Staged, ReplicaState, CallState}
@@ -129,15 +129,16 @@ pub record IsMarker (m : Machine) (k : ℕ) (marks : Marked) : Type 0 where
 
 -- ---- the whole
 
--- a checkpoint that is made has its replicas on its complete nodes, of which the lowest is the active; the slots are on the lowest of them, each of a call in hand, and so are the marks on the active
+-- a checkpoint that is made has its replicas on its complete nodes, of which the lowest is the active, or none of a collocated one; the slots are on the lowest of them, each of a call in hand, and so are the marks on the active
 pub record IsSpread (m : Machine) (k : ℕ) (sh : Shape) (e : Entry) : Type 0 where
   pub nodes : length e.complete ≡ nodes_max
   pub some : IsSome (first_complete 0 e.complete)
-  pub active : e.active ≡ first_complete 0 e.complete
+  pub active : e.active ≡ first_active e.attributes e.complete
   pub replicas : (r : ℕ) → IsCompleteOn e r → IsSomeAnd (m.replicas k r) (IsShapedBy (is_all e.attributes) sh e.active r)
   -- what is staged has this outcome
   pub fits : (r : ℕ) (call : CallId) → sh.owners r ≡ Some call → outcome e.attributes sh.update sh.moment sh.sections ≡ Ok sh.outcome
   pub complete : (r : ℕ) (call : CallId) → sh.owners r ≡ Some call → IsCompleteOn e r
   pub lowest : (q r : ℕ) (call : CallId) → q < r → IsCompleteOn e q → sh.owners r ≡ Some call → IsSome (sh.owners q)
   pub owned : (r : ℕ) (call : CallId) → sh.owners r ≡ Some call → IsOwner m k sh call
+  pub led : (marks : Marked) → sh.marks ≡ Some marks → IsSome e.active
   pub marked : (marks : Marked) → sh.marks ≡ Some marks → IsMarker m k marks

@@ -50,8 +50,8 @@ use Rattle.replica.specs.Replicas.{Replica}
 use Rattle.stage_slot.specs.Slots.{Slot}
 use Rattle.cluster_record.specs.Calls.{number_of, client_of, IsClient, put_actor, left}
 use Rattle.cluster_record.specs.Places.{find_key, put2}
-use Rattle.cluster_record.specs.LookUps.{node_of_client, declared_in, creation_flags_of}
-use Rattle.cluster_record.specs.RecordState.{RecordState, entry_of, complete_of, client_key, is_live_client, is_up, no_nodes, brought_up, IsMomentFrom, moved, swept, entered, created_as, finished, opened, undone, closed, unlinked, retained, departed}
+use Rattle.cluster_record.specs.LookUps.{declared_in, creation_flags_of}
+use Rattle.cluster_record.specs.RecordState.{RecordState, entry_of, complete_of, client_key, is_live_client, home_of, is_up, no_nodes, brought_up, IsMomentFrom, moved, swept, entered, created_as, finished, opened, undone, closed, unlinked, retained, departed}
 use Rattle.node_msgs.specs.Requests.{ckpt_of}
 use Rattle.node_core.specs.Serving.{made_id, reply_at, details_at}
 use Rattle.node_core.specs.Seen.{record_seen}
@@ -206,7 +206,7 @@ declares_at is R (Some k) = if_declared is (declared_in (entry_of k R.entries))
 
 -- what a call keeps at its beginning
 abbrev pub kept_at_beginning : RecordState → ℕ → Option HandleView → Kept
-kept_at_beginning R c h = record { ckpt = ckpt_of_handle h; room = room_at R (ckpt_of_handle h); all = declares_at is_all R (ckpt_of_handle h); weak = declares_at is_weak R (ckpt_of_handle h); node = node_of_client (find_key client_key c R.clients); moment = R.moment }
+kept_at_beginning R c h = record { ckpt = ckpt_of_handle h; room = room_at R (ckpt_of_handle h); all = declares_at is_all R (ckpt_of_handle h); weak = declares_at is_weak R (ckpt_of_handle h); node = home_of c R; moment = R.moment }
 
 -- an Initialize begins for a client that is not live, on a node that is up
 abbrev pub MayBegin : RecordState → ℕ → Ask → Type 0

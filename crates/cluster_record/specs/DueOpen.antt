@@ -1,5 +1,5 @@
 -- What an open does next, by its own steps and the record.
-use Rattle.std.specs.Prelude.{◌≡◌, ℕ, length, Option, Some, None, Bool, true, false, not, nat_le, if◌then◌else◌, ℤ}
+use Rattle.std.specs.Prelude.{◌≡◌, ℕ, List, length, Option, Some, None, Bool, true, false, not, nat_le, if◌then◌else◌, ℤ}
 use Rattle.moment_rules.specs.Times.{is_reached}
 use Rattle.ckpt_types.specs.declared.ais_error.AisError.TheVariants.{NotExist, Exist, Timeout, NoResources}
 use Rattle.ckpt_types.specs.declared.answers.Cause.TheVariants.{Plain, Deadline, Count}

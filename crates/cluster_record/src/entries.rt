@@ -1,14 +1,15 @@
 //! What the record keeps of each checkpoint, what a step makes of it, and when it is due to go.
 ghost use Rattle.std.specs.Prelude.{◌≡◌, ◌+◌, ◌-◌, ◌^◌, ◌<◌, ◌≤◌, Some, None, IfSome, IfOk, MatchOption, length, filter, map, not, ◌==◌, slice_index, slice_set, vec_capacity};
 ghost use Rattle.std.specs.List.{list_any, list_all};
-ghost use Rattle.ckpt_types.specs.Limits.{name_max, checkpoints_max};
+ghost use Rattle.ckpt_types.specs.Limits.{name_max, checkpoints_max, nodes_max};
 ghost use Rattle.moment_rules.specs.Times.{sum_until_end, is_reached};
 ghost use Rattle.cluster_record.specs.Numbers.{may_rise, entry_may_rise};
 ghost use Rattle.cluster_record.specs.Changes.{changed_by, CanChange};
 ghost use Rattle.cluster_record.specs.NamesOf.{stays_by, without_name, without_gone};
 ghost use Rattle.cluster_record.specs.Places.{change_key, place_key};
-ghost use Rattle.cluster_record.specs.RecordState.{no_nodes, no_references, identity_of, entry_of, first_complete, stays, has_references, referred, made_with, idle_from, unreferred, released_all, is_call_of};
+ghost use Rattle.cluster_record.specs.RecordState.{no_nodes, no_references, identity_of, entry_of, first_active, first_complete, stays, has_references, referred, made_with, idle_from, unreferred, released_all, is_call_of};
 
+use crate::placement::{is_collocated, targets};
 use ckpt_types::{
     ActorName, Bytes, CHECKPOINTS_MAX, CLIENT_NUMBERS, CallId, CkptId, CreationAttributes, Moment,
     NODES_MAX, NodeId, SectionId,
@@ -58,14 +59,15 @@ impl Entry {
         add_one(&mut self.references, client);
     }
 
-    // The making is finished.
-    fn make(&mut self, up: &[u32; NODES_MAX], client: u8)
-        requires { slice_index self.old.references client < 2 ^ 32 - 1 }
-        ensures { self.new ≡ made_with up.now client self.old }
+    // The making is finished by a client on a node.
+    fn make(&mut self, opener: NodeId, up: &[u32; NODES_MAX], client: u8)
+        requires client { slice_index self.old.references client < 2 ^ 32 - 1 }
+        requires opener { opener < nodes_max }
+        ensures { self.new ≡ made_with opener up.now client self.old }
     {
         self.making = None;
-        self.complete = *up;
-        self.active = first_complete(up);
+        self.complete = targets(&self.attributes, opener, up);
+        self.active = first_active(&self.attributes, &self.complete);
         self.generation = 1;
         self.refer(client);
     }
@@ -104,7 +106,7 @@ impl Entry {
         ensures { self.new ≡ changed_by change self.old }
     {
         match change {
-            Change::Made(up, client) => self.make(&up, client),
+            Change::Made(opener, up, client) => self.make(opener, &up, client),
             Change::Referred(client) => self.refer(client),
             Change::Released(client, now) => self.release(client, now),
             Change::Unnamed => self.name = None,
@@ -256,6 +258,20 @@ fn is_over(from: Moment, duration: i64, now: Moment) -> bool
     reached(from.saturating_add(duration), now)
 }
 
+// The active of a checkpoint that is made on these nodes.
+fn first_active(
+    attributes: &CreationAttributes,
+    complete: &[u32; NODES_MAX],
+) -> Option<NodeId>
+    ensures { result ≡ first_active attributes.now complete.now }
+{
+    if is_collocated(attributes) {
+        None
+    } else {
+        first_complete(complete)
+    }
+}
+
 // The lowest node that is complete.
 fn first_complete(nodes: &[u32; NODES_MAX]) -> Option<NodeId>
     ensures { result ≡ first_complete 0 nodes.now }
@@ -294,8 +310,8 @@ fn place_of(entries: &[Entry], identity: CkptId) -> Option<usize>
 /// What a step changes of one entry.
 #[derive(Clone, Copy, Debug)]
 pub(crate) enum Change {
-    /// Its making is finished on the nodes that are up, and the client has it open.
-    Made([u32; NODES_MAX], u8),
+    /// Its making is finished by a client on this node, where these nodes are up, and the client has it open.
+    Made(NodeId, [u32; NODES_MAX], u8),
     /// The client has it open once more.
     Referred(u8),
     /// The client closes it once, at the moment.

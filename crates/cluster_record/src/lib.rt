@@ -6,6 +6,7 @@ mod calls;
 mod clients;
 mod entries;
 mod opening;
+mod placement;
 mod record;
 
 pub use by_node::{first_lacking, has_any, last_having};
@@ -13,4 +14,5 @@ pub use calls::{ActiveKind, Making, MarksMade, UpdatePhase};
 pub use clients::{LiveClient, number_of};
 pub use entries::{Entry, KeptName};
 pub use opening::{OpenAnswer, accepts};
+pub use placement::is_collocated;
 pub use record::{Record, RecordRefused};

@@ -5,6 +5,7 @@ ghost use Rattle.cluster_record.specs.LookUps.{node_in, life_of, up_as, declared
 ghost use Rattle.cluster_record.specs.Identities.{IdentitiesRise, AllUpTo};
 ghost use Rattle.cluster_record.specs.Calls.{client_of, IsClient};
 ghost use Rattle.cluster_record.specs.Kept.{IsKeptEntry, AreKeptClients};
+ghost use Rattle.cluster_record.specs.DueOpen.{targets_by};
 ghost use Rattle.cluster_record.specs.Makings.{making_call, making_finished, making_undone};
 ghost use Rattle.cluster_record.specs.Numbers.{numbers_left};
 ghost use Rattle.cluster_record.specs.Opening.{answer_free, answer_named, open_answer, after_open};
@@ -12,7 +13,7 @@ ghost use Rattle.cluster_record.specs.Refusals.{enter_answer, all_taken, plainly
 ghost use Rattle.ckpt_types.specs.Limits.{nodes_max, client_numbers, clients_max, checkpoints_max};
 ghost use Rattle.cluster_record.specs.Places.{find_key};
 ghost use Rattle.cluster_record.specs.RecordReady.{CanBecomeLive, CanOpen, CanCreate, CanRefer, CanReferAt};
-ghost use Rattle.cluster_record.specs.RecordState.{empty_record, entry_of, named, complete_of, client_key, is_live_client, is_up, is_live, is_live_from, swept, first_nodes, brought_up, entered, created_by_ask, IsMomentFrom, moved, opened, closed, unlinked, retained, departed};
+ghost use Rattle.cluster_record.specs.RecordState.{empty_record, entry_of, named, complete_of, client_key, is_live_client, is_up, is_live, is_live_from, swept, first_nodes, home_of, brought_up, entered, created_by_ask, IsMomentFrom, moved, opened, closed, unlinked, retained, departed};
 
 use crate::clients::{LiveClient, copy_clients, find_client, number_of, take_out};
 use crate::entries::{
@@ -20,6 +21,7 @@ use crate::entries::{
     keep_only, kept_name, new_entry, release_everywhere,
 };
 use crate::opening::{OpenAnswer, answer_of};
+use crate::placement::targets;
 use ckpt_types::{
     ActorName, AisError, Bytes, CHECKPOINTS_MAX, CLIENTS_MAX, CallId, Cause, CkptId,
     CreationAttributes, Incarnation, Moment, NODES_MAX, NodeId, OpenAsk,
@@ -250,6 +252,31 @@ impl Record {
         }
     }
 
+    // The node of a client; n0 where it is not live.
+    fn home_of(&self, client: u8) -> NodeId
+        ensures node { result ≡ home_of client self.now }
+        ensures within { result < nodes_max }
+    {
+        match find_client(self.clients.as_slice(), client) {
+            None => 0,
+            Some(live) => live.node,
+        }
+    }
+
+    /// By node, the incarnation in which a checkpoint that a client asks for with these attributes is made there, or 0.
+    pub fn targets(
+        &self,
+        attributes: &Option<CreationAttributes>,
+        client: u8,
+    ) -> [u32; NODES_MAX]
+        ensures { result ≡ targets_by attributes.now (home_of client self.now) self.now.up }
+    {
+        match attributes {
+            None => self.up,
+            Some(declared) => targets(declared, self.home_of(client), &self.up),
+        }
+    }
+
     /// Whether a call is live: its client is, or for a copying its node is up, in the life in which it began.
     pub fn live(&self, call: CallId) -> bool
         ensures { result ≡ is_live self.now call }
@@ -401,14 +428,15 @@ impl Record {
         }
     }
 
-    /// The making is finished: the nodes that are up are complete, and the client whose call is making the checkpoint
-    /// has it open. Nothing changes where it is not in the making.
+    /// The making is finished: the nodes that are up are complete, of a collocated checkpoint that of the client whose
+    /// call is making it, and this client has it open. Nothing changes where it is not in the making.
     pub fn finish_create(&mut self, identity: CkptId)
         ensures { self.new ≡ making_finished identity self.old }
     {
         if let Some(call) = self.making_call(identity) {
             let client = number_of(&call.actor);
-            change_entry(&mut self.entries, identity, Change::Made(self.up, client));
+            let change = Change::Made(self.home_of(client), self.up, client);
+            change_entry(&mut self.entries, identity, change);
         }
     }
 

@@ -141,7 +141,10 @@ impl OpenCall {
     {
         match &self.making {
             None => self.named_next(cluster, room),
-            Some(making) => in_time(self.deadline, cluster.now(), making_next(making, cluster)),
+            Some(making) => {
+                let next = making_next(making, &self.ask, cluster);
+                in_time(self.deadline, cluster.now(), next)
+            }
         }
     }
 
@@ -196,13 +199,14 @@ impl OpenCall {
 }
 
 // The next step of a making before its deadline.
-fn making_next(making: &Making, cluster: &Record) -> Next
-    ensures { result ≡ on_making cluster.now making.now }
+fn making_next(making: &Making, ask: &SharedAsk, cluster: &Record) -> Next
+    ensures { result ≡ on_making cluster.now ask.now making.now }
 {
     if making.refused {
         return Next::Event(RecordStep::Undo);
     }
-    match first_lacking(&cluster.incarnations(), &making.reserved) {
+    let targets = cluster.targets(ask.attributes(), ask.client);
+    match first_lacking(&targets, &making.reserved) {
         Some(r) => Next::Serve(r, Request::Reserve(making.ckpt)),
         None => Next::Event(RecordStep::Finish),
     }
