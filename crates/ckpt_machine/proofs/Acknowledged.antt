@@ -1,6 +1,6 @@
 -- What was answered OK is on every complete replica of its checkpoint, or where updates go to the active alone, on the active's; and it stays there.
 use Rattle.std.proofs.Common.{◌≡◌, ◌⊎◌, ℕ, zero, suc, ◌+◌, ◌≤◌, inl, inr, List, [], ◌∷◌, ◌++◌, Option, Some, None, Bool, true, false, cond, not, ◌==◌, ◌&&◌, ℤ, refl, sym, ap, subst, ◌∙◌, append_assoc, arith}
-use Rattle.std.specs.Prelude.{slice_index}
+use Rattle.std.specs.Prelude.{IsSomeAnd, slice_index}
 use Rattle.std.proofs.lemmas.Bool.{eqb-true, eq-eqb, and_parts}
 use Rattle.std.proofs.lemmas.Option.{same_Some}
 use Rattle.ckpt_types.specs.declared.answers.Answer.{Answer}
@@ -10,6 +10,7 @@ use Rattle.ckpt_types.specs.declared.attributes.CreationAttributes.{CreationAttr
 use Rattle.ckpt_types.specs.declared.identities.CallId.{CallId}
 use Rattle.ckpt_types.specs.declared.operation.Op.{Op}
 use Rattle.ckpt_types.specs.declared.update.Update.{Update}
+use Rattle.weak_marks.specs.Marks.{Marked}
 use Rattle.node_msgs.specs.declared.steps.Verb.{Verb}
 use Rattle.node_msgs.specs.declared.steps.Verb.TheVariants as verbs
 use Rattle.node_msgs.specs.declared.steps.StepReply.{StepReply}
@@ -28,9 +29,9 @@ use Rattle.cluster_record.specs.RecordState.{RecordState, entry_of, complete_of,
 use Rattle.cluster_record.proofs.IdentityLaws.{IdentitiesRise-filter}
 use Rattle.ckpt_machine.specs.Acknowledged.{IsUpdateWord, Acknowledges, ckpt_named, HasBegun, IsUpdateBy, HasUpdate, IsToHave, IsOnItsReplicas}
 use Rattle.ckpt_machine.specs.AllOrNone.{OneUpdate, IsOfOne}
-use Rattle.ckpt_types.specs.Asks.{asked, update_of}
+use Rattle.ckpt_types.specs.Asks.{asked, update_asked, update_of}
 use Rattle.ckpt_machine.specs.Complete.{with_replica, replicas_from, complete_replicas}
-use Rattle.ckpt_machine.specs.Guards.{OnEach, OnAll, OnActive, CommitOk, ApplyOk, Allowed, ends_update}
+use Rattle.ckpt_machine.specs.Guards.{OnEach, OnAll, CommitOk, ApplyOk, AreMarksOf, Allowed, ends_update}
 use Rattle.ckpt_machine.specs.Invariant.{Invariant}
 use Rattle.ckpt_machine.specs.Laws.{AcknowledgedStays}
 use Rattle.ckpt_machine.specs.Machine.{Machine, Applied, Effect, ReplicaState, Staged, CallState}
@@ -39,13 +40,13 @@ use Rattle.ckpt_machine.specs.Owned.{OwnsNothing}
 use Rattle.ckpt_machine.specs.Runs.{last_from, last, IsRunFrom, IsRun}
 use Rattle.node_core.specs.Serving.{update_answer}
 use Rattle.ckpt_machine.specs.Shape.{IsCompleteOn}
-use Rattle.ckpt_machine.specs.Steps.{Told, IsDue, with_record, record_step, created_for, retained_for, change_replica, with_committed, committed_slot, with_applied, having_taken, with_slot, effect_of, changed, on_ok, on_look, without_making, at_some, replica_under, opened_state, stepped, step_of, staged_moment, after}
+use Rattle.ckpt_machine.specs.Steps.{Told, IsDue, with_record, record_step, created_for, retained_for, change_replica, with_committed, committed_slot, with_applied, having_taken, with_marks, with_element, without_marks, marks_ended, with_slot, effect_of, changed, on_ok, on_look, without_making, at_some, replica_under, opened_state, stepped, step_of, staged_moment, after}
 use Rattle.ckpt_machine.proofs.AllOrNone.{all_or_none}
 use Rattle.ckpt_machine.proofs.Entries.{ComesOf-filter}
 use Rattle.ckpt_machine.proofs.EachReplica.{made_where_complete}
 use Rattle.ckpt_machine.proofs.EntryLists.{entry_of-given}
-use Rattle.ckpt_machine.proofs.Follows.{IsBare}
-use Rattle.ckpt_machine.proofs.Histories.{HasHistory, slot_owned, on_replica-there, keeps_history, run_history}
+use Rattle.ckpt_machine.proofs.Follows.{IsBare, element_effects}
+use Rattle.ckpt_machine.proofs.Histories.{HasHistory, slot_owned, on_replica-there, on_active-there, keeps_history, run_history}
 use Rattle.ckpt_machine.proofs.Lawful.{lawful}
 use Rattle.ckpt_machine.proofs.OptionLemmas.{IsSomeAnd-at}
 use Rattle.ckpt_machine.proofs.Actors.{same_call-true}
@@ -92,6 +93,14 @@ committed_has (Some e) x d u has = by_slot x.slot
 applied_has : (o : Option Entry) (by : CallId) (new : Update) (t : ℤ) (x : ReplicaState) (d : CallId) (u : Update) → HasUpdate d u x.effects → HasUpdate d u (with_applied by new t o x).effects
 applied_has None by new t x d u has = has
 applied_has (Some e) by new t x d u has = has_more d u x.effects (Applied by new t ∷ []) has
+
+-- nor does the end of a weak write
+unmarked_has : (x : ReplicaState) (d : CallId) (u : Update) → HasUpdate d u x.effects → HasUpdate d u (without_marks x).effects
+unmarked_has x d u has = by_marks x.marks
+  where
+    by_marks : (o : Option Marked) → HasUpdate d u (marks_ended x o).effects
+    by_marks None = has
+    by_marks (Some marks) = has_more d u x.effects (Applied marks.call marks.update marks.moment ∷ []) has
 
 -- a node that is to have its updates was to have them before
 to_have_before : (e f : Entry) → IsMadeAs e f → (r : ℕ) → IsToHave (Some f) r → IsToHave (Some e) r
@@ -192,6 +201,9 @@ module _ (k : ℕ) (call : CallId) (update : Update) (m : Machine) (stay : Stays
     changed_stays s verbs.Commit j q reply needs = ok_stays reply _ (both_stay j q _ (λ j q. replica_stays j q (m.replicas j q) refl (with_committed (entry_of j m.cluster.entries)) (λ x has. committed_has (entry_of j m.cluster.entries) x call update has)))
     changed_stays s verbs.Apply j q reply needs = ok_stays reply _ (both_stay j q _ (λ j q. replica_stays j q (m.replicas j q) refl (with_applied s.call (update_of s.op) m.cluster.moment (entry_of j m.cluster.entries))
         (λ x has. applied_has (entry_of j m.cluster.entries) s.call (update_of s.op) m.cluster.moment x call update has)))
+    changed_stays s verbs.Mark j q reply needs = ok_stays reply _ (both_stay j q _ (λ j q. replica_stays j q (m.replicas j q) refl (with_marks s.call (update_of s.op) m.cluster.moment) (λ x has. has)))
+    changed_stays s verbs.Element j q reply needs = ok_stays reply _ (both_stay j q _ (λ j q. replica_stays j q (m.replicas j q) refl (with_element (entry_of j m.cluster.entries)) (λ x has. subst (HasUpdate call update) (sym (element_effects (entry_of j m.cluster.entries) x)) has)))
+    changed_stays s verbs.Unmark j q reply needs = ok_stays reply _ (both_stay j q _ (λ j q. replica_stays j q (m.replicas j q) refl without_marks (λ x has. unmarked_has x call update has)))
     changed_stays s verbs.Iter j q reply needs = ok_stays reply _ (both_stay j q _ (λ j q. stay))
     changed_stays s verbs.Next j q reply needs = ok_stays reply _ (both_stay j q _ (λ j q. stay))
     changed_stays s verbs.Leave j q reply needs = ok_stays reply _ (step_stays (departed (client_of s.call)) (departed_on k m.cluster stay.given rises up_to (client_of s.call)))
@@ -283,6 +295,13 @@ committed_new a x (Some other) slot d u is origin update =
     let same = same_Some other slot is in
     has_new d u x.effects (effect_of other) (ap (λ (z : Staged). z.origin) same ∙ origin, ap (λ (z : Staged). z.update) same ∙ update)
 
+-- what the end of a weak write leaves of a replica with its marks
+unmarked_new : (x : ReplicaState) (o : Option Marked) (marks : Marked) (d : CallId) (u : Update) → o ≡ Some marks → marks.call ≡ d → marks.update ≡ u → HasUpdate d u (marks_ended x o).effects
+unmarked_new x None marks d u is call update = absurd (cc is)
+unmarked_new x (Some other) marks d u is call update =
+    let same = same_Some other marks is in
+    has_new d u x.effects (Applied other.call other.update other.moment) (ap (λ (z : Marked). z.call) same ∙ call, ap (λ (z : Marked). z.update) same ∙ update)
+
 put2-here : (f : ℕ → ℕ → Option ReplicaState) (k r : ℕ) (x : Option ReplicaState) → put2 f k r x k r ≡ x
 put2-here f k r x = ap (λ b. cond (b && (r == r)) x (f k r)) (eq-eqb k k refl) ∙ ap (λ b. cond b x (f k r)) (eq-eqb r r refl)
 
@@ -348,24 +367,41 @@ module _ (m : Machine) (inv : Invariant m) (history : HasHistory m) (d : CallId)
   active_alone e none active q (inl all) = absurd (let w : true ≡ false = sym all ∙ none in cc w)
   active_alone e none active q (inr at) = same_Some r q (sym active ∙ at)
 
-  -- after an update in one step the active has it
-  applied_stays : (allowed : Allowed m (label verbs.Apply)) → Stays j d (update_of allowed.state.op) (after m (label verbs.Apply))
-  applied_stays allowed =
-      let l = label verbs.Apply in
+  -- after a step that leaves it on the active, it stays
+  active_stays : (verb : Verb) (allowed : Allowed m (label verb)) (change : ReplicaState → ReplicaState) → changed m allowed.state verb (Some j) (Some r) words.Ok ≡ change_replica m j r (m.replicas j r) change
+      → (e : Entry) (x : ReplicaState) → entry_of j m.cluster.entries ≡ Some e → m.replicas j r ≡ Some x → is_all e.attributes ≡ false → e.active ≡ Some r → HasUpdate allowed.state.call (update_of allowed.state.op) (change x).effects → Stays j d (update_of allowed.state.op) (after m (label verb))
+  active_stays verb allowed change does e x found there none active has =
+      let l = label verb in
       let s = allowed.state in
       let u = update_of s.op in
-      let t : Told = record { verb = verbs.Apply; ckpt = Some j; node = Some r; reply = words.Ok; end = Some (Done answer); details = details } in
-      let row : OnActive m j r (ApplyOk m allowed.row.1 t) = allowed.row.3 in
-      let (e, x, found, there, row_of) = on_replica-there m j r (λ e x. (is_all e.attributes ≡ false) × (e.active ≡ Some r) × ApplyOk m allowed.row.1 t e x) row in
-      let y = with_applied s.call u m.cluster.moment (entry_of j m.cluster.entries) x in
-      let y_is : having_taken e.attributes s.call u m.cluster.moment x ≡ y = ap (λ o. with_applied s.call u m.cluster.moment o x) (sym found) in
-      let has : HasUpdate s.call u y.effects = subst (λ (z : ReplicaState). HasUpdate s.call u z.effects) y_is (has_new s.call u x.effects (Applied s.call u m.cluster.moment) (refl, refl)) in
-      let is : after m l ≡ ended s y = ap (λ o. step_of m o verbs.Apply (Some j) (Some r) words.Ok (Some (Done answer))) allowed.in_hand ∙ ap (λ o. stepped (change_replica m j r o (with_applied s.call u m.cluster.moment (entry_of j m.cluster.entries))) s (Some (Done answer))) there in
+      let y = change x in
+      let is : after m l ≡ ended s y = ap (λ o. step_of m o verb (Some j) (Some r) words.Ok (Some (Done answer))) allowed.in_hand ∙ ap (λ n. stepped n s (Some (Done answer))) (does ∙ ap (λ o. change_replica m j r o change) there) in
       let its : IsOnItsReplicas (ended s y) j s.call u = λ q z at to_have.
-      let node : r ≡ q = active_alone e row_of.0 row_of.1 q (subst (λ o. IsToHave o q) found to_have) in
+      let node : r ≡ q = active_alone e none active q (subst (λ o. IsToHave o q) found to_have) in
       let same : y ≡ z = same_Some y z (sym (put2-here m.replicas j r (Some y)) ∙ ap (λ q. put2 m.replicas j r (Some y) j q) node ∙ at) in
       subst (λ (z : ReplicaState). HasUpdate s.call u z.effects) same has in
       subst (λ c. Stays j c u (after m l)) allowed.call_is (subst (Stays j s.call u) (sym is) (ended_stays s e x y found there its))
+
+  -- an update in one step
+  applied_stays : (allowed : Allowed m (label verbs.Apply)) → Stays j d (update_of allowed.state.op) (after m (label verbs.Apply))
+  applied_stays allowed =
+      let s = allowed.state in
+      let u = update_of s.op in
+      let t : Told = record { verb = verbs.Apply; ckpt = Some j; node = Some r; reply = words.Ok; end = Some (Done answer); details = details } in
+      let (e, x, found, there, none, active, row_of) = on_active-there m allowed.row.1 false j r (ApplyOk m allowed.row.1 t) allowed.row.3 in
+      let y_is : having_taken e.attributes s.call u m.cluster.moment x ≡ with_applied s.call u m.cluster.moment (entry_of j m.cluster.entries) x = ap (λ o. with_applied s.call u m.cluster.moment o x) (sym found) in
+      let has : HasUpdate s.call u (with_applied s.call u m.cluster.moment (entry_of j m.cluster.entries) x).effects = subst (λ (z : ReplicaState). HasUpdate s.call u z.effects) y_is (has_new s.call u x.effects (Applied s.call u m.cluster.moment) (refl, refl)) in
+      active_stays verbs.Apply allowed (with_applied s.call u m.cluster.moment (entry_of j m.cluster.entries)) refl e x found there none active has
+
+  -- the end of a weak write
+  unmarked_stays : (allowed : Allowed m (label verbs.Unmark)) → Stays j d (update_of allowed.state.op) (after m (label verbs.Unmark))
+  unmarked_stays allowed =
+      let s = allowed.state in
+      let w = allowed.row.1 in
+      let (e, x, found, there, none, active, row_of) = on_active-there m w true j r (λ e x. IsSomeAnd x.marks (AreMarksOf s.call w false)) allowed.row.3.0 in
+      let (marks, marked, own) = IsSomeAnd-at x.marks (AreMarksOf s.call w false) row_of in
+      let update : marks.update ≡ update_of s.op = own.update_is ∙ sym (ap update_asked allowed.row.2) in
+      active_stays verbs.Unmark allowed without_marks refl e x found there none active (unmarked_new x x.marks marks s.call (update_of s.op) marked own.call_is update)
 
 -- ---- any label that answers OK
 
@@ -394,11 +430,12 @@ module _ (log : List Label) (run : IsRun log) (inv : Invariant (last log)) (hist
         stay = stay;
       }
 
-  -- a commit, or an update in one step, and no other
+  -- a commit, an update in one step, or the end of a weak write, and no other
   answered : (d : CallId) (word : OpWord) (verb : Verb) (k r : Option ℕ) (reply : StepReply) (answer : Answer) (details : Details) → Allowed (last log) (labels.Stepped d word verb k r reply (Some (Done answer)) details) → IsDue (last log) (labels.Stepped d word verb k r reply (Some (Done answer)) details)
       → IsUpdateWord word → IsTakenOn verb k r reply → IsTaken log (labels.Stepped d word verb k r reply (Some (Done answer)) details) d
   answered d word verbs.Commit (Some j) (Some r) words.Ok answer details allowed due asks is = taken d word verbs.Commit j r answer details allowed allowed.own asks (committed_stays (last log) inv history d word j r answer details allowed due)
   answered d word verbs.Apply (Some j) (Some r) words.Ok answer details allowed due asks is = taken d word verbs.Apply j r answer details allowed allowed.own asks (applied_stays (last log) inv history d word j r answer details allowed)
+  answered d word verbs.Unmark (Some j) (Some r) words.Ok answer details allowed due asks is = taken d word verbs.Unmark j r answer details allowed allowed.own asks (unmarked_stays (last log) inv history d word j r answer details allowed)
   answered d word verb k r reply answer details allowed due asks is = absurd is
 
   acknowledged : (l : Label) → Allowed (last log) l → IsDue (last log) l → (call : CallId) → Acknowledges l call → IsTaken log l call

@@ -1,5 +1,6 @@
--- Worked examples of which labels answer an update OK, and of two whole runs to such a label, each by computation.
-use Rattle.std.proofs.Common.{◌≡◌, ℕ, ◌+◌, List, [], ◌∷◌, ◌++◌, Option, Some, None, codes, true, false, pos, inl, inr, refl, ap, arith}
+-- Worked examples of which labels answer an update OK, and of three whole runs to such a label, each by computation.
+use Rattle.std.proofs.Common.{◌≡◌, ℕ, ◌+◌, List, [], ◌∷◌, ◌++◌, map, Option, Some, None, codes, true, false, pos, inl, inr, refl, ap, arith}
+use Rattle.std.specs.Option.{option_map}
 use Rattle.ckpt_types.specs.declared.answers.Answer.TheVariants as answers
 use Rattle.ckpt_types.specs.declared.answers.Outcome.{Outcome}
 use Rattle.ckpt_types.specs.declared.answers.Outcome.TheVariants.{Done}
@@ -10,7 +11,9 @@ use Rattle.ckpt_types.specs.declared.operation.Op.{Op}
 use Rattle.ckpt_types.specs.declared.operation.Op.TheVariants as ops
 use Rattle.ckpt_types.specs.declared.update.Update.{Update}
 use Rattle.ckpt_types.specs.declared.update.Update.TheVariants as updates
-use Rattle.ckpt_types.specs.Limits.{wr_all_replicas, wr_active_replica, checkpoint_write, checkpoint_create, release, major_max, minor_answered, end_of_time}
+use Rattle.ckpt_types.specs.Sections.{Section}
+use Rattle.ckpt_types.specs.Limits.{wr_all_replicas, wr_active_replica, wr_active_replica_weak, checkpoint_write, checkpoint_create, release, major_max, minor_answered, end_of_time}
+use Rattle.weak_marks.specs.Marks.{Marked}
 use Rattle.node_msgs.specs.declared.steps.StepReply.TheVariants as words
 use Rattle.node_msgs.specs.declared.steps.Verb.{Verb}
 use Rattle.node_msgs.specs.declared.steps.Verb.TheVariants as verbs
@@ -62,6 +65,16 @@ applied_at_once = labels.Stepped (call_numbered 3) opwords.Write verbs.Apply (So
 
 pub an_apply_that_ends_a_write : Acknowledges applied_at_once (call_numbered 3)
 an_apply_that_ends_a_write = (refl, tt)
+
+-- a weak write ends by the step that ends its marks
+abbrev end_of_marks : Label
+end_of_marks = labels.Stepped (call_numbered 3) opwords.Write verbs.Unmark (Some 1) (Some 0) words.Ok answered_ok beside.Nothing
+
+pub an_end_of_marks_that_ends_a_write : Acknowledges end_of_marks (call_numbered 3)
+an_end_of_marks_that_ends_a_write = (refl, tt)
+
+pub no_element_by_which_it_goes_on : Acknowledges (write_step 3 opwords.Write verbs.Element (Some 1) (Some 0)) (call_numbered 3) → ⊥
+no_element_by_which_it_goes_on acks = acks
 
 -- whether any allowed label is such a look or such a beginning, or not
 pub a_look_that_ends_a_write : Acknowledges (labels.Stepped (call_numbered 3) opwords.Write verbs.Look None None words.Done answered_ok beside.Nothing) (call_numbered 3)
@@ -155,3 +168,67 @@ n0_is_to_have_it = inr refl
 pub n1_is_not_to_have_it : is_to_have 1 → ⊥
 n1_is_not_to_have_it (inl all) = let w : false ≡ true = all in cc w
 n1_is_not_to_have_it (inr active) = let w : Some 0 ≡ Some 1 = active in cc w
+
+-- ---- a run of a weak write
+
+-- a write of two elements, the second behind the first
+abbrev abc_then_de : Update
+abc_then_de = updates.Write (record { id = []; offset = 0; bytes = codes "abc" } ∷ record { id = []; offset = 3; bytes = codes "de" } ∷ [])
+
+-- it makes its marks on n0, the active, and does its first element there
+abbrev until_one_element_is_done : List Label
+until_one_element_is_done =
+    until_it_writes wr_active_replica_weak
+    ++ labels.Began (call_numbered 3) (ops.Write 0 abc_then_de) None
+    ∷ write_step 3 opwords.Write verbs.Mark (Some 1) (Some 0)
+    ∷ write_step 3 opwords.Write verbs.Element (Some 1) (Some 0)
+    ∷ []
+
+-- and its second
+abbrev until_both_are_done : List Label
+until_both_are_done = until_one_element_is_done ++ write_step 3 opwords.Write verbs.Element (Some 1) (Some 0) ∷ []
+
+-- the bytes of each section on n0
+abbrev bytes_in : Option ReplicaState → List (List ℕ)
+bytes_in None = []
+bytes_in (Some x) = map (λ (s : Section). s.bytes) x.sections
+
+abbrev bytes_after : List Label → List (List ℕ)
+bytes_after log = bytes_in ((last log).replicas 1 0)
+
+-- how many elements its marks count as done
+abbrev done_in : Option ReplicaState → Option ℕ
+done_in None = None
+done_in (Some x) = option_map (λ (marks : Marked). marks.done) x.marks
+
+abbrev done_after : List Label → Option ℕ
+done_after log = done_in ((last log).replicas 1 0)
+
+-- between two elements the first stands there alone, and the active has no effect of it
+pub one_element_is_there : bytes_after until_one_element_is_done ≡ codes "abc" ∷ []
+one_element_is_there = refl
+
+pub one_is_done : done_after until_one_element_is_done ≡ Some 1
+one_is_done = refl
+
+pub no_effect_of_an_element : effects_on until_one_element_is_done 0 ≡ Some []
+no_effect_of_an_element = refl
+
+pub both_are_there : bytes_after until_both_are_done ≡ codes "abcde" ∷ []
+both_are_there = refl
+
+pub no_effect_before_its_end : effects_on until_both_are_done 0 ≡ Some []
+no_effect_before_its_end = refl
+
+-- where its marks end, the active has its one effect, and none is marked
+pub then_the_active_has_the_write : effects_on (until_both_are_done ++ end_of_marks ∷ []) 0 ≡ Some (Applied (call_numbered 3) abc_then_de (pos 0) ∷ [])
+then_the_active_has_the_write = refl
+
+pub and_no_marks : done_after (until_both_are_done ++ end_of_marks ∷ []) ≡ None
+and_no_marks = refl
+
+pub and_its_bytes : bytes_after (until_both_are_done ++ end_of_marks ∷ []) ≡ codes "abcde" ∷ []
+and_its_bytes = refl
+
+pub which_n1_has_not : effects_on (until_both_are_done ++ end_of_marks ∷ []) 1 ≡ Some []
+which_n1_has_not = refl

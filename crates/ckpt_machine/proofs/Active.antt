@@ -1,9 +1,10 @@
--- A read, a status, and iterations, each answered by the active, with any calls of others in hand.
-use Rattle.std.proofs.Common.{◌≡◌, ℕ, List, Option, Some, None, Result, Ok, Err, Bool, true, false, cond, not, ◌&&◌, refl, sym, ap, subst, ◌∙◌}
+-- The calls to the active: a read, a status, and iterations, each answered by it in one step; and updates.
+use Rattle.std.proofs.Common.{◌≡◌, ℕ, List, Option, Some, None, Result, Ok, Err, Bool, true, false, cond, not, ◌&&◌, ◌==◌, refl, sym, ap, subst, ◌∙◌}
 use Rattle.std.specs.Prelude.{is_some}
-use Rattle.ckpt_types.specs.declared.ais_error.AisError.TheVariants.{NoResources, NoSections, NotExist}
+use Rattle.std.proofs.lemmas.Bool.{eq-eqb}
+use Rattle.ckpt_types.specs.declared.ais_error.AisError.TheVariants.{NoResources, NoSections, NotExist, TryAgain}
 use Rattle.ckpt_types.specs.declared.answers.Answer.TheVariants as answers
-use Rattle.ckpt_types.specs.declared.answers.Cause.TheVariants.{Plain, Index, Count}
+use Rattle.ckpt_types.specs.declared.answers.Cause.TheVariants.{Plain, Index, Count, Generations}
 use Rattle.ckpt_types.specs.declared.answers.Outcome.TheVariants.{Done, Refused}
 use Rattle.ckpt_types.specs.declared.identities.CallId.{CallId}
 use Rattle.ckpt_types.specs.declared.operation.Op.{Op}
@@ -20,7 +21,8 @@ use Rattle.cluster_record.specs.declared.calls.ActiveKind.{ActiveKind}
 use Rattle.cluster_record.specs.declared.calls.ActiveKind.TheVariants as kinds
 use Rattle.cluster_record.specs.declared.entries.Entry.{Entry}
 use Rattle.cluster_record.specs.Calls.{put_actor}
-use Rattle.cluster_record.specs.DueActive.{active_on, request_by, starts_iteration}
+use Rattle.cluster_record.specs.DueActive.{unless_changed, active_on, request_by, starts_iteration}
+use Rattle.cluster_record.specs.declared.calls.MarksMade.{MarksMade}
 use Rattle.cluster_record.specs.RecordState.{entry_of, attributes_now}
 use Rattle.node_msgs.specs.declared.details.Details.TheVariants as beside
 use Rattle.ckpt_types.specs.Asks.{Ask, asked, elements_asked, elements_of}
@@ -28,8 +30,8 @@ use Rattle.ckpt_types.specs.Asks as asks
 use Rattle.ckpt_machine.specs.Tables.{started, gone_on}
 use Rattle.ckpt_machine.specs.Drivers.{Driver, Rooms}
 use Rattle.ckpt_machine.specs.Drivers as drivers
-use Rattle.ckpt_machine.specs.Driving.{driver_next, refused_cause}
-use Rattle.ckpt_machine.specs.InHand.{active_kind, change_kind, IsInPlace, IsActiveIn}
+use Rattle.ckpt_machine.specs.Driving.{driver_next, kind_of_change, making_in, refused_cause}
+use Rattle.ckpt_machine.specs.InHand.{active_kind, change_kind, MarksFit, IsInPlace, IsActiveIn}
 use Rattle.ckpt_machine.specs.Invariant.{InvariantIn, Invariant}
 use Rattle.ckpt_machine.specs.Machine.{Machine, CallState}
 use Rattle.node_core.specs.Serving.{read_details, reply_at, details_at, done_or_refused, next_reply, next_details}
@@ -38,30 +40,32 @@ use Rattle.ckpt_machine.specs.Steps.{Told, IsDone, IsServed, driver_of, seen, se
 use Rattle.ckpt_machine.specs.Guards.{IterOk, NextAnswer, LookRefused, ChangeLook, HasNoActive, NoActiveLook}
 use Rattle.ckpt_machine.specs.Shape.{Shape}
 use Rattle.ckpt_machine.proofs.ActiveNode.{AsksOf, by_kind, ActiveOf, active_of, active_seen, on_its_replica, active_next-there}
+use Rattle.ckpt_machine.proofs.ActiveSteps.{gone_ends}
 use Rattle.ckpt_machine.proofs.Apply.{apply_goes}
 use Rattle.ckpt_machine.proofs.EndedTables.{started_keeps, gone_on_keeps}
 use Rattle.ckpt_machine.proofs.ReplicaSteps.{put_actor-here}
-use Rattle.ckpt_machine.proofs.PlainCalls.{is_plain, plain_ends, look_goes}
+use Rattle.ckpt_machine.proofs.PlainCalls.{is_plain, plain_ends, look_ends, look_goes}
 use Rattle.ckpt_machine.proofs.DueStep.{Goes}
 use Rattle.ckpt_machine.proofs.OptionLemmas.{IsSomeAnd-from}
 use Rattle.ckpt_machine.proofs.StepLabels.{IsServed-told}
+use Rattle.ckpt_machine.proofs.Weak.{mark_goes, marked_goes}
 
 -- the cause of a refused read is the index, and that of a refused `next` is none
-read_cause : (op : Op) (index : ℕ) → AsksOf kinds.Read (asked op) → refused_cause op index ≡ Index index
-read_cause (ops.Read place elements) index is = refl
-read_cause (ops.Write place update) index is = refl
-read_cause op index is = absurd (cc (is.2))
+read_cause : (weak : Bool) (op : Op) (index : ℕ) → AsksOf weak kinds.Read (asked op) → refused_cause op index ≡ Index index
+read_cause weak (ops.Read place elements) index is = refl
+read_cause weak (ops.Write place update) index is = refl
+read_cause weak op index is = absurd (cc (is.2))
 
-next_cause : (op : Op) (index : ℕ) → AsksOf kinds.Next (asked op) → refused_cause op index ≡ Plain
-next_cause (ops.Read place elements) index is = absurd (cc (is.1))
-next_cause (ops.Write place update) index is = absurd (cc (is.1))
-next_cause op index is = refl
+next_cause : (weak : Bool) (op : Op) (index : ℕ) → AsksOf weak kinds.Next (asked op) → refused_cause op index ≡ Plain
+next_cause weak (ops.Read place elements) index is = absurd (cc (is.1))
+next_cause weak (ops.Write place update) index is = absurd (cc (is.1))
+next_cause weak op index is = refl
 
 -- where its checkpoint is gone, or has no active, the call is refused
-LookRefused-active : (m : Machine) (s : CallState) (kind : ActiveKind) (ask : Ask) → active_kind s.kept.all ask ≡ Some kind → NoActiveLook m s.kept.ckpt NotExist Plain → LookRefused m s ask NotExist Plain
+LookRefused-active : (m : Machine) (s : CallState) (kind : ActiveKind) (ask : Ask) → active_kind s.kept.all s.kept.weak ask ≡ Some kind → NoActiveLook m s.kept.ckpt NotExist Plain → LookRefused m s ask NotExist Plain
 LookRefused-active m s kind (asks.Change place update) is gone = by_all s.kept.all is gone
   where
-    by_all : (all : Bool) → change_kind all ≡ Some kind → NoActiveLook m s.kept.ckpt NotExist Plain → ChangeLook all m s.kept.ckpt NotExist Plain
+    by_all : (all : Bool) → change_kind all (kind_of_change s.kept.weak update) ≡ Some kind → NoActiveLook m s.kept.ckpt NotExist Plain → ChangeLook all m s.kept.ckpt NotExist Plain
     by_all true is gone = absurd (cc is)
     by_all false is gone = gone
 LookRefused-active m s kind (asks.Read place elements) is gone = gone
@@ -74,10 +78,14 @@ LookRefused-active m s kind ask is gone = absurd (cc is)
 
 module _ (m : Machine) (shapes : ℕ → Shape) (inv : InvariantIn shapes m) (s : CallState) (call : CallId) (k : ℕ) (held : m.in_hand s.call.actor ≡ Some s) where
   abbrev driver : ActiveKind → Driver
-  driver kind = drivers.Active (record { call = call; ckpt = k; kind = kind })
+  driver kind = drivers.Active (record { call = call; ckpt = k; kind = kind; marks = None })
 
-  module _ (kind : ActiveKind) (is : driver_of s ≡ drivers.Active (record { call = call; ckpt = k; kind = kind })) where
-    pub at_active : IsActiveIn m s (record { call = call; ckpt = k; kind = kind })
+  -- where its steps have led it
+  at_made : (kind : ActiveKind) (made : Option MarksMade) → driver_of s ≡ drivers.Active (record { call = call; ckpt = k; kind = kind; marks = made }) → IsActiveIn m shapes s (record { call = call; ckpt = k; kind = kind; marks = made })
+  at_made kind made is = subst (λ d. IsInPlace m shapes s d) is (inv.hands s.call.actor s held).here
+
+  module _ (kind : ActiveKind) (is : driver_of s ≡ drivers.Active (record { call = call; ckpt = k; kind = kind; marks = None })) where
+    pub at_active : IsActiveIn m shapes s (record { call = call; ckpt = k; kind = kind; marks = None })
     at_active = subst (λ d. IsInPlace m shapes s d) is (inv.hands s.call.actor s held).here
 
     -- it ends, and all else is as it was
@@ -96,13 +104,13 @@ module _ (m : Machine) (shapes : ℕ → Shape) (inv : InvariantIn shapes m) (s 
     ends_next next = record { shapes = shapes; holds = gone_on_keeps (record m { in_hand = put_actor m.in_hand s.call.actor None }) shapes (plain_ends m shapes inv s held (ap is_plain is)) s.call.actor gone (asked s.op) next }
 
     -- what it asks for
-    pub asks_of : AsksOf kind (asked s.op)
-    asks_of = by_kind s.kept.all (asked s.op) kind at_active.kind
+    pub asks_of : AsksOf s.kept.weak kind (asked s.op)
+    asks_of = by_kind s.kept.all s.kept.weak (asked s.op) kind at_active.kind
 
-  module _ (at : ActiveOf m k) where
+  module _ (at : ActiveOf m (shapes k).marks k) where
     -- ---- a read
 
-    module _ (is : driver_of s ≡ drivers.Active (record { call = call; ckpt = k; kind = kinds.Read })) where
+    module _ (is : driver_of s ≡ drivers.Active (record { call = call; ckpt = k; kind = kinds.Read; marks = None })) where
       asks_elements : asked s.op ≡ asks.Read (asks_of kinds.Read is).0 (elements_of s.op)
       asks_elements = let its = asks_of kinds.Read is in its.2 ∙ ap (asks.Read its.0) (sym (ap elements_asked its.2))
 
@@ -112,21 +120,21 @@ module _ (m : Machine) (shapes : ℕ → Shape) (inv : InvariantIn shapes m) (s 
 
       -- the node answers by it
       answered : (t : Told) (served : IsServed m s at.node (requests.Read k) t) (r : Result (List (List ℕ)) Refusal) → Gives r → served.answer ≡ done_or_refused (replies.Done answers.Pieces) r
-      answered t served r gives = served.may ∙ ap (reply_at (requests.Read k) (payload_due m s) (record_seen m.cluster k at.node)) (active_seen m k at) ∙ ap (done_or_refused (replies.Done answers.Pieces)) gives
+      answered t served r gives = served.may ∙ ap (reply_at (requests.Read k) (payload_due m s) (record_seen m.cluster k at.node)) (active_seen m (shapes k).marks k at) ∙ ap (done_or_refused (replies.Done answers.Pieces)) gives
 
       -- with the details
       details : (r : Result (List (List ℕ)) Refusal) → Gives r → details_due m s (requests.Read k) at.node ≡ read_details r
-      details r gives = ap (details_at (requests.Read k) (payload_due m s) (record_seen m.cluster k at.node)) (active_seen m k at) ∙ ap read_details gives
+      details r gives = ap (details_at (requests.Read k) (payload_due m s) (record_seen m.cluster k at.node)) (active_seen m (shapes k).marks k at) ∙ ap read_details gives
 
       -- the read, by what it gave
       read_by : (t : Told) → IsServed m s at.node (requests.Read k) t → (r : Result (List (List ℕ)) Refusal) → Gives r → Goes m s (driver_of s) t
       read_by t served (Ok bytes) gives = subst (Goes m s (driver_of s)) (sym (IsServed-told m s at.node (requests.Read k) t (driver kinds.Read) (replies.Done answers.Pieces) served is (answered t served (Ok bytes) gives))) (record {
-        row = ((asks_of kinds.Read is).0, elements_of s.op, asks_elements, on_its_replica m k at _ (at.active, (bytes, gives, details (Ok bytes) gives, refl)));
+        row = ((asks_of kinds.Read is).0, elements_of s.op, asks_elements, on_its_replica m (shapes k).marks k at _ (at.active, (bytes, gives, details (Ok bytes) gives, refl)));
         holds = ends kinds.Read is;
         nearer = λ none. absurd (cc none);
       })
       read_by t served (Err why) gives = subst (Goes m s (driver_of s)) (sym (IsServed-told m s at.node (requests.Read k) t (driver kinds.Read) (replies.Refused why.error why.index) served is (answered t served (Err why) gives))) (record {
-        row = ((asks_of kinds.Read is).0, elements_of s.op, asks_elements, on_its_replica m k at _ (at.active, (why, gives, details (Err why) gives, ap (λ cause. Some (Refused why.error cause)) (read_cause s.op why.index (asks_of kinds.Read is)))));
+        row = ((asks_of kinds.Read is).0, elements_of s.op, asks_elements, on_its_replica m (shapes k).marks k at _ (at.active, (why, gives, details (Err why) gives, ap (λ cause. Some (Refused why.error cause)) (read_cause s.kept.weak s.op why.index (asks_of kinds.Read is)))));
         holds = ends kinds.Read is;
         nearer = λ none. absurd (cc none);
       })
@@ -136,28 +144,28 @@ module _ (m : Machine) (shapes : ℕ → Shape) (inv : InvariantIn shapes m) (s 
     -- it tells the status
     status_told : details_due m s (requests.Status k) at.node ≡ beside.Status (status (attributes_now at.entry) m.cluster.moment at.replica.sections)
     status_told =
-        ap (details_at (requests.Status k) (payload_due m s) (record_seen m.cluster k at.node)) (active_seen m k at)
+        ap (details_at (requests.Status k) (payload_due m s) (record_seen m.cluster k at.node)) (active_seen m (shapes k).marks k at)
         ∙ ap (λ o. details_at (requests.Status k) (payload_due m s) (record { moment = m.cluster.moment; entry = entry_seen at.node o }) (Some (seen k at.entry.attributes at.replica))) at.found
 
-    status_goes : (is : driver_of s ≡ drivers.Active (record { call = call; ckpt = k; kind = kinds.Status })) (t : Told) → IsServed m s at.node (requests.Status k) t → Goes m s (driver_of s) t
+    status_goes : (is : driver_of s ≡ drivers.Active (record { call = call; ckpt = k; kind = kinds.Status; marks = None })) (t : Told) → IsServed m s at.node (requests.Status k) t → Goes m s (driver_of s) t
     status_goes is t served =
         subst (Goes m s (driver_of s)) (sym (IsServed-told m s at.node (requests.Status k) t (driver kinds.Status) (replies.Done answers.Status) served is
-        (served.may ∙ ap (reply_at (requests.Status k) (payload_due m s) (record_seen m.cluster k at.node)) (active_seen m k at)))) (record {
-          row = ((asks_of kinds.Status is).0, (asks_of kinds.Status is).1, on_its_replica m k at _ (record { active = at.active; answer = refl; told = status_told }));
+        (served.may ∙ ap (reply_at (requests.Status k) (payload_due m s) (record_seen m.cluster k at.node)) (active_seen m (shapes k).marks k at)))) (record {
+          row = ((asks_of kinds.Status is).0, (asks_of kinds.Status is).1, on_its_replica m (shapes k).marks k at _ (record { active = at.active; answer = refl; told = status_told }));
           holds = ends kinds.Status is;
           nearer = λ none. absurd (cc none);
         })
 
     -- ---- an iteration is started
 
-    module _ (choice : Choice) (is : driver_of s ≡ drivers.Active (record { call = call; ckpt = k; kind = kinds.Iterate choice })) where
+    module _ (choice : Choice) (is : driver_of s ≡ drivers.Active (record { call = call; ckpt = k; kind = kinds.Iterate choice; marks = None })) where
       iterate_goes : (t : Told) → (rooms_of m s).iterations ≡ true → IsServed m s at.node (requests.Iterate call k choice) t → Goes m s (driver_of s) t
       iterate_goes t has served =
           subst (Goes m s (driver_of s)) (sym (IsServed-told m s at.node (requests.Iterate call k choice) t (driver (kinds.Iterate choice)) (replies.Done answers.Nothing) served is
-          (served.may ∙ ap (reply_at (requests.Iterate call k choice) (payload_due m s) (record_seen m.cluster k at.node)) (active_seen m k at)))) (record {
+          (served.may ∙ ap (reply_at (requests.Iterate call k choice) (payload_due m s) (record_seen m.cluster k at.node)) (active_seen m (shapes k).marks k at)))) (record {
             row = (
-              (let its = asks_of (kinds.Iterate choice) is in (its.0, its.1, its.2, its.3, its.4, on_its_replica m k at (IterOk m s at.node _) (record { active = at.active; room = has; answer = refl }))),
-              ap (details_at (requests.Iterate call k choice) (payload_due m s) (record_seen m.cluster k at.node)) (active_seen m k at),
+              (let its = asks_of (kinds.Iterate choice) is in (its.0, its.1, its.2, its.3, its.4, on_its_replica m (shapes k).marks k at (IterOk m s at.node _) (record { active = at.active; room = has; answer = refl }))),
+              ap (details_at (requests.Iterate call k choice) (payload_due m s) (record_seen m.cluster k at.node)) (active_seen m (shapes k).marks k at),
             );
             holds = ends_started (kinds.Iterate choice) is s.kept.room (λ choice. chosen_at choice m.cluster.moment (seen_at m k at.node));
             nearer = λ none. absurd (cc none);
@@ -178,25 +186,25 @@ module _ (m : Machine) (shapes : ℕ → Shape) (inv : InvariantIn shapes m) (s 
 
     -- ---- an iteration goes on
 
-    module _ (is : driver_of s ≡ drivers.Active (record { call = call; ckpt = k; kind = kinds.Next })) where
+    module _ (is : driver_of s ≡ drivers.Active (record { call = call; ckpt = k; kind = kinds.Next; marks = None })) where
       -- the replica gives this
       abbrev GivesNext : Option NextGiven → Type 0
       GivesNext next = given (ids_asked m s) m.cluster.moment at.replica.sections ≡ next
 
       -- the node answers by it
       next_answered : (t : Told) (served : IsServed m s at.node (requests.Next call k) t) (next : Option NextGiven) → GivesNext next → served.answer ≡ next_reply next
-      next_answered t served next gives = served.may ∙ ap (reply_at (requests.Next call k) (payload_due m s) (record_seen m.cluster k at.node)) (active_seen m k at) ∙ ap next_reply gives
+      next_answered t served next gives = served.may ∙ ap (reply_at (requests.Next call k) (payload_due m s) (record_seen m.cluster k at.node)) (active_seen m (shapes k).marks k at) ∙ ap next_reply gives
 
       -- with the identifier
       next_told : (next : Option NextGiven) → GivesNext next → details_due m s (requests.Next call k) at.node ≡ next_details next
-      next_told next gives = ap (details_at (requests.Next call k) (payload_due m s) (record_seen m.cluster k at.node)) (active_seen m k at) ∙ ap next_details gives
+      next_told next gives = ap (details_at (requests.Next call k) (payload_due m s) (record_seen m.cluster k at.node)) (active_seen m (shapes k).marks k at) ∙ ap next_details gives
 
       next_by : (t : Told) → IsServed m s at.node (requests.Next call k) t → (next : Option NextGiven) → GivesNext next → Goes m s (driver_of s) t
       next_by t served (Some next) gives = subst (Goes m s (driver_of s)) (sym (IsServed-told m s at.node (requests.Next call k) t (driver kinds.Next) (next_reply (Some next)) served is (next_answered t served (Some next) gives))) (record {
         row = (
           (asks_of kinds.Next is).0,
           (asks_of kinds.Next is).1,
-          on_its_replica m k at _ (record {
+          on_its_replica m (shapes k).marks k at _ (record {
             active = at.active;
             answer = subst (λ (g : Option NextGiven). NextAnswer g words.Ok (Some (Done answers.Section)) (details_due m s (requests.Next call k) at.node)) (sym gives) (refl, next_told (Some next) gives);
           }),
@@ -208,9 +216,9 @@ module _ (m : Machine) (shapes : ℕ → Shape) (inv : InvariantIn shapes m) (s 
         row = (
           (asks_of kinds.Next is).0,
           (asks_of kinds.Next is).1,
-          on_its_replica m k at _ (record {
+          on_its_replica m (shapes k).marks k at _ (record {
             active = at.active;
-            answer = subst (λ (g : Option NextGiven). NextAnswer g words.Refused (Some (Refused NoSections (refused_cause s.op 0))) (details_due m s (requests.Next call k) at.node)) (sym gives) (ap (λ cause. Some (Refused NoSections cause)) (next_cause s.op 0 (asks_of kinds.Next is)), next_told None gives);
+            answer = subst (λ (g : Option NextGiven). NextAnswer g words.Refused (Some (Refused NoSections (refused_cause s.op 0))) (details_due m s (requests.Next call k) at.node)) (sym gives) (ap (λ cause. Some (Refused NoSections cause)) (next_cause s.kept.weak s.op 0 (asks_of kinds.Next is)), next_told None gives);
           }),
         );
         holds = ends kinds.Next is;
@@ -219,27 +227,40 @@ module _ (m : Machine) (shapes : ℕ → Shape) (inv : InvariantIn shapes m) (s 
 
     -- ---- any kind, where its checkpoint is
 
-    there_goes : (kind : ActiveKind) → driver_of s ≡ drivers.Active (record { call = call; ckpt = k; kind = kind }) → (rooms : Rooms) (t : Told) → rooms_of m s ≡ rooms
-        → IsDone m s (cond (starts_iteration kind && not rooms.iterations) (End (Refused NoResources (Count 8))) (Serve at.node (request_by call k kind))) t → Goes m s (driver_of s) t
-    there_goes kinds.Read is rooms t has done = read_by is t done (read (elements_of s.op) m.cluster.moment at.replica.sections) refl
-    there_goes kinds.Status is rooms t has done = status_goes is t done
-    there_goes (kinds.Iterate choice) is rooms t has done = iterate_by choice is rooms.iterations t (ap (λ (r : Rooms). r.iterations) has) done
-    there_goes kinds.Next is rooms t has done = next_by is t done (given (ids_asked m s) m.cluster.moment at.replica.sections) refl
-    there_goes kinds.Apply is rooms t has done = apply_goes m shapes inv s call k held at is t done
-    there_goes (kinds.Weak n) is rooms t has done = absurd (asks_of (kinds.Weak n) is)
+    -- the generation is that in which it made its marks
+    same_generation : (kind : ActiveKind) (w : MarksMade) → driver_of s ≡ drivers.Active (record { call = call; ckpt = k; kind = kind; marks = Some w }) → (w.generation == at.entry.generation) ≡ true
+    same_generation kind w is = eq-eqb w.generation at.entry.generation ((at_made kind (Some w) is).generation at.entry at.found)
+
+    fit_of : (kind : ActiveKind) (made : Option MarksMade) → driver_of s ≡ drivers.Active (record { call = call; ckpt = k; kind = kind; marks = made }) → MarksFit kind made
+    fit_of kind made is = (at_made kind made is).fit
+
+    there_goes : (kind : ActiveKind) (made : Option MarksMade) → driver_of s ≡ drivers.Active (record { call = call; ckpt = k; kind = kind; marks = made }) → (rooms : Rooms) (t : Told) → rooms_of m s ≡ rooms
+        → IsDone m s (cond (starts_iteration kind && not rooms.iterations) (End (Refused NoResources (Count 8))) (unless_changed made at.entry.generation (Serve at.node (request_by call k kind made)))) t → Goes m s (driver_of s) t
+    there_goes kinds.Read None is rooms t has done = read_by is t done (read (elements_of s.op) m.cluster.moment at.replica.sections) refl
+    there_goes kinds.Status None is rooms t has done = status_goes is t done
+    there_goes (kinds.Iterate choice) None is rooms t has done = iterate_by choice is rooms.iterations t (ap (λ (r : Rooms). r.iterations) has) done
+    there_goes kinds.Next None is rooms t has done = next_by is t done (given (ids_asked m s) m.cluster.moment at.replica.sections) refl
+    there_goes kinds.Apply None is rooms t has done = apply_goes m shapes inv s call k held at is t done
+    there_goes (kinds.Weak n) None is rooms t has done = mark_goes m shapes inv s call k n None held at is refl t done
+    there_goes (kinds.Weak n) (Some w) is rooms t has done = marked_goes m shapes inv s call k n (Some w) held at is w refl t (subst (λ b. IsDone m s (cond b (Serve at.node (request_by call k (kinds.Weak n) (Some w))) (End (Refused TryAgain (Generations w.generation at.entry.generation)))) t) (same_generation (kinds.Weak n) w is) done)
+    there_goes kind (Some w) is rooms t has done = absurd (fit_of kind (Some w) is)
 
   no_active : (ckpt : Option ℕ) → ckpt ≡ Some k → entry_of k m.cluster.entries ≡ None → NoActiveLook m ckpt NotExist Plain
   no_active ckpt kept gone = subst (λ o. NoActiveLook m o NotExist Plain) (sym kept) (subst (λ o. HasNoActive o) (sym gone) tt)
 
+  -- its checkpoint is gone: it is refused, and has nothing then
+  gone_goes : (kind : ActiveKind) (made : Option MarksMade) → driver_of s ≡ drivers.Active (record { call = call; ckpt = k; kind = kind; marks = made }) → entry_of k m.cluster.entries ≡ None → (t : Told) → IsDone m s (End (Refused NotExist Plain)) t → Goes m s (driver_of s) t
+  gone_goes kind made is gone t done =
+      let at = at_made kind made is in
+      look_ends m shapes inv s held NotExist Plain t (LookRefused-active m s kind (asked s.op) at.kind (no_active s.kept.ckpt at.kept gone)) (ap making_in is) (gone_ends m shapes inv s _ held is gone) done
+
   -- the next step of a call to the active
-  pub active_goes : (kind : ActiveKind) → driver_of s ≡ drivers.Active (record { call = call; ckpt = k; kind = kind }) → (rooms : Rooms) (t : Told) → rooms_of m s ≡ rooms
-      → IsDone m s (driver_next m.cluster rooms (drivers.Active (record { call = call; ckpt = k; kind = kind }))) t → Goes m s (driver_of s) t
-  active_goes kind is rooms t has done = by_entry (entry_of k m.cluster.entries) refl
+  pub active_goes : (kind : ActiveKind) (made : Option MarksMade) → driver_of s ≡ drivers.Active (record { call = call; ckpt = k; kind = kind; marks = made }) → (rooms : Rooms) (t : Told) → rooms_of m s ≡ rooms
+      → IsDone m s (driver_next m.cluster rooms (drivers.Active (record { call = call; ckpt = k; kind = kind; marks = made }))) t → Goes m s (driver_of s) t
+  active_goes kind made is rooms t has done = by_entry (entry_of k m.cluster.entries) refl
     where
       by_entry : (o : Option Entry) → entry_of k m.cluster.entries ≡ o → Goes m s (driver_of s) t
-      by_entry None gone = look_goes m shapes inv s held (ap is_plain is) NotExist Plain t
-          (LookRefused-active m s kind (asked s.op) (at_active kind is).kind (no_active s.kept.ckpt (at_active kind is).kept gone))
-          (subst (λ next. IsDone m s next t) (ap (active_on rooms.iterations (record { call = call; ckpt = k; kind = kind })) gone) done)
+      by_entry None gone = gone_goes kind made is gone t (subst (λ next. IsDone m s next t) (ap (active_on rooms.iterations (record { call = call; ckpt = k; kind = kind; marks = made })) gone) done)
       by_entry (Some e) found =
-          let at = active_of m shapes k e inv (at_active kind is).made found in
-          there_goes at kind is rooms t has (subst (λ next. IsDone m s next t) (active_next-there m k at call kind rooms) done)
+          let at = active_of m shapes k e inv (at_made kind made is).made found in
+          there_goes at kind made is rooms t has (subst (λ next. IsDone m s next t) (active_next-there m (shapes k).marks k at call kind made rooms) done)

@@ -9,7 +9,6 @@ use Rattle.ckpt_machine.specs.Options.{is_all}
 use Rattle.ckpt_machine.specs.Replays.{IsPrefix}
 use Rattle.ckpt_machine.specs.Runs.{last, IsRun}
 use Rattle.ckpt_machine.proofs.EachReplica.{IsKept, run_each}
-use Rattle.ckpt_machine.proofs.OptionLemmas.{IsSomeAnd-at}
 
 -- where updates go to the active alone, it is the active's, or has no effects
 abbrev pub IsActiveOrEmpty : Option Entry → ℕ → ReplicaState → Type 0
@@ -27,13 +26,12 @@ kept_ahead = record {
       ];
   staged = λ m s k r x step was. was;
   -- a commit is where updates are on all replicas
-  committed = λ m s k r x step all was e found alone.
-      let (f, there, on_all) = IsSomeAnd-at (entry_of k m.cluster.entries) (λ e. is_all e.attributes ≡ true) all in
-      absurd (let w : true ≡ false = sym on_all ∙ ap (λ (e : Entry). is_all e.attributes) (same_Some f e (sym there ∙ found)) ∙ alone in cc w);
-  -- and an update in one step is on the active
-  applied = λ m s k r x step active was e found alone.
-      let (f, there, on_active) = IsSomeAnd-at (entry_of k m.cluster.entries) (λ e. (is_all e.attributes ≡ false) × (e.active ≡ Some r)) active in
-      inl (ap (λ (e : Entry). e.active) (sym (same_Some f e (sym there ∙ found))) ∙ on_active.1);
+  committed = λ m s k r x e step all was f found alone. absurd (let w : true ≡ false = sym all.all ∙ ap (λ (e : Entry). is_all e.attributes) (same_Some e f found) ∙ alone in cc w);
+  -- an update in one step is on the active, and so is a weak write, which is no effect until its end
+  applied = λ m s k r x e step active none was f found alone. inl (ap (λ (e : Entry). e.active) (sym (same_Some e f found)) ∙ active.active);
+  marked = λ m s k r x e step active can was. was;
+  element = λ m s k r x e marks step active stand was. was;
+  unmarked = λ m s k r x e marks step active stand was f found alone. inl (ap (λ (e : Entry). e.active) (sym (same_Some e f found)) ∙ active.active);
 }
 
 -- THE LAW: each has only what the active has taken first

@@ -1,9 +1,11 @@
 -- An update of the active alone, in one step.
-use Rattle.std.proofs.Common.{◌≡◌, ℕ, List, Option, Some, None, Result, Ok, Err, false, IfSome, refl, sym, ap, subst, ◌∙◌}
+use Rattle.std.proofs.Common.{◌≡◌, ℕ, List, Option, Some, None, Result, Ok, Err, cond, refl, sym, ap, subst, ◌∙◌}
 use Rattle.std.specs.Prelude.{IsOk}
+use Rattle.ckpt_types.specs.declared.ais_error.AisError.TheVariants.{TryAgain}
+use Rattle.ckpt_types.specs.declared.answers.Cause.TheVariants.{Holder}
+use Rattle.ckpt_types.specs.declared.answers.Outcome.TheVariants.{Refused}
 use Rattle.ckpt_types.specs.declared.identities.CallId.{CallId}
-use Rattle.ckpt_types.specs.Asks.{asked, update_asked, update_of}
-use Rattle.ckpt_types.specs.Asks as asks
+use Rattle.ckpt_types.specs.Asks.{update_of}
 use Rattle.ckpt_types.specs.Sections.{Section}
 use Rattle.ckpt_types.specs.Updates.{Refusal, outcome}
 use Rattle.weak_marks.specs.Marks.{Marked, call_of}
@@ -15,68 +17,58 @@ use Rattle.cluster_record.specs.RecordState.{entry_of}
 use Rattle.node_msgs.specs.declared.requests.Request.{Request}
 use Rattle.node_msgs.specs.declared.requests.Request.TheVariants as requests
 use Rattle.node_msgs.specs.declared.replies.Reply.TheVariants as replies
+use Rattle.node_msgs.specs.declared.steps.StepReply.TheVariants as words
+use Rattle.node_msgs.specs.declared.steps.Verb.TheVariants as verbs
 use Rattle.node_core.specs.Seen.{record_seen}
-use Rattle.node_core.specs.Serving.{reply_at, reply_unless, details_at, done_or_refused, update_answer, told_id, applied_id}
+use Rattle.node_core.specs.Serving.{reply_at, reply_unless, details_at, update_answer, told_id, applied_id}
 use Rattle.ckpt_machine.specs.Drivers as drivers
-use Rattle.ckpt_machine.specs.InHand.{IsInPlace, IsActiveIn}
+use Rattle.ckpt_machine.specs.InHand.{is_marked_by}
 use Rattle.ckpt_machine.specs.Invariant.{InvariantIn, Invariant}
 use Rattle.ckpt_machine.specs.Machine.{Machine, ReplicaState, CallState}
-use Rattle.ckpt_machine.specs.Options.{is_all}
-use Rattle.ckpt_machine.specs.Shape.{Shape, IsApart}
-use Rattle.ckpt_machine.specs.Steps.{Told, IsServed, driver_of, payload_due, details_due, change_replica, with_applied, having_taken}
-use Rattle.ckpt_machine.proofs.ActiveNode.{ActiveOf, active_seen, on_its_replica, by_kind, none_all}
-use Rattle.ckpt_machine.proofs.Applied.{applied_keeps}
+use Rattle.ckpt_machine.specs.Shape.{Shape}
+use Rattle.ckpt_machine.specs.Steps.{Told, IsServed, ended_details, driver_of, payload_due, details_due, change_replica, with_applied, having_taken}
+use Rattle.ckpt_machine.proofs.ActiveNode.{ActiveOf, active_seen}
+use Rattle.ckpt_machine.proofs.ActiveSteps.{active_keeps}
 use Rattle.ckpt_machine.proofs.DueStep.{Goes}
-use Rattle.ckpt_machine.proofs.PlainCalls.{is_plain, plain_ends}
+use Rattle.ckpt_machine.proofs.OnTheActive.{apart, alone, asks_own, on_active, ends, refused_row, holder_live, held_row}
 use Rattle.ckpt_machine.proofs.StepLabels.{IsServed-told}
 
-module _ (m : Machine) (shapes : ℕ → Shape) (inv : InvariantIn shapes m) (s : CallState) (call : CallId) (k : ℕ) (held : m.in_hand s.call.actor ≡ Some s) (at : ActiveOf m k) (is : driver_of s ≡ drivers.Active (record { call = call; ckpt = k; kind = kinds.Apply })) where
+module _ (m : Machine) (shapes : ℕ → Shape) (inv : InvariantIn shapes m) (s : CallState) (call : CallId) (k : ℕ) (held : m.in_hand s.call.actor ≡ Some s) (at : ActiveOf m (shapes k).marks k) (is : driver_of s ≡ drivers.Active (record { call = call; ckpt = k; kind = kinds.Apply; marks = None })) where
   abbrev request : Request
   request = requests.Apply call k
 
-  at_active : IsActiveIn m s (record { call = call; ckpt = k; kind = kinds.Apply })
-  at_active = subst (λ d. IsInPlace m shapes s d) is (inv.hands s.call.actor s held).here
-
-  -- updates of its checkpoint go to the active alone
-  alone : is_all at.entry.attributes ≡ false
-  alone = sym (subst (λ o. IfSome o (λ (e : Entry). s.kept.all ≡ is_all e.attributes)) at.found at_active.all) ∙ none_all s.kept.all (asked s.op) at_active.kind
-
-  -- nothing is staged on the active, and no marks stand
-  apart : IsApart at.replica
-  apart = at.apart alone
-
-  -- what it asks for is its update
-  asks_own : asked s.op ≡ asks.Change (by_kind s.kept.all (asked s.op) kinds.Apply at_active.kind).0 (update_of s.op)
-  asks_own = let its = by_kind s.kept.all (asked s.op) kinds.Apply at_active.kind in its.2 ∙ ap (asks.Change its.0) (sym (ap update_asked its.2))
+  -- the marks on the active
+  marks_are : at.replica.marks ≡ (shapes k).marks
+  marks_are = (apart m shapes inv s call k kinds.Apply None held at refl is).marks_are
 
   -- the sections make this of it
   abbrev Gives : Result (List Section) Refusal → Type 0
   Gives r = outcome at.entry.attributes (update_of s.op) m.cluster.moment at.replica.sections ≡ r
 
-  answered : (t : Told) (served : IsServed m s at.node request t) (r : Result (List Section) Refusal) → Gives r → served.answer ≡ done_or_refused (replies.Done (update_answer (update_of s.op))) r
-  answered t served r gives =
+  answered : (t : Told) (served : IsServed m s at.node request t) (o : Option Marked) (r : Result (List Section) Refusal) → (shapes k).marks ≡ o → Gives r → served.answer ≡ reply_unless (call_of o) (replies.Done (update_answer (update_of s.op))) r
+  answered t served o r stand gives =
       served.may
-      ∙ ap (reply_at request (payload_due m s) (record_seen m.cluster k at.node)) (active_seen m k at)
-      ∙ ap (λ (marks : Option Marked). reply_unless (call_of marks) (replies.Done (update_answer (update_of s.op))) (outcome at.entry.attributes (update_of s.op) m.cluster.moment at.replica.sections)) apart.unmarked
-      ∙ ap (done_or_refused (replies.Done (update_answer (update_of s.op)))) gives
+      ∙ ap (reply_at request (payload_due m s) (record_seen m.cluster k at.node)) (active_seen m (shapes k).marks k at)
+      ∙ ap (λ (marks : Option Marked). reply_unless (call_of marks) (replies.Done (update_answer (update_of s.op))) (outcome at.entry.attributes (update_of s.op) m.cluster.moment at.replica.sections)) (marks_are ∙ stand)
+      ∙ ap (reply_unless (call_of o) (replies.Done (update_answer (update_of s.op)))) gives
 
-  details : (r : Result (List Section) Refusal) → Gives r → details_due m s request at.node ≡ applied_id None r (told_id (update_of s.op) m.cluster.moment at.replica.sections)
-  details r gives =
-      ap (details_at request (payload_due m s) (record_seen m.cluster k at.node)) (active_seen m k at)
-      ∙ ap (λ (marks : Option Marked). applied_id marks (outcome at.entry.attributes (update_of s.op) m.cluster.moment at.replica.sections) (told_id (update_of s.op) m.cluster.moment at.replica.sections)) apart.unmarked
-      ∙ ap (λ o. applied_id None o (told_id (update_of s.op) m.cluster.moment at.replica.sections)) gives
+  details : (o : Option Marked) (r : Result (List Section) Refusal) → (shapes k).marks ≡ o → Gives r → details_due m s request at.node ≡ applied_id o r (told_id (update_of s.op) m.cluster.moment at.replica.sections)
+  details o r stand gives =
+      ap (details_at request (payload_due m s) (record_seen m.cluster k at.node)) (active_seen m (shapes k).marks k at)
+      ∙ ap (λ (marks : Option Marked). applied_id marks (outcome at.entry.attributes (update_of s.op) m.cluster.moment at.replica.sections) (told_id (update_of s.op) m.cluster.moment at.replica.sections)) (marks_are ∙ stand)
+      ∙ ap (λ r. applied_id o r (told_id (update_of s.op) m.cluster.moment at.replica.sections)) gives
 
   -- ---- the replica after it
-
-  ended : Machine
-  ended = record m { in_hand = put_actor m.in_hand s.call.actor None }
 
   abbrev taken : ReplicaState
   taken = having_taken at.entry.attributes s.call (update_of s.op) m.cluster.moment at.replica
 
-  holds_taken : Invariant (record ended { replicas = put2 m.replicas k at.node (Some taken) })
-  unfolding ended
-  holds_taken = record { shapes = shapes; holds = applied_keeps ended shapes (plain_ends m shapes inv s held (ap is_plain is)) k at.node at.entry at.found at.made alone taken (record { free = apart.free; unmarked = apart.unmarked }) }
+  holds_taken : (shapes k).marks ≡ None → Invariant (record m { replicas = put2 m.replicas k at.node (Some taken); in_hand = put_actor m.in_hand s.call.actor None })
+  holds_taken unmarked = record {
+    shapes = _;
+    holds = active_keeps m shapes inv s _ held is at.node at.entry at.found at.made (alone m shapes inv s call k kinds.Apply None held at refl is) at.active taken None (record { free = (apart m shapes inv s call k kinds.Apply None held at refl is).free; marks_are = marks_are ∙ unmarked }) None
+        (λ d other. sym (ap (is_marked_by d) unmarked)) (λ marks none. absurd (cc none)) (λ z there. absurd (cc there));
+  }
 
   applied_is : change_replica m k at.node (m.replicas k at.node) (with_applied s.call (update_of s.op) m.cluster.moment (entry_of k m.cluster.entries)) ≡ record m { replicas = put2 m.replicas k at.node (Some taken) }
   applied_is =
@@ -87,24 +79,37 @@ module _ (m : Machine) (shapes : ℕ → Shape) (inv : InvariantIn shapes m) (s 
   abbrev behind : Machine
   behind = change_replica m k at.node (m.replicas k at.node) (with_applied s.call (update_of s.op) m.cluster.moment (entry_of k m.cluster.entries))
 
-  holds_applied : Invariant (record behind { in_hand = put_actor behind.in_hand s.call.actor None })
-  unfolding ended
-  holds_applied = subst (λ (n : Machine). Invariant (record n { in_hand = put_actor n.in_hand s.call.actor None })) (sym applied_is) holds_taken
+  holds_applied : (shapes k).marks ≡ None → Invariant (record behind { in_hand = put_actor behind.in_hand s.call.actor None })
+  holds_applied unmarked = subst (λ (n : Machine). Invariant (record n { in_hand = put_actor n.in_hand s.call.actor None })) (sym applied_is) (holds_taken unmarked)
 
   -- ---- the step
 
-  apply_by : (t : Told) → IsServed m s at.node request t → (r : Result (List Section) Refusal) → Gives r → Goes m s (driver_of s) t
-  apply_by t served (Ok sections) gives = subst (Goes m s (driver_of s)) (sym (IsServed-told m s at.node request t (drivers.Active (record { call = call; ckpt = k; kind = kinds.Apply })) (replies.Done (update_answer (update_of s.op))) served is (answered t served (Ok sections) gives))) (record {
-    row = (_, update_of s.op, asks_own, on_its_replica m k at _ (alone, at.active, record { unmarked = apart.unmarked; fits = subst IsOk (sym gives) refl; answer = refl; told = details (Ok sections) gives }));
-    holds = holds_applied;
+  -- it goes by the marks that stand, and by what the sections make of it
+  apply_by : (t : Told) → IsServed m s at.node request t → (o : Option Marked) → (shapes k).marks ≡ o → (r : Result (List Section) Refusal) → Gives r → Goes m s (driver_of s) t
+  apply_by t served None stand (Ok sections) gives = subst (Goes m s (driver_of s)) (sym (IsServed-told m s at.node request t _ (replies.Done (update_answer (update_of s.op))) served is (answered t served None (Ok sections) stand gives))) (record {
+    row = (
+      _,
+      update_of s.op,
+      asks_own m shapes inv s call k kinds.Apply None held at refl is,
+      on_active m shapes inv s call k kinds.Apply None held at refl is _ (record { unmarked = marks_are ∙ stand; fits = subst IsOk (sym gives) refl; answer = refl; told = details None (Ok sections) stand gives }),
+    );
+    holds = holds_applied stand;
     nearer = λ none. absurd (cc none);
   })
-  apply_by t served (Err why) gives = subst (Goes m s (driver_of s)) (sym (IsServed-told m s at.node request t (drivers.Active (record { call = call; ckpt = k; kind = kinds.Apply })) (replies.Refused why.error why.index) served is (answered t served (Err why) gives))) (record {
-    row = (_, update_of s.op, asks_own, on_its_replica m k at _ (alone, at.active, record { unmarked = apart.unmarked; why = why; refused = gives; answer = refl; told = details (Err why) gives }));
-    holds = record { shapes = shapes; holds = plain_ends m shapes inv s held (ap is_plain is) };
+  apply_by t served None stand (Err why) gives = subst (Goes m s (driver_of s)) (sym (IsServed-told m s at.node request t _ (replies.Refused why.error why.index) served is (answered t served None (Err why) stand gives))) (record {
+    row = (_, update_of s.op, asks_own m shapes inv s call k kinds.Apply None held at refl is, refused_row m shapes inv s call k kinds.Apply None held at refl is refl _ why stand gives refl (details None (Err why) stand gives));
+    holds = ends m shapes inv s call k kinds.Apply None held at refl is refl;
     nearer = λ none. absurd (cc none);
   })
+  apply_by t served (Some marks) stand r gives =
+      let told = IsServed-told m s at.node request t _ (replies.Held marks.call) served is (answered t served (Some marks) r stand gives) in
+      let live = holder_live m shapes inv s call k kinds.Apply None held at refl is refl marks stand in
+      let nothing = details (Some marks) r stand gives in
+      subst (Goes m s (driver_of s)) (sym (told ∙ (λ i. record { verb = verbs.Apply; ckpt = Some k; node = Some at.node; reply = words.Held marks.call; end = cond (live i) (Some (Refused TryAgain (Holder marks.call))) None; details = ended_details (cond (live i) (Some (Refused TryAgain (Holder marks.call))) None) (nothing i) }))) (record {
+        row = (_, update_of s.op, asks_own m shapes inv s call k kinds.Apply None held at refl is, held_row m shapes inv s call k kinds.Apply None held at refl is refl _ marks stand refl refl);
+        holds = ends m shapes inv s call k kinds.Apply None held at refl is refl;
+        nearer = λ none. absurd (cc none);
+      })
 
-  -- it goes by what the sections make of it
   pub apply_goes : (t : Told) → IsServed m s at.node request t → Goes m s (driver_of s) t
-  apply_goes t served = apply_by t served (outcome at.entry.attributes (update_of s.op) m.cluster.moment at.replica.sections) refl
+  apply_goes t served = apply_by t served (shapes k).marks refl (outcome at.entry.attributes (update_of s.op) m.cluster.moment at.replica.sections) refl

@@ -16,7 +16,7 @@ use Rattle.ckpt_types.specs.Asks.{Ask, asked}
 use Rattle.ckpt_types.specs.Asks as asks
 use Rattle.ckpt_machine.specs.Drivers.{Driver}
 use Rattle.ckpt_machine.specs.Drivers as drivers
-use Rattle.ckpt_machine.specs.Driving.{Kept, on_kept, driver_start, driver_state, driver_taken, change_start}
+use Rattle.ckpt_machine.specs.Driving.{Kept, on_kept, driver_start, driver_state, driver_taken, kind_of_change, change_start}
 use Rattle.ckpt_machine.specs.Machine.{CallState}
 use Rattle.ckpt_machine.specs.Steps.{IsDriven, driver_of}
 
@@ -53,7 +53,7 @@ start_drives call (asks.Open place name flags timeout a) kept = record { place =
 start_drives call (asks.Retain place duration) kept = kept_drives call (asks.Retain place duration) kept.ckpt _ (λ k. record { place = place; asks = refl })
 start_drives call (asks.Change place update) kept = by_all kept.all
   where
-    by_all : (all : Bool) → IfSome (change_start call all kept.ckpt) (DrivesFor call (asks.Change place update))
+    by_all : (all : Bool) → IfSome (change_start call all (kind_of_change kept.weak update) kept.ckpt) (DrivesFor call (asks.Change place update))
     by_all true = kept_drives call (asks.Change place update) kept.ckpt _ (λ k. tt)
     by_all false = kept_drives call (asks.Change place update) kept.ckpt _ (λ k. tt)
 start_drives call (asks.Read place elements) kept = kept_drives call (asks.Read place elements) kept.ckpt _ (λ k. tt)

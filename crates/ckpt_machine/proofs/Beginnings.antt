@@ -1,8 +1,8 @@
 -- Where each operation begins, with any calls of others in hand.
-use Rattle.std.proofs.Common.{◌≡◌, ℕ, ◌<◌, List, [], ◌∷◌, Option, Some, None, is_some, Bool, true, false, cond, ◌==◌, ◌||◌, ℤ, refl, sym, ap, subst, ◌∙◌, arith}
+use Rattle.std.proofs.Common.{◌≡◌, ℕ, ◌<◌, List, [], ◌∷◌, length, Option, Some, None, is_some, Bool, true, false, cond, ◌==◌, ◌||◌, ℤ, refl, sym, ap, subst, ◌∙◌, arith}
 use Rattle.std.specs.Option.{option_and_then}
 use Rattle.std.specs.Prelude.{IsSome, IfSome, Contains, int_lt, pos, ◌≤ℤ◌, slice_index}
-use Rattle.std.proofs.lemmas.Bool.{or_parts}
+use Rattle.std.proofs.lemmas.Bool.{or_parts, ltb-false}
 use Rattle.std.proofs.lemmas.Int.{ints}
 use Rattle.std.proofs.lemmas.List.Elements.{Contains-append_right}
 use Rattle.std.proofs.lemmas.Option.{same_Some}
@@ -13,6 +13,8 @@ use Rattle.ckpt_types.specs.declared.identities.ActorName.TheVariants.{Client, N
 use Rattle.ckpt_types.specs.declared.identities.CallId.{CallId}
 use Rattle.ckpt_types.specs.declared.open_flags.OpenFlags.{OpenFlags}
 use Rattle.ckpt_types.specs.declared.operation.Op.{Op}
+use Rattle.ckpt_types.specs.declared.update.Update.{Update}
+use Rattle.ckpt_types.specs.declared.update.Update.TheVariants as updates
 use Rattle.ckpt_types.specs.Attributes.{has_bad_open_flags}
 use Rattle.ckpt_types.specs.Limits.{client_numbers}
 use Rattle.section_iter.specs.Room.{room_declared}
@@ -23,7 +25,7 @@ use Rattle.cluster_record.specs.declared.calls.ActiveKind.{ActiveKind}
 use Rattle.cluster_record.specs.declared.calls.ActiveKind.TheVariants as kinds
 use Rattle.cluster_record.specs.declared.clients.LiveClient.{LiveClient}
 use Rattle.cluster_record.specs.declared.entries.Entry.{Entry}
-use Rattle.cluster_record.specs.Calls.{number_of, IsClient}
+use Rattle.cluster_record.specs.Calls.{number_of, IsClient, same_call}
 use Rattle.cluster_record.specs.LookUps.{node_of_client, declared_in}
 use Rattle.cluster_record.specs.Places.{find_key}
 use Rattle.cluster_record.specs.RecordState.{entry_of, client_key, is_live, is_live_client, is_up}
@@ -35,20 +37,22 @@ use Rattle.ckpt_machine.specs.Drivers as drivers
 use Rattle.cluster_record.specs.DueActive.{active_begun}
 use Rattle.cluster_record.specs.DueOnce as once
 use Rattle.cluster_record.specs.DueUpdate.{update_begun}
-use Rattle.ckpt_machine.specs.Driving.{Kept, driver_start, active_start, deadline_from, change_start}
+use Rattle.ckpt_machine.specs.Driving.{Kept, driver_start, active_start, deadline_from, kind_of_change, change_start}
 use Rattle.ckpt_machine.specs.Entries.{WasMade}
-use Rattle.ckpt_machine.specs.InHand.{AreGoodAttributes, active_kind, is_enter, IsInPlace, change_kind}
-use Rattle.ckpt_machine.specs.Invariant.{IsGoodClient, InvariantIn, Invariant}
+use Rattle.ckpt_machine.specs.InHand.{AreGoodAttributes, active_kind, is_enter, is_marked_by, MarksFit, IsInPlace, change_kind}
+use Rattle.weak_marks.specs.Marks.{Marked}
+use Rattle.ckpt_machine.specs.Invariant.{IsGoodClient, IsGoodIn, InvariantIn, Invariant}
 use Rattle.ckpt_machine.specs.Machine.{Machine, CallState}
-use Rattle.ckpt_machine.specs.Steps.{IsBegun, IsDriven, MayBegin, asked_handle, kept_at_beginning, room_in, begun, begun_call, call_begun, started_call, driver_of, all_at}
+use Rattle.ckpt_machine.specs.Steps.{IsBegun, IsDriven, MayBegin, asked_handle, kept_at_beginning, room_in, begun, begun_call, call_begun, started_call, driver_of}
 use Rattle.ckpt_machine.specs.Tables.{handle_asked, ckpt_of_handle, choice_of, ended_at_once}
-use Rattle.ckpt_machine.specs.Shape.{Shape}
+use Rattle.ckpt_machine.specs.Shape.{Shape, IsSpread}
+use Rattle.ckpt_machine.proofs.Actors.{same_call-true}
 use Rattle.ckpt_machine.proofs.Begun.{begun_live, begun_keeps, update_begins}
 use Rattle.ckpt_machine.proofs.ClientTables.{same_tables}
 use Rattle.ckpt_machine.proofs.EndedTables.{client_by_number, ended_at_once_keeps}
 use Rattle.ckpt_machine.proofs.ReplicaSteps.{put_actor-here}
 use Rattle.ckpt_machine.proofs.Starting.{if_live-None, on_handle-None, iteration_answers, goes_on_begun, driven_begun}
-use Rattle.ckpt_machine.specs.Options.{is_all, is_all_in}
+use Rattle.ckpt_machine.specs.Options.{is_all, is_weak, if_declared}
 
 -- ---- what a beginning that goes on has passed
 
@@ -124,10 +128,17 @@ kept_room : (o : Option Entry) → IfSome o (λ e. room_in (declared_in o) ≡ r
 kept_room None = tt
 kept_room (Some e) = refl
 
--- and so it keeps whether updates are on all replicas
-kept_is_all : (o : Option Entry) → IfSome o (λ e. is_all_in (declared_in o) ≡ is_all e.attributes)
-kept_is_all None = tt
-kept_is_all (Some e) = refl
+-- and so it keeps what else that declares
+kept_declares : (is : CreationAttributes → Bool) (o : Option Entry) → IfSome o (λ e. if_declared is (declared_in o) ≡ is e.attributes)
+kept_declares is None = tt
+kept_declares is (Some e) = refl
+
+-- a weak write that begins has no marks, and as many elements as a vector may have
+change_fits : (weak : Bool) (update : Update) → update_is_bad update ≡ false → MarksFit (kind_of_change weak update) None
+change_fits true (updates.Write elements) good = ltb-false 64 (length elements) (or_parts (length elements == 0) _ good).1
+change_fits true update good = tt
+change_fits false (updates.Write elements) good = tt
+change_fits false update good = tt
 
 -- a client's number is below 100
 client_within : (a : ActorName) → IsClient a → number_of a < client_numbers
@@ -179,30 +190,49 @@ module _ (m : Machine) (shapes : ℕ → Shape) (inv : InvariantIn shapes m) (ca
   if_goes : (o : Option Outcome) → if_live (is_live_client c m.cluster) o ≡ None → (is_live m.cluster call ≡ true) × (o ≡ None)
   if_goes o goes = let (live, rest) = if_live-None (is_live_client c m.cluster) o goes in (live_then live, rest)
 
+  -- nobody has marks under its name yet
+  has_no_marks : (k : ℕ) (e : Entry) → entry_of k m.cluster.entries ≡ Some e → e.making ≡ None → is_marked_by call (shapes k).marks ≡ false
+  has_no_marks k e found none = by_marks (shapes k).marks refl
+    where
+      by_marks : (o : Option Marked) → (shapes k).marks ≡ o → is_marked_by call o ≡ false
+      by_marks None stand = refl
+      by_marks (Some marks) stand = by_test (same_call marks.call call) refl
+        where
+          by_test : (b : Bool) → same_call marks.call call ≡ b → same_call marks.call call ≡ false
+          by_test false is_not = is_not
+          by_test true same =
+              let good : IsSpread m k (shapes k) e = subst (IsGoodIn m k (shapes k) e) none (inv.entries k e found) in
+              let own = good.marked marks stand in
+              absurd (let w : None ≡ Some own.state = sym idle ∙ ap (λ (c : CallId). m.in_hand c.actor) (sym (same_call-true marks.call call same)) ∙ own.in_hand in cc w)
+
   -- a call to the active on a handle that is there
-  starts_on : (op : Op) (ask : Ask) (kind : ActiveKind) (x : HandleView) → asked op ≡ ask → asked_handle m call.actor op ≡ Some x → is_live m.cluster call ≡ true → driver_start call ask (kept_with (Some x)) ≡ active_start call kind (Some x.id) → active_kind (all_at m.cluster (Some x.id)) ask ≡ Some kind → Starts op ask (Some x)
-  starts_on op ask kind x asks named live begins is = record {
+  starts_on : (op : Op) (ask : Ask) (kind : ActiveKind) (x : HandleView) → asked op ≡ ask → asked_handle m call.actor op ≡ Some x → is_live m.cluster call ≡ true → driver_start call ask (kept_with (Some x)) ≡ active_start call kind (Some x.id) → active_kind (kept_with (Some x)).all (kept_with (Some x)).weak ask ≡ Some kind → MarksFit kind None → Starts op ask (Some x)
+  starts_on op ask kind x asks named live begins is fit = record {
     driver = drivers.Active (active_begun call x.id kind);
     driven = begins;
     at = record {
       call = refl;
-      kind = ap (active_kind (all_at m.cluster (Some x.id))) asks ∙ is;
+      kind = ap (active_kind (kept_with (Some x)).all (kept_with (Some x)).weak) asks ∙ is;
+      fit = fit;
       made = asked_made op x named;
       kept = refl;
       room = kept_room (entry_of x.id m.cluster.entries);
-      all = kept_is_all (entry_of x.id m.cluster.entries);
+      all = kept_declares is_all (entry_of x.id m.cluster.entries);
+      weak = kept_declares is_weak (entry_of x.id m.cluster.entries);
       handle = subst (λ (o : Option HandleView). IsSome o) (sym named) refl;
+      marks = λ e found. has_no_marks x.id e found (subst (λ o. IfSome o (λ (e : Entry). e.making ≡ None)) found (asked_made op x named).made);
+      generation = λ e found. tt;
     };
     live = λ others. live;
   }
 
   -- on a handle
-  starts_active : (op : Op) (ask : Ask) (kind : ActiveKind) (h : Option HandleView) (bad : Bool) (may : OpenFlags → Bool) → GoesOn op ask h → ((o : Option HandleView) → driver_start call ask (kept_with o) ≡ active_start call kind (ckpt_of_handle o)) → ((all : Bool) → active_kind all ask ≡ Some kind) → if_live (is_live_client c m.cluster) (on_handle h bad may) ≡ None → Starts op ask h
-  starts_active op ask kind h bad may on begins is goes =
+  starts_active : (op : Op) (ask : Ask) (kind : ActiveKind) (h : Option HandleView) (bad : Bool) (may : OpenFlags → Bool) → GoesOn op ask h → ((o : Option HandleView) → driver_start call ask (kept_with o) ≡ active_start call kind (ckpt_of_handle o)) → ((all weak : Bool) → active_kind all weak ask ≡ Some kind) → MarksFit kind None → if_live (is_live_client c m.cluster) (on_handle h bad may) ≡ None → Starts op ask h
+  starts_active op ask kind h bad may on begins is fit goes =
       let (live, rest) = if_goes (on_handle h bad may) goes in
       let (x, there) = on_handle-None h bad may rest in
       let named : asked_handle m call.actor op ≡ Some x = on.named ∙ there in
-      subst (Starts op ask) (sym there) (starts_on op ask kind x on.is named live (begins (Some x)) (is (all_at m.cluster (Some x.id))))
+      subst (Starts op ask) (sym there) (starts_on op ask kind x on.is named live (begins (Some x)) (is (kept_with (Some x)).all (kept_with (Some x)).weak) fit)
 
   -- each operation that goes on
   starts : (op : Op) (ask : Ask) (h : Option HandleView) → GoesOn op ask h → IsBuiltAsk ask → Starts op ask h
@@ -230,20 +260,23 @@ module _ (m : Machine) (shapes : ℕ → Shape) (inv : InvariantIn shapes m) (ca
   starts op (asks.Change place update) h on built =
       let (live, rest) = if_goes (on_handle h (update_is_bad update) may_write) on.goes in
       let (x, there) = on_handle-None h _ _ rest in
-      subst (Starts op (asks.Change place update)) (sym there) (by_all x (on.named ∙ there) live (all_at m.cluster (Some x.id)) refl)
+      subst (Starts op (asks.Change place update)) (sym there) (by_all x (on.named ∙ there) live (kept_with (Some x)).all refl)
     where
-      by_all : (x : HandleView) → asked_handle m call.actor op ≡ Some x → is_live m.cluster call ≡ true → (all : Bool) → all_at m.cluster (Some x.id) ≡ all → Starts op (asks.Change place update) (Some x)
+      few : (weak : Bool) → MarksFit (kind_of_change weak update) None
+      few weak = change_fits weak update (on_handle-good h (update_is_bad update) may_write (if_goes (on_handle h (update_is_bad update) may_write) on.goes).1)
+
+      by_all : (x : HandleView) → asked_handle m call.actor op ≡ Some x → is_live m.cluster call ≡ true → (all : Bool) → (kept_with (Some x)).all ≡ all → Starts op (asks.Change place update) (Some x)
       by_all x named live true all = record {
         driver = drivers.Update (update_begun call x.id);
-        driven = ap (λ b. change_start call b (Some x.id)) all;
+        driven = ap (λ b. change_start call b (kind_of_change (kept_with (Some x)).weak update) (Some x.id)) all;
         at = update_begins m shapes inv call idle c op x place update on.is (asked_made op x named) all;
         live = λ others. live;
       }
-      by_all x named live false none = starts_on op (asks.Change place update) kinds.Apply x on.is named live (ap (λ b. change_start call b (Some x.id)) none) (ap change_kind none)
-  starts op (asks.Read place elements) h on built = starts_active op (asks.Read place elements) kinds.Read h _ _ on (λ o. refl) (λ all. refl) on.goes
-  starts op (asks.Status place) h on built = starts_active op (asks.Status place) kinds.Status h _ _ on (λ o. refl) (λ all. refl) on.goes
-  starts op (asks.Iterate iteration place chosen time) h on built = starts_active op (asks.Iterate iteration place chosen time) (kinds.Iterate (choice_of chosen time)) h _ _ on (λ o. refl) (λ all. refl) on.goes
-  starts op (asks.Next iteration) h on built = starts_active op (asks.Next iteration) kinds.Next h _ _ on (λ o. refl) (λ all. refl) on.goes
+      by_all x named live false none = starts_on op (asks.Change place update) (kind_of_change (kept_with (Some x)).weak update) x on.is named live (ap (λ b. change_start call b (kind_of_change (kept_with (Some x)).weak update) (Some x.id)) none) (ap (λ b. change_kind b (kind_of_change (kept_with (Some x)).weak update)) none) (few (kept_with (Some x)).weak)
+  starts op (asks.Read place elements) h on built = starts_active op (asks.Read place elements) kinds.Read h _ _ on (λ o. refl) (λ all weak. refl) tt on.goes
+  starts op (asks.Status place) h on built = starts_active op (asks.Status place) kinds.Status h _ _ on (λ o. refl) (λ all weak. refl) tt on.goes
+  starts op (asks.Iterate iteration place chosen time) h on built = starts_active op (asks.Iterate iteration place chosen time) (kinds.Iterate (choice_of chosen time)) h _ _ on (λ o. refl) (λ all weak. refl) tt on.goes
+  starts op (asks.Next iteration) h on built = starts_active op (asks.Next iteration) kinds.Next h _ _ on (λ o. refl) (λ all weak. refl) tt on.goes
   starts op (asks.EndIteration iteration) h on built = absurd (iteration_answers h (if_live-None (is_live_client c m.cluster) _ on.goes).1)
   starts op (asks.Close place) h on built =
       let (live, rest) = if_goes (on_handle h false may_always) on.goes in

@@ -22,14 +22,14 @@ use Rattle.ckpt_machine.specs.Entries.{WasMade}
 use Rattle.ckpt_machine.specs.InHand.{is_enter, IsInPlace, IsUpdateIn}
 use Rattle.ckpt_machine.specs.Invariant.{IsGoodClient, IsGoodIn, InvariantIn}
 use Rattle.ckpt_machine.specs.Machine.{Machine, CallState}
-use Rattle.ckpt_machine.specs.Steps.{driver_of, IsDriven, started_call, kept_at_beginning, all_at}
+use Rattle.ckpt_machine.specs.Steps.{driver_of, IsDriven, started_call, kept_at_beginning, declares_at}
 use Rattle.ckpt_machine.specs.Shape.{Shape, is_owner, IsSpread}
 use Rattle.ckpt_machine.proofs.NodeLists.{has-none, slice_index-replicate}
 use Rattle.ckpt_machine.proofs.ReplicaSteps.{put_actor-cases, put_actor-other, held_by_other}
 use Rattle.ckpt_machine.proofs.OtherCalls.{IsIn-apart, IsGoodIn-apart}
 use Rattle.ckpt_machine.proofs.Owning.{is_owner-true}
 use Rattle.ckpt_machine.proofs.Actors.{same_actor-true, same_actor-refl}
-use Rattle.ckpt_machine.specs.Options.{is_all, is_all_in}
+use Rattle.ckpt_machine.specs.Options.{is_all, if_declared}
 use Rattle.cluster_record.specs.LookUps.{declared_in}
 
 -- ---- a client that is live, and its calls
@@ -71,7 +71,7 @@ module _ (m : Machine) (shapes : ℕ → Shape) (inv : InvariantIn shapes m) (ca
     rises = inv.rises;
     up_to = inv.up_to;
     swept = inv.swept;
-    entries = λ k e found. IsGoodIn-apart m shapes (then_machine o).next (then_machine o).in_hand (λ k sh d own. put_actor-other m.in_hand call.actor o d.actor (held_other d.actor own.state own.in_hand)) (λ k d maker. put_actor-other m.in_hand call.actor o d.actor (held_other d.actor maker.state maker.in_hand))
+    entries = λ k e found. IsGoodIn-apart m shapes (then_machine o).next (then_machine o).in_hand (λ k sh d own. put_actor-other m.in_hand call.actor o d.actor (held_other d.actor own.state own.in_hand)) (λ k marks own. put_actor-other m.in_hand call.actor o marks.call.actor (held_other marks.call.actor own.state own.in_hand)) (λ k d maker. put_actor-other m.in_hand call.actor o d.actor (held_other d.actor maker.state maker.in_hand))
         k (shapes k) e e.making (inv.entries k e found);
     handles = inv.handles;
     rest = inv.rest;
@@ -110,12 +110,12 @@ module _ (m : Machine) (shapes : ℕ → Shape) (inv : InvariantIn shapes m) (ca
           let own = good.owned r call (is_owner-true call ((shapes k).owners r) owns) in
           absurd (let w : None ≡ Some own.state = sym idle ∙ own.in_hand in cc w)
 
-  all_there : (o : Option Entry) → is_all_in (declared_in o) ≡ true → IfSome o (λ e. is_all e.attributes ≡ true)
+  all_there : (o : Option Entry) → if_declared is_all (declared_in o) ≡ true → IfSome o (λ e. is_all e.attributes ≡ true)
   all_there None all = tt
   all_there (Some e) all = all
 
   -- it is where an update begins
-  pub update_begins : (c : ℕ) (op : Op) (h : HandleView) (place : ℕ) (update : Update) → asked op ≡ asks.Change place update → WasMade m.cluster h.id → all_at m.cluster (Some h.id) ≡ true
+  pub update_begins : (c : ℕ) (op : Op) (h : HandleView) (place : ℕ) (update : Update) → asked op ≡ asks.Change place update → WasMade m.cluster h.id → declares_at is_all m.cluster (Some h.id) ≡ true
       → IsUpdateIn m shapes (started_call call op (kept_at_beginning m.cluster c (Some h)) (drivers.Update (update_begun call h.id))) (update_begun call h.id)
   update_begins c op h place update is made all = record {
     call = refl;

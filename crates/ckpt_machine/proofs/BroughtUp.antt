@@ -25,8 +25,9 @@ module _ (m : Machine) (shapes : ℕ → Shape) (inv : InvariantIn shapes m) (n 
     tables = refl;
     making = λ o at. none_up o.ask.node at.node;
     made = λ k was. was;
-    later = λ k was e found. (e, found, refl, refl);
+    later = λ k was e found. (e, found, refl, refl, refl);
     owners = λ k was r. refl;
+    marks = λ k was. refl;
   }
 
   pub nodes_keep : InvariantIn shapes then_machine
@@ -36,7 +37,7 @@ module _ (m : Machine) (shapes : ℕ → Shape) (inv : InvariantIn shapes m) (n 
     rises = inv.rises;
     up_to = inv.up_to;
     swept = inv.swept;
-    entries = λ k e found. IsGoodIn-alike m then_machine k (shapes k) e e (IsLaterEntry-refl e) (λ r there. refl) (λ d own. refl) (λ d own. refl) e.making (inv.entries k e found);
+    entries = λ k e found. IsGoodIn-alike m then_machine k (shapes k) e e (IsLaterEntry-refl e) (λ r there. refl) (λ d own. refl) (λ marks own. refl) (λ d own. refl) e.making (inv.entries k e found);
     handles = inv.handles;
     rest = inv.rest;
     clients = λ c. subst (λ clients. IfSome (find_key client_key c clients) (IsGoodClient m.next (brought_up n m.cluster) c)) (sym (inv.none_live none)) tt;

@@ -2,13 +2,13 @@
 use Rattle.cluster_record.specs.declared.calls.ActiveKind.{ActiveKind}
 use Rattle.cluster_record.specs.declared.calls.ActiveKind.TheVariants as kinds
 use Rattle.ckpt_machine.specs.Drivers.{Rooms}
-use Rattle.std.proofs.Common.{◌≡◌, ℕ, List, [], ◌∷◌, Bool, true, false, refl, subst, ◌∙◌}
+use Rattle.std.proofs.Common.{◌≡◌, ℕ, List, [], ◌∷◌, Bool, true, false, cond, ◌==◌, refl, subst, ◌∙◌}
 use Rattle.std.specs.Prelude.{Option, Some, None, IfSome}
 use Rattle.ckpt_types.specs.declared.identities.CallId.{CallId}
 use Rattle.ckpt_types.specs.Asks.{Ask, asked}
 use Rattle.ckpt_types.specs.Asks as asks
 use Rattle.node_msgs.specs.declared.requests.Request.{Request}
-use Rattle.node_msgs.specs.declared.requests.Request.TheVariants.{Stage, Commit}
+use Rattle.node_msgs.specs.declared.requests.Request.TheVariants.{Stage, Commit, Mark, Element, Unmark}
 use Rattle.node_msgs.specs.declared.next.Next.{Next}
 use Rattle.node_msgs.specs.declared.next.Next.TheVariants.{Serve, Event, End}
 use Rattle.node_msgs.specs.declared.steps.Verb.{Verb}
@@ -20,9 +20,10 @@ use Rattle.ckpt_machine.specs.Drivers as drivers
 use Rattle.cluster_record.specs.DueUpdate.{UpdateState}
 use Rattle.cluster_record.specs.RecordState.{RecordState}
 use Rattle.cluster_record.specs.StepDone.{StepDone}
-use Rattle.ckpt_machine.specs.Driving.{Kept, on_kept, driver_start, driver_state, driver_taken, driver_next, change_start}
+use Rattle.ckpt_machine.specs.Driving.{Kept, on_kept, driver_start, driver_state, driver_taken, driver_next, change_start, kind_of_change}
 use Rattle.cluster_record.specs.DueUpdate.{update_taken_by}
-use Rattle.cluster_record.specs.DueActive.{request_by}
+use Rattle.cluster_record.specs.DueActive.{weak_request, request_by, active_request}
+use Rattle.cluster_record.specs.declared.calls.MarksMade.{MarksMade}
 use Rattle.ckpt_machine.specs.Machine.{CallState}
 use Rattle.ckpt_machine.specs.Steps.{IsDriven, driver_of}
 use Rattle.ckpt_machine.proofs.NextOf.{OfAsked, next_of}
@@ -31,6 +32,9 @@ use Rattle.ckpt_machine.proofs.NextOf.{OfAsked, next_of}
 abbrev pub IsOwn : CallId → Request → Type 0
 IsOwn c (Stage call k t) = call ≡ c
 IsOwn c (Commit call k) = call ≡ c
+IsOwn c (Mark call k) = call ≡ c
+IsOwn c (Element call k) = call ≡ c
+IsOwn c (Unmark call k) = call ≡ c
 IsOwn c request = Unit {0}
 
 -- what is next is asked in the call's own name
@@ -39,9 +43,10 @@ Asks c (Serve r request) = IsOwn c request
 Asks c (Event step) = Unit {0}
 Asks c (End o) = Unit {0}
 
--- a driver of an update is the call's
+-- a driver of an update, or of a call to the active, is the call's
 abbrev Of : CallId → Driver → Type 0
 Of c (drivers.Update u) = u.call ≡ c
+Of c (drivers.Active a) = a.call ≡ c
 Of c driver = Unit {0}
 
 taken_call : (d : StepDone) (u : UpdateState) (verb : Verb) (reply : StepReply) → (update_taken_by (record d { reply = reply }) u verb).call ≡ u.call
@@ -58,19 +63,20 @@ of_kept c (Some k) start h = h k
 of_start : (call : CallId) (ask : Ask) (kept : Kept) → IfSome (driver_start call ask kept) (Of call)
 of_start call (asks.Change place update) kept = by_all kept.all
   where
-    by_all : (all : Bool) → IfSome (change_start call all kept.ckpt) (Of call)
+    by_all : (all : Bool) → IfSome (change_start call all (kind_of_change kept.weak update) kept.ckpt) (Of call)
     by_all true = of_kept call kept.ckpt _ (λ k. refl)
-    by_all false = of_kept call kept.ckpt _ (λ k. tt)
-of_start call (asks.Read place elements) kept = of_kept call kept.ckpt _ (λ k. tt)
-of_start call (asks.Status place) kept = of_kept call kept.ckpt _ (λ k. tt)
-of_start call (asks.Iterate iteration place chosen time) kept = of_kept call kept.ckpt _ (λ k. tt)
-of_start call (asks.Next iteration) kept = of_kept call kept.ckpt _ (λ k. tt)
+    by_all false = of_kept call kept.ckpt _ (λ k. refl)
+of_start call (asks.Read place elements) kept = of_kept call kept.ckpt _ (λ k. refl)
+of_start call (asks.Status place) kept = of_kept call kept.ckpt _ (λ k. refl)
+of_start call (asks.Iterate iteration place chosen time) kept = of_kept call kept.ckpt _ (λ k. refl)
+of_start call (asks.Next iteration) kept = of_kept call kept.ckpt _ (λ k. refl)
 of_start call (asks.Close place) kept = of_kept call kept.ckpt _ (λ k. tt)
 of_start call (asks.Retain place duration) kept = of_kept call kept.ckpt _ (λ k. tt)
 of_start call ask kept = tt
 
 of_taken : (call : CallId) (d : StepDone) (x : Driver) → Of call x → Of call (driver_taken d x)
 of_taken call d (drivers.Update u) h = taken_call d u d.verb d.reply ∙ h
+of_taken call d (drivers.Active a) h = h
 of_taken call d x h = tt
 
 of_steps : (call : CallId) (begun : Driver) (steps : List StepDone) → Of call begun → Of call (driver_state begun steps)
@@ -81,17 +87,26 @@ of_steps call begun (d ∷ steps) h = of_taken call d (driver_state begun steps)
 of_state : (s : CallState) → IsDriven s → Of s.call (driver_of s)
 of_state s driven = of_steps s.call s.begun s.steps (subst (λ o. IfSome o (Of s.call)) driven (of_start s.call (asked s.op) s.kept))
 
-own_kind : (c call : CallId) (k : ℕ) (kind : ActiveKind) → IsOwn c (request_by call k kind)
-own_kind c call k kinds.Apply = tt
-own_kind c call k (kinds.Weak n) = tt
-own_kind c call k kinds.Read = tt
-own_kind c call k kinds.Status = tt
-own_kind c call k (kinds.Iterate choice) = tt
-own_kind c call k kinds.Next = tt
+-- a call to the active is its own too: a weak write meets its own marks
+own_weak : (call : CallId) (k : ℕ) (marks : Option MarksMade) → IsOwn call (weak_request call k marks)
+own_weak call k None = refl
+own_weak call k (Some marks) = by_left (marks.left == 0)
+  where
+    by_left : (b : Bool) → IsOwn call (cond b (Unmark call k) (Element call k))
+    by_left true = refl
+    by_left false = refl
+
+own_kind : (call : CallId) (k : ℕ) (kind : ActiveKind) (marks : Option MarksMade) → IsOwn call (request_by call k kind marks)
+own_kind call k kinds.Apply marks = tt
+own_kind call k (kinds.Weak n) marks = own_weak call k marks
+own_kind call k kinds.Read marks = tt
+own_kind call k kinds.Status marks = tt
+own_kind call k (kinds.Iterate choice) marks = tt
+own_kind call k kinds.Next marks = tt
 
 own_asked : (c : CallId) (x : Driver) → Of c x → OfAsked (Asks c) x
 own_asked c (drivers.Update u) is = (λ r t. is, λ r. is)
-own_asked c (drivers.Active a) is = λ r. own_kind c a.call a.ckpt a.kind
+own_asked c (drivers.Active a) is = λ r. subst (λ d. IsOwn d (active_request a)) is (own_kind a.call a.ckpt a.kind a.marks)
 own_asked c x is = tt
 
 -- what a call asks a node, it asks as itself

@@ -31,7 +31,7 @@ use Rattle.ckpt_machine.specs.Shape.{Shape, IsCompleteOn, IsShaped, is_owner, Is
 use Rattle.ckpt_machine.specs.InHand.{is_enter, IsInPlace, IsUpdateIn, IsInHand, OwnsIn, HasSome}
 use Rattle.ckpt_machine.specs.Invariant.{InvariantIn, Invariant}
 use Rattle.ckpt_machine.proofs.NodeLists.{elsewhere-is, last_having-None, index-set, index-other, length-slice_set, index-within, had-there, has-none}
-use Rattle.ckpt_machine.proofs.ReplicaSteps.{put_actor-here, one_changed, step_keeps}
+use Rattle.ckpt_machine.proofs.ReplicaSteps.{IsMarker-other, put_actor-here, one_changed, step_keeps}
 use Rattle.ckpt_machine.proofs.Owning.{is_owner-true, is_owner-here, owner_alone, at, made, on_all, all_is}
 use Rattle.ckpt_machine.proofs.OnAll.{shaped_replicas, by_shape}
 use Rattle.ckpt_machine.proofs.Stage.{IfSome-more, on_complete}
@@ -238,11 +238,12 @@ module _ (m : Machine) (shapes : ℕ → Shape) (inv : InvariantIn shapes m) (s 
     nodes = spread.nodes;
     some = spread.some;
     active = spread.active;
-    replicas = λ q there. by_shape e (all_is m shapes inv s u held is e found) committed (committed.owners q) ((then_machine o).replicas u.ckpt q) (replicas_then o q there);
+    replicas = λ q there. by_shape e (all_is m shapes inv s u held is e found) committed q ((then_machine o).replicas u.ckpt q) (replicas_then o q there);
     fits = λ q d owns. spread.fits q d (owners_left q d owns).1;
     complete = λ q d owns. spread.complete q d (owners_left q d owns).1;
     lowest = lowest_then;
     owned = owned;
+    marked = λ marks is_some. IsMarker-other m shapes inv s u held is (put2 m.replicas u.ckpt r (Some with_commit)) o u.ckpt marks (spread.marked marks is_some);
   }
 
   keeps_then : (call : CallId) (q : ℕ) → same_actor call.actor s.call.actor ≡ false → is_owner call (committed.owners q) ≡ is_owner call (z.owners q)
@@ -255,7 +256,7 @@ module _ (m : Machine) (shapes : ℕ → Shape) (inv : InvariantIn shapes m) (s 
       → ((w : CallState) → o ≡ Some w → IsInHand (then_machine o) (put shapes u.ckpt committed) s.call.actor w) → Invariant (then_machine o)
   keeps_all o owned hand = record {
     shapes = put shapes u.ckpt committed;
-    holds = step_keeps m shapes inv s u held is (put2 m.replicas u.ckpt r (Some with_commit)) o committed (one_changed m shapes inv s u held is with_commit r) keeps_then
+    holds = step_keeps m shapes inv s u held is (put2 m.replicas u.ckpt r (Some with_commit)) o committed (one_changed m shapes inv s u held is with_commit r) (refl, keeps_then)
         (λ f there none. subst (IsSpread (then_machine o) u.ckpt committed) (same_Some e f (sym found ∙ there)) (spread_then o owned)) hand (made m shapes inv s u held is);
   }
 

@@ -16,6 +16,7 @@ use Rattle.section_iter.specs.KeptIds.{KeptIds}
 use Rattle.section_iter.specs.declared.room.Room.{Room}
 use Rattle.client_handles.specs.ClientState.{ClientState, emptied}
 use Rattle.client_handles.specs.declared.handle_view.HandleView.{HandleView}
+use Rattle.weak_marks.specs.Marks.{Marked}
 use Rattle.node_msgs.specs.declared.steps.Verb.{Verb}
 use Rattle.node_msgs.specs.declared.steps.Verb.TheVariants as verbs
 use Rattle.node_msgs.specs.declared.steps.StepReply.{StepReply}
@@ -35,10 +36,11 @@ use Rattle.ckpt_machine.specs.Machine.{Machine, Applied, ReplicaState, Staged, C
 use Rattle.ckpt_machine.specs.Laws.{CountsUp}
 use Rattle.ckpt_machine.specs.Runs.{Counts}
 use Rattle.ckpt_machine.specs.Steps.{given_at, chosen_at}
-use Rattle.ckpt_machine.specs.Steps.{with_record, record_step, with_tables, with_given, with_started, with_gone_on, ids_asked, seen_at, created_for, retained_for, change_replica, with_committed, committed_slot, with_applied, effect_of, begun, begun_call, changed, step_of, on_ok, on_look, without_making, at_some, replica_under, opened_state}
+use Rattle.ckpt_machine.specs.Steps.{with_record, record_step, with_tables, with_given, with_started, with_gone_on, ids_asked, seen_at, created_for, retained_for, change_replica, with_committed, committed_slot, with_applied, with_marks, without_marks, marks_ended, effect_of, begun, begun_call, changed, step_of, on_ok, on_look, without_making, at_some, replica_under, opened_state}
 use Rattle.ckpt_machine.specs.Tables.{handle_given, with_iteration, started, with_next, gone_on, closing, ended_at_once}
 use Rattle.ckpt_machine.proofs.References.{released-identity, released_all-identity}
 use Rattle.ckpt_machine.proofs.Entries.{ComesOf, ComesOf-filter, ComesOf-change_key, ComesOf-map}
+use Rattle.ckpt_machine.proofs.Follows.{element_effects}
 use Rattle.ckpt_machine.proofs.NodeLists.{slice_index-replicate}
 
 -- ---- what counts up
@@ -335,6 +337,14 @@ applied_few : (e : Option Entry) (call : CallId) (update : Update) (t : ℤ) (x 
 applied_few None call update t x = omega arith
 applied_few (Some e) call update t x = let a = length_push x.effects (Applied call update t) in omega (arith, a)
 
+-- and so does the end of a weak write, whose elements take none
+unmarked_few : (x : ReplicaState) → length (without_marks x).effects ≤ length x.effects + 1
+unmarked_few x = by_marks x.marks
+  where
+    by_marks : (o : Option Marked) → length (marks_ended x o).effects ≤ length x.effects + 1
+    by_marks None = omega arith
+    by_marks (Some marked) = let a = length_push x.effects (Applied marked.call marked.update marked.moment) in omega (arith, a)
+
 -- a step counts up by at most one
 module _ (m : Machine) (n : ℕ) (rises : IdentitiesRise m.cluster.entries) (up_to : AllUpTo m.cluster.last_identity m.cluster.entries) (counts : Counts m n) (s : CallState) where
   -- one entry is changed
@@ -375,6 +385,9 @@ module _ (m : Machine) (n : ℕ) (rises : IdentitiesRise m.cluster.entries) (up_
   changed_counts verbs.Stage k r reply = ok_on m n counts reply _ (both_on m n counts k r _ (λ k r. replica_on m n counts k r (m.replicas k r) refl _ (λ x. omega arith)))
   changed_counts verbs.Commit k r reply = ok_on m n counts reply _ (both_on m n counts k r _ (λ k r. replica_on m n counts k r (m.replicas k r) refl _ (committed_few (entry_of k m.cluster.entries))))
   changed_counts verbs.Apply k r reply = ok_on m n counts reply _ (both_on m n counts k r _ (λ k r. replica_on m n counts k r (m.replicas k r) refl _ (applied_few (entry_of k m.cluster.entries) s.call (update_of s.op) m.cluster.moment)))
+  changed_counts verbs.Mark k r reply = ok_on m n counts reply _ (both_on m n counts k r _ (λ k r. replica_on m n counts k r (m.replicas k r) refl (with_marks s.call (update_of s.op) m.cluster.moment) (λ x. omega arith)))
+  changed_counts verbs.Element k r reply = ok_on m n counts reply _ (both_on m n counts k r _ (λ k r. replica_on m n counts k r (m.replicas k r) refl _ (λ x. let same = ap length (element_effects (entry_of k m.cluster.entries) x) in omega (arith, same))))
+  changed_counts verbs.Unmark k r reply = ok_on m n counts reply _ (both_on m n counts k r _ (λ k r. replica_on m n counts k r (m.replicas k r) refl _ unmarked_few))
   changed_counts verbs.Iter k r reply = ok_on m n counts reply _ (both_on m n counts k r _ started_counts)
   changed_counts verbs.Next k r reply = ok_on m n counts reply _ (both_on m n counts k r _ gone_on_counts)
   changed_counts verbs.Look k r reply =

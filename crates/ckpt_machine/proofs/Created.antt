@@ -25,7 +25,7 @@ use Rattle.ckpt_machine.proofs.EntryLists.{entry_of-given, find_key-push, AllSta
 use Rattle.ckpt_machine.proofs.OtherCalls.{LooksAlike, making_still, IsInHand-alike, IsGoodIn-alike, IsLaterEntry-refl}
 use Rattle.ckpt_machine.proofs.OptionLemmas.{IsSomeAnd-at, IsSomeAnd-from}
 use Rattle.ckpt_machine.proofs.ReplicaSteps.{put_actor-cases, put_actor-here, put_actor-other}
-use Rattle.ckpt_machine.proofs.PlainCalls.{is_plain, owner_apart, maker_apart}
+use Rattle.ckpt_machine.proofs.PlainCalls.{is_plain, owner_apart, marker_apart, maker_apart}
 
 module _ (m : Machine) (shapes : ℕ → Shape) (inv : InvariantIn shapes m) (s : CallState) (held : m.in_hand s.call.actor ≡ Some s) (plain : is_plain (driver_of s) ≡ true) (name : List ℕ) (a : CreationAttributes) (good : is_malformed a ≡ false)
     (w : CallState) (call_is : w.call ≡ s.call) (v : OpenState) (driver_is : driver_of w ≡ drivers.Open v) (making : Making) (makes : v.making ≡ Some making) (ckpt : making.ckpt ≡ m.cluster.last_identity + 1) where
@@ -98,7 +98,7 @@ module _ (m : Machine) (shapes : ℕ → Shape) (inv : InvariantIn shapes m) (s 
   -- a checkpoint that was there is as it was
   IsGoodIn-then : (j : ℕ) (sh : Shape) (e : Entry) (maker : Option CallId) → entry_of j m.cluster.entries ≡ Some e → IsGoodIn m j sh e maker → IsGoodIn then_machine j sh e maker
   IsGoodIn-then j sh e maker found was = IsGoodIn-alike m then_machine j sh e e (IsLaterEntry-refl e) (λ r there. replica_other j r e found there)
-      (λ d own. put_actor-other m.in_hand s.call.actor (Some w) d.actor (owner_apart m shapes inv s held plain j sh d own)) (λ d own. put_actor-other m.in_hand s.call.actor (Some w) d.actor (maker_apart m shapes inv s held plain j d own)) maker was
+      (λ d own. put_actor-other m.in_hand s.call.actor (Some w) d.actor (owner_apart m shapes inv s held plain j sh d own)) (λ marks own. put_actor-other m.in_hand s.call.actor (Some w) marks.call.actor (marker_apart m shapes inv s held plain j marks own)) (λ d own. put_actor-other m.in_hand s.call.actor (Some w) d.actor (maker_apart m shapes inv s held plain j d own)) maker was
 
   -- the new one is as it was created
   good_new : (sh : Shape) → IsGoodIn then_machine next sh new (Some s.call)
@@ -130,8 +130,9 @@ module _ (m : Machine) (shapes : ℕ → Shape) (inv : InvariantIn shapes m) (s 
       tables = refl;
       making = λ x at. making_still m then_machine z x making_then at;
       made = WasMade-then;
-      later = λ j was e found. (e, sym (entry_other j (given_apart j was.given)) ∙ found, refl, refl);
+      later = λ j was e found. (e, sym (entry_other j (given_apart j was.given)) ∙ found, refl, refl, refl);
       owners = λ j was r. refl;
+      marks = λ j was. refl;
     }
 
   -- ---- the whole

@@ -1,8 +1,8 @@
 -- No replica has two effects of one call, and none has an effect of the call whose update is staged on it.
-use Rattle.std.proofs.Common.{◌≡◌, ◌≢◌, ℕ, inl, inr, List, [], ◌∷◌, ◌++◌, Option, Some, None, false, ℤ, refl, sym, ap, subst, ◌∙◌}
+use Rattle.std.proofs.Common.{◌≡◌, ◌≢◌, ℕ, inl, inr, List, [], ◌∷◌, ◌++◌, Option, Some, None, false, refl, sym, ap, subst, ◌∙◌}
 use Rattle.std.proofs.lemmas.Option.{same_Some}
+use Rattle.ckpt_types.specs.declared.attributes.CreationAttributes.{CreationAttributes}
 use Rattle.ckpt_types.specs.declared.identities.CallId.{CallId}
-use Rattle.ckpt_types.specs.declared.update.Update.{Update}
 use Rattle.ckpt_types.specs.Asks.{update_of}
 use Rattle.node_msgs.specs.declared.steps.Verb.{Verb}
 use Rattle.node_msgs.specs.declared.steps.Verb.TheVariants as verbs
@@ -14,18 +14,17 @@ use Rattle.cluster_record.specs.RecordState.{entry_of}
 use Rattle.cluster_record.specs.StepDone.{first_lacking, last_having}
 use Rattle.ckpt_machine.specs.Drivers as drivers
 use Rattle.ckpt_machine.specs.Driving.{driver_next}
-use Rattle.ckpt_machine.specs.Invariant.{IsGoodIn, Invariant}
+use Rattle.ckpt_machine.specs.Invariant.{Invariant}
 use Rattle.ckpt_machine.specs.Machine.{Machine, Effect, Applied, Broken, Staged, ReplicaState, CallState}
 use Rattle.ckpt_machine.specs.Options.{is_all}
 use Rattle.ckpt_machine.specs.Owned.{IsEffectOf, HasEffect}
 use Rattle.ckpt_machine.specs.Replays.{call_of_effect, EachCallOnce}
 use Rattle.ckpt_machine.specs.Runs.{last, IsRun}
-use Rattle.ckpt_machine.specs.Shape.{IsCompleteOn, IsShapedBy}
-use Rattle.ckpt_machine.specs.Steps.{Told, IsDone, due, driver_of, rooms_of, with_committed, with_applied, committed_slot, effect_of, staged_moment}
-use Rattle.ckpt_machine.proofs.EachReplica.{StepsOn, made_where_complete, IsKept, run_each}
+use Rattle.ckpt_machine.specs.Shape.{IsShapedBy}
+use Rattle.ckpt_machine.specs.Steps.{Told, IsDone, due, driver_of, rooms_of, having_taken, committed_slot, marks_ended, effect_of, staged_moment}
+use Rattle.ckpt_machine.proofs.EachReplica.{StepsOn, shaped_there, IsKept, run_each}
 use Rattle.ckpt_machine.proofs.Follows.{IsBare, effect_more}
 use Rattle.ckpt_machine.proofs.Histories.{IsCommittingAt}
-use Rattle.ckpt_machine.proofs.OptionLemmas.{IsSomeAnd-at}
 
 -- ---- effects
 
@@ -57,18 +56,19 @@ pub record IsOnce (x : ReplicaState) : Type 0 where
   pub fresh : (slot : Staged) → x.slot ≡ Some slot → HasEffect slot.origin x.effects → ⊥
 
 -- behind a commit
-committed_once : (o : Option Entry) (x : ReplicaState) → IsOnce x → IsOnce (with_committed o x)
-committed_once None x once = once
-committed_once (Some e) x once = by_slot x.slot refl
+committed_once : (a : CreationAttributes) (x : ReplicaState) → IsOnce x → IsOnce (committed_slot a x x.slot)
+committed_once a x once = by_slot x.slot refl
   where
-    by_slot : (o : Option Staged) → x.slot ≡ o → IsOnce (committed_slot e.attributes x o)
+    by_slot : (o : Option Staged) → x.slot ≡ o → IsOnce (committed_slot a x o)
     by_slot None is = once
     by_slot (Some slot) is = record { each = once_more x.effects (effect_of slot) once.each (once.fresh slot is); fresh = λ other none. absurd (cc none) }
 
--- behind an update in one step, of a call of which it had no effect, where nothing is staged
-applied_once : (call : CallId) (update : Update) (t : ℤ) (o : Option Entry) (x : ReplicaState) → x.slot ≡ None → (HasEffect call x.effects → ⊥) → IsOnce x → IsOnce (with_applied call update t o x)
-applied_once call update t None x free none once = once
-applied_once call update t (Some e) x free none once = record { each = once_more x.effects (Applied call update t) once.each none; fresh = λ slot staged. absurd (let w : None ≡ Some slot = sym free ∙ staged in cc w) }
+-- with an effect more, of a call of which it had none, where nothing is staged
+one_more : (x y : ReplicaState) (new : Effect) → y.effects ≡ x.effects ++ new ∷ [] → y.slot ≡ None → (HasEffect (call_of_effect new) x.effects → ⊥) → IsOnce x → IsOnce y
+one_more x y new effects free none once = record {
+  each = subst EachCallOnce (sym effects) (once_more x.effects new once.each none);
+  fresh = λ slot staged. absurd (let w : None ≡ Some slot = sym free ∙ staged in cc w);
+}
 
 -- ---- a step of the call
 
@@ -101,13 +101,7 @@ none_yet m s verb k r x step no_commit no_look has =
 
 -- where updates are on the active alone, nothing is staged
 pub alone_free : (m : Machine) → Invariant m → IsBare m → (k r : ℕ) (x : ReplicaState) (e : Entry) → m.replicas k r ≡ Some x → entry_of k m.cluster.entries ≡ Some e → is_all e.attributes ≡ false → x.slot ≡ None
-alone_free m inv bare k r x e there found alone =
-    let (f, at, complete_f) = IsSomeAnd-at (entry_of k m.cluster.entries) (λ e. IsCompleteOn e r) (bare.complete k r x there) in
-    let complete : IsCompleteOn e r = subst (λ e. IsCompleteOn e r) (same_Some f e (sym at ∙ found)) complete_f in
-    let spread = subst (λ maker. IsGoodIn m k (inv.shapes k) e maker) (made_where_complete m inv k r e found complete) (inv.holds.entries k e found) in
-    let (y, is, shaped) = IsSomeAnd-at (m.replicas k r) (IsShapedBy (is_all e.attributes) (inv.shapes k) ((inv.shapes k).owners r)) (spread.replicas r complete) in
-    let apart = subst (λ all. IsShapedBy all (inv.shapes k) ((inv.shapes k).owners r) y) alone shaped in
-    ap (λ (z : ReplicaState). z.slot) (same_Some x y (sym there ∙ is)) ∙ apart.free
+alone_free m inv bare k r x e there found alone = (subst (λ all. IsShapedBy all (inv.shapes k) e.active r x) alone (shaped_there m inv bare k r x e there found)).free
 
 -- ---- every step
 
@@ -122,10 +116,16 @@ kept_once = record {
         let same = same_Some (record { owner = s.call; origin = s.call; update = update_of s.op; moment = staged_moment m k }) slot is in
         none_yet m s verbs.Stage k r x step (λ is. cc is) (λ is. cc is) (subst (λ d. HasEffect d x.effects) (sym (ap (λ (z : Staged). z.origin) same)) has);
   };
-  committed = λ m s k r x step all once. committed_once (entry_of k m.cluster.entries) x once;
-  applied = λ m s k r x step active once.
-      let (e, found, alone) = IsSomeAnd-at (entry_of k m.cluster.entries) (λ e. (is_all e.attributes ≡ false) × (e.active ≡ Some r)) active in
-      applied_once s.call (update_of s.op) m.cluster.moment (entry_of k m.cluster.entries) x (alone_free m step.inv step.history.bare k r x e step.there found alone.0) (none_yet m s verbs.Apply k r x step (λ is. cc is) (λ is. cc is)) once;
+  committed = λ m s k r x e step all once. committed_once e.attributes x once;
+  applied = λ m s k r x e step active none once.
+      let y = having_taken e.attributes s.call (update_of s.op) m.cluster.moment x in
+      one_more x y (Applied s.call (update_of s.op) m.cluster.moment) refl (alone_free m step.inv step.history.bare k r x e step.there active.found active.alone) (none_yet m s verbs.Apply k r x step (λ is. cc is) (λ is. cc is)) once;
+  -- a weak write is no effect until its end
+  marked = λ m s k r x e step active can once. record { each = once.each; fresh = once.fresh };
+  element = λ m s k r x e marks step active stand once. record { each = once.each; fresh = once.fresh };
+  unmarked = λ m s k r x e marks step active stand once.
+      let none = none_yet m s verbs.Unmark k r x step (λ is. cc is) (λ is. cc is) in
+      one_more x (marks_ended x (Some marks)) (Applied marks.call marks.update marks.moment) refl (alone_free m step.inv step.history.bare k r x e step.there active.found active.alone) (λ has. none (subst (λ d. HasEffect d x.effects) stand.are.call_is has)) once;
 }
 
 -- THE LAW: no replica has two effects of one call

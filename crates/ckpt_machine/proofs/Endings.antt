@@ -31,12 +31,12 @@ use Rattle.ckpt_machine.specs.BeginRows.{BeginRow}
 use Rattle.ckpt_machine.specs.Complete.{complete_replicas}
 use Rattle.ckpt_machine.specs.Driving.{refused_cause}
 use Rattle.ckpt_machine.specs.Endings.{may_lack_memory, IsEndOf}
-use Rattle.ckpt_machine.specs.Guards.{AsksToOpen, StageRefused, StageHeld, StageRow, CommitOk, CommitRow, ends_update, ApplyOk, ApplyRefused, ApplyHeld, ApplyRow, ReadRow, StatusOk, StatusRow, IterOk, IterRow, NextOk, NextAnswer, EnterRow, CreateRow, ReserveRow, FinishRow, UndoRow, OpenHeld, OpenRow, LeaveRow, CloseRow, UnlinkRow, RetainRow, LookRow, Row}
+use Rattle.ckpt_machine.specs.Guards.{AsksToOpen, StageRefused, StageHeld, StageRow, CommitOk, CommitRow, ends_update, ApplyOk, ApplyRow, MarkOk, MarkRow, ElementRow, UnmarkRow, ReadRow, StatusOk, StatusRow, IterOk, IterRow, NextOk, NextAnswer, EnterRow, CreateRow, ReserveRow, FinishRow, UndoRow, OpenHeld, OpenRow, LeaveRow, CloseRow, UnlinkRow, RetainRow, LookRow, Row}
 use Rattle.ckpt_machine.specs.Laws.{EndsAsItMay}
 use Rattle.ckpt_machine.specs.Machine.{Machine, CallState}
 use Rattle.node_core.specs.Serving.{update_answer}
 use Rattle.ckpt_machine.specs.Steps.{Told, ids_asked}
-use Rattle.ckpt_machine.proofs.Refusing.{row_at_ckpt, at_node, at_none, at_node_alone, on_replica, on_all, on_active_replica}
+use Rattle.ckpt_machine.proofs.Refusing.{row_at_ckpt, at_node, at_none, at_node_alone, on_replica, on_all, begins_on_active}
 
 -- ---- which calls take memory
 
@@ -149,10 +149,18 @@ module _ (m : Machine) (s : CallState) (end : Option Outcome) (amiss : EndsAmiss
   commit_ends update k r reply details row = absurd row
 
   apply_ends : (update : Update) (k r : ℕ) (t : Told) (reply : StepReply) → t.end ≡ end → ApplyRow m s update k r t reply → ⊥
-  apply_ends update k r t words.Ok is row = on_active_replica m k r (ApplyOk m update t) row (λ e x (ok : ApplyOk m update t e x). done (update_answer update) (sym is ∙ ok.answer))
-  apply_ends update k r t words.Refused is row = on_active_replica m k r (ApplyRefused m s update t) row (λ e x (by : ApplyRefused m s update t e x). refused by.why.error (refused_cause s.op by.why.index) (sym is ∙ by.answer))
-  apply_ends update k r t (words.Held by) is row = on_active_replica m k r (λ e x. ApplyHeld m s.call by t x) row (λ e x (held : ApplyHeld m s.call by t x). refused errors.TryAgain (Holder by) (sym is ∙ held.answer))
-  apply_ends update k r t reply is row = absurd row
+  apply_ends update k r t reply is row = begins_on_active m s update false k r t (ApplyOk m update t) reply row (λ ahead e x (ok : ApplyOk m update t e x). done (update_answer update) (sym is ∙ ok.answer)) (λ error cause ends. refused error cause (sym is ∙ ends))
+
+  mark_ends : (update : Update) (k r : ℕ) (t : Told) (reply : StepReply) → t.end ≡ end → MarkRow m s update k r t reply → ⊥
+  mark_ends update k r t reply is row = begins_on_active m s update true k r t (MarkOk m update t) reply row (λ ahead e x (ok : MarkOk m update t e x). goes_on (sym is ∙ ok.answer)) (λ error cause ends. refused error cause (sym is ∙ ends))
+
+  element_ends : (update : Update) (k r : ℕ) (t : Told) (reply : StepReply) → t.end ≡ end → ElementRow m s.call update k r t reply → ⊥
+  element_ends update k r t words.Ok is row = goes_on (sym is ∙ row.1)
+  element_ends update k r t reply is row = absurd row
+
+  unmark_ends : (update : Update) (k r : ℕ) (t : Told) (reply : StepReply) → t.end ≡ end → UnmarkRow m s.call update k r t reply → ⊥
+  unmark_ends update k r t words.Ok is row = done answers.Nothing (sym is ∙ row.1)
+  unmark_ends update k r t reply is row = absurd row
 
   read_ends : (elements : List ReadElement) (k r : ℕ) (ckpt place : Option ℕ) (reply : StepReply) (details : Details) → ReadRow m elements k r (record { verb = verbs.Read; ckpt = ckpt; node = place; reply = reply; end = end; details = details }) → ⊥
   read_ends elements k r ckpt place words.Ok details row = on_replica m k r _ row (λ e x answer. done answers.Pieces answer.1.3)
@@ -199,6 +207,9 @@ module _ (m : Machine) (s : CallState) (end : Option Outcome) (amiss : EndsAmiss
   row_ends verbs.Stage k r reply details row = at_node k r _ row.0 (λ k r p. stage_ends p.1 k r reply p.3)
   row_ends verbs.Commit k r reply details row = at_node k r _ row (λ k r p. commit_ends p.1 k r reply details p.3)
   row_ends verbs.Apply k r reply details row = at_node k r _ row (λ q n p. apply_ends p.1 q n (record { verb = verbs.Apply; ckpt = k; node = r; reply = reply; end = end; details = details }) reply refl p.3)
+  row_ends verbs.Mark k r reply details row = at_node k r _ row (λ q n p. mark_ends p.1 q n (record { verb = verbs.Mark; ckpt = k; node = r; reply = reply; end = end; details = details }) reply refl p.3)
+  row_ends verbs.Element k r reply details row = at_node k r _ row (λ q n p. element_ends p.1 q n (record { verb = verbs.Element; ckpt = k; node = r; reply = reply; end = end; details = details }) reply refl p.3)
+  row_ends verbs.Unmark k r reply details row = at_node k r _ row (λ q n p. unmark_ends p.1 q n (record { verb = verbs.Unmark; ckpt = k; node = r; reply = reply; end = end; details = details }) reply refl p.3)
   row_ends verbs.Read k r reply details row = at_node k r _ row (λ q n p. read_ends p.1 q n k r reply details p.3)
   row_ends verbs.Status k r reply details row = at_node k r _ row (λ k r p. status_ends k r reply details p.2)
   row_ends verbs.Iter k r reply details row = at_node k r _ row.0 (λ k r p. iter_ends k r reply p.5)

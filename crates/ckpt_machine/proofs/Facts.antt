@@ -1,10 +1,9 @@
 -- What the code relies on holds wherever the invariant does.
-use Rattle.std.proofs.Common.{◌≡◌, ℕ, ◌<◌, List, length, Option, Some, None, Bool, true, false, cond, not, ◌&&◌, nat_le, ℤ, refl, sym, ap, subst, ◌∙◌}
-use Rattle.std.proofs.lemmas.Option.{same_Some}
+use Rattle.std.proofs.Common.{◌≡◌, ℕ, ◌<◌, List, length, Option, Some, None, Bool, true, false, cond, not, ◌&&◌, ◌==◌, nat_le, ℤ, refl, sym, ap, subst, ◌∙◌}
 use Rattle.std.specs.Prelude.{is_some, IsSome, IsSomeAnd, IfSome, pos, ◌≤ℤ◌}
 use Rattle.std.proofs.lemmas.Bool.{leb-false}
-use Rattle.ckpt_types.specs.declared.ais_error.AisError.TheVariants.{NoResources, BadOperation}
-use Rattle.ckpt_types.specs.declared.answers.Cause.TheVariants.{Plain, Count}
+use Rattle.ckpt_types.specs.declared.ais_error.AisError.TheVariants.{NoResources, BadOperation, TryAgain}
+use Rattle.ckpt_types.specs.declared.answers.Cause.TheVariants.{Plain, Count, Generations}
 use Rattle.ckpt_types.specs.declared.answers.Outcome.TheVariants.{Refused}
 use Rattle.ckpt_types.specs.declared.identities.ActorName.{ActorName}
 use Rattle.ckpt_types.specs.declared.identities.CallId.{CallId}
@@ -20,36 +19,38 @@ use Rattle.cluster_record.specs.declared.calls.ActiveKind.TheVariants as kinds
 use Rattle.cluster_record.specs.declared.calls.UpdatePhase.{UpdatePhase}
 use Rattle.cluster_record.specs.declared.calls.UpdatePhase.TheVariants.{Staging, Committing}
 use Rattle.cluster_record.specs.declared.entries.Entry.{Entry}
-use Rattle.cluster_record.specs.DueActive.{request_by, starts_iteration, active_on}
+use Rattle.cluster_record.specs.DueActive.{unless_changed, request_by, starts_iteration, active_on}
 use Rattle.cluster_record.specs.DueOnce.{OneStep, Enter, Leave, Close, Unlink, Retain, enter_next, close_of, unlink_of, unlink_of_making, retain_of, once_next}
 use Rattle.cluster_record.specs.DueOpen.{OpenState}
 use Rattle.cluster_record.specs.DueUpdate.{UpdateState, by_phase, stage_at, commit_at, update_next, update_on}
 use Rattle.cluster_record.specs.RecordState.{entry_of, named}
 use Rattle.cluster_record.specs.StepDone.{has, first_lacking, last_having}
-use Rattle.ckpt_types.specs.Asks.{Ask, asked, IsBuiltAsk, IsBuilt}
-use Rattle.ckpt_types.specs.Asks as asks
+use Rattle.ckpt_types.specs.Asks.{asked, update_asked, update_of, IsBuiltAsk, IsBuilt}
 use Rattle.ckpt_machine.specs.Drivers.{Driver, Rooms}
 use Rattle.ckpt_machine.specs.Drivers as drivers
 use Rattle.ckpt_machine.specs.Driving.{driver_next}
 use Rattle.ckpt_machine.specs.Machine.{Machine, CallState}
 use Rattle.node_core.specs.Fitting.{IsReadyFor}
 use Rattle.ckpt_machine.specs.Steps.{due, driver_of, room_in, room_at, rooms_of, seen_at, seen, seen_slot}
-use Rattle.ckpt_machine.specs.Tables.{choice_of}
 use Rattle.ckpt_machine.specs.Facts.{IsActive, IsServable, IsEventReady, IsStarting, IsGoingOn, Facts}
-use Rattle.ckpt_machine.specs.InHand.{active_kind, IsEnterAt, IsOnceAt, IsInPlace, IsActiveIn}
+use Rattle.ckpt_machine.specs.InHand.{MarksFit, IsEnterAt, IsOnceAt, IsInPlace, IsActiveIn}
 use Rattle.ckpt_machine.specs.Invariant.{InvariantIn, Invariant}
 use Rattle.ckpt_machine.specs.Shape.{Shape}
 use Rattle.section_iter.specs.Room.{room_declared}
 use Rattle.cluster_record.specs.LookUps.{declared_in}
-use Rattle.ckpt_machine.proofs.ActiveNode.{none_all, ActiveOf, active_of, active_seen, active_next-there}
+use Rattle.ckpt_machine.proofs.ActiveNode.{AsksOf, by_kind as asks_of_kind, is_change, ActiveOf, active_of, active_seen, active_next-there}
+use Rattle.ckpt_machine.proofs.OnTheActive.{apart}
+use Rattle.ckpt_machine.proofs.Weak.{marks_ready}
+use Rattle.replica.specs.Replicas.{IsWrite}
+use Rattle.cluster_record.specs.declared.calls.MarksMade.{MarksMade}
 use Rattle.ckpt_machine.proofs.OpenReady.{IsReadyOpen, open_ready, open_fits}
 use Rattle.ckpt_machine.proofs.OwnMaking.{making_is}
 use Rattle.ckpt_machine.proofs.UpdateReady.{HasMoment, HasOwn, IsReadyNext, update_ready}
 use Rattle.ckpt_machine.proofs.OptionLemmas.{IsSomeAnd-from}
-use Rattle.ckpt_machine.specs.Options.{is_all}
 
--- what it relies on of an iteration that is started, and of one that goes on
+-- what it relies on of a weak write that begins, of an iteration that is started, and of one that goes on
 abbrev pub IsFor : Machine → CallState → Request → Type 0
+IsFor m s (requests.Mark call k) = IsWrite (update_of s.op)
 IsFor m s (requests.Iterate call k choice) = IsStarting m s k choice
 IsFor m s (requests.Next call k) = IsGoingOn m s
 IsFor m s request = Unit {0}
@@ -93,29 +94,8 @@ update_due m s u ready = by_entry (entry_of u.ckpt m.cluster.entries) ready
 
 -- ---- a call to the active
 
--- one that starts an iteration asks for it
-iterates : (all : Bool) (ask : Ask) (choice : Choice) → active_kind all ask ≡ Some (kinds.Iterate choice) → (iteration place chosen : ℕ) × (time : ℤ) × (ask ≡ asks.Iterate iteration place chosen time) × (choice ≡ choice_of chosen time)
-iterates all (asks.Iterate iteration place chosen time) choice is = (iteration, place, chosen, time, refl, cc is)
-iterates false (asks.Change place update) choice is = absurd (let w : kinds.Apply ≡ kinds.Iterate choice = same_Some kinds.Apply (kinds.Iterate choice) is in cc w)
-iterates true (asks.Change place update) choice is = absurd (cc is)
-iterates all ask choice is = absurd (cc is)
-
--- one that goes on with an iteration asks for that
-asks_next : (all : Bool) (ask : Ask) → active_kind all ask ≡ Some kinds.Next → (iteration : ℕ) × (ask ≡ asks.Next iteration)
-asks_next all (asks.Next iteration) is = (iteration, refl)
-asks_next false (asks.Change place update) is = absurd (let w : kinds.Apply ≡ kinds.Next = same_Some kinds.Apply kinds.Next is in cc w)
-asks_next true (asks.Change place update) is = absurd (cc is)
-asks_next all ask is = absurd (cc is)
-
--- what is not built is asked for by none
-none_weak : (all : Bool) (ask : Ask) (n : ℕ) → active_kind all ask ≡ Some (kinds.Weak n) → ⊥
-none_weak all (asks.Next iteration) n is = cc is
-none_weak false (asks.Change place update) n is = let w : kinds.Apply ≡ kinds.Weak n = same_Some kinds.Apply (kinds.Weak n) is in cc w
-none_weak true (asks.Change place update) n is = cc is
-none_weak all ask n is = cc is
-
-module _ (m : Machine) (shapes : ℕ → Shape) (inv : InvariantIn shapes m) (s : CallState) (call : CallId) (k : ℕ) (kind : ActiveKind) (held : m.in_hand s.call.actor ≡ Some s) (is : driver_of s ≡ drivers.Active (record { call = call; ckpt = k; kind = kind })) where
-  at_active : IsActiveIn m s (record { call = call; ckpt = k; kind = kind })
+module _ (m : Machine) (shapes : ℕ → Shape) (inv : InvariantIn shapes m) (s : CallState) (call : CallId) (k : ℕ) (kind : ActiveKind) (made : Option MarksMade) (held : m.in_hand s.call.actor ≡ Some s) (is : driver_of s ≡ drivers.Active (record { call = call; ckpt = k; kind = kind; marks = made })) where
+  at_active : IsActiveIn m shapes s (record { call = call; ckpt = k; kind = kind; marks = made })
   at_active = subst (λ d. IsInPlace m shapes s d) is (inv.hands s.call.actor s held).here
 
   -- its operation is built
@@ -123,56 +103,67 @@ module _ (m : Machine) (shapes : ℕ → Shape) (inv : InvariantIn shapes m) (s 
   built = (inv.hands s.call.actor s held).built
 
   abbrev driver : Driver
-  driver = drivers.Active (record { call = call; ckpt = k; kind = kind })
+  driver = drivers.Active (record { call = call; ckpt = k; kind = kind; marks = made })
 
-  module _ (at : ActiveOf m k) where
+  module _ (at : ActiveOf m (shapes k).marks k) where
     seen_there : (request : Request) → ckpt_of request ≡ k → IsReadyFor request (seen k at.entry.attributes at.replica) → IsSomeAnd (seen_at m (ckpt_of request) at.node) (IsReadyFor request)
-    seen_there request about ready = IsSomeAnd-from (seen_at m (ckpt_of request) at.node) (IsReadyFor request) (seen k at.entry.attributes at.replica) (ap (λ j. seen_at m j at.node) about ∙ active_seen m k at) ready
+    seen_there request about ready = IsSomeAnd-from (seen_at m (ckpt_of request) at.node) (IsReadyFor request) (seen k at.entry.attributes at.replica) (ap (λ j. seen_at m j at.node) about ∙ active_seen m (shapes k).marks k at) ready
 
     -- it kept room for all that its checkpoint declares
     kept_all : s.kept.room ≡ room_at m.cluster (Some k)
     kept_all = subst (λ o. IfSome o (λ (e : Entry). s.kept.room ≡ room_declared e.attributes)) at.found at_active.room ∙ ap (λ o. room_in (declared_in o)) (sym at.found)
 
-    -- updates of its checkpoint go to the active alone, where it asks for one
-    alone : active_kind s.kept.all (asked s.op) ≡ Some kinds.Apply → is_all at.entry.attributes ≡ false
-    alone kind_is = sym (subst (λ o. IfSome o (λ (e : Entry). s.kept.all ≡ is_all e.attributes)) at.found at_active.all) ∙ none_all s.kept.all (asked s.op) kind_is
+    is_starting : (choice : Choice) → AsksOf s.kept.weak (kinds.Iterate choice) (asked s.op) → IsStarting m s k choice
+    is_starting choice (iteration, place, chosen, time, is_asked, choice_is) = record {
+      iteration = iteration;
+      place = place;
+      chosen = chosen;
+      time = time;
+      asks = is_asked;
+      choice_is = choice_is;
+      within = (subst IsBuiltAsk is_asked built).0;
+      handle = at_active.handle;
+      room = kept_all;
+      active = subst IsActive (sym is) tt;
+    }
 
-    is_starting : (choice : Choice) → active_kind s.kept.all (asked s.op) ≡ Some (kinds.Iterate choice) → IsStarting m s k choice
-    is_starting choice kind_is =
-        let (iteration, place, chosen, time, is_asked, choice_is) = iterates s.kept.all (asked s.op) choice kind_is in
-        record {
-          iteration = iteration;
-          place = place;
-          chosen = chosen;
-          time = time;
-          asks = is_asked;
-          choice_is = choice_is;
-          within = (subst IsBuiltAsk is_asked built).0;
-          handle = at_active.handle;
-          room = kept_all;
-          active = subst IsActive (sym is) tt;
-        }
+    is_going_on : AsksOf s.kept.weak kinds.Next (asked s.op) → IsGoingOn m s
+    is_going_on (iteration, is_asked) = record { iteration = iteration; asks = is_asked; within = subst IsBuiltAsk is_asked built; handle = at_active.handle }
 
-    is_going_on : active_kind s.kept.all (asked s.op) ≡ Some kinds.Next → IsGoingOn m s
-    is_going_on kind_is = let (iteration, is_asked) = asks_next s.kept.all (asked s.op) kind_is in record { iteration = iteration; asks = is_asked; within = subst IsBuiltAsk is_asked built; handle = at_active.handle }
+    -- nothing is staged on the active, where an update goes there
+    free : is_change kind ≡ true → seen_slot (length at.replica.effects) at.replica.slot ≡ None
+    free change = ap (seen_slot (length at.replica.effects)) (apart m shapes inv s call k kind made held at change is).free
 
-    by_kind : (x : ActiveKind) → active_kind s.kept.all (asked s.op) ≡ Some x → (b : Bool) → IsDueReady m s driver (cond b (End (Refused NoResources (Count 8))) (Serve at.node (request_by call k x)))
-    by_kind x kind_is true = tt
-    by_kind kinds.Read kind_is false = (at.within, seen_there (requests.Read k) refl tt, tt, tt, tt)
-    by_kind kinds.Status kind_is false = (at.within, seen_there (requests.Status k) refl tt, tt, tt, tt)
-    by_kind (kinds.Iterate choice) kind_is false = (at.within, seen_there (requests.Iterate call k choice) refl tt, tt, tt, is_starting choice kind_is)
-    by_kind kinds.Next kind_is false = (at.within, seen_there (requests.Next call k) refl tt, tt, tt, is_going_on kind_is)
-    by_kind kinds.Apply kind_is false = (at.within, seen_there (requests.Apply call k) refl (ap (seen_slot (length at.replica.effects)) (at.apart (alone kind_is)).free), tt, tt, tt)
-    by_kind (kinds.Weak n) kind_is false = absurd (none_weak s.kept.all (asked s.op) n kind_is)
+    by_kind : (x : ActiveKind) → kind ≡ x → AsksOf s.kept.weak x (asked s.op) → MarksFit x made → (b : Bool) → IsDueReady m s driver (cond b (End (Refused NoResources (Count 8))) (unless_changed made at.entry.generation (Serve at.node (request_by call k x made))))
+    by_kind x kind_is asks fit true = tt
+    by_kind x kind_is asks fit false = by_made x kind_is asks made refl fit
+      where
+        by_made : (x : ActiveKind) → kind ≡ x → AsksOf s.kept.weak x (asked s.op) → (o : Option MarksMade) → made ≡ o → MarksFit x o → IsDueReady m s driver (unless_changed o at.entry.generation (Serve at.node (request_by call k x o)))
+        by_made kinds.Read kind_is asks None none fit = (at.within, seen_there (requests.Read k) refl tt, tt, tt, tt)
+        by_made kinds.Status kind_is asks None none fit = (at.within, seen_there (requests.Status k) refl tt, tt, tt, tt)
+        by_made (kinds.Iterate choice) kind_is asks None none fit = (at.within, seen_there (requests.Iterate call k choice) refl tt, tt, tt, is_starting choice asks)
+        by_made kinds.Next kind_is asks None none fit = (at.within, seen_there (requests.Next call k) refl tt, tt, tt, is_going_on asks)
+        by_made kinds.Apply kind_is asks None none fit = (at.within, seen_there (requests.Apply call k) refl (free (ap is_change kind_is)), tt, tt, tt)
+        by_made (kinds.Weak n) kind_is asks None none fit = (at.within, seen_there (requests.Mark call k) refl (free (ap is_change kind_is)), tt, tt, subst (λ a. IsWrite (update_asked a)) (sym asks.2) tt)
+        by_made (kinds.Weak n) kind_is asks (Some w) made_is fit = by_generation (w.generation == at.entry.generation)
+          where
+            by_left : (b : Bool) → (w.left == 0) ≡ b → IsDueReady m s driver (Serve at.node (cond b (requests.Unmark call k) (requests.Element call k)))
+            by_left true none = (at.within, seen_there (requests.Unmark call k) refl (marks_ready m shapes inv s call k n made held at (is ∙ ap (λ x. drivers.Active (record { call = call; ckpt = k; kind = x; marks = made })) kind_is) w made_is true none), tt, tt, tt)
+            by_left false some = (at.within, seen_there (requests.Element call k) refl (marks_ready m shapes inv s call k n made held at (is ∙ ap (λ x. drivers.Active (record { call = call; ckpt = k; kind = x; marks = made })) kind_is) w made_is false some), tt, tt, tt)
+
+            by_generation : (b : Bool) → IsDueReady m s driver (cond b (Serve at.node (request_by call k (kinds.Weak n) (Some w))) (End (Refused TryAgain (Generations w.generation at.entry.generation))))
+            by_generation true = by_left (w.left == 0) refl
+            by_generation false = tt
+        by_made x kind_is asks (Some w) made_is fit = absurd fit
 
   active_ready : (rooms : Rooms) → IsDueReady m s driver (driver_next m.cluster rooms driver)
   active_ready rooms = by_entry (entry_of k m.cluster.entries) refl
     where
       by_entry : (o : Option Entry) → entry_of k m.cluster.entries ≡ o → IsDueReady m s driver (driver_next m.cluster rooms driver)
-      by_entry None gone = subst (IsDueReady m s driver) (sym (ap (active_on rooms.iterations (record { call = call; ckpt = k; kind = kind })) gone)) tt
+      by_entry None gone = subst (IsDueReady m s driver) (sym (ap (active_on rooms.iterations (record { call = call; ckpt = k; kind = kind; marks = made })) gone)) tt
       by_entry (Some e) found =
           let at = active_of m shapes k e inv at_active.made found in
-          subst (IsDueReady m s driver) (sym (active_next-there m k at call kind rooms)) (by_kind at kind at_active.kind (starts_iteration kind && not rooms.iterations))
+          subst (IsDueReady m s driver) (sym (active_next-there m (shapes k).marks k at call kind made rooms)) (by_kind at kind refl (asks_of_kind s.kept.all s.kept.weak (asked s.op) kind at_active.kind) at_active.fit (starts_iteration kind && not rooms.iterations))
 
 -- ---- a call of one step of the record
 
@@ -221,7 +212,7 @@ module _ (m : Machine) (shapes : ℕ → Shape) (inv : InvariantIn shapes m) (s 
   driver_ready (drivers.Once x) is = once_ready m s x (here_is (drivers.Once x) is)
   driver_ready (drivers.Open o) is = open_due m s o (driver_next m.cluster (rooms_of m s) (drivers.Open o)) (subst (λ d. IsReadyOpen m s o (driver_next m.cluster (rooms_of m s) d)) is (open_ready m shapes inv s o held is))
   driver_ready (drivers.Update u) is = update_due m s u (update_ready m shapes inv s u held is)
-  driver_ready (drivers.Active a) is = active_ready m shapes inv s a.call a.ckpt a.kind held is (rooms_of m s)
+  driver_ready (drivers.Active a) is = active_ready m shapes inv s a.call a.ckpt a.kind a.marks held is (rooms_of m s)
 
 -- ---- the facts
 
@@ -248,6 +239,7 @@ facts m inv = record {
   ready = λ a s r request here is. let ready = ready_for m inv a s (Serve r request) here is in (ready.0, ready.1);
   moments = λ a s r call k t here is free. (ready_for m inv a s (Serve r (requests.Stage call k t)) here is).2 free;
   commits = λ a s r call k here is. (ready_for m inv a s (Serve r (requests.Commit call k)) here is).3;
+  marks = λ a s r call k here is. (ready_for m inv a s (Serve r (requests.Mark call k)) here is).4;
   events = λ a s step here is. ready_for m inv a s (Event step) here is;
   opens = λ a s o here is. open_fits m inv.shapes inv.holds s o (in_own m inv a s here) is;
   makes = λ a s here. making_is m inv.shapes inv.holds s (in_own m inv a s here);

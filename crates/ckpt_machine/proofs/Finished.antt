@@ -15,14 +15,16 @@ use Rattle.cluster_record.specs.RecordState.{RecordState, entry_of, identity_of,
 use Rattle.cluster_record.proofs.IdentityLaws.{IdentitiesRise-change_key, AllUpTo-change_key}
 use Rattle.ckpt_machine.specs.Drivers as drivers
 use Rattle.ckpt_machine.specs.Entries.{AllStay, WasMade}
-use Rattle.ckpt_machine.specs.InHand.{IsMakingIn}
+use Rattle.ckpt_machine.specs.InHand.{is_marked_by, IsMakingIn}
+use Rattle.weak_marks.specs.Marks.{Marked}
 use Rattle.ckpt_machine.specs.Invariant.{IsMaker, IsGoodIn, InvariantIn}
 use Rattle.ckpt_machine.specs.Machine.{Machine, CallState}
 use Rattle.ckpt_machine.specs.Steps.{driver_of, with_record, replica_under, reservation_under, opened_state}
-use Rattle.ckpt_machine.specs.Shape.{Shape, IsCompleteOn, IsShapedBy, is_owner, IsOwner, IsSpread}
+use Rattle.ckpt_machine.specs.Shape.{Shape, IsCompleteOn, IsShapedBy, is_owner, IsOwner, IsMarker, IsSpread}
 use Rattle.ckpt_machine.proofs.ReplicaSteps.{put_actor-cases, put_actor-other}
 use Rattle.ckpt_machine.proofs.OtherCalls.{LooksAlike, making_still, IsInHand-alike, IsGoodIn-alike, IsLaterEntry-refl}
 use Rattle.ckpt_machine.proofs.OptionLemmas.{IsSomeAnd-at, IsSomeAnd-from}
+use Rattle.ckpt_machine.proofs.MarksAt.{none_marked}
 use Rattle.ckpt_machine.proofs.Actors.{same_actor-refl, same_actor-true}
 use Rattle.ckpt_machine.proofs.EntryLists.{find_key-change_key}
 use Rattle.ckpt_machine.proofs.NodeLists.{slice_index-replicate}
@@ -88,6 +90,16 @@ module _ (m : Machine) (shapes : ℕ → Shape) (inv : InvariantIn shapes m) (s 
   owner_stays : (j : ℕ) (sh : Shape) (d : CallId) → IsOwner m j sh d → then_machine.in_hand d.actor ≡ m.in_hand d.actor
   owner_stays j sh d own = put_actor-other m.in_hand s.call.actor None d.actor (other_actor d own.state own.in_hand own.call_is (owner_other j sh d own))
 
+  -- and so is a weak write
+  marker_stays : (j : ℕ) (marks : Marked) → IsMarker m j marks → then_machine.in_hand marks.call.actor ≡ m.in_hand marks.call.actor
+  marker_stays j marks own = put_actor-other m.in_hand s.call.actor None marks.call.actor (other_actor marks.call own.state own.in_hand own.call_is not_own)
+    where
+      not_own : marks.call ≢ s.call
+      not_own same =
+          let state : own.state ≡ s = same_Some own.state s (sym own.in_hand ∙ ap (λ (x : CallId). m.in_hand x.actor) same ∙ held) in
+          let apart : drivers.Active own.driver ≡ drivers.Open o = sym own.driver_is ∙ ap driver_of state ∙ is in
+          cc apart
+
   -- who makes another checkpoint is another call
   maker_other : (j : ℕ) (d : CallId) → (j == making.ckpt) ≡ false → IsMaker m j d → d ≢ s.call
   maker_other j d apart own same =
@@ -110,12 +122,12 @@ module _ (m : Machine) (shapes : ℕ → Shape) (inv : InvariantIn shapes m) (s 
       ∙ (λ i. cond (there i) None (cond (there i) (Some (opened_state g)) (m.replicas j r)))
 
   IsGoodIn-then : (j : ℕ) (sh : Shape) (g : Entry) (maker : Option CallId) → (j == making.ckpt) ≡ false → entry_of j m.cluster.entries ≡ Some g → IsGoodIn m j sh g maker → IsGoodIn then_machine j sh g maker
-  IsGoodIn-then j sh g maker other was good = IsGoodIn-alike m then_machine j sh g g (IsLaterEntry-refl g) (λ r there. replica_other j r g other was there) (owner_stays j sh) (λ d own. maker_stays j d other own) maker good
+  IsGoodIn-then j sh g maker other was good = IsGoodIn-alike m then_machine j sh g g (IsLaterEntry-refl g) (λ r there. replica_other j r g other was there) (owner_stays j sh) (marker_stays j) (λ d own. maker_stays j d other own) maker good
 
   -- ---- the checkpoint that is made
 
   pub opened_shape : Shape
-  opened_shape = record { owners = λ r. None; origin = s.call; update = updates.Nothing; moment = m.cluster.moment; sections = opening e.attributes e.made; effects = []; outcome = []; done = false }
+  opened_shape = record { owners = λ r. None; origin = s.call; update = updates.Nothing; moment = m.cluster.moment; sections = opening e.attributes e.made; effects = []; outcome = []; done = false; marks = None }
 
   none_before : (r : ℕ) → (slice_index e.complete r == 0) ≡ true
   none_before r =
@@ -128,10 +140,10 @@ module _ (m : Machine) (shapes : ℕ → Shape) (inv : InvariantIn shapes m) (s 
       ∙ ap (λ o. replica_under (Some f) (slice_index (complete_of o) r) r (m.replicas making.ckpt r)) found
       ∙ (λ i. cond (there i) None (cond (none_before r i) (Some (opened_state f)) (m.replicas making.ckpt r)))
 
-  opened_by : (b : Bool) → IsShapedBy b opened_shape None (opened_state f)
+  opened_by : (b : Bool) (r : ℕ) → IsShapedBy b opened_shape f.active r (opened_state f)
   unfolding opened_shape
-  opened_by true = record { slot = refl; sections = refl; effects = refl; unmarked = refl }
-  opened_by false = record { free = refl; unmarked = refl }
+  opened_by true r = record { slot = refl; sections = refl; effects = refl; unmarked = refl }
+  opened_by false r = record { free = refl; marks_are = sym (none_marked f.active r) }
 
   spread_here : IsSpread then_machine making.ckpt opened_shape f
   unfolding opened_shape
@@ -139,11 +151,12 @@ module _ (m : Machine) (shapes : ℕ → Shape) (inv : InvariantIn shapes m) (s 
     nodes = ap length inv.up.1;
     some = some;
     active = refl;
-    replicas = λ r there. IsSomeAnd-from (then_machine.replicas making.ckpt r) (IsShapedBy (is_all f.attributes) opened_shape None) (opened_state f) (replica_here r there) (opened_by (is_all f.attributes));
+    replicas = λ r there. IsSomeAnd-from (then_machine.replicas making.ckpt r) (IsShapedBy (is_all f.attributes) opened_shape f.active r) (opened_state f) (replica_here r there) (opened_by (is_all f.attributes) r);
     fits = λ r d none. absurd (cc none);
     complete = λ r d none. absurd (cc none);
     lowest = λ q r d below there none. absurd (cc none);
     owned = λ r d none. absurd (cc none);
+    marked = λ marks none. absurd (cc none);
   }
 
   -- ---- where the calls of others are
@@ -180,8 +193,9 @@ module _ (m : Machine) (shapes : ℕ → Shape) (inv : InvariantIn shapes m) (s 
       tables = refl;
       making = λ v at. making_still m then_machine z v making_then at;
       made = WasMade-then;
-      later = λ j was g found. (g, sym (entry_other j (not_made j was)) ∙ found, refl, refl);
+      later = λ j was g found. (g, sym (entry_other j (not_made j was)) ∙ found, refl, refl, refl);
       owners = λ j was r. ap (λ (sh : Shape). is_owner z.call (sh.owners r)) (ap (λ b. cond b opened_shape (shapes j)) (not_made j was));
+      marks = λ j was. ap (λ (sh : Shape). is_marked_by z.call sh.marks) (ap (λ b. cond b opened_shape (shapes j)) (not_made j was));
     }
 
   -- ---- the whole

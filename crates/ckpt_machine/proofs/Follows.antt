@@ -1,4 +1,4 @@
--- What a step leaves of replicas and their effects: a replica is where its node is complete, none has marks, and no checkpoint is held; effects are those that were, or of the call that commits or applies.
+-- What a step leaves of replicas and their effects: a replica is where its node is complete, and no checkpoint is held; effects are those that were, or of the call that commits, applies, or ends its weak write.
 use Rattle.std.proofs.Common.{◌≡◌, ◌⊎◌, ℕ, ◌-◌, inl, inr, List, [], ◌∷◌, ◌++◌, filter, All, Option, Some, None, Bool, true, false, cond, not, ◌==◌, ◌&&◌, ℤ, refl, sym, ap, subst, ◌∙◌}
 use Rattle.std.specs.Prelude.{IsSomeAnd, slice_index, slice_set}
 use Rattle.std.proofs.lemmas.Bool.{eqb-true, and_parts}
@@ -8,6 +8,7 @@ use Rattle.ckpt_types.specs.declared.attributes.CreationAttributes.{CreationAttr
 use Rattle.ckpt_types.specs.declared.identities.ActorName.{ActorName}
 use Rattle.ckpt_types.specs.declared.identities.CallId.{CallId}
 use Rattle.ckpt_types.specs.declared.update.Update.{Update}
+use Rattle.weak_marks.specs.Marks.{Marked}
 use Rattle.node_msgs.specs.declared.steps.Verb.{Verb}
 use Rattle.node_msgs.specs.declared.steps.Verb.TheVariants as verbs
 use Rattle.node_msgs.specs.declared.steps.StepReply.{StepReply}
@@ -23,7 +24,7 @@ use Rattle.ckpt_types.specs.Asks as asks
 use Rattle.ckpt_machine.specs.Machine.{Machine, Effect, Applied, ReplicaState, Staged, CallState}
 use Rattle.ckpt_machine.specs.Owned.{IsEffectOf, HasEffect}
 use Rattle.ckpt_machine.specs.Shape.{IsCompleteOn}
-use Rattle.ckpt_machine.specs.Steps.{with_record, record_step, created_for, retained_for, change_replica, with_committed, committed_slot, with_applied, effect_of, changed, on_ok, on_look, without_making, at_some, replica_under, reservation_under, opened_state}
+use Rattle.ckpt_machine.specs.Steps.{with_record, record_step, created_for, retained_for, change_replica, with_slot, staged_moment, with_committed, committed_slot, with_applied, with_marks, with_element, element_written, without_marks, marks_ended, effect_of, changed, on_ok, on_look, without_making, at_some, replica_under, reservation_under, opened_state}
 
 -- ---- what is so in every state of a run
 
@@ -34,10 +35,9 @@ IsFree e = e.hold ≡ None
 abbrev pub IsIncomplete : Entry → ℕ → Type 0
 IsIncomplete e r = (slice_index e.complete r == 0) ≡ true
 
--- a node has a replica where it is complete, and none with marks; it has reserved none where it is complete, or that is gone; no checkpoint is held
+-- a node has a replica where it is complete; it has reserved none where it is complete, or that is gone; no checkpoint is held
 pub record IsBareIn (R : RecordState) (replicas : ℕ → ℕ → Option ReplicaState) (reserved : ℕ → ℕ → Option ℕ) : Type 0 where
   pub complete : (k r : ℕ) (x : ReplicaState) → replicas k r ≡ Some x → IsSomeAnd (entry_of k R.entries) (λ e. IsCompleteOn e r)
-  pub unmarked : (k r : ℕ) (x : ReplicaState) → replicas k r ≡ Some x → x.marks ≡ None
   pub reserves : (k r n : ℕ) → reserved k r ≡ Some n → IsSomeAnd (entry_of k R.entries) (λ e. IsIncomplete e r)
   pub free : All IsFree R.entries
 
@@ -63,15 +63,15 @@ ReplicasFollow m IsNew n = FollowsIn m IsNew n.cluster n.replicas n.reserved n.n
 -- ---- one replica
 
 -- a replica after a step of the record is of a complete node, and was there or is new
-under : (o : Option Entry) (before r : ℕ) (old : Option ReplicaState) (x : ReplicaState) → replica_under o before r old ≡ Some x → IsSomeAnd o (λ e. IsCompleteOn e r) × ((old ≡ Some x) ⊎ ((x.effects ≡ []) × (x.marks ≡ None)))
+under : (o : Option Entry) (before r : ℕ) (old : Option ReplicaState) (x : ReplicaState) → replica_under o before r old ≡ Some x → IsSomeAnd o (λ e. IsCompleteOn e r) × ((old ≡ Some x) ⊎ (x.effects ≡ []))
 under None before r old x is = absurd (cc is)
 under (Some e) before r old x is =
-    elim (slice_index e.complete r == 0) as (λ b. (slice_index e.complete r == 0) ≡ b → cond b None (cond (before == 0) (Some (opened_state e)) old) ≡ Some x → ((slice_index e.complete r == 0) ≡ false) × ((old ≡ Some x) ⊎ ((x.effects ≡ []) × (x.marks ≡ None)))) [
+    elim (slice_index e.complete r == 0) as (λ b. (slice_index e.complete r == 0) ≡ b → cond b None (cond (before == 0) (Some (opened_state e)) old) ≡ Some x → ((slice_index e.complete r == 0) ≡ false) × ((old ≡ Some x) ⊎ (x.effects ≡ []))) [
       | true ↦ λ none gone. absurd (cc gone)
       | false ↦ λ some there. (
         some,
-        elim (before == 0) as (λ b. cond b (Some (opened_state e)) old ≡ Some x → (old ≡ Some x) ⊎ ((x.effects ≡ []) × (x.marks ≡ None))) [
-          | true ↦ λ new. (let same : opened_state e ≡ x = same_Some (opened_state e) x new in inr (ap (λ (y : ReplicaState). y.effects) (sym same), ap (λ (y : ReplicaState). y.marks) (sym same)))
+        elim (before == 0) as (λ b. cond b (Some (opened_state e)) old ≡ Some x → (old ≡ Some x) ⊎ (x.effects ≡ [])) [
+          | true ↦ λ new. (let same : opened_state e ≡ x = same_Some (opened_state e) x new in inr (ap (λ (y : ReplicaState). y.effects) (sym same)))
           | false ↦ λ same. inl same
         ] there,
       )
@@ -89,16 +89,7 @@ effect_more d [] new (inr none) = absurd none
 effect_more d (x ∷ xs) new (inl is) = inl (inl is)
 effect_more d (x ∷ xs) new (inr more) = elim (effect_more d xs new more) [ inl was ↦ inl (inr was) | inr is ↦ inr is ]
 
--- a commit leaves no marks where none were
-committed_marks : (o : Option Entry) (x : ReplicaState) → (with_committed o x).marks ≡ x.marks
-committed_marks None x = refl
-committed_marks (Some e) x = by_slot x.slot
-  where
-    by_slot : (slot : Option Staged) → (committed_slot e.attributes x slot).marks ≡ x.marks
-    by_slot None = refl
-    by_slot (Some slot) = refl
-
--- and takes the effect of what was staged
+-- a commit takes the effect of what was staged
 committed_effects : (o : Option Entry) (x : ReplicaState) (d : CallId) → HasEffect d (with_committed o x).effects → HasEffect d x.effects ⊎ ((slot : Staged) × (x.slot ≡ Some slot) × (slot.origin ≡ d))
 committed_effects None x d has = inl has
 committed_effects (Some e) x d has = by_slot x.slot refl has
@@ -107,15 +98,27 @@ committed_effects (Some e) x d has = by_slot x.slot refl has
     by_slot None is has = inl has
     by_slot (Some slot) is has = elim (effect_more d x.effects (effect_of slot) has) [ inl was ↦ inl was | inr new ↦ inr (slot, is, new) ]
 
--- an update in one step leaves the marks as they were
-applied_marks : (o : Option Entry) (call : CallId) (update : Update) (t : ℤ) (x : ReplicaState) → (with_applied call update t o x).marks ≡ x.marks
-applied_marks None call update t x = refl
-applied_marks (Some e) call update t x = refl
-
--- and takes the effect of its call
+-- an update in one step takes the effect of its call
 applied_effects : (o : Option Entry) (call : CallId) (update : Update) (t : ℤ) (x : ReplicaState) (d : CallId) → HasEffect d (with_applied call update t o x).effects → HasEffect d x.effects ⊎ (call ≡ d)
 applied_effects None call update t x d has = inl has
 applied_effects (Some e) call update t x d has = effect_more d x.effects (Applied call update t) has
+
+-- an element of a weak write takes none
+pub element_effects : (o : Option Entry) (x : ReplicaState) → (with_element o x).effects ≡ x.effects
+element_effects None x = refl
+element_effects (Some e) x = by_marks x.marks
+  where
+    by_marks : (marks : Option Marked) → (element_written e.attributes x marks).effects ≡ x.effects
+    by_marks None = refl
+    by_marks (Some marked) = refl
+
+-- and its end takes the effect of the call of the marks
+unmarked_effects : (x : ReplicaState) (d : CallId) → HasEffect d (without_marks x).effects → HasEffect d x.effects ⊎ ((marks : Marked) × (x.marks ≡ Some marks) × (marks.call ≡ d))
+unmarked_effects x d has = by_marks x.marks refl has
+  where
+    by_marks : (o : Option Marked) → x.marks ≡ o → HasEffect d (marks_ended x o).effects → HasEffect d x.effects ⊎ ((marks : Marked) × (x.marks ≡ Some marks) × (marks.call ≡ d))
+    by_marks None is has = inl has
+    by_marks (Some marks) is has = elim (effect_more d x.effects (Applied marks.call marks.update marks.moment) has) [ inl was ↦ inl was | inr new ↦ inr (marks, is, new) ]
 
 -- ---- the entries
 
@@ -168,7 +171,6 @@ module _ (m : Machine) (bare : IsBare m) (IsNew : ℕ → CallId → Type 0) whe
   record_follows R free = record {
     bare = record {
       complete = λ k r x is. (came k r x is).0;
-      unmarked = λ k r x is. elim (came k r x is).1 [ inl was ↦ bare.unmarked k r x was | inr new ↦ new.1 ];
       reserves = λ k r n is. reserved_under (entry_of k R.entries) r (m.reserved k r) n is;
       free = free;
     };
@@ -176,11 +178,11 @@ module _ (m : Machine) (bare : IsBare m) (IsNew : ℕ → CallId → Type 0) whe
     in_hand = λ a. refl;
     effects = λ k r x d is has. elim (came k r x is).1 [
       | inl was ↦ inl (record { replica = x; there = was; effect = has })
-      | inr new ↦ absurd (subst (HasEffect d) new.0 has)
+      | inr new ↦ absurd (subst (HasEffect d) new has)
     ];
   }
     where
-      came : (k r : ℕ) (x : ReplicaState) → (with_record m R).replicas k r ≡ Some x → IsSomeAnd (entry_of k R.entries) (λ e. IsCompleteOn e r) × ((m.replicas k r ≡ Some x) ⊎ ((x.effects ≡ []) × (x.marks ≡ None)))
+      came : (k r : ℕ) (x : ReplicaState) → (with_record m R).replicas k r ≡ Some x → IsSomeAnd (entry_of k R.entries) (λ e. IsCompleteOn e r) × ((m.replicas k r ≡ Some x) ⊎ (x.effects ≡ []))
       came k r x is = under (entry_of k R.entries) (slice_index (complete_of (entry_of k m.cluster.entries)) r) r (m.replicas k r) x is
 
   step_follows : (step : RecordState → RecordState) → All IsFree (step m.cluster).entries → ReplicasFollow m IsNew (record_step step m)
@@ -198,11 +200,10 @@ module _ (m : Machine) (bare : IsBare m) (IsNew : ℕ → CallId → Type 0) whe
   making_follows (Some k) = undone_follows k
 
   -- one replica changed
-  pub replica_follows : (k r : ℕ) (x y : ReplicaState) → m.replicas k r ≡ Some x → y.marks ≡ x.marks → ((d : CallId) → HasEffect d y.effects → HasEffect d x.effects ⊎ IsNew k d) → ReplicasFollow m IsNew (record m { replicas = put2 m.replicas k r (Some y) })
-  replica_follows k r x y there marks more = record {
+  pub replica_follows : (k r : ℕ) (x y : ReplicaState) → m.replicas k r ≡ Some x → ((d : CallId) → HasEffect d y.effects → HasEffect d x.effects ⊎ IsNew k d) → ReplicasFollow m IsNew (record m { replicas = put2 m.replicas k r (Some y) })
+  replica_follows k r x y there more = record {
     bare = record {
       complete = λ j q z is. by_place j q z (λ j q z. IsSomeAnd (entry_of j m.cluster.entries) (λ e. IsCompleteOn e q)) (bare.complete k r x there) (bare.complete j q z) is;
-      unmarked = λ j q z is. by_place j q z (λ j q z. z.marks ≡ None) (marks ∙ bare.unmarked k r x there) (bare.unmarked j q z) is;
       reserves = bare.reserves;
       free = bare.free;
     };
@@ -223,9 +224,9 @@ module _ (m : Machine) (bare : IsBare m) (IsNew : ℕ → CallId → Type 0) whe
         | false ↦ λ at some. other some
       ] refl is
 
-  changed_replica : (k r : ℕ) (o : Option ReplicaState) → m.replicas k r ≡ o → (change : ReplicaState → ReplicaState) → ((x : ReplicaState) → (change x).marks ≡ x.marks) → ((x : ReplicaState) (d : CallId) → m.replicas k r ≡ Some x → HasEffect d (change x).effects → HasEffect d x.effects ⊎ IsNew k d) → ReplicasFollow m IsNew (change_replica m k r o change)
-  changed_replica k r None there change marks more = same_follows
-  changed_replica k r (Some x) there change marks more = replica_follows k r x (change x) there (marks x) (λ d. more x d there)
+  changed_replica : (k r : ℕ) (o : Option ReplicaState) → m.replicas k r ≡ o → (change : ReplicaState → ReplicaState) → ((x : ReplicaState) (d : CallId) → m.replicas k r ≡ Some x → HasEffect d (change x).effects → HasEffect d x.effects ⊎ IsNew k d) → ReplicasFollow m IsNew (change_replica m k r o change)
+  changed_replica k r None there change more = same_follows
+  changed_replica k r (Some x) there change more = replica_follows k r x (change x) there (λ d. more x d there)
 
   -- what is done on OK alone, and at a checkpoint and a node that are named
   ok_follows : (reply : StepReply) (n : Machine) → ReplicasFollow m IsNew n → ReplicasFollow m IsNew (on_ok reply m n)
@@ -247,7 +248,7 @@ module _ (m : Machine) (bare : IsBare m) (IsNew : ℕ → CallId → Type 0) whe
   -- a reservation
   reserve_follows : (k r n : ℕ) → IsSomeAnd (entry_of k m.cluster.entries) (λ e. IsIncomplete e r) → ReplicasFollow m IsNew (record m { reserved = put2 m.reserved k r (Some n) })
   reserve_follows k r n there = record {
-    bare = record { complete = bare.complete; unmarked = bare.unmarked; reserves = reserves; free = bare.free };
+    bare = record { complete = bare.complete; reserves = reserves; free = bare.free };
     next = λ a. refl;
     in_hand = λ a. refl;
     effects = λ j q x d is has. inl (record { replica = x; there = is; effect = has });
@@ -263,11 +264,12 @@ module _ (m : Machine) (bare : IsBare m) (IsNew : ℕ → CallId → Type 0) whe
         | false ↦ λ at some. bare.reserves j q i some
       ] refl is
 
-  -- what a step of a call needs of its row: a node that reserves is not complete, the new effects of a commit are of the origins of what is staged there, and that of an update in one step is of the call
+  -- what a step of a call needs of its row: a node that reserves is not complete, the new effects of a commit are of the origins of what is staged there, that of an update in one step is of the call, and that of the end of a weak write is of the call of the marks
   abbrev pub StepNeeds : CallId → Verb → Option ℕ → Option ℕ → StepReply → Type 0
   StepNeeds call verbs.Reserve (Some k) (Some r) words.Ok = IsSomeAnd (entry_of k m.cluster.entries) (λ e. IsIncomplete e r)
   StepNeeds call verbs.Commit (Some k) (Some r) words.Ok = (x : ReplicaState) (slot : Staged) → m.replicas k r ≡ Some x → x.slot ≡ Some slot → IsNew k slot.origin
   StepNeeds call verbs.Apply (Some k) (Some r) words.Ok = IsNew k call
+  StepNeeds call verbs.Unmark (Some k) (Some r) words.Ok = (x : ReplicaState) (marks : Marked) → m.replicas k r ≡ Some x → x.marks ≡ Some marks → IsNew k marks.call
   StepNeeds call verb k r reply = Unit {0}
 
   reserved_follows : (call : CallId) (k r : Option ℕ) (reply : StepReply) → StepNeeds call verbs.Reserve k r reply → ReplicasFollow m IsNew (on_ok reply m (at_some k m (λ k. at_some r m (λ r. record m { reserved = put2 m.reserved k r (Some (slice_index m.cluster.up r)) }))))
@@ -278,7 +280,7 @@ module _ (m : Machine) (bare : IsBare m) (IsNew : ℕ → CallId → Type 0) whe
 
   commit_follows : (call : CallId) (k r : Option ℕ) (reply : StepReply) → StepNeeds call verbs.Commit k r reply → ReplicasFollow m IsNew (on_ok reply m (at_some k m (λ k. at_some r m (λ r. change_replica m k r (m.replicas k r) (with_committed (entry_of k m.cluster.entries))))))
   commit_follows call (Some k) (Some r) words.Ok new =
-      changed_replica k r (m.replicas k r) refl (with_committed (entry_of k m.cluster.entries)) (committed_marks (entry_of k m.cluster.entries))
+      changed_replica k r (m.replicas k r) refl (with_committed (entry_of k m.cluster.entries))
       (λ x d there has. elim (committed_effects (entry_of k m.cluster.entries) x d has) [
         | inl was ↦ inl was
         | inr by ↦ (let (slot, is, origin) = by in inr (subst (IsNew k) origin (new x slot there is)))
@@ -289,7 +291,7 @@ module _ (m : Machine) (bare : IsBare m) (IsNew : ℕ → CallId → Type 0) whe
 
   apply_follows : (call : CallId) (update : Update) (t : ℤ) (k r : Option ℕ) (reply : StepReply) → StepNeeds call verbs.Apply k r reply → ReplicasFollow m IsNew (on_ok reply m (at_some k m (λ k. at_some r m (λ r. change_replica m k r (m.replicas k r) (with_applied call update t (entry_of k m.cluster.entries))))))
   apply_follows call update t (Some k) (Some r) words.Ok new =
-      changed_replica k r (m.replicas k r) refl (with_applied call update t (entry_of k m.cluster.entries)) (applied_marks (entry_of k m.cluster.entries) call update t)
+      changed_replica k r (m.replicas k r) refl (with_applied call update t (entry_of k m.cluster.entries))
       (λ x d there has. elim (applied_effects (entry_of k m.cluster.entries) call update t x d has) [
         | inl was ↦ inl was
         | inr by ↦ inr (subst (IsNew k) by new)
@@ -297,6 +299,17 @@ module _ (m : Machine) (bare : IsBare m) (IsNew : ℕ → CallId → Type 0) whe
   apply_follows call update t (Some k) None words.Ok new = same_follows
   apply_follows call update t None r words.Ok new = same_follows
   apply_follows call update t k r reply new = same_follows
+
+  unmark_follows : (call : CallId) (k r : Option ℕ) (reply : StepReply) → StepNeeds call verbs.Unmark k r reply → ReplicasFollow m IsNew (on_ok reply m (at_some k m (λ k. at_some r m (λ r. change_replica m k r (m.replicas k r) without_marks))))
+  unmark_follows call (Some k) (Some r) words.Ok new =
+      changed_replica k r (m.replicas k r) refl without_marks
+      (λ x d there has. elim (unmarked_effects x d has) [
+        | inl was ↦ inl was
+        | inr by ↦ (let (marks, is, own) = by in inr (subst (IsNew k) own (new x marks there is)))
+      ])
+  unmark_follows call (Some k) None words.Ok new = same_follows
+  unmark_follows call None r words.Ok new = same_follows
+  unmark_follows call k r reply new = same_follows
 
   -- any step
   pub changed_follows : (s : CallState) (verb : Verb) (k r : Option ℕ) (reply : StepReply) → StepNeeds s.call verb k r reply → ReplicasFollow m IsNew (changed m s verb k r reply)
@@ -306,9 +319,12 @@ module _ (m : Machine) (bare : IsBare m) (IsNew : ℕ → CallId → Type 0) whe
   changed_follows s verbs.Reserve k r reply new = reserved_follows s.call k r reply new
   changed_follows s verbs.Finish k r reply new = ok_follows reply _ (one_follows k _ (λ k. entry_follows k (λ R. made_with R.up (client_of s.call)) (λ e. refl)))
   changed_follows s verbs.Undo k r reply new = ok_follows reply _ (one_follows k _ undone_follows)
-  changed_follows s verbs.Stage k r reply new = ok_follows reply _ (both_follow k r _ (λ k r. changed_replica k r (m.replicas k r) refl _ (λ x. refl) (λ x d there has. inl has)))
+  changed_follows s verbs.Stage k r reply new = ok_follows reply _ (both_follow k r _ (λ k r. changed_replica k r (m.replicas k r) refl (with_slot s.call (update_of s.op) (staged_moment m k)) (λ x d there has. inl has)))
   changed_follows s verbs.Commit k r reply new = commit_follows s.call k r reply new
   changed_follows s verbs.Apply k r reply new = apply_follows s.call (update_of s.op) m.cluster.moment k r reply new
+  changed_follows s verbs.Mark k r reply new = ok_follows reply _ (both_follow k r _ (λ k r. changed_replica k r (m.replicas k r) refl (with_marks s.call (update_of s.op) m.cluster.moment) (λ x d there has. inl has)))
+  changed_follows s verbs.Element k r reply new = ok_follows reply _ (both_follow k r _ (λ k r. changed_replica k r (m.replicas k r) refl _ (λ x d there has. inl (subst (HasEffect d) (element_effects (entry_of k m.cluster.entries) x) has))))
+  changed_follows s verbs.Unmark k r reply new = unmark_follows s.call k r reply new
   changed_follows s verbs.Iter k r reply new = ok_follows reply _ (both_follow k r _ (λ k r. same_follows))
   changed_follows s verbs.Next k r reply new = ok_follows reply _ (both_follow k r _ (λ k r. same_follows))
   changed_follows s verbs.Leave k r reply new = ok_follows reply _ (step_follows (departed (client_of s.call)) (departed_free m.cluster bare.free (client_of s.call)))

@@ -1,4 +1,4 @@
--- Which calls replicas have effects of: of calls that were begun; and one that is in hand commits its update there, since an update in one step has ended.
+-- Which calls replicas have effects of: of calls that were begun; and one that is in hand commits its update there, since an update of the active alone has ended.
 use Rattle.std.proofs.Common.{◌≡◌, ◌⊎◌, ℕ, ◌+◌, ◌<◌, inl, inr, List, [], ◌∷◌, Option, Some, None, Bool, true, false, cond, ◌==◌, ℤ, refl, sym, ap, subst, ◌∙◌, arith}
 use Rattle.std.specs.Prelude.{IsSomeAnd, slice_index}
 use Rattle.std.proofs.lemmas.List.Elements.{All-nil, All-filter}
@@ -12,6 +12,7 @@ use Rattle.ckpt_types.specs.declared.answers.Outcome.TheVariants.{Done, Refused}
 use Rattle.ckpt_types.specs.declared.identities.CallId.{CallId}
 use Rattle.ckpt_types.specs.declared.operation.Op.{Op}
 use Rattle.ckpt_types.specs.declared.update.Update.{Update}
+use Rattle.weak_marks.specs.Marks.{Marked}
 use Rattle.node_msgs.specs.declared.steps.Verb.{Verb}
 use Rattle.node_msgs.specs.declared.steps.Verb.TheVariants as verbs
 use Rattle.node_msgs.specs.declared.steps.StepReply.{StepReply}
@@ -28,11 +29,11 @@ use Rattle.ckpt_machine.specs.Drivers.{Driver}
 use Rattle.ckpt_machine.specs.Drivers as drivers
 use Rattle.ckpt_machine.specs.Driving.{driver_next, driver_taken}
 use Rattle.node_core.specs.Serving.{update_answer}
-use Rattle.ckpt_machine.specs.Guards.{IsMadeBy, OnReplica, OnAll, OnActive, CommitOk, ApplyOk, Row, Allowed}
+use Rattle.ckpt_machine.specs.Guards.{IsMadeBy, OnReplica, OnAll, OnActive, CommitOk, ApplyOk, AreMarksOf, UnmarkRow, Row, Allowed}
 use Rattle.ckpt_machine.specs.Invariant.{IsGoodIn, InvariantIn, Invariant}
 use Rattle.ckpt_machine.specs.Machine.{Machine, Staged, ReplicaState, CallState, empty_cluster}
-use Rattle.ckpt_machine.specs.Options.{is_all}
-use Rattle.ckpt_machine.specs.Shape.{Shape, IsCompleteOn, IsShapedBy, IsOwner, slot_by}
+use Rattle.ckpt_machine.specs.Options.{is_all, is_weak, is_by_element}
+use Rattle.ckpt_machine.specs.Shape.{Shape, IsCompleteOn, IsShapedBy, IsOwner, IsMarker, IsSpread, slot_by, marks_at}
 use Rattle.ckpt_machine.specs.Steps.{Told, IsDone, IsDue, driver_of, due, rooms_of, begun, with_record, call_begun, changed, kept_behind, claimed_count, stepped, step_of, after}
 use Rattle.ckpt_machine.proofs.OwnMaking.{making_there}
 use Rattle.ckpt_machine.proofs.Follows.{IsFree, IsIncomplete, IsBare, Has, ReplicasFollow, record_follows, StepNeeds, changed_follows}
@@ -44,7 +45,6 @@ use Rattle.ckpt_machine.proofs.Starting.{first_kept, begun_as}
 use Rattle.ckpt_machine.proofs.Actors.{same_actor-refl, same_actor-true}
 use Rattle.ckpt_machine.proofs.NodeLists.{slice_index-replicate}
 use Rattle.ckpt_machine.proofs.Owning.{owner_origin}
-use Rattle.ckpt_machine.proofs.OwnMaking.{making_there}
 use Rattle.ckpt_machine.proofs.OptionLemmas.{IsSomeAnd-at, IsSomeAnd-from}
 
 -- what drives the call commits an update of this checkpoint
@@ -62,19 +62,36 @@ pub record HasHistory (m : Machine) : Type 0 where
 
 pub history_empty : HasHistory empty_cluster
 history_empty = record {
-  bare = record { complete = λ k r x is. absurd (cc is); unmarked = λ k r x is. absurd (cc is); reserves = λ k r n is. absurd (cc is); free = All-nil IsFree };
+  bare = record { complete = λ k r x is. absurd (cc is); reserves = λ k r n is. absurd (cc is); free = All-nil IsFree };
   given = λ k r d has. absurd (let none = has.there in cc none);
   commits = λ k r s held has. absurd (cc held);
 }
 
--- ---- whose a slot is
+-- ---- whose a slot is, and whose marks are
 
 module _ (m : Machine) (shapes : ℕ → Shape) (inv : InvariantIn shapes m) (bare : IsBare m) where
-  -- what is staged is of a call in hand, an update of this checkpoint, that owns it
-  pub slot_owned : (k r : ℕ) (x : ReplicaState) (slot : Staged) → m.replicas k r ≡ Some x → x.slot ≡ Some slot → IsOwner m k (shapes k) slot.owner × (slot.origin ≡ slot.owner) × (slot.update ≡ (shapes k).update)
-  slot_owned k r x slot at staged =
+  -- a replica is of a checkpoint that is made, and as its shape says
+  record IsShapedAt (k r : ℕ) (x : ReplicaState) : Type 0 where
+    entry : Entry
+    spread : IsSpread m k (shapes k) entry
+    shaped : IsShapedBy (is_all entry.attributes) (shapes k) entry.active r x
+
+  shaped_at : (k r : ℕ) (x : ReplicaState) → m.replicas k r ≡ Some x → IsShapedAt k r x
+  shaped_at k r x at =
       let (e, found, there) = IsSomeAnd-at (entry_of k m.cluster.entries) (λ e. IsCompleteOn e r) (bare.complete k r x at) in
       by_maker e there e.making (inv.entries k e found)
+    where
+      by_maker : (e : Entry) → IsCompleteOn e r → (maker : Option CallId) → IsGoodIn m k (shapes k) e maker → IsShapedAt k r x
+      by_maker e there (Some call) good =
+          let none : (slice_index e.complete r == 0) ≡ true = ap (λ nodes. slice_index nodes r == 0) good.0.complete ∙ ap (λ n. n == 0) (slice_index-replicate 8 r) in
+          absurd (let w : true ≡ false = sym none ∙ there in cc w)
+      by_maker e there None good =
+          let (y, is, shaped) = IsSomeAnd-at (m.replicas k r) (IsShapedBy (is_all e.attributes) (shapes k) e.active r) (good.replicas r there) in
+          record { entry = e; spread = good; shaped = subst (IsShapedBy (is_all e.attributes) (shapes k) e.active r) (same_Some y x (sym is ∙ at)) shaped }
+
+  -- what is staged is of a call in hand, an update of this checkpoint, that owns it
+  pub slot_owned : (k r : ℕ) (x : ReplicaState) (slot : Staged) → m.replicas k r ≡ Some x → x.slot ≡ Some slot → IsOwner m k (shapes k) slot.owner × (slot.origin ≡ slot.owner) × (slot.update ≡ (shapes k).update)
+  slot_owned k r x slot there staged = let at = shaped_at k r x there in by_shape (is_all at.entry.attributes) at.entry.active at.shaped (at.spread.owned r)
     where
       by_owner : (o : Option CallId) → (shapes k).owners r ≡ o → slot_by (shapes k) o ≡ Some slot → ((d : CallId) → (shapes k).owners r ≡ Some d → IsOwner m k (shapes k) d) → IsOwner m k (shapes k) slot.owner × (slot.origin ≡ slot.owner) × (slot.update ≡ (shapes k).update)
       by_owner None is none owned = absurd (cc none)
@@ -86,17 +103,23 @@ module _ (m : Machine) (shapes : ℕ → Shape) (inv : InvariantIn shapes m) (ba
           (subst (IsOwner m k (shapes k)) owner own, sym origin ∙ owner_origin m k (shapes k) d own ∙ owner, ap (λ (z : Staged). z.update) (sym same))
 
       -- where updates are on the active alone, nothing is staged
-      by_shape : (all : Bool) (y : ReplicaState) → y ≡ x → IsShapedBy all (shapes k) ((shapes k).owners r) y → ((d : CallId) → (shapes k).owners r ≡ Some d → IsOwner m k (shapes k) d) → IsOwner m k (shapes k) slot.owner × (slot.origin ≡ slot.owner) × (slot.update ≡ (shapes k).update)
-      by_shape true y same shaped owned = by_owner ((shapes k).owners r) refl (sym shaped.slot ∙ ap (λ (z : ReplicaState). z.slot) same ∙ staged) owned
-      by_shape false y same apart owned = absurd (let w : None ≡ Some slot = sym apart.free ∙ ap (λ (z : ReplicaState). z.slot) same ∙ staged in cc w)
+      by_shape : (all : Bool) (active : Option ℕ) → IsShapedBy all (shapes k) active r x → ((d : CallId) → (shapes k).owners r ≡ Some d → IsOwner m k (shapes k) d) → IsOwner m k (shapes k) slot.owner × (slot.origin ≡ slot.owner) × (slot.update ≡ (shapes k).update)
+      by_shape true active shaped owned = by_owner ((shapes k).owners r) refl (sym shaped.slot ∙ staged) owned
+      by_shape false active apart owned = absurd (let w : None ≡ Some slot = sym apart.free ∙ staged in cc w)
 
-      by_maker : (e : Entry) → IsCompleteOn e r → (maker : Option CallId) → IsGoodIn m k (shapes k) e maker → IsOwner m k (shapes k) slot.owner × (slot.origin ≡ slot.owner) × (slot.update ≡ (shapes k).update)
-      by_maker e there (Some call) good =
-          let none : (slice_index e.complete r == 0) ≡ true = ap (λ nodes. slice_index nodes r == 0) good.0.complete ∙ ap (λ n. n == 0) (slice_index-replicate 8 r) in
-          absurd (let w : true ≡ false = sym none ∙ there in cc w)
-      by_maker e there None good =
-          let (y, is, shaped) = IsSomeAnd-at (m.replicas k r) (IsShapedBy (is_all e.attributes) (shapes k) ((shapes k).owners r)) (good.replicas r there) in
-          by_shape (is_all e.attributes) y (same_Some y x (sym is ∙ at)) shaped (good.owned r)
+  -- the marks that stand on a replica are of a call in hand, a weak write of this checkpoint
+  pub marks_owned : (k r : ℕ) (x : ReplicaState) (marks : Marked) → m.replicas k r ≡ Some x → x.marks ≡ Some marks → IsMarker m k marks
+  marks_owned k r x marks there marked = let at = shaped_at k r x there in by_shape (is_all at.entry.attributes) at.entry.active at.shaped (at.spread.marked marks)
+    where
+      -- they are those of the checkpoint
+      on_active : (active : Option ℕ) → marks_at active (shapes k).marks r ≡ Some marks → (shapes k).marks ≡ Some marks
+      on_active None none = absurd (cc none)
+      on_active (Some active) some = elim (r == active) as (λ b. cond b (shapes k).marks None ≡ Some marks → (shapes k).marks ≡ Some marks) [ true ↦ λ is. is | false ↦ λ none. absurd (cc none) ] some
+
+      -- where updates are on all replicas, there are none
+      by_shape : (all : Bool) (active : Option ℕ) → IsShapedBy all (shapes k) active r x → ((shapes k).marks ≡ Some marks → IsMarker m k marks) → IsMarker m k marks
+      by_shape true active shaped marker = absurd (let w : None ≡ Some marks = sym shaped.unmarked ∙ marked in cc w)
+      by_shape false active apart marker = marker (on_active active (sym apart.marks_are ∙ marked))
 
 -- on no node is complete what is in the making
 pub maker_incomplete : (m : Machine) → Invariant m → (call : CallId) (k r : ℕ) (e : Entry) → entry_of k m.cluster.entries ≡ Some e → e.making ≡ Some call → IsIncomplete e r
@@ -165,6 +188,12 @@ on_replica-there m k r P on =
     let (x, at, p) = IsSomeAnd-at (m.replicas k r) (P e) here in
     (e, x, found, at, p)
 
+-- and where its updates are on the active alone
+pub on_active-there : (m : Machine) (update : Update) (by_element : Bool) (k r : ℕ) (P : Entry → ReplicaState → Type 0) → OnActive m update by_element k r P → (e : Entry) × (x : ReplicaState) × (entry_of k m.cluster.entries ≡ Some e) × (m.replicas k r ≡ Some x) × (is_all e.attributes ≡ false) × (e.active ≡ Some r) × P e x
+on_active-there m update by_element k r P on =
+    let (e, x, found, there, row_of) = on_replica-there m k r (λ e x. (is_all e.attributes ≡ false) × (e.active ≡ Some r) × (is_by_element (is_weak e.attributes) update ≡ by_element) × P e x) on in
+    (e, x, found, there, row_of.0, row_of.1, row_of.3)
+
 module _ (m : Machine) (inv : Invariant m) (history : HasHistory m) (s : CallState) (held : m.in_hand s.call.actor ≡ Some s) (t : Told) (row : Row m s t.verb t) where
   -- the step commits at this checkpoint
   pub record Commits (k : ℕ) : Type 0 where
@@ -173,9 +202,9 @@ module _ (m : Machine) (inv : Invariant m) (history : HasHistory m) (s : CallSta
     pub driver_is : driver_of s ≡ drivers.Update update
     pub ckpt : update.ckpt ≡ k
 
-  -- or it is the one step of an update, which is answered OK
+  -- or it is the one step of an update, or the last of a weak write, which is answered OK
   pub record Applies : Type 0 where
-    pub verb : t.verb ≡ verbs.Apply
+    pub verb : (t.verb ≡ verbs.Apply) ⊎ (t.verb ≡ verbs.Unmark)
     pub answer : Answer
     pub ends : t.end ≡ Some (Done answer)
 
@@ -200,11 +229,18 @@ module _ (m : Machine) (inv : Invariant m) (history : HasHistory m) (s : CallSta
       let state : own.state ≡ s = same_Some own.state s (sym own.in_hand ∙ held) in
       record { own = origin ∙ owner; reply = reply; by = inl (record { verb = verb; update = own.driver; driver_is = ap driver_of (sym state) ∙ own.driver_is; ckpt = own.ckpt }) }
 
-  own_apply : (update : Update) (k r : ℕ) (u : Told) → u.end ≡ t.end → t.verb ≡ verbs.Apply → t.reply ≡ words.Ok → OnActive m k r (ApplyOk m update u) → IsOwnEffect k s.call
+  own_apply : (update : Update) (k r : ℕ) (u : Told) → u.end ≡ t.end → t.verb ≡ verbs.Apply → t.reply ≡ words.Ok → OnActive m update false k r (ApplyOk m update u) → IsOwnEffect k s.call
   own_apply update k r u end verb reply on =
-      let (e, x, found, at, row_of) = on_replica-there m k r (λ e x. (is_all e.attributes ≡ false) × (e.active ≡ Some r) × ApplyOk m update u e x) on in
-      let ok : ApplyOk m update u e x = row_of.2 in
-      record { own = refl; reply = reply; by = inr (record { verb = verb; answer = update_answer update; ends = sym end ∙ ok.answer }) }
+      let (e, x, found, at, none, active, row_of) = on_active-there m update false k r (ApplyOk m update u) on in
+      let ok : ApplyOk m update u e x = row_of in
+      record { own = refl; reply = reply; by = inr (record { verb = inl verb; answer = update_answer update; ends = sym end ∙ ok.answer }) }
+
+  own_unmark : (update : Update) (k r : ℕ) (u : Told) → u.end ≡ t.end → t.verb ≡ verbs.Unmark → t.reply ≡ words.Ok → UnmarkRow m s.call update k r u words.Ok → (x : ReplicaState) (marks : Marked) → m.replicas k r ≡ Some x → x.marks ≡ Some marks → IsOwnEffect k marks.call
+  own_unmark update k r u end verb reply on x marks at marked =
+      let (e, y, found, is, none, active, row_of) = on_active-there m update true k r (λ e x. IsSomeAnd x.marks (AreMarksOf s.call update false)) on.0 in
+      let (there, marks_are, own) = IsSomeAnd-at y.marks (AreMarksOf s.call update false) row_of in
+      let same : there ≡ marks = same_Some there marks (sym marks_are ∙ ap (λ (z : ReplicaState). z.marks) (same_Some y x (sym is ∙ at)) ∙ marked) in
+      record { own = ap (λ (z : Marked). z.call) (sym same) ∙ own.call_is; reply = reply; by = inr (record { verb = inr verb; answer = answers.Nothing; ends = sym end ∙ on.1 }) }
 
   pub follows : ReplicasFollow m IsOwnEffect n
   follows = changed_follows m history.bare IsOwnEffect s t.verb t.ckpt t.node t.reply (news t.verb t.ckpt t.node t.reply refl refl row)
@@ -212,6 +248,7 @@ module _ (m : Machine) (inv : Invariant m) (history : HasHistory m) (s : CallSta
       news : (verb : Verb) (k r : Option ℕ) (reply : StepReply) → t.verb ≡ verb → t.reply ≡ reply → Row m s verb (record t { verb = verb; ckpt = k; node = r; reply = reply }) → StepNeeds m history.bare IsOwnEffect s.call verb k r reply
       news verbs.Commit (Some k) (Some r) words.Ok verb reply row = own_commit row.1 k r verb reply row.3
       news verbs.Apply (Some k) (Some r) words.Ok verb reply row = own_apply row.1 k r (record t { verb = verbs.Apply; ckpt = Some k; node = Some r; reply = words.Ok }) refl verb reply row.3
+      news verbs.Unmark (Some k) (Some r) words.Ok verb reply row = own_unmark row.1 k r (record t { verb = verbs.Unmark; ckpt = Some k; node = Some r; reply = words.Ok }) refl verb reply row.3
       news verbs.Reserve (Some k) (Some r) words.Ok verb reply row = making_incomplete m inv s.call k r row.0.3.1
       news verb k r reply verb_is reply_is row = tt
 
@@ -316,7 +353,7 @@ keeps_history m (labels.Stepped call op verb k r reply end details) inv history 
     subst (λ o. HasHistory (step_of m o verb k r reply end)) (sym step.in_hand) (step_history m inv history step.state held _ (subst (λ z. Row m z verb _) same allowed.row) end refl step.done)
 keeps_history m (labels.Word who word said) inv history allowed is = history
 keeps_history m (labels.Nodes n) inv history allowed is = record {
-  bare = record { complete = history.bare.complete; unmarked = history.bare.unmarked; reserves = history.bare.reserves; free = history.bare.free };
+  bare = record { complete = history.bare.complete; reserves = history.bare.reserves; free = history.bare.free };
   given = λ k r d has. history.given k r d (record { replica = has.replica; there = has.there; effect = has.effect });
   commits = λ k r s held has. history.commits k r s held (record { replica = has.replica; there = has.there; effect = has.effect });
 }

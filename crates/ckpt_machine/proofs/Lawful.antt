@@ -29,7 +29,7 @@ module _ (m : Machine) (inv : Invariant m) (s : CallState) (held : m.in_hand s.c
   driver_goes (drivers.Once x) is done = once_goes m inv.shapes inv.holds s x held is t done
   driver_goes (drivers.Open o) is done = open_goes m inv.shapes inv.holds s o held is t (subst (λ d. IsDone m s (driver_next m.cluster (rooms_of m s) d) t) (sym is) done)
   driver_goes (drivers.Update u) is done = subst (λ d. Goes m s d t) (sym is) (update_goes m inv.shapes inv.holds s u held is t done)
-  driver_goes (drivers.Active a) is done = active_goes m inv.shapes inv.holds s a.call a.ckpt held a.kind is (rooms_of m s) t refl done
+  driver_goes (drivers.Active a) is done = active_goes m inv.shapes inv.holds s a.call a.ckpt held a.kind a.marks is (rooms_of m s) t refl done
 
 -- ---- the law
 

@@ -35,10 +35,14 @@ pub mod Acknowledged
 pub mod AcknowledgedExamples
 pub mod BegunBefore
 pub mod BegunOnce
+pub mod GoodArguments
 pub mod UpdateAnswers
 pub mod Active
 pub mod ActiveNode
-pub mod Applied
+pub mod ActiveSteps
+pub mod MarksAt
+pub mod OnTheActive
+pub mod Weak
 pub mod Apply
 pub mod Beginnings
 pub mod BeginRows
@@ -72,6 +76,7 @@ pub mod Follows
 pub mod Histories
 pub mod RefusedRuns
 pub mod RefusedRows
+pub mod ElementsDone
 pub mod EachReplica
 pub mod EffectsOnce
 pub mod ActiveAhead

@@ -1,6 +1,6 @@
 -- What is next of a call: a look, a step of the record, a reservation, or what its driver asks of a replica.
 use Rattle.ckpt_machine.specs.Drivers.{Rooms}
-use Rattle.std.proofs.Common.{ℕ, Bool, true, false, ℤ, cond}
+use Rattle.std.proofs.Common.{ℕ, Bool, true, false, ℤ, cond, ◌==◌}
 use Rattle.std.specs.Prelude.{Option, Some, None, is_some, not, ◌&&◌, nat_le, length}
 use Rattle.ckpt_types.specs.declared.answers.Outcome.{Outcome}
 use Rattle.ckpt_types.specs.declared.attributes.CreationAttributes.{CreationAttributes}
@@ -13,6 +13,7 @@ use Rattle.node_msgs.specs.declared.next.Next.TheVariants.{Serve, Event, End}
 use Rattle.ckpt_machine.specs.Drivers.{Driver}
 use Rattle.ckpt_machine.specs.Drivers as drivers
 use Rattle.cluster_record.specs.declared.calls.Making.{Making}
+use Rattle.cluster_record.specs.declared.calls.MarksMade.{MarksMade}
 use Rattle.cluster_record.specs.DueOpen.{OpenState}
 use Rattle.cluster_record.specs.DueActive.{ActiveState}
 use Rattle.cluster_record.specs.declared.entries.Entry.{Entry}
@@ -24,7 +25,7 @@ use Rattle.cluster_record.specs.StepDone.{first_lacking, last_having}
 use Rattle.ckpt_machine.specs.Driving.{driver_next}
 use Rattle.cluster_record.specs.DueOpen.{accepts, create_next, entry_by, entry_next, on_named, reserve_or_finish, on_making, by_making}
 use Rattle.cluster_record.specs.DueUpdate.{commit_at, stage_at, by_phase, update_on}
-use Rattle.cluster_record.specs.DueActive.{on_active, active_on, active_request, starts_iteration}
+use Rattle.cluster_record.specs.DueActive.{unless_changed, on_active, active_on, active_request, starts_iteration}
 use Rattle.cluster_record.specs.DueOnce.{OneStep, once_next, close_of, unlink_of_making, unlink_of, retain_of}
 use Rattle.cluster_record.specs.DueOnce as once
 use Rattle.ckpt_machine.proofs.Deadlines.{in_time-either}
@@ -93,14 +94,22 @@ module _ (P : Next → Type 0) (ends : (o : Outcome) → P (End o)) (steps : (st
 
   of_active : (room : Bool) (a : ActiveState) (e : Option Entry) → ((r : ℕ) → P (Serve r (active_request a))) → P (active_on room a e)
   of_active room a None asks = ends _
-  of_active room a (Some e) asks = at e.active where
-    by_test : (b : Bool) (x : Outcome) (r : ℕ) → P (cond b (End x) (Serve r (active_request a)))
-    by_test true x r = ends x
-    by_test false x r = asks r
+  of_active room a (Some e) asks = at e.generation e.active where
+    by_generation : (b : Bool) (x : Outcome) (r : ℕ) → P (cond b (Serve r (active_request a)) (End x))
+    by_generation true x r = asks r
+    by_generation false x r = ends x
 
-    at : (r : Option ℕ) → P (on_active room a r)
-    at None = ends _
-    at (Some r) = by_test (starts_iteration a.kind && not room) _ r
+    by_marks : (marks : Option MarksMade) (generation r : ℕ) → P (unless_changed marks generation (Serve r (active_request a)))
+    by_marks None generation r = asks r
+    by_marks (Some marks) generation r = by_generation (marks.generation == generation) _ r
+
+    by_test : (b : Bool) (x : Outcome) (generation r : ℕ) → P (cond b (End x) (unless_changed a.marks generation (Serve r (active_request a))))
+    by_test true x generation r = ends x
+    by_test false x generation r = by_marks a.marks generation r
+
+    at : (generation : ℕ) (r : Option ℕ) → P (on_active room a generation r)
+    at generation None = ends _
+    at generation (Some r) = by_test (starts_iteration a.kind && not room) _ generation r
 
   -- ---- a call of one step
 

@@ -24,11 +24,12 @@ use Rattle.ckpt_machine.specs.Drivers as drivers
 use Rattle.ckpt_machine.specs.Entries.{WasMade}
 use Rattle.ckpt_types.specs.declared.attributes.CreationAttributes.{CreationAttributes}
 use Rattle.ckpt_machine.specs.Machine.{Machine, ReplicaState, CallState}
-use Rattle.ckpt_machine.specs.Options.{is_all}
-use Rattle.ckpt_machine.specs.Shape.{Shape, IsCompleteOn, IsShapedBy, is_owner, IsOwner}
+use Rattle.ckpt_machine.specs.Options.{is_all, is_weak}
+use Rattle.weak_marks.specs.Marks.{Marked}
+use Rattle.ckpt_machine.specs.Shape.{Shape, IsCompleteOn, IsShapedBy, is_owner, IsOwner, IsMarker}
 use Rattle.ckpt_machine.specs.Steps.{driver_of, asked_handle}
 use Rattle.ckpt_machine.specs.Tables.{handle_asked}
-use Rattle.ckpt_machine.specs.InHand.{IsMakingIn, IsOpenIn, HasSome, IsOnceAt, IsInPlace, IsInHand}
+use Rattle.ckpt_machine.specs.InHand.{is_marked_by, IsMakingIn, IsOpenIn, HasSome, IsOnceAt, IsInPlace, IsInHand}
 use Rattle.ckpt_machine.specs.Invariant.{IsMaker, IsGoodIn}
 use Rattle.ckpt_machine.specs.Later.{IsLaterEntry}
 
@@ -49,8 +50,9 @@ pub record LooksAlike (m n : Machine) (shapes then_shapes : ℕ → Shape) (z : 
   pub making : (o : OpenState) → IsOpenIn m z o → IfSome o.making (IsMakingIn n z)
   -- of the checkpoints that were made, those that are left are as they were
   pub made : (k : ℕ) → WasMade m.cluster k → WasMade n.cluster k
-  pub later : (k : ℕ) → WasMade m.cluster k → (f : Entry) → entry_of k n.cluster.entries ≡ Some f → (e : Entry) × (entry_of k m.cluster.entries ≡ Some e) × (f.complete ≡ e.complete) × (f.attributes ≡ e.attributes)
+  pub later : (k : ℕ) → WasMade m.cluster k → (f : Entry) → entry_of k n.cluster.entries ≡ Some f → (e : Entry) × (entry_of k m.cluster.entries ≡ Some e) × (f.complete ≡ e.complete) × (f.attributes ≡ e.attributes) × (f.generation ≡ e.generation)
   pub owners : (k : ℕ) → WasMade m.cluster k → (r : ℕ) → is_owner z.call ((then_shapes k).owners r) ≡ is_owner z.call ((shapes k).owners r)
+  pub marks : (k : ℕ) → WasMade m.cluster k → is_marked_by z.call (then_shapes k).marks ≡ is_marked_by z.call (shapes k).marks
 
 module _ (m n : Machine) (shapes then_shapes : ℕ → Shape) (z : CallState) (alike : LooksAlike m n shapes then_shapes z) where
   handle_alike : IsSome (asked_handle m z.call.actor z.op) → IsSome (asked_handle n z.call.actor z.op)
@@ -63,7 +65,7 @@ module _ (m n : Machine) (shapes then_shapes : ℕ → Shape) (z : CallState) (a
       by_entry : (o : Option Entry) → entry_of k n.cluster.entries ≡ o → IfSome o (λ e. P e.attributes)
       by_entry None gone = tt
       by_entry (Some f) is =
-          let (e, there, complete, attributes) = alike.later k was f is in
+          let (e, there, complete, attributes, generation) = alike.later k was f is in
           subst P (sym attributes) (subst (λ o. IfSome o (λ (e : Entry). P e.attributes)) there holds)
 
   HasSome-alike : (u : UpdateState) (e f : Entry) → f.complete ≡ e.complete → (ph : UpdatePhase) → HasSome u e ph → HasSome u f ph
@@ -103,12 +105,26 @@ module _ (m n : Machine) (shapes then_shapes : ℕ → Shape) (z : CallState) (a
     all = declared_alike (λ a. is_all a ≡ true) u.ckpt at.made at.all;
     nodes = at.nodes;
     owns = λ f is r full.
-        let (e, was, complete, attributes) = alike.later u.ckpt at.made f is in
+        let (e, was, complete, attributes, generation) = alike.later u.ckpt at.made f is in
         subst (λ (cs : List ℕ). (slice_index cs r == 0) ≡ false → has (slice_index cs r) (slice_index u.owned r) ≡ is_owner z.call ((shapes u.ckpt).owners r)) (sym complete) (at.owns e was r) full
         ∙ sym (alike.owners u.ckpt at.made r);
-    some = λ f is. let (e, was, complete, attributes) = alike.later u.ckpt at.made f is in HasSome-alike u e f complete u.phase (at.some e was);
+    some = λ f is. let (e, was, complete, attributes, generation) = alike.later u.ckpt at.made f is in HasSome-alike u e f complete u.phase (at.some e was);
   }
-  IsIn-alike (drivers.Active a) at = record { call = at.call; kind = at.kind; made = alike.made a.ckpt at.made; kept = at.kept; room = declared_alike (λ a. z.kept.room ≡ room_declared a) a.ckpt at.made at.room; all = declared_alike (λ b. z.kept.all ≡ is_all b) a.ckpt at.made at.all; handle = handle_alike at.handle }
+  IsIn-alike (drivers.Active a) at = record {
+    call = at.call;
+    kind = at.kind;
+    fit = at.fit;
+    made = alike.made a.ckpt at.made;
+    kept = at.kept;
+    room = declared_alike (λ a. z.kept.room ≡ room_declared a) a.ckpt at.made at.room;
+    all = declared_alike (λ b. z.kept.all ≡ is_all b) a.ckpt at.made at.all;
+    weak = declared_alike (λ b. z.kept.weak ≡ is_weak b) a.ckpt at.made at.weak;
+    handle = handle_alike at.handle;
+    marks = λ f is. let (e, was, complete, attributes, generation) = alike.later a.ckpt at.made f is in alike.marks a.ckpt at.made ∙ at.marks e was;
+    generation = λ f is.
+        let (e, was, complete, attributes, generation) = alike.later a.ckpt at.made f is in
+        subst (λ (n : ℕ). IfSome a.marks (λ marks. marks.generation ≡ n)) (sym generation) (at.generation e was);
+  }
 
   -- and all holds of it that did
   pub IsInHand-alike : (a : ActorName) → (is_live m.cluster z.call ≡ true → is_live n.cluster z.call ≡ true) → z.call.number < n.next a → IsInHand m shapes a z → IsInHand n then_shapes a z
@@ -121,27 +137,32 @@ module _ (m n : Machine) (k : ℕ) where
   pub IsOwner-alike : (sh : Shape) (d : CallId) → n.in_hand d.actor ≡ m.in_hand d.actor → IsOwner m k sh d → IsOwner n k sh d
   IsOwner-alike sh d same own = record { state = own.state; in_hand = same ∙ own.in_hand; call_is = own.call_is; driver = own.driver; driver_is = own.driver_is; ckpt = own.ckpt; phase = own.phase }
 
+  -- so has whose marks stand
+  pub IsMarker-alike : (marks : Marked) → n.in_hand marks.call.actor ≡ m.in_hand marks.call.actor → IsMarker m k marks → IsMarker n k marks
+  IsMarker-alike marks same own = record { state = own.state; in_hand = same ∙ own.in_hand; call_is = own.call_is; driver = own.driver; driver_is = own.driver_is; ckpt = own.ckpt; made = own.made; made_is = own.made_is; update = own.update; left = own.left }
+
   -- so has who is making it
   pub IsMaker-alike : (d : CallId) → n.in_hand d.actor ≡ m.in_hand d.actor → IsMaker m k d → IsMaker n k d
   IsMaker-alike d same own = record { state = own.state; in_hand = same ∙ own.in_hand; call_is = own.call_is; driver = own.driver; driver_is = own.driver_is; making = own.making; making_is = own.making_is; ckpt = own.ckpt }
 
-  -- the checkpoint is as it was, where its replicas are and where those who own its slots or are making it stay
-  pub IsGoodIn-alike : (sh : Shape) (e f : Entry) → IsLaterEntry e f → ((r : ℕ) → IsCompleteOn e r → n.replicas k r ≡ m.replicas k r) → ((d : CallId) → IsOwner m k sh d → n.in_hand d.actor ≡ m.in_hand d.actor) → ((d : CallId) → IsMaker m k d → n.in_hand d.actor ≡ m.in_hand d.actor)
+  -- the checkpoint is as it was, where its replicas are and where those who own its slots, have marks on it or are making it stay
+  pub IsGoodIn-alike : (sh : Shape) (e f : Entry) → IsLaterEntry e f → ((r : ℕ) → IsCompleteOn e r → n.replicas k r ≡ m.replicas k r) → ((d : CallId) → IsOwner m k sh d → n.in_hand d.actor ≡ m.in_hand d.actor) → ((marks : Marked) → IsMarker m k marks → n.in_hand marks.call.actor ≡ m.in_hand marks.call.actor) → ((d : CallId) → IsMaker m k d → n.in_hand d.actor ≡ m.in_hand d.actor)
       → (maker : Option CallId) → IsGoodIn m k sh e maker → IsGoodIn n k sh f maker
-  IsGoodIn-alike sh e f later replicas owners makers None was = record {
+  IsGoodIn-alike sh e f later replicas owners markers makers None was = record {
     nodes = ap length later.complete ∙ was.nodes;
     some = subst (λ (cs : List ℕ). IsSome (first_complete 0 cs)) (sym later.complete) was.some;
     active = later.active ∙ was.active ∙ sym (ap (first_complete 0) later.complete);
-    replicas = λ r there. let before = was_complete r there in subst (λ (z : Option ReplicaState × CreationAttributes). IsSomeAnd z.0 (IsShapedBy (is_all z.1) sh (sh.owners r))) (λ i. (sym (replicas r before) i, sym later.attributes i)) (was.replicas r before);
+    replicas = λ r there. let before = was_complete r there in subst (λ (z : Option ReplicaState × CreationAttributes × Option ℕ). IsSomeAnd z.0 (IsShapedBy (is_all z.1) sh z.2 r)) (λ i. (sym (replicas r before) i, sym later.attributes i, sym later.active i)) (was.replicas r before);
     fits = λ r d owns. ap (λ a. outcome a sh.update sh.moment sh.sections) later.attributes ∙ was.fits r d owns;
     complete = λ r d owns. subst (λ (cs : List ℕ). (slice_index cs r == 0) ≡ false) (sym later.complete) (was.complete r d owns);
     lowest = λ q r d below there owns. was.lowest q r d below (was_complete q there) owns;
     owned = λ r d owns. let own = was.owned r d owns in IsOwner-alike sh d (owners d own) own;
+    marked = λ marks is. let own = was.marked marks is in IsMarker-alike marks (markers marks own) own;
   }
     where
       was_complete : (r : ℕ) → IsCompleteOn f r → IsCompleteOn e r
       was_complete r there = subst (λ (cs : List ℕ). (slice_index cs r == 0) ≡ false) later.complete there
-  IsGoodIn-alike sh e f later replicas owners makers (Some d) was = (
+  IsGoodIn-alike sh e f later replicas owners markers makers (Some d) was = (
     record {
       complete = later.complete ∙ was.0.complete;
       generation = later.generation ∙ was.0.generation;
@@ -168,15 +189,16 @@ module _ (m : Machine) (shapes : ℕ → Shape) (next : ActorName → ℕ) (f : 
     tables = refl;
     making = λ o at. making_still m with_hands z o (λ w at. record { there = at.there; nodes = at.nodes; reserved = at.reserved }) at;
     made = λ k was. was;
-    later = λ k was e found. (e, found, refl, refl);
+    later = λ k was e found. (e, found, refl, refl, refl);
     owners = λ k was r. refl;
+    marks = λ k was. refl;
   }
 
   -- a call is where it was
   pub IsIn-apart : (z : CallState) (d : Driver) → IsInPlace m shapes z d → IsInPlace with_hands shapes z d
   IsIn-apart z d at = IsIn-alike m with_hands shapes shapes z (looks_apart z) d at
 
-  -- a checkpoint is as it was, where those who own its slots or are making it stay
-  pub IsGoodIn-apart : ((k : ℕ) (sh : Shape) (d : CallId) → IsOwner m k sh d → f d.actor ≡ m.in_hand d.actor) → ((k : ℕ) (d : CallId) → IsMaker m k d → f d.actor ≡ m.in_hand d.actor)
+  -- a checkpoint is as it was, where those who own its slots, have marks on it or are making it stay
+  pub IsGoodIn-apart : ((k : ℕ) (sh : Shape) (d : CallId) → IsOwner m k sh d → f d.actor ≡ m.in_hand d.actor) → ((k : ℕ) (marks : Marked) → IsMarker m k marks → f marks.call.actor ≡ m.in_hand marks.call.actor) → ((k : ℕ) (d : CallId) → IsMaker m k d → f d.actor ≡ m.in_hand d.actor)
       → (k : ℕ) (sh : Shape) (e : Entry) (maker : Option CallId) → IsGoodIn m k sh e maker → IsGoodIn with_hands k sh e maker
-  IsGoodIn-apart owners makers k sh e maker was = IsGoodIn-alike m with_hands k sh e e (IsLaterEntry-refl e) (λ r there. refl) (owners k sh) (makers k) maker was
+  IsGoodIn-apart owners markers makers k sh e maker was = IsGoodIn-alike m with_hands k sh e e (IsLaterEntry-refl e) (λ r there. refl) (owners k sh) (markers k) (makers k) maker was

@@ -1,14 +1,16 @@
 -- What a call asks_own of a replica it asks_own of the checkpoint that it was begun on.
-use Rattle.std.proofs.Common.{ℕ, Option, Some, refl, sym, subst}
+use Rattle.std.proofs.Common.{ℕ, Option, Some, None, Bool, true, false, cond, ◌==◌, refl, sym, subst}
 use Rattle.node_msgs.specs.Requests.{ckpt_of}
 use Rattle.node_msgs.specs.Steps.{verb_of, event_verb}
 use Rattle.node_msgs.specs.declared.next.Next.{Next}
 use Rattle.node_msgs.specs.declared.next.Next.TheVariants.{Serve, Event, End}
 use Rattle.node_msgs.specs.declared.next.RecordStep.{RecordStep}
 use Rattle.node_msgs.specs.declared.next.RecordStep.TheVariants as events
+use Rattle.node_msgs.specs.declared.requests.Request.TheVariants as requests
 use Rattle.cluster_record.specs.declared.calls.ActiveKind.{ActiveKind}
+use Rattle.cluster_record.specs.declared.calls.MarksMade.{MarksMade}
 use Rattle.cluster_record.specs.declared.calls.ActiveKind.TheVariants as kinds
-use Rattle.cluster_record.specs.DueActive.{active_request, request_by}
+use Rattle.cluster_record.specs.DueActive.{weak_request, active_request, request_by}
 use Rattle.ckpt_machine.specs.Guards.{IsOnOwn}
 use Rattle.ckpt_machine.specs.Machine.{Machine, CallState}
 use Rattle.ckpt_machine.specs.Steps.{Told, IsDone, driver_of}
@@ -49,18 +51,26 @@ own_told m s (End o) t asked done = subst (λ (t : Told). IsOnOwn t.verb t.ckpt 
 
 -- ---- what a driver asks_own
 
-kind_asks : (call : CallId) (k r : ℕ) (kind : ActiveKind) → IsAskedOf (Some k) (Serve r (request_by call k kind))
-kind_asks call k r kinds.Apply = refl
-kind_asks call k r (kinds.Weak n) = tt
-kind_asks call k r kinds.Read = refl
-kind_asks call k r kinds.Status = refl
-kind_asks call k r (kinds.Iterate choice) = refl
-kind_asks call k r kinds.Next = refl
+weak_asks : (call : CallId) (k r : ℕ) (marks : Option MarksMade) → IsAskedOf (Some k) (Serve r (weak_request call k marks))
+weak_asks call k r None = refl
+weak_asks call k r (Some marks) = by_left (marks.left == 0)
+  where
+    by_left : (b : Bool) → IsAskedOf (Some k) (Serve r (cond b (requests.Unmark call k) (requests.Element call k)))
+    by_left true = refl
+    by_left false = refl
+
+kind_asks : (call : CallId) (k r : ℕ) (kind : ActiveKind) (marks : Option MarksMade) → IsAskedOf (Some k) (Serve r (request_by call k kind marks))
+kind_asks call k r kinds.Apply marks = refl
+kind_asks call k r (kinds.Weak n) marks = weak_asks call k r marks
+kind_asks call k r kinds.Read marks = refl
+kind_asks call k r kinds.Status marks = refl
+kind_asks call k r (kinds.Iterate choice) marks = refl
+kind_asks call k r kinds.Next marks = refl
 
 -- an update and a call to the active are of the checkpoint that their call keeps
 asks_own : (m : Machine) (shapes : ℕ → Shape) (s : CallState) (d : Driver) → IsInPlace m shapes s d → OfAsked (IsAskedOf s.kept.ckpt) d
 asks_own m shapes s (drivers.Update u) at = (λ r t. sym at.kept, λ r. sym at.kept)
-asks_own m shapes s (drivers.Active a) at = λ r. subst (λ own. IsAskedOf own (Serve r (active_request a))) (sym at.kept) (kind_asks a.call a.ckpt r a.kind)
+asks_own m shapes s (drivers.Active a) at = λ r. subst (λ own. IsAskedOf own (Serve r (active_request a))) (sym at.kept) (kind_asks a.call a.ckpt r a.kind a.marks)
 asks_own m shapes s (drivers.Once x) at = tt
 asks_own m shapes s (drivers.Open o) at = tt
 

@@ -21,7 +21,7 @@ use Rattle.ckpt_machine.proofs.OnAll.{shaped_replicas}
 use Rattle.ckpt_machine.specs.Shape.{Shape, IsCompleteOn, IsShaped, is_owner, IsOwner, IsSpread, PhaseFits}
 use Rattle.ckpt_machine.specs.InHand.{is_enter, IsInPlace, IsUpdateIn}
 use Rattle.ckpt_machine.specs.Invariant.{IsGoodIn, InvariantIn, Invariant}
-use Rattle.ckpt_machine.proofs.ReplicaSteps.{IsOwner-other, none_changed, step_keeps}
+use Rattle.ckpt_machine.proofs.ReplicaSteps.{IsOwner-other, IsMarker-other, none_changed, step_keeps}
 use Rattle.ckpt_machine.proofs.OptionLemmas.{IsSomeAnd-at, IsSomeAnd-from}
 use Rattle.ckpt_machine.proofs.Actors.{same_actor-true, same_call-refl, same_call-true}
 
@@ -129,7 +129,7 @@ module _ (m : Machine) (shapes : ℕ → Shape) (inv : InvariantIn shapes m) (s 
   pub ended_keeps : ((e : Entry) → entry_of u.ckpt m.cluster.entries ≡ Some e → OwnsNone) → Invariant (record m { in_hand = put_actor m.in_hand s.call.actor None })
   ended_keeps none = record {
     shapes = put shapes u.ckpt (shapes u.ckpt);
-    holds = step_keeps m shapes inv s u held is m.replicas None (shapes u.ckpt) (none_changed m shapes inv s u held is) (λ call q other. refl) stays (λ z there. absurd (cc there)) made;
+    holds = step_keeps m shapes inv s u held is m.replicas None (shapes u.ckpt) (none_changed m shapes inv s u held is) (refl, λ call q other. refl) stays (λ z there. absurd (cc there)) made;
   }
     where
       stays : (e : Entry) → entry_of u.ckpt m.cluster.entries ≡ Some e → e.making ≡ None → IsSpread (record m { in_hand = put_actor m.in_hand s.call.actor None }) u.ckpt (shapes u.ckpt) e
@@ -142,4 +142,5 @@ module _ (m : Machine) (shapes : ℕ → Shape) (inv : InvariantIn shapes m) (s 
         complete = was.complete;
         lowest = was.lowest;
         owned = λ q call owns. let own = was.owned q call owns in IsOwner-other m shapes inv s u held is m.replicas None u.ckpt (shapes u.ckpt) call (owner_same (shapes u.ckpt) call own (none e found q call owns)) own;
+        marked = λ marks is_some. IsMarker-other m shapes inv s u held is m.replicas None u.ckpt marks (was.marked marks is_some);
       }

@@ -1,4 +1,4 @@
--- A call that is no update and makes no checkpoint owns no slot and makes nothing: where it ends, what holds of all others stays.
+-- A call that is no update, has no marks and makes no checkpoint owns nothing and makes nothing: where it ends, what holds of all others stays.
 use Rattle.std.proofs.Common.{◌≡◌, ℕ, inl, inr, [], Option, Some, None, Bool, true, false, filter, not, refl, sym, ap, subst, ◌∙◌}
 use Rattle.std.specs.Prelude.{is_some, IsSome, IfSome}
 use Rattle.std.proofs.lemmas.Option.{same_Some}
@@ -26,7 +26,8 @@ use Rattle.ckpt_machine.specs.Machine.{Machine, CallState}
 use Rattle.ckpt_types.specs.Asks.{asked}
 use Rattle.ckpt_machine.specs.Steps.{Told, IsDone, driver_of, with_record, without_making, kept_behind, stepped}
 use Rattle.ckpt_machine.specs.Guards.{LookRefused}
-use Rattle.ckpt_machine.specs.Shape.{Shape, IsOwner}
+use Rattle.ckpt_machine.specs.Shape.{Shape, IsOwner, IsMarker}
+use Rattle.weak_marks.specs.Marks.{Marked}
 use Rattle.ckpt_machine.specs.Invariant.{IsMaker, IsGoodClient, InvariantIn, Invariant}
 use Rattle.ckpt_machine.specs.Later.{IsLaterEntry, IsLaterRecord}
 use Rattle.ckpt_machine.proofs.OtherCalls.{IsIn-apart, IsGoodIn-apart}
@@ -39,14 +40,14 @@ use Rattle.ckpt_machine.proofs.DueStep.{Goes}
 use Rattle.ckpt_machine.proofs.Actors.{same_actor-true}
 use Rattle.ckpt_machine.proofs.EntryLists.{AllStay-swept}
 
--- neither an update, nor an open that is making a checkpoint
+-- neither an update on all replicas, nor a weak write that has marks, nor an open that is making a checkpoint
 abbrev pub is_plain : Driver → Bool
 is_plain (drivers.Once x) = true
 is_plain (drivers.Open o) = not (is_some o.making)
 is_plain (drivers.Update u) = false
-is_plain (drivers.Active a) = true
+is_plain (drivers.Active a) = not (is_some a.marks)
 
--- one that is neither makes nothing
+-- one that is none of these makes nothing
 makes_none : (d : Driver) → is_plain d ≡ true → making_in d ≡ None
 makes_none (drivers.Once x) plain = refl
 makes_none (drivers.Open o) plain = by_making o.making plain where
@@ -70,12 +71,22 @@ IsLaterEntry-then e f g first second = record {
   clients = second.clients ∙ first.clients;
 }
 
+-- a call that makes nothing is refused by a look, and ends
+pub look_ends : (m : Machine) (shapes : ℕ → Shape) → InvariantIn shapes m → (s : CallState) → m.in_hand s.call.actor ≡ Some s → (error : AisError) (cause : Cause) (t : Told) → LookRefused m s (asked s.op) error cause → making_in (driver_of s) ≡ None → InvariantIn shapes (ending s m) → IsDone m s (End (Refused error cause)) t → Goes m s (driver_of s) t
+look_ends m shapes inv s held error cause t look makes ends done =
+    let none : making_of s.call m.cluster ≡ None = making_is m shapes inv s held ∙ makes in
+    subst (Goes m s (driver_of s)) (sym done) (record {
+      row = (refl, refl, look, refl);
+      holds = subst (λ k. let behind = without_making k m in Invariant (stepped behind (kept_behind m s behind.cluster verbs.Look None None words.Refused) (Some (Refused error cause)))) (sym none) (record { shapes = shapes; holds = ends });
+      nearer = λ none. absurd (cc none);
+    })
+
 module _ (m : Machine) (shapes : ℕ → Shape) (inv : InvariantIn shapes m) (s : CallState) (held : m.in_hand s.call.actor ≡ Some s) (plain : is_plain (driver_of s) ≡ true) where
   -- the calls in hand without it
   abbrev pub others : ActorName → Option CallState
   others = put_actor m.in_hand s.call.actor None
 
-  -- who has an update in hand, or an open that is making a checkpoint, is another
+  -- who has one of these in hand is another
   apart_from : (a : ActorName) (z : CallState) → m.in_hand a ≡ Some z → is_plain (driver_of z) ≡ false → same_actor a s.call.actor ≡ false
   apart_from a z at not_plain = by_test (same_actor a s.call.actor) refl
     where
@@ -88,11 +99,17 @@ module _ (m : Machine) (shapes : ℕ → Shape) (inv : InvariantIn shapes m) (s 
   pub owner_apart : (k : ℕ) (sh : Shape) (d : CallId) → IsOwner m k sh d → same_actor d.actor s.call.actor ≡ false
   owner_apart k sh d own = apart_from d.actor own.state own.in_hand (ap is_plain own.driver_is)
 
+  pub marker_apart : (k : ℕ) (marks : Marked) → IsMarker m k marks → same_actor marks.call.actor s.call.actor ≡ false
+  marker_apart k marks own = apart_from marks.call.actor own.state own.in_hand (ap is_plain own.driver_is ∙ ap (λ w. not (is_some w)) own.made_is)
+
   pub maker_apart : (k : ℕ) (d : CallId) → IsMaker m k d → same_actor d.actor s.call.actor ≡ false
   maker_apart k d maker = apart_from d.actor maker.state maker.in_hand (ap is_plain maker.driver_is ∙ ap (λ w. not (is_some w)) maker.making_is)
 
   owner_stays : (k : ℕ) (sh : Shape) (d : CallId) → IsOwner m k sh d → others d.actor ≡ m.in_hand d.actor
   owner_stays k sh d own = put_actor-other m.in_hand s.call.actor None d.actor (owner_apart k sh d own)
+
+  marker_stays : (k : ℕ) (marks : Marked) → IsMarker m k marks → others marks.call.actor ≡ m.in_hand marks.call.actor
+  marker_stays k marks own = put_actor-other m.in_hand s.call.actor None marks.call.actor (marker_apart k marks own)
 
   maker_stays : (k : ℕ) (d : CallId) → IsMaker m k d → others d.actor ≡ m.in_hand d.actor
   maker_stays k d maker = put_actor-other m.in_hand s.call.actor None d.actor (maker_apart k d maker)
@@ -106,7 +123,7 @@ module _ (m : Machine) (shapes : ℕ → Shape) (inv : InvariantIn shapes m) (s 
     rises = inv.rises;
     up_to = inv.up_to;
     swept = inv.swept;
-    entries = λ k e found. IsGoodIn-apart m shapes m.next others owner_stays maker_stays k (shapes k) e e.making (inv.entries k e found);
+    entries = λ k e found. IsGoodIn-apart m shapes m.next others owner_stays marker_stays maker_stays k (shapes k) e e.making (inv.entries k e found);
     handles = inv.handles;
     rest = inv.rest;
     clients = inv.clients;
@@ -118,13 +135,7 @@ module _ (m : Machine) (shapes : ℕ → Shape) (inv : InvariantIn shapes m) (s 
 
   -- by a look that refuses it
   pub look_goes : (error : AisError) (cause : Cause) (t : Told) → LookRefused m s (asked s.op) error cause → IsDone m s (End (Refused error cause)) t → Goes m s (driver_of s) t
-  look_goes error cause t look done =
-      let none : making_of s.call m.cluster ≡ None = making_is m shapes inv s held ∙ makes_none (driver_of s) plain in
-      subst (Goes m s (driver_of s)) (sym done) (record {
-        row = (refl, refl, look, refl);
-        holds = subst (λ k. let behind = without_making k m in Invariant (stepped behind (kept_behind m s behind.cluster verbs.Look None None words.Refused) (Some (Refused error cause)))) (sym none) (record { shapes = shapes; holds = plain_ends });
-        nearer = λ none. absurd (cc none);
-      })
+  look_goes error cause t look done = look_ends m shapes inv s held error cause t look (makes_none (driver_of s) plain) plain_ends done
 
   -- ---- it ends with a step of the record, and what is over is swept away
 
@@ -170,6 +181,7 @@ module _ (m : Machine) (shapes : ℕ → Shape) (inv : InvariantIn shapes m) (s 
       lives = λ a z left. left_other a z left (λ other at. lives a z other at);
       makes = λ a z k e left was by. left_other a z left (λ other at. makes_still k e z.call was by (makes a z k e other at was by));
       owners = owner_stays;
+      markers = λ k marks there own. marker_stays k marks own;
       makers = λ k d there maker. maker_stays k d maker;
     }
 

@@ -51,7 +51,7 @@ module _ (m : Machine) (shapes : ℕ → Shape) (inv : InvariantIn shapes m) (R 
   -- ---- checkpoints
 
   IsGoodIn-kept : (k : ℕ) (sh : Shape) (e f : Entry) (maker : Option CallId) → entry_of k m.cluster.entries ≡ Some e → entry_of k R.entries ≡ Some f → IsLaterEntry e f → IsGoodIn m k sh e maker → IsGoodIn then_machine k sh f maker
-  IsGoodIn-kept k sh e f maker was is later good = IsGoodIn-alike m then_machine k sh e f later (λ r there. replica_kept k r e f was is later.complete there) (after_it.owners k sh) (λ d own. after_it.makers k d (subst (λ o. IsSome o) (sym is) refl) own) maker good
+  IsGoodIn-kept k sh e f maker was is later good = IsGoodIn-alike m then_machine k sh e f later (λ r there. replica_kept k r e f was is later.complete there) (after_it.owners k sh) (λ marks own. after_it.markers k marks (subst (λ o. IsSome o) (sym is) refl) own) (λ d own. after_it.makers k d (subst (λ o. IsSome o) (sym is) refl) own) maker good
 
   -- ---- where a call is
 
@@ -90,8 +90,9 @@ module _ (m : Machine) (shapes : ℕ → Shape) (inv : InvariantIn shapes m) (R 
       tables = refl;
       making = λ o at. making_still m then_machine z o making_kept at;
       made = WasMade-kept;
-      later = λ k was f found. let (e, there, later) = after_it.later k f found in (e, there, later.complete, later.attributes);
+      later = λ k was f found. let (e, there, later) = after_it.later k f found in (e, there, later.complete, later.attributes, later.generation);
       owners = λ k was r. refl;
+      marks = λ k was. refl;
     }
 
   -- ---- the whole

@@ -26,7 +26,7 @@ use Rattle.ckpt_machine.specs.Runs.{last}
 use Rattle.ckpt_machine.specs.Shape.{IsCompleteOn}
 use Rattle.ckpt_machine.specs.Steps.{Told, IsDone, IsDue, due, begun, changed, step_of, after, replica_under, replicas_under, reservation_under, opened_state}
 use Rattle.ckpt_machine.proofs.Follows.{IsFree, IsIncomplete, IsBare, Has}
-use Rattle.ckpt_machine.proofs.Histories.{HasHistory, commits_by, commit, gone, nothing_left, Commits, Applies, slot_owned, making_incomplete, had, keeps_history, run_history}
+use Rattle.ckpt_machine.proofs.Histories.{HasHistory, commits_by, commit, gone, nothing_left, Commits, Applies, slot_owned, marks_owned, making_incomplete, had, keeps_history, run_history}
 use Rattle.ckpt_machine.proofs.Lawful.{lawful}
 use Rattle.ckpt_machine.proofs.EntryLists.{find_key-without, AllStay-filter, swept-all}
 use Rattle.ckpt_machine.proofs.ReplicaSteps.{put_actor-here}
@@ -51,7 +51,7 @@ module _ (m : Machine) (inv : Invariant m) (bare : IsBare m) (call : CallId) (no
     slots = λ k r x slot there staged.
         let (own, origin, update) = slot_owned m inv.shapes inv.holds bare k r x slot there staged in
         (λ is. not_in_hand slot.owner own.state own.in_hand is, λ is. not_in_hand slot.owner own.state own.in_hand (sym origin ∙ is));
-    marks = λ k r x marks there marked is. let w : None ≡ Some marks = sym (bare.unmarked k r x there) ∙ marked in cc w;
+    marks = λ k r x marks there marked is. let own = marks_owned m inv.shapes inv.holds bare k r x marks there marked in not_in_hand marks.call own.state own.in_hand is;
     makes = no_maker;
     holds = λ k e found is. let w : None ≡ Some call = sym (All-find_key IsFree identity_of k m.cluster.entries e bare.free found) ∙ is in cc w;
   }

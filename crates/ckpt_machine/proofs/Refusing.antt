@@ -2,11 +2,15 @@
 use Rattle.node_msgs.specs.declared.details.Details.{Details}
 use Rattle.ckpt_types.specs.Reads.{NextGiven, given}
 use Rattle.cluster_record.specs.Calls.{same_actor, put_actor, left}
-use Rattle.ckpt_machine.specs.Driving.{Kept}
+use Rattle.ckpt_machine.specs.Driving.{Kept, refused_cause}
 use Rattle.cluster_record.specs.Makings.{making_of}
 use Rattle.std.proofs.Common.{◌≡◌, ◌⊎◌, inl, inr, ℕ, List, Option, Some, None, Bool, true, false, cond, refl, sym, ap, subst, ◌∙◌, IsSomeAnd}
+use Rattle.ckpt_types.specs.declared.ais_error.AisError.{AisError}
+use Rattle.ckpt_types.specs.declared.ais_error.AisError.TheVariants.{TryAgain}
 use Rattle.ckpt_types.specs.declared.answers.Answer.{Answer}
 use Rattle.ckpt_types.specs.declared.answers.Answer.TheVariants as answers
+use Rattle.ckpt_types.specs.declared.answers.Cause.{Cause}
+use Rattle.ckpt_types.specs.declared.answers.Cause.TheVariants.{Holder}
 use Rattle.ckpt_types.specs.declared.answers.Outcome.{Outcome}
 use Rattle.ckpt_types.specs.declared.answers.Outcome.TheVariants.{Done, Refused, NoMemory}
 use Rattle.ckpt_types.specs.declared.attributes.CreationAttributes.{CreationAttributes}
@@ -30,8 +34,8 @@ use Rattle.ckpt_machine.specs.Machine.{Machine, ReplicaState, CallState}
 use Rattle.ckpt_machine.specs.Steps.{changed, call_begun, stepped, step_of, after, ids_asked, Told, without_making, kept_behind}
 use Rattle.ckpt_machine.specs.Tables.{ended_at_once}
 use Rattle.ckpt_machine.specs.Complete.{complete_replicas}
-use Rattle.ckpt_machine.specs.Options.{is_all}
-use Rattle.ckpt_machine.specs.Guards.{AtCkpt, AtNode, AtNodeAlone, AtNone, OnReplica, OnAll, OnActive, CommitOk, ApplyOk, Row, Allowed, ends_update, IterOk, NextOk, NextAnswer, LookRow, UndoRow, AsksToOpen}
+use Rattle.ckpt_machine.specs.Options.{is_all, is_weak, is_by_element}
+use Rattle.ckpt_machine.specs.Guards.{AtCkpt, AtNode, AtNodeAlone, AtNone, OnReplica, OnAll, OnActive, CommitOk, ActiveRefused, ActiveHeld, BeginsOnActive, ApplyOk, MarkOk, Row, Allowed, ends_update, IterOk, NextOk, NextAnswer, LookRow, UndoRow, AsksToOpen}
 use Rattle.ckpt_machine.specs.Refusals.{IsRefused, IsRefusal, LeavesAll, UndoesOwn, LeavesBy, unmade_swept}
 use Rattle.ckpt_machine.proofs.Actors.{same_actor-true}
 use Rattle.ckpt_machine.proofs.ReplicaSteps.{put_actor-here, put_actor-other}
@@ -68,8 +72,16 @@ on_replica m k r P p not_so = none_of_some (entry_of k m.cluster.entries) (λ e.
 pub on_all : (m : Machine) (k r : ℕ) (P : Entry → ReplicaState → Type 0) → OnAll m k r P → ((e : Entry) (x : ReplicaState) → P e x → ⊥) → ⊥
 on_all m k r P p not_so = on_replica m k r (λ e x. (is_all e.attributes ≡ true) × P e x) p (λ e x p. not_so e x p.1)
 
-pub on_active_replica : (m : Machine) (k r : ℕ) (P : Entry → ReplicaState → Type 0) → OnActive m k r P → ((e : Entry) (x : ReplicaState) → P e x → ⊥) → ⊥
-on_active_replica m k r P p not_so = on_replica m k r (λ e x. (is_all e.attributes ≡ false) × (e.active ≡ Some r) × P e x) p (λ e x p. not_so e x p.2)
+pub on_active_replica : (m : Machine) (update : Update) (by_element : Bool) (k r : ℕ) (P : Entry → ReplicaState → Type 0) → OnActive m update by_element k r P → ((e : Entry) (x : ReplicaState) → P e x → ⊥) → ⊥
+on_active_replica m update by_element k r P p not_so = on_replica m k r (λ e x. (is_all e.attributes ≡ false) × (e.active ≡ Some r) × (is_by_element (is_weak e.attributes) update ≡ by_element) × P e x) p (λ e x p. not_so e x p.3)
+
+-- an update that begins on the active goes ahead, or ends its call with a refusal
+pub begins_on_active : (m : Machine) (s : CallState) (update : Update) (by_element : Bool) (k r : ℕ) (t : Told) (Ahead : Entry → ReplicaState → Type 0) (reply : StepReply) → BeginsOnActive m s update by_element k r t Ahead reply
+    → (reply ≡ words.Ok → (e : Entry) (x : ReplicaState) → Ahead e x → ⊥) → ((error : AisError) (cause : Cause) → t.end ≡ Some (Refused error cause) → ⊥) → ⊥
+begins_on_active m s update by_element k r t Ahead words.Ok row ahead refused = on_active_replica m update by_element k r Ahead row (ahead refl)
+begins_on_active m s update by_element k r t Ahead words.Refused row ahead refused = on_active_replica m update by_element k r (ActiveRefused m s update t) row (λ e x (by : ActiveRefused m s update t e x). refused by.why.error (refused_cause s.op by.why.index) by.answer)
+begins_on_active m s update by_element k r t Ahead (words.Held by) row ahead refused = on_active_replica m update by_element k r (λ e x. ActiveHeld m s.call by t x) row (λ e x (held : ActiveHeld m s.call by t x). refused TryAgain (Holder by) held.answer)
+begins_on_active m s update by_element k r t Ahead reply row ahead refused = absurd row
 
 -- ---- an end that is no refusal
 
@@ -87,9 +99,12 @@ no_refusal_committed false answer end is refused = no_refusal_yet end is refused
 pub commit_ends : (m : Machine) (call : CallId) (update : Update) (k r : ℕ) (end : Option Outcome) (details : Details) → OnAll m k r (λ e x. CommitOk m call update k r end details x) → IsRefused end → ⊥
 commit_ends m call update k r end details row refused = on_all m k r (λ e x. CommitOk m call update k r end details x) row (λ e x (ok : CommitOk m call update k r end details x). no_refusal_committed (ends_update call r ok.slot (complete_replicas m k)) (update_answer update) end ok.answer refused)
 
--- nor does an update that is applied
-apply_ends : (m : Machine) (update : Update) (k r : ℕ) (t : Told) → OnActive m k r (ApplyOk m update t) → IsRefused t.end → ⊥
-apply_ends m update k r t row refused = on_active_replica m k r (ApplyOk m update t) row (λ e x (ok : ApplyOk m update t e x). no_refusal_done t.end (update_answer update) ok.answer refused)
+-- nor does an update that is applied, or makes its marks
+apply_ends : (m : Machine) (update : Update) (k r : ℕ) (t : Told) → OnActive m update false k r (ApplyOk m update t) → IsRefused t.end → ⊥
+apply_ends m update k r t row refused = on_active_replica m update false k r (ApplyOk m update t) row (λ e x (ok : ApplyOk m update t e x). no_refusal_done t.end (update_answer update) ok.answer refused)
+
+mark_ends : (m : Machine) (update : Update) (k r : ℕ) (t : Told) → OnActive m update true k r (MarkOk m update t) → IsRefused t.end → ⊥
+mark_ends m update k r t row refused = on_active_replica m update true k r (MarkOk m update t) row (λ e x (ok : MarkOk m update t e x). no_refusal_yet t.end ok.answer refused)
 
 given_next : (next : Option NextGiven) (end : Option Outcome) (details : Details) → NextAnswer next words.Ok end details → IsRefused end → ⊥
 given_next (Some next) end details answer refused = no_refusal_done end answers.Section answer.0 refused
@@ -130,6 +145,14 @@ changed_same m s verbs.Apply k r words.Ok end details row refused looks =
     let t : Told = record { verb = verbs.Apply; ckpt = k; node = r; reply = words.Ok; end = end; details = details } in
     absurd (at_node k r _ row (λ k r p. apply_ends m p.1 k r t p.3 refused))
 changed_same m s verbs.Apply k r reply end details row refused looks = refl
+changed_same m s verbs.Mark k r words.Ok end details row refused looks =
+    let t : Told = record { verb = verbs.Mark; ckpt = k; node = r; reply = words.Ok; end = end; details = details } in
+    absurd (at_node k r _ row (λ k r p. mark_ends m p.1 k r t p.3 refused))
+changed_same m s verbs.Mark k r reply end details row refused looks = refl
+changed_same m s verbs.Element k r words.Ok end details row refused looks = absurd (at_node k r _ row (λ k r p. no_refusal_yet end p.3.1 refused))
+changed_same m s verbs.Element k r reply end details row refused looks = refl
+changed_same m s verbs.Unmark k r words.Ok end details row refused looks = absurd (at_node k r _ row (λ k r p. no_refusal_done end answers.Nothing p.3.1 refused))
+changed_same m s verbs.Unmark k r reply end details row refused looks = refl
 changed_same m s verbs.Read k r reply end details row refused looks = refl
 changed_same m s verbs.Status k r reply end details row refused looks = refl
 changed_same m s verbs.Iter k r words.Ok end details row refused looks = absurd (at_node k r _ row.0 (λ k r p. on_replica m k r (IterOk m s r end) p.5 (λ e x (ok : IterOk m s r end e x). no_refusal_done end answers.Nothing ok.answer refused)))

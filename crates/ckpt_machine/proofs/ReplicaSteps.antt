@@ -12,11 +12,12 @@ use Rattle.cluster_record.specs.RecordState.{entry_of}
 use Rattle.ckpt_machine.specs.Drivers as drivers
 use Rattle.ckpt_machine.specs.Machine.{Machine, ReplicaState, CallState}
 use Rattle.ckpt_machine.specs.Steps.{driver_of}
-use Rattle.ckpt_machine.specs.Shape.{Shape, is_owner, IsOwner, IsSpread}
-use Rattle.ckpt_machine.specs.InHand.{IsInHand}
+use Rattle.ckpt_machine.specs.Shape.{Shape, is_owner, IsOwner, IsMarker, IsSpread}
+use Rattle.weak_marks.specs.Marks.{Marked}
+use Rattle.ckpt_machine.specs.InHand.{is_marked_by, IsInHand}
 use Rattle.ckpt_machine.specs.Invariant.{IsMaker, IsGoodIn, InvariantIn}
 use Rattle.ckpt_machine.proofs.Actors.{same_actor-refl, same_actor-true}
-use Rattle.ckpt_machine.proofs.OtherCalls.{LooksAlike, making_still, IsInHand-alike, IsOwner-alike, IsGoodIn-alike, IsLaterEntry-refl}
+use Rattle.ckpt_machine.proofs.OtherCalls.{LooksAlike, making_still, IsInHand-alike, IsOwner-alike, IsMarker-alike, IsGoodIn-alike, IsLaterEntry-refl}
 
 -- ---- calls
 
@@ -79,6 +80,20 @@ module _ (m : Machine) (shapes : ℕ → Shape) (inv : InvariantIn shapes m) (s 
   pub IsOwner-other : (f : ℕ → ℕ → Option ReplicaState) (o : Option CallState) (j : ℕ) (sh : Shape) (call : CallId) → same_actor call.actor s.call.actor ≡ false → IsOwner m j sh call → IsOwner (with_step f o) j sh call
   IsOwner-other f o j sh call other own = IsOwner-alike m (with_step f o) j sh call (put_actor-other m.in_hand s.call.actor o call.actor other) own
 
+  -- a weak write is another call
+  marker_other : (j : ℕ) (marks : Marked) → IsMarker m j marks → same_actor marks.call.actor s.call.actor ≡ false
+  marker_other j marks own = by_test (same_actor marks.call.actor s.call.actor) refl
+    where
+      by_test : (b : Bool) → same_actor marks.call.actor s.call.actor ≡ b → same_actor marks.call.actor s.call.actor ≡ false
+      by_test false is_not = is_not
+      by_test true same =
+          let state : own.state ≡ s = same_Some own.state s (sym own.in_hand ∙ ap m.in_hand (same_actor-true marks.call.actor s.call.actor same) ∙ held) in
+          let apart : drivers.Active own.driver ≡ drivers.Update u = sym own.driver_is ∙ ap driver_of state ∙ is in
+          absurd (cc apart)
+
+  pub IsMarker-other : (f : ℕ → ℕ → Option ReplicaState) (o : Option CallState) (j : ℕ) (marks : Marked) → IsMarker m j marks → IsMarker (with_step f o) j marks
+  IsMarker-other f o j marks own = IsMarker-alike m (with_step f o) j marks (put_actor-other m.in_hand s.call.actor o marks.call.actor (marker_other j marks own)) own
+
   -- one in the making is by another call
   maker_other : (j : ℕ) (call : CallId) → IsMaker m j call → same_actor call.actor s.call.actor ≡ false
   maker_other j call maker = by_test (same_actor call.actor s.call.actor) refl
@@ -92,13 +107,13 @@ module _ (m : Machine) (shapes : ℕ → Shape) (inv : InvariantIn shapes m) (s 
 
   IsGoodIn-other : (f : ℕ → ℕ → Option ReplicaState) (o : Option CallState) → StaysElsewhere f → (j : ℕ) (sh : Shape) (e : Entry) (maker : Option CallId) → (j == u.ckpt) ≡ false → IsGoodIn m j sh e maker → IsGoodIn (with_step f o) j sh e maker
   IsGoodIn-other f o stays j sh e maker other good = IsGoodIn-alike m (with_step f o) j sh e e (IsLaterEntry-refl e) (λ q there. stays j q other)
-      (λ call own. put_actor-other m.in_hand s.call.actor o call.actor (other_owner j sh call other own)) (λ call own. put_actor-other m.in_hand s.call.actor o call.actor (maker_other j call own)) maker good
+      (λ call own. put_actor-other m.in_hand s.call.actor o call.actor (other_owner j sh call other own)) (λ marks own. put_actor-other m.in_hand s.call.actor o marks.call.actor (marker_other j marks own)) (λ call own. put_actor-other m.in_hand s.call.actor o call.actor (maker_other j call own)) maker good
 
   -- ---- the other calls in hand
 
-  -- in the changed shape other calls own just what they owned
+  -- in the changed shape the marks are as they were, and other calls own just what they owned
   abbrev KeepsOthers : Shape → Type 0
-  KeepsOthers sh = (call : CallId) (q : ℕ) → same_actor call.actor s.call.actor ≡ false → is_owner call (sh.owners q) ≡ is_owner call ((shapes u.ckpt).owners q)
+  KeepsOthers sh = (sh.marks ≡ (shapes u.ckpt).marks) × ((call : CallId) (q : ℕ) → same_actor call.actor s.call.actor ≡ false → is_owner call (sh.owners q) ≡ is_owner call ((shapes u.ckpt).owners q))
 
   shape_other : (sh : Shape) (j : ℕ) → (j == u.ckpt) ≡ false → put shapes u.ckpt sh j ≡ shapes j
   shape_other sh j other = ap (λ b. cond b sh (shapes j)) other
@@ -109,7 +124,14 @@ module _ (m : Machine) (shapes : ℕ → Shape) (inv : InvariantIn shapes m) (s 
   owners_kept : (sh : Shape) → KeepsOthers sh → (call : CallId) (j q : ℕ) → same_actor call.actor s.call.actor ≡ false → is_owner call ((put shapes u.ckpt sh j).owners q) ≡ is_owner call ((shapes j).owners q)
   owners_kept sh keeps call j q other =
       elim (j == u.ckpt) as (λ b. (j == u.ckpt) ≡ b → is_owner call ((cond b sh (shapes j)).owners q) ≡ is_owner call ((shapes j).owners q)) [
-        | true ↦ λ same. keeps call q other ∙ ap (λ k. is_owner call ((shapes k).owners q)) (sym (eqb-true j u.ckpt same))
+        | true ↦ λ same. keeps.1 call q other ∙ ap (λ k. is_owner call ((shapes k).owners q)) (sym (eqb-true j u.ckpt same))
+        | false ↦ λ same. refl
+      ] refl
+
+  marks_kept : (sh : Shape) → KeepsOthers sh → (call : CallId) (j : ℕ) → is_marked_by call (put shapes u.ckpt sh j).marks ≡ is_marked_by call (shapes j).marks
+  marks_kept sh keeps call j =
+      elim (j == u.ckpt) as (λ b. (j == u.ckpt) ≡ b → is_marked_by call (cond b sh (shapes j)).marks ≡ is_marked_by call (shapes j).marks) [
+        | true ↦ λ same. ap (is_marked_by call) (keeps.0 ∙ ap (λ k. (shapes k).marks) (sym (eqb-true j u.ckpt same)))
         | false ↦ λ same. refl
       ] refl
 
@@ -120,8 +142,9 @@ module _ (m : Machine) (shapes : ℕ → Shape) (inv : InvariantIn shapes m) (s 
     tables = refl;
     making = λ v at. making_still m (with_step f o) z v (λ w at. record { there = at.there; nodes = at.nodes; reserved = at.reserved }) at;
     made = λ k was. was;
-    later = λ k was e found. (e, found, refl, refl);
+    later = λ k was e found. (e, found, refl, refl, refl);
     owners = λ k was q. owners_kept sh keeps z.call k q other;
+    marks = λ k was. marks_kept sh keeps z.call k;
   }
 
   IsInHand-other : (f : ℕ → ℕ → Option ReplicaState) (o : Option CallState) (sh : Shape) → KeepsOthers sh → (a : ActorName) (z : CallState) → same_actor a s.call.actor ≡ false → IsInHand m shapes a z → IsInHand (with_step f o) (put shapes u.ckpt sh) a z

@@ -6,15 +6,16 @@ use Rattle.cluster_record.specs.declared.calls.Making.{Making}
 use Rattle.cluster_record.specs.declared.entries.Entry.{Entry}
 use Rattle.cluster_record.specs.DueOpen.{OpenState}
 use Rattle.cluster_record.specs.Calls.{same_actor, put_actor}
+use Rattle.weak_marks.specs.Marks.{Marked}
 use Rattle.ckpt_machine.specs.Drivers as drivers
 use Rattle.ckpt_machine.specs.Machine.{Machine, CallState}
 use Rattle.ckpt_machine.specs.Steps.{driver_of}
-use Rattle.ckpt_machine.specs.Shape.{Shape, IsOwner}
+use Rattle.ckpt_machine.specs.Shape.{Shape, IsOwner, IsMarker}
 use Rattle.ckpt_machine.specs.InHand.{IsMakingIn, IsInHand}
 use Rattle.ckpt_machine.specs.Invariant.{IsMaker, IsGoodIn, InvariantIn}
 use Rattle.ckpt_machine.proofs.Actors.{same_actor-true}
-use Rattle.ckpt_machine.proofs.OtherCalls.{making_still, LooksAlike, IsInHand-alike, IsOwner-alike, IsMaker-alike}
-use Rattle.ckpt_machine.proofs.OwnMaking.{owner_apart, maker_same, not_own, actor_apart}
+use Rattle.ckpt_machine.proofs.OtherCalls.{making_still, LooksAlike, IsInHand-alike, IsOwner-alike, IsMarker-alike, IsMaker-alike}
+use Rattle.ckpt_machine.proofs.OwnMaking.{owner_apart, marker_apart, maker_same, not_own, actor_apart}
 use Rattle.ckpt_machine.proofs.ReplicaSteps.{put_actor-cases, put_actor-here, put_actor-other}
 
 module _ (m : Machine) (shapes : ℕ → Shape) (inv : InvariantIn shapes m) (s : CallState) (o : OpenState) (making : Making) (held : m.in_hand s.call.actor ≡ Some s) (is : driver_of s ≡ drivers.Open o) (makes : o.making ≡ Some making)
@@ -29,6 +30,10 @@ module _ (m : Machine) (shapes : ℕ → Shape) (inv : InvariantIn shapes m) (s 
   -- a slot has its owner still
   IsOwner-then : (j : ℕ) (sh : Shape) (d : CallId) → IsOwner m j sh d → IsOwner then_machine j sh d
   IsOwner-then j sh d own = IsOwner-alike m then_machine j sh d (put_actor-other m.in_hand s.call.actor (Some w) d.actor (owner_apart m s o held is j sh d own)) own
+
+  -- and marks their call
+  IsMarker-then : (j : ℕ) (marks : Marked) → IsMarker m j marks → IsMarker then_machine j marks
+  IsMarker-then j marks own = IsMarker-alike m then_machine j marks (put_actor-other m.in_hand s.call.actor (Some w) marks.call.actor (marker_apart m s o held is j marks own)) own
 
   -- one in the making is by another call, or is this one
   IsMaker-then : (j : ℕ) (d : CallId) → IsMaker m j d → IsMaker then_machine j d
@@ -61,6 +66,7 @@ module _ (m : Machine) (shapes : ℕ → Shape) (inv : InvariantIn shapes m) (s 
     complete = good.complete;
     lowest = good.lowest;
     owned = λ r d owns. IsOwner-then j sh d (good.owned r d owns);
+    marked = λ marks is. IsMarker-then j marks (good.marked marks is);
   }
   IsGoodIn-then j sh e (Some d) good = (good.0, IsMaker-then j d good.1)
 
@@ -78,8 +84,9 @@ module _ (m : Machine) (shapes : ℕ → Shape) (inv : InvariantIn shapes m) (s 
     tables = refl;
     making = λ o at. making_still m then_machine z o (making_then z other) at;
     made = λ k was. was;
-    later = λ k was e found. (e, found, refl, refl);
+    later = λ k was e found. (e, found, refl, refl, refl);
     owners = λ k was r. refl;
+    marks = λ k was. refl;
   }
 
   -- ---- the whole

@@ -25,7 +25,7 @@ use Rattle.ckpt_machine.specs.Shape.{Shape, IsCompleteOn, IsShaped, is_owner, Is
 use Rattle.ckpt_machine.specs.InHand.{is_enter, IsUpdateIn, IsInPlace, IsInHand, OwnsIn}
 use Rattle.ckpt_machine.specs.Invariant.{InvariantIn, Invariant}
 use Rattle.ckpt_machine.proofs.NodeLists.{OnEach-from, index-set, index-other, length-slice_set, index-within, not-lacked, has-itself}
-use Rattle.ckpt_machine.proofs.ReplicaSteps.{put_actor-here, one_changed, step_keeps}
+use Rattle.ckpt_machine.proofs.ReplicaSteps.{put_actor-here, IsMarker-other, one_changed, step_keeps}
 use Rattle.ckpt_machine.proofs.Owning.{is_owner-true, owner_alone, at, made, on_all, all_is}
 use Rattle.ckpt_machine.proofs.OnAll.{shaped_replicas, by_shape}
 use Rattle.ckpt_machine.proofs.Actors.{same_actor-refl, same_call-refl}
@@ -111,7 +111,7 @@ module _ (m : Machine) (shapes : ℕ → Shape) (inv : InvariantIn shapes m) (s 
     then_machine = record m { replicas = put2 m.replicas u.ckpt r (Some with_stage); in_hand = put_actor m.in_hand s.call.actor (Some then_state) }
 
     module _ (complete : IsCompleteOn e r) (moment_is : kept_moment (last_having 0 e.complete u.owned) m.cluster.moment u.moment ≡ t) (owns : OwnsIn z s u e) (before : (q : ℕ) → q < r → lacks (slice_index e.complete q) (slice_index u.owned q) ≡ false) (free : z.owners r ≡ None)
-        (keeps : (call : CallId) (q : ℕ) → same_actor call.actor s.call.actor ≡ false → is_owner call (z.owners q) ≡ is_owner call ((shapes u.ckpt).owners q)) where
+        (keeps : (z.marks ≡ (shapes u.ckpt).marks) × ((call : CallId) (q : ℕ) → same_actor call.actor s.call.actor ≡ false → is_owner call (z.owners q) ≡ is_owner call ((shapes u.ckpt).owners q))) where
       driver_then : driver_of then_state ≡ drivers.Update then_driver
       unfolding stage_done
       driver_then =
@@ -172,11 +172,12 @@ module _ (m : Machine) (shapes : ℕ → Shape) (inv : InvariantIn shapes m) (s 
         nodes = spread.nodes;
         some = spread.some;
         active = spread.active;
-        replicas = λ q there. by_shape e (all_is m shapes inv s u held is e found) staged (staged.owners q) (then_machine.replicas u.ckpt q) (replicas_then q there);
+        replicas = λ q there. by_shape e (all_is m shapes inv s u held is e found) staged q (then_machine.replicas u.ckpt q) (replicas_then q there);
         fits = λ q d has_it. (λ i. outcome e.attributes (stages.update i) (stages.moment i) z.sections) ∙ stages.gives;
         complete = λ q d has_it. elim (owners_then q d has_it).0 [ inl here ↦ subst (IsCompleteOn e) (sym here) complete | inr was ↦ spread.complete q d was ];
         lowest = lowest_then;
         owned = λ q d has_it. subst (IsOwner then_machine u.ckpt staged) (sym (owners_then q d has_it).1) owner_then;
+        marked = λ marks is_some. IsMarker-other m shapes inv s u held is then_machine.replicas (Some then_state) u.ckpt marks (spread.marked marks is_some);
       }
 
       owns_then : OwnsIn staged s then_driver e
@@ -191,8 +192,8 @@ module _ (m : Machine) (shapes : ℕ → Shape) (inv : InvariantIn shapes m) (s 
 
       keeps_then : (call : CallId) (q : ℕ) → same_actor call.actor s.call.actor ≡ false → is_owner call (staged.owners q) ≡ is_owner call ((shapes u.ckpt).owners q)
       keeps_then call q other = elim (q == r) as (λ b. (q == r) ≡ b → is_owner call (cond b (Some s.call) (z.owners q)) ≡ is_owner call ((shapes u.ckpt).owners q)) [
-        | true ↦ λ same. not_own call other ∙ sym (ap (λ (p : ℕ). is_owner call (z.owners p)) (eqb-true q r same) ∙ ap (is_owner call) free) ∙ keeps call q other
-        | false ↦ λ same. keeps call q other
+        | true ↦ λ same. not_own call other ∙ sym (ap (λ (p : ℕ). is_owner call (z.owners p)) (eqb-true q r same) ∙ ap (is_owner call) free) ∙ keeps.1 call q other
+        | false ↦ λ same. keeps.1 call q other
       ] refl
         where
           not_own : (call : CallId) → same_actor call.actor s.call.actor ≡ false → is_owner call (Some s.call) ≡ false
@@ -213,7 +214,7 @@ module _ (m : Machine) (shapes : ℕ → Shape) (inv : InvariantIn shapes m) (s 
           let was = at m shapes inv s u held is in
           record {
             shapes = put shapes u.ckpt staged;
-            holds = step_keeps m shapes inv s u held is (put2 m.replicas u.ckpt r (Some with_stage)) (Some then_state) staged (one_changed m shapes inv s u held is with_stage r) keeps_then spread_all own_then (made m shapes inv s u held is);
+            holds = step_keeps m shapes inv s u held is (put2 m.replicas u.ckpt r (Some with_stage)) (Some then_state) staged (one_changed m shapes inv s u held is with_stage r) (keeps.0, keeps_then) spread_all own_then (made m shapes inv s u held is);
           }
         where
           spread_all : (f : Entry) → entry_of u.ckpt m.cluster.entries ≡ Some f → f.making ≡ None → IsSpread then_machine u.ckpt staged f

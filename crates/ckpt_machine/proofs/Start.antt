@@ -8,7 +8,7 @@ use Rattle.ckpt_machine.specs.Invariant.{Invariant}
 use Rattle.ckpt_machine.proofs.AtRest.{NoneLent-no_tables}
 
 no_shape : Shape
-no_shape = record { owners = λ r. None; origin = record { actor = Node 0; number = 0 }; update = updates.Nothing; moment = empty_cluster.cluster.moment; sections = []; effects = []; outcome = []; done = false }
+no_shape = record { owners = λ r. None; origin = record { actor = Node 0; number = 0 }; update = updates.Nothing; moment = empty_cluster.cluster.moment; sections = []; effects = []; outcome = []; done = false; marks = None }
 
 pub invariant_empty : Invariant empty_cluster
 invariant_empty = record {

@@ -14,9 +14,9 @@ use Rattle.ckpt_types.specs.Asks.{Ask, asked, IsBuiltAsk}
 use Rattle.ckpt_types.specs.Asks as asks
 use Rattle.ckpt_machine.specs.Beginning.{begin_end, if_live, on_handle, end_iteration}
 use Rattle.ckpt_machine.specs.Drivers.{Driver}
-use Rattle.ckpt_machine.specs.Driving.{Kept, on_kept, driver_start, change_start}
+use Rattle.ckpt_machine.specs.Driving.{Kept, on_kept, driver_start, change_start, kind_of_change}
 use Rattle.ckpt_machine.specs.Machine.{Machine, CallState}
-use Rattle.ckpt_machine.specs.Steps.{asked_handle, kept_at_beginning, IsBeginEnd, IsBegun, started_call, call_begun, begun, all_at}
+use Rattle.ckpt_machine.specs.Steps.{asked_handle, kept_at_beginning, IsBeginEnd, IsBegun, started_call, call_begun, begun}
 use Rattle.ckpt_machine.specs.Tables.{ckpt_of_handle}
 use Rattle.ckpt_machine.proofs.ReplicaSteps.{put_actor-here}
 
@@ -53,9 +53,9 @@ kept_starts live (Some x) bad may start goes = (start x.id, refl)
 pub goes_on_driven : (R : RecordState) (c : ℕ) (live : Bool) (call : CallId) (h : Option HandleView) (ask : Ask) → IsBuiltAsk ask → begin_end live h ask ≡ None → (d : Driver) × (driver_start call ask (kept_at_beginning R c h) ≡ Some d)
 goes_on_driven R c live call h (asks.Enter r version callbacks) built goes = (_, refl)
 goes_on_driven R c live call h (asks.Open place name flags timeout a) built goes = (_, refl)
-goes_on_driven R c live call h (asks.Change place update) built goes = by_all (all_at R (ckpt_of_handle h))
+goes_on_driven R c live call h (asks.Change place update) built goes = by_all (kept_at_beginning R c h).all
   where
-    by_all : (all : Bool) → (d : Driver) × (change_start call all (ckpt_of_handle h) ≡ Some d)
+    by_all : (all : Bool) → (d : Driver) × (change_start call all (kind_of_change (kept_at_beginning R c h).weak update) (ckpt_of_handle h) ≡ Some d)
     by_all true = kept_starts live h _ _ _ goes
     by_all false = kept_starts live h _ _ _ goes
 goes_on_driven R c live call h (asks.Read place elements) built goes = kept_starts live h _ _ _ goes

@@ -158,7 +158,7 @@ module _ (m : Machine) (shapes : ℕ → Shape) (inv : InvariantIn shapes m) (s 
 
         -- staged
         staged_moves : (w : Shape) (spread_w : IsSpread m u.ckpt w e) (stages : Stages w s moment e) (mom : staged_moment m u.ckpt ≡ moment) (shaped : IsShaped w None x) → OwnsIn w s u e → w.owners r ≡ None
-            → ((call : CallId) (q : ℕ) → same_actor call.actor s.call.actor ≡ false → is_owner call (w.owners q) ≡ is_owner call ((shapes u.ckpt).owners q)) → x.slot ≡ None → Gives (Ok w.outcome) → Goes m s (drivers.Update u) t
+            → ((w.marks ≡ (shapes u.ckpt).marks) × ((call : CallId) (q : ℕ) → same_actor call.actor s.call.actor ≡ false → is_owner call (w.owners q) ≡ is_owner call ((shapes u.ckpt).owners q))) → x.slot ≡ None → Gives (Ok w.outcome) → Goes m s (drivers.Update u) t
         staged_moves w spread_w stages mom shaped owns free keeps slot gives =
             let told = IsServed-told m s r to_stage t (drivers.Update u) (replies.Done answers.Nothing) served is (answered None slot ∙ ap (done_or_refused (replies.Done answers.Nothing)) gives) in
             subst (Goes m s (drivers.Update u)) (sym told) (record {
@@ -216,6 +216,7 @@ module _ (m : Machine) (shapes : ℕ → Shape) (inv : InvariantIn shapes m) (s 
             effects = effects_by (shapes u.ckpt) None;
             outcome = sections;
             done = false;
+            marks = (shapes u.ckpt).marks;
           }
 
           adopted_shaped : (sections : List Section) (y : ReplicaState) → IsShaped (shapes u.ckpt) None y → IsShaped (adopted sections) None y
@@ -231,11 +232,12 @@ module _ (m : Machine) (shapes : ℕ → Shape) (inv : InvariantIn shapes m) (s 
             nodes = was.nodes;
             some = was.some;
             active = was.active;
-            replicas = λ q there. by_shape e (all_is m shapes inv s u held is e found) (adopted sections) ((shapes u.ckpt).owners q) (m.replicas u.ckpt q) (IsSomeAnd-each (m.replicas u.ckpt q) q (shaped_replicas m u.ckpt (shapes u.ckpt) e was (all_is m shapes inv s u held is e found) q there));
+            replicas = λ q there. by_shape e (all_is m shapes inv s u held is e found) (adopted sections) q (m.replicas u.ckpt q) (IsSomeAnd-each (m.replicas u.ckpt q) q (shaped_replicas m u.ckpt (shapes u.ckpt) e was (all_is m shapes inv s u held is e found) q there));
             fits = λ q d owns. absurd (nobody q d owns);
             complete = was.complete;
             lowest = was.lowest;
             owned = λ q d owns. absurd (nobody q d owns);
+            marked = was.marked;
           }
             where
               IsSomeAnd-each : (y : Option ReplicaState) (q : ℕ) → IsSomeAnd y (IsShaped (shapes u.ckpt) ((shapes u.ckpt).owners q)) → IsSomeAnd y (IsShaped (adopted sections) ((shapes u.ckpt).owners q))
@@ -250,7 +252,7 @@ module _ (m : Machine) (shapes : ℕ → Shape) (inv : InvariantIn shapes m) (s 
           first_moves (Err why) gives = refused_moves why none shaped.slot gives
           first_moves (Ok sections) gives = staged_moves (adopted sections) (adopted_spread sections)
               (record { origin = refl; update = refl; moment = refl; undone = refl; gives = ap (outcome e.attributes (update_of s.op) moment) (sym shaped.sections) ∙ gives })
-              moment_none (adopted_shaped sections x shaped) owns_at free (λ call q other. refl) shaped.slot gives
+              moment_none (adopted_shaped sections x shaped) owns_at free (refl, λ call q other. refl) shaped.slot gives
 
         -- ---- it has staged before
 
@@ -277,7 +279,7 @@ module _ (m : Machine) (shapes : ℕ → Shape) (inv : InvariantIn shapes m) (s 
           moment_some = moment_later m shapes inv s u held is e found staging p had ∙ sym kept
 
           later_moves : (shapes u.ckpt).owners r ≡ None → IsShaped (shapes u.ckpt) None x → Goes m s (drivers.Update u) t
-          later_moves free shaped = staged_moves (shapes u.ckpt) was stages_p moment_some shaped owns_at free (λ call q other. refl) shaped.slot
+          later_moves free shaped = staged_moves (shapes u.ckpt) was stages_p moment_some shaped owns_at free (refl, λ call q other. refl) shaped.slot
               (ap (outcome e.attributes (update_of s.op) moment) (shaped.sections ∙ sections-undone (shapes u.ckpt) None fits_p.undone) ∙ stages_p.gives)
 
           -- no other call has a slot then

@@ -1,5 +1,5 @@
--- An update is answered OK by a commit, or where it is applied in one step: by no look and no other step, and not at its beginning.
-use Rattle.std.proofs.Common.{◌≡◌, ℕ, Option, Some, None, Bool, true, refl, sym, subst, ◌∙◌}
+-- An update is answered OK by a commit, or on the active alone where it is applied in one step, or its weak write has been done: by no look and no other step, and not at its beginning.
+use Rattle.std.proofs.Common.{◌≡◌, ℕ, Option, Some, None, Bool, true, false, refl, sym, subst, ◌∙◌}
 use Rattle.ckpt_types.specs.declared.ais_error.AisError.{AisError}
 use Rattle.ckpt_types.specs.declared.ais_error.AisError.TheVariants.{TryAgain}
 use Rattle.ckpt_types.specs.declared.answers.Answer.{Answer}
@@ -22,10 +22,10 @@ use Rattle.ckpt_types.specs.Asks.{Ask, asked}
 use Rattle.ckpt_types.specs.Asks as asks
 use Rattle.ckpt_machine.specs.BeginRows.{ends_at_once, BeginRow}
 use Rattle.ckpt_machine.specs.Driving.{refused_cause}
-use Rattle.ckpt_machine.specs.Guards.{AtNode, StageRefused, StageHeld, StageRow, CommitRow, ApplyRefused, ApplyHeld, ApplyRow, LookDone, LookRow, Row}
+use Rattle.ckpt_machine.specs.Guards.{AtNode, StageRefused, StageHeld, StageRow, CommitRow, ApplyOk, MarkOk, MarkRow, ElementRow, LookDone, LookRow, Row}
 use Rattle.ckpt_machine.specs.Machine.{Machine, CallState}
 use Rattle.ckpt_machine.specs.Steps.{Told}
-use Rattle.ckpt_machine.proofs.Refusing.{row_at_ckpt, at_node, at_none, at_node_alone, on_all, on_active_replica}
+use Rattle.ckpt_machine.proofs.Refusing.{row_at_ckpt, at_node, at_none, at_node_alone, on_all, begins_on_active}
 
 -- ---- an update asks for no other thing
 
@@ -55,10 +55,11 @@ begin_not_done live h op answer word row = absurd row
 
 -- ---- a step
 
--- a node has taken an update: what was staged there, or in one step
+-- a node has taken an update: what was staged there, or in one step, or element by element
 abbrev pub IsTakenOn : Verb → Option ℕ → Option ℕ → StepReply → Type 0
 IsTakenOn verbs.Commit (Some k) (Some r) words.Ok = Unit {0}
 IsTakenOn verbs.Apply (Some k) (Some r) words.Ok = Unit {0}
+IsTakenOn verbs.Unmark (Some k) (Some r) words.Ok = Unit {0}
 IsTakenOn verb k r reply = ⊥
 
 -- nothing is left to do of a close alone
@@ -98,23 +99,35 @@ module _ (m : Machine) (s : CallState) (word : IsUpdateWord (word_of_op s.op)) (
   commit_done None r reply details row = absurd row
 
   -- one that is refused, or held off, is not answered OK
-  applied_ok : (update : Update) (k r : ℕ) (t : Told) (reply : StepReply) → t.end ≡ Some (Done answer) → ApplyRow m s update k r t reply → reply ≡ words.Ok
-  applied_ok update k r t words.Ok is row = refl
-  applied_ok update k r t words.Refused is row = absurd (on_active_replica m k r (ApplyRefused m s update t) row (λ e x (by : ApplyRefused m s update t e x). refused by.why.error (refused_cause s.op by.why.index) (sym is ∙ by.answer)))
-  applied_ok update k r t (words.Held by) is row = absurd (on_active_replica m k r (λ e x. ApplyHeld m s.call by t x) row (λ e x (held : ApplyHeld m s.call by t x). refused TryAgain (Holder by) (sym is ∙ held.answer)))
-  applied_ok update k r t reply is row = absurd row
-
   apply_done : (k r : Option ℕ) (reply : StepReply) (details : Details) → Row m s verbs.Apply (record { verb = verbs.Apply; ckpt = k; node = r; reply = reply; end = Some (Done answer); details = details }) → IsTakenOn verbs.Apply k r reply
+  apply_done (Some k) (Some r) words.Ok details row = tt
   apply_done (Some k) (Some r) reply details row =
       let t : Told = record { verb = verbs.Apply; ckpt = Some k; node = Some r; reply = reply; end = Some (Done answer); details = details } in
-      subst (λ reply. IsTakenOn verbs.Apply (Some k) (Some r) reply) (sym (applied_ok row.1 k r t reply refl row.3)) tt
+      absurd (begins_on_active m s row.1 false k r t (ApplyOk m row.1 t) reply row.3 (λ ahead e x ok. cc ahead) refused)
   apply_done (Some k) None reply details row = absurd row
   apply_done None r reply details row = absurd row
 
-  -- a step that answers an update OK is a commit, or applies it
+  -- nor is a weak write that makes its marks, or goes on
+  mark_not_done : (update : Update) (k r : ℕ) (t : Told) (reply : StepReply) → t.end ≡ Some (Done answer) → MarkRow m s update k r t reply → ⊥
+  mark_not_done update k r t reply is row = begins_on_active m s update true k r t (MarkOk m update t) reply row (λ ahead e x (ok : MarkOk m update t e x). goes_on (sym is ∙ ok.answer)) (λ error cause ends. refused error cause (sym is ∙ ends))
+
+  element_not_done : (update : Update) (k r : ℕ) (t : Told) (reply : StepReply) → t.end ≡ Some (Done answer) → ElementRow m s.call update k r t reply → ⊥
+  element_not_done update k r t words.Ok is row = goes_on (sym is ∙ row.1)
+  element_not_done update k r t reply is row = absurd row
+
+  unmark_done : (k r : Option ℕ) (reply : StepReply) (details : Details) → Row m s verbs.Unmark (record { verb = verbs.Unmark; ckpt = k; node = r; reply = reply; end = Some (Done answer); details = details }) → IsTakenOn verbs.Unmark k r reply
+  unmark_done (Some k) (Some r) words.Ok details row = tt
+  unmark_done (Some k) (Some r) reply details row = absurd row.3
+  unmark_done (Some k) None reply details row = absurd row
+  unmark_done None r reply details row = absurd row
+
+  -- a step that answers an update OK is a commit, or applies it, or ends its weak write
   pub done_by_taking : (verb : Verb) (k r : Option ℕ) (reply : StepReply) (details : Details) → Row m s verb (record { verb = verb; ckpt = k; node = r; reply = reply; end = Some (Done answer); details = details }) → IsTakenOn verb k r reply
   done_by_taking verbs.Commit k r reply details row = commit_done k r reply details row
   done_by_taking verbs.Apply k r reply details row = apply_done k r reply details row
+  done_by_taking verbs.Unmark k r reply details row = unmark_done k r reply details row
+  done_by_taking verbs.Mark k r reply details row = at_node k r _ row (λ q n p. mark_not_done p.1 q n (record { verb = verbs.Mark; ckpt = k; node = r; reply = reply; end = Some (Done answer); details = details }) reply refl p.3)
+  done_by_taking verbs.Element k r reply details row = at_node k r _ row (λ q n p. element_not_done p.1 q n (record { verb = verbs.Element; ckpt = k; node = r; reply = reply; end = Some (Done answer); details = details }) reply refl p.3)
   done_by_taking verbs.Enter k r reply details row = at_node_alone k r _ row.0 (λ q p. no_other _ p.2)
   done_by_taking verbs.Open k r reply details row = row_at_ckpt k r _ row.0 (λ k p. no_other _ p.2.asks)
   done_by_taking verbs.Create k r reply details row = row_at_ckpt k r _ row.0 (λ k p. no_other _ p.2.asks)

@@ -23,6 +23,7 @@ use Rattle.cluster_record.specs.Identities.{IdentitiesRise, AllUpTo}
 use Rattle.cluster_record.specs.RecordState.{RecordState, entry_of, named, is_up, is_live_client}
 use Rattle.node_msgs.specs.Requests.{ckpt_of}
 use Rattle.node_core.specs.Fitting.{IsReadyFor}
+use Rattle.replica.specs.Replicas.{IsWrite}
 use Rattle.ckpt_machine.specs.Driving.{making_in}
 use Rattle.cluster_record.specs.RecordReady.{CanBecomeLive, CanOpen}
 use Rattle.ckpt_types.specs.Asks.{asked, update_of, IsBuilt}
@@ -110,6 +111,8 @@ pub record Facts (m : Machine) : Type 0 where
   pub moments : (a : ActorName) (s : CallState) (r : ℕ) (call : CallId) (k : ℕ) (t : ℤ) → m.in_hand a ≡ Some s → due m s ≡ Serve r (requests.Stage call k t) → IsSomeAnd (m.replicas k r) HasNoSlot → staged_moment m k ≡ t
   -- a due commit is of the call's own update
   pub commits : (a : ActorName) (s : CallState) (r : ℕ) (call : CallId) (k : ℕ) → m.in_hand a ≡ Some s → due m s ≡ Serve r (requests.Commit call k) → IsSomeAnd (m.replicas k r) (λ x. IsSomeAnd x.slot (λ slot. slot.update ≡ update_of s.op))
+  -- a weak write that is due to begin is a write
+  pub marks : (a : ActorName) (s : CallState) (r : ℕ) (call : CallId) (k : ℕ) → m.in_hand a ≡ Some s → due m s ≡ Serve r (requests.Mark call k) → IsWrite (update_of s.op)
   pub events : (a : ActorName) (s : CallState) (step : RecordStep) → m.in_hand a ≡ Some s → due m s ≡ Event step → IsEventReady m s (driver_of s) step
   -- an open has room for the handle of what it is making, and its client is live
   pub opens : (a : ActorName) (s : CallState) (o : OpenState) → m.in_hand a ≡ Some s → driver_of s ≡ drivers.Open o → (IsSome o.making → (rooms_of m s).handles ≡ true) × (is_live_client (client_of s.call) m.cluster ≡ true)

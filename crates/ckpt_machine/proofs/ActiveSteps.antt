@@ -1,0 +1,193 @@
+-- A call to the active changes the replica there, and its marks: what holds of every other call and of every other checkpoint stays.
+use Rattle.std.proofs.Common.{◌≡◌, ℕ, inl, inr, Option, Some, None, Bool, true, false, cond, ◌&&◌, ◌==◌, refl, sym, ap, subst, ◌∙◌}
+use Rattle.std.specs.Prelude.{IsSomeAnd}
+use Rattle.std.proofs.lemmas.Bool.{eqb-true, eq-eqb}
+use Rattle.std.proofs.lemmas.Option.{same_Some}
+use Rattle.ckpt_types.specs.declared.identities.CallId.{CallId}
+use Rattle.weak_marks.specs.Marks.{Marked}
+use Rattle.cluster_record.specs.declared.calls.UpdatePhase.{UpdatePhase}
+use Rattle.cluster_record.specs.declared.calls.UpdatePhase.TheVariants.{Staging, Committing}
+use Rattle.cluster_record.specs.declared.entries.Entry.{Entry}
+use Rattle.cluster_record.specs.DueActive.{ActiveState}
+use Rattle.cluster_record.specs.DueUpdate.{UpdateState}
+use Rattle.cluster_record.specs.Calls.{same_actor, put_actor}
+use Rattle.cluster_record.specs.Places.{put, put2}
+use Rattle.cluster_record.specs.RecordState.{entry_of}
+use Rattle.ckpt_machine.specs.Drivers as drivers
+use Rattle.ckpt_machine.specs.InHand.{is_marked_by, IsInHand}
+use Rattle.ckpt_machine.specs.Invariant.{IsMaker, IsGoodIn, InvariantIn}
+use Rattle.ckpt_machine.specs.Machine.{Machine, ReplicaState, CallState}
+use Rattle.ckpt_machine.specs.Options.{is_all}
+use Rattle.ckpt_machine.specs.Shape.{Shape, IsApart, IsShapedBy, PhaseFits, is_owner, IsOwner, IsMarker, IsSpread}
+use Rattle.ckpt_machine.specs.Steps.{driver_of}
+use Rattle.ckpt_machine.proofs.Actors.{same_actor-true}
+use Rattle.ckpt_machine.proofs.OtherCalls.{LooksAlike, making_still, IsInHand-alike, IsIn-apart, IsOwner-alike, IsGoodIn-alike, IsLaterEntry-refl}
+use Rattle.ckpt_machine.proofs.ReplicaSteps.{put_actor-cases, put_actor-other}
+
+-- the same checkpoint with other marks
+abbrev pub marked_so : Shape → Option Marked → Shape
+marked_so sh marks = record sh { marks = marks }
+
+-- the owners of its slots are in the phases in which they were
+PhaseFits-marked : (sh : Shape) (marks : Option Marked) (z : CallState) (u : UpdateState) (ph : UpdatePhase) → PhaseFits sh z u ph → PhaseFits (marked_so sh marks) z u ph
+PhaseFits-marked sh marks z u Staging fits = record { origin = fits.origin; update = fits.update; moment = fits.moment; undone = fits.undone }
+PhaseFits-marked sh marks z u Committing fits = record { origin = fits.origin; update = fits.update; is_done = fits.is_done }
+
+IsOwner-marked : (m : Machine) (k : ℕ) (sh : Shape) (marks : Option Marked) (d : CallId) → IsOwner m k sh d → IsOwner m k (marked_so sh marks) d
+IsOwner-marked m k sh marks d own = record { state = own.state; in_hand = own.in_hand; call_is = own.call_is; driver = own.driver; driver_is = own.driver_is; ckpt = own.ckpt; phase = PhaseFits-marked sh marks own.state own.driver own.driver.phase own.phase }
+
+module _ (m : Machine) (shapes : ℕ → Shape) (inv : InvariantIn shapes m) (s : CallState) (a : ActiveState) (held : m.in_hand s.call.actor ≡ Some s) (is : driver_of s ≡ drivers.Active a) where
+  -- ---- other calls
+
+  -- what is in hand with another driver is another's
+  other_by_driver : (d : CallId) (z : CallState) → m.in_hand d.actor ≡ Some z → (driver_of z ≡ drivers.Active a → ⊥) → same_actor d.actor s.call.actor ≡ false
+  other_by_driver d z there apart = by_test (same_actor d.actor s.call.actor) refl
+    where
+      by_test : (b : Bool) → same_actor d.actor s.call.actor ≡ b → same_actor d.actor s.call.actor ≡ false
+      by_test false is_not = is_not
+      by_test true same = absurd (apart (ap driver_of (same_Some z s (sym there ∙ ap m.in_hand (same_actor-true d.actor s.call.actor same) ∙ held)) ∙ is))
+
+  owner_other : (j : ℕ) (sh : Shape) (d : CallId) → IsOwner m j sh d → same_actor d.actor s.call.actor ≡ false
+  owner_other j sh d own = other_by_driver d own.state own.in_hand (λ same. let w : drivers.Update own.driver ≡ drivers.Active a = sym own.driver_is ∙ same in cc w)
+
+  maker_other : (j : ℕ) (d : CallId) → IsMaker m j d → same_actor d.actor s.call.actor ≡ false
+  maker_other j d own = other_by_driver d own.state own.in_hand (λ same. let w : drivers.Open own.driver ≡ drivers.Active a = sym own.driver_is ∙ same in cc w)
+
+  -- so are the marks on another checkpoint
+  marker_other : (j : ℕ) (marks : Marked) → (j == a.ckpt) ≡ false → IsMarker m j marks → same_actor marks.call.actor s.call.actor ≡ false
+  marker_other j marks other own = other_by_driver marks.call own.state own.in_hand (λ same.
+      let both : drivers.Active own.driver ≡ drivers.Active a = sym own.driver_is ∙ same in
+      let driver : own.driver ≡ a = cc both in
+      let ckpt : j ≡ a.ckpt = sym own.ckpt ∙ ap (λ (x : ActiveState). x.ckpt) driver in
+      (let w : true ≡ false = sym (eq-eqb j a.ckpt ckpt) ∙ other in cc w))
+
+  -- ---- the state after the step
+
+  -- with other replicas, and with this left of the call
+  abbrev with_step : (ℕ → ℕ → Option ReplicaState) → Option CallState → Machine
+  with_step f o = record m { replicas = f; in_hand = put_actor m.in_hand s.call.actor o }
+
+  -- another checkpoint is as it was
+  IsGoodIn-other : (f : ℕ → ℕ → Option ReplicaState) (o : Option CallState) → ((j q : ℕ) → (j == a.ckpt) ≡ false → f j q ≡ m.replicas j q) → (j : ℕ) (sh : Shape) (e : Entry) (maker : Option CallId) → (j == a.ckpt) ≡ false → IsGoodIn m j sh e maker → IsGoodIn (with_step f o) j sh e maker
+  IsGoodIn-other f o stays j sh e maker other good = IsGoodIn-alike m (with_step f o) j sh e e (IsLaterEntry-refl e) (λ q there. stays j q other)
+      (λ d own. put_actor-other m.in_hand s.call.actor o d.actor (owner_other j sh d own)) (λ marks own. put_actor-other m.in_hand s.call.actor o marks.call.actor (marker_other j marks other own)) (λ d own. put_actor-other m.in_hand s.call.actor o d.actor (maker_other j d own)) maker good
+
+  -- ---- its checkpoint is gone, and it ends
+
+  pub gone_ends : entry_of a.ckpt m.cluster.entries ≡ None → InvariantIn shapes (record m { in_hand = put_actor m.in_hand s.call.actor None })
+  gone_ends gone = record {
+    up = inv.up;
+    none_live = inv.none_live;
+    rises = inv.rises;
+    up_to = inv.up_to;
+    swept = inv.swept;
+    entries = λ j e found. IsGoodIn-other m.replicas None (λ j q other. refl) j (shapes j) e e.making (apart j e found (j == a.ckpt) refl) (inv.entries j e found);
+    handles = inv.handles;
+    rest = inv.rest;
+    clients = inv.clients;
+    hands = λ b z left. elim (put_actor-cases m.in_hand s.call.actor None b z left) [
+      | inl here ↦ absurd (let w : None ≡ Some z = here.1 in cc w)
+      | inr other ↦ (let was = inv.hands b z other.1 in record { actor = was.actor; client = was.client; number = was.number; built = was.built; driven = was.driven; live = was.live; here = IsIn-apart m shapes m.next (put_actor m.in_hand s.call.actor None) z (driver_of z) was.here })
+    ];
+  }
+    where
+      apart : (j : ℕ) (e : Entry) → entry_of j m.cluster.entries ≡ Some e → (b : Bool) → (j == a.ckpt) ≡ b → (j == a.ckpt) ≡ false
+      apart j e found false other = other
+      apart j e found true same = absurd (let w : None ≡ Some e = sym gone ∙ ap (λ n. entry_of n m.cluster.entries) (sym (eqb-true j a.ckpt same)) ∙ found in cc w)
+
+  -- ---- its checkpoint is there
+
+  module _ (r : ℕ) (e : Entry) (found : entry_of a.ckpt m.cluster.entries ≡ Some e) (made : e.making ≡ None) (alone : is_all e.attributes ≡ false) (active : e.active ≡ Some r)
+      (y : ReplicaState) (marks : Option Marked) (apart : IsApart marks y) (o : Option CallState) where
+    abbrev pub then_machine : Machine
+    then_machine = record m { replicas = put2 m.replicas a.ckpt r (Some y); in_hand = put_actor m.in_hand s.call.actor o }
+
+    abbrev pub then_shapes : ℕ → Shape
+    then_shapes = put shapes a.ckpt (marked_so (shapes a.ckpt) marks)
+
+    elsewhere : (j q : ℕ) → (j == a.ckpt) ≡ false → then_machine.replicas j q ≡ m.replicas j q
+    elsewhere j q other = ap (λ b. cond (b && (q == r)) (Some y) (m.replicas j q)) other
+
+    was : IsSpread m a.ckpt (shapes a.ckpt) e
+    was = subst (IsGoodIn m a.ckpt (shapes a.ckpt) e) made (inv.entries a.ckpt e found)
+
+    -- a replica, by what the checkpoint declares and which node is its active
+    abbrev Has : Option ReplicaState → Shape → ℕ → Bool × Option ℕ → Type 0
+    Has x sh q p = IsSomeAnd x (IsShapedBy p.0 sh p.1 q)
+
+    replicas_then : (q : ℕ) → Has (m.replicas a.ckpt q) (shapes a.ckpt) q (is_all e.attributes, e.active) → Has (then_machine.replicas a.ckpt q) (marked_so (shapes a.ckpt) marks) q (is_all e.attributes, e.active)
+    replicas_then q before =
+        subst (Has (then_machine.replicas a.ckpt q) (marked_so (shapes a.ckpt) marks) q) (λ i. (sym alone i, sym active i))
+        (subst (λ b. IsSomeAnd (cond (b && (q == r)) (Some y) (m.replicas a.ckpt q)) (IsApart (cond (q == r) marks None))) (sym (eq-eqb a.ckpt a.ckpt refl))
+        (elim (q == r) as (λ b. IsSomeAnd (m.replicas a.ckpt q) (IsApart (cond b (shapes a.ckpt).marks None)) → IsSomeAnd (cond b (Some y) (m.replicas a.ckpt q)) (IsApart (cond b marks None))) [
+          | true ↦ λ old. apart
+          | false ↦ λ old. old
+        ] (subst (Has (m.replicas a.ckpt q) (shapes a.ckpt) q) (λ i. (alone i, active i)) before)))
+
+    spread_then : ((w : Marked) → marks ≡ Some w → IsMarker then_machine a.ckpt w) → IsSpread then_machine a.ckpt (marked_so (shapes a.ckpt) marks) e
+    spread_then marked = record {
+      nodes = was.nodes;
+      some = was.some;
+      active = was.active;
+      replicas = λ q there. replicas_then q (was.replicas q there);
+      fits = was.fits;
+      complete = was.complete;
+      lowest = was.lowest;
+      owned = λ q d owns.
+          let own = was.owned q d owns in
+          IsOwner-alike m then_machine a.ckpt (marked_so (shapes a.ckpt) marks) d (put_actor-other m.in_hand s.call.actor o d.actor (owner_other a.ckpt (shapes a.ckpt) d own)) (IsOwner-marked m a.ckpt (shapes a.ckpt) marks d own);
+      marked = marked;
+    }
+
+    -- the marks of other calls are what they were
+    abbrev pub LeavesMarks : Type 0
+    LeavesMarks = (d : CallId) → same_actor d.actor s.call.actor ≡ false → is_marked_by d marks ≡ is_marked_by d (shapes a.ckpt).marks
+
+    looks_then : LeavesMarks → (z : CallState) → same_actor z.call.actor s.call.actor ≡ false → LooksAlike m then_machine shapes then_shapes z
+    looks_then leaves z other = record {
+      up = λ r up. up;
+      lives = refl;
+      tables = refl;
+      making = λ v at. making_still m then_machine z v (λ w at. record { there = at.there; nodes = at.nodes; reserved = at.reserved }) at;
+      made = λ k was. was;
+      later = λ k was e found. (e, found, refl, refl, refl);
+      owners = λ j was q. elim (j == a.ckpt) as (λ b. (j == a.ckpt) ≡ b → is_owner z.call ((cond b (marked_so (shapes a.ckpt) marks) (shapes j)).owners q) ≡ is_owner z.call ((shapes j).owners q)) [
+        | true ↦ λ same. ap (λ n. is_owner z.call ((shapes n).owners q)) (sym (eqb-true j a.ckpt same))
+        | false ↦ λ same. refl
+      ] refl;
+      marks = λ j was. elim (j == a.ckpt) as (λ b. (j == a.ckpt) ≡ b → is_marked_by z.call (cond b (marked_so (shapes a.ckpt) marks) (shapes j)).marks ≡ is_marked_by z.call (shapes j).marks) [
+        | true ↦ λ same. leaves z.call other ∙ ap (λ n. is_marked_by z.call (shapes n).marks) (sym (eqb-true j a.ckpt same))
+        | false ↦ λ same. refl
+      ] refl;
+    }
+
+    -- the invariant holds after it, where the marks that stand then are of a call in hand, and what is left of the call is where its steps have led it
+    pub active_keeps : LeavesMarks → ((w : Marked) → marks ≡ Some w → IsMarker then_machine a.ckpt w) → ((z : CallState) → o ≡ Some z → IsInHand then_machine then_shapes s.call.actor z) → InvariantIn then_shapes then_machine
+    active_keeps leaves marked own = record {
+      up = inv.up;
+      none_live = inv.none_live;
+      rises = inv.rises;
+      up_to = inv.up_to;
+      swept = inv.swept;
+      entries = λ j f there. by_test j f there (j == a.ckpt) refl;
+      handles = inv.handles;
+      rest = inv.rest;
+      clients = inv.clients;
+      hands = λ b z there. elim (put_actor-cases m.in_hand s.call.actor o b z there) [
+        | inl here ↦ subst (λ c. IsInHand then_machine then_shapes c z) (sym here.0) (own z here.1)
+        | inr other ↦ (
+            let was = inv.hands b z other.1 in
+            IsInHand-alike m then_machine shapes then_shapes z (looks_then leaves z (ap (λ c. same_actor c s.call.actor) was.actor ∙ other.0)) b (λ live. live) was.number was)
+      ];
+    }
+      where
+        by_test : (j : ℕ) (f : Entry) → entry_of j m.cluster.entries ≡ Some f → (b : Bool) → (j == a.ckpt) ≡ b → IsGoodIn then_machine j (then_shapes j) f f.making
+        by_test j f there false other =
+            subst (λ sh. IsGoodIn then_machine j sh f f.making) (sym (ap (λ b. cond b (marked_so (shapes a.ckpt) marks) (shapes j)) other))
+            (IsGoodIn-other then_machine.replicas o elsewhere j (shapes j) f f.making other (inv.entries j f there))
+        by_test j f there true same =
+            let k_is : a.ckpt ≡ j = sym (eqb-true j a.ckpt same) in
+            let e_is : e ≡ f = same_Some e f (sym found ∙ ap (λ n. entry_of n m.cluster.entries) k_is ∙ there) in
+            subst (λ sh. IsGoodIn then_machine j sh f f.making) (sym (ap (λ b. cond b (marked_so (shapes a.ckpt) marks) (shapes j)) same))
+            (subst (λ (x : Entry). IsGoodIn then_machine j (marked_so (shapes a.ckpt) marks) x x.making) e_is
+            (subst (IsGoodIn then_machine j (marked_so (shapes a.ckpt) marks) e) (sym made) (subst (λ n. IsSpread then_machine n (marked_so (shapes a.ckpt) marks) e) k_is (spread_then marked))))

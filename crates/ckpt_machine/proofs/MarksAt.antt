@@ -1,0 +1,14 @@
+-- The marks of a node, where they stand on the active.
+use Rattle.std.proofs.Common.{◌≡◌, ℕ, Option, Some, None, true, false, cond, ◌==◌, refl, ap, ◌∙◌}
+use Rattle.std.proofs.lemmas.Bool.{eq-eqb}
+use Rattle.weak_marks.specs.Marks.{Marked}
+use Rattle.ckpt_machine.specs.Shape.{marks_at}
+
+-- the active has them
+pub marks_here : (active : Option ℕ) (marks : Option Marked) (r : ℕ) → active ≡ Some r → marks_at active marks r ≡ marks
+marks_here active marks r is = ap (λ o. marks_at o marks r) is ∙ ap (λ b. cond b marks None) (eq-eqb r r refl)
+
+-- where there are none, no node has any
+pub none_marked : (active : Option ℕ) (r : ℕ) → marks_at active None r ≡ None
+none_marked None r = refl
+none_marked (Some a) r = elim (r == a) as (λ b. cond {A = Option Marked} b None None ≡ None) [ true ↦ refl | false ↦ refl ]
