@@ -12,7 +12,7 @@ use Rattle.node_msgs.specs.declared.replies.Reply.TheVariants as replies
 use Rattle.node_msgs.specs.declared.requests.Request.{Request}
 use Rattle.node_msgs.specs.declared.requests.Request.TheVariants as requests
 use Rattle.stage_slot.specs.Slots.{Slot}
-use Rattle.replica.specs.Replicas.{Replica, staged, applied, begun, outcome_on}
+use Rattle.replica.specs.Replicas.{Replica, IsWrite, staged, applied, begun, outcome_on}
 use Rattle.node_core.specs.declared.lent.Lent.{Lent}
 use Rattle.node_core.specs.Lending.{HasRoomToRead, HasRoomToTell, HasRoomToCommit, HasLent}
 use Rattle.node_core.specs.Payloads.{Payload, payload_of, update_or, elements_or, ids_or}
@@ -27,9 +27,6 @@ abbrev pub GoesToReplica : Request → Type 0
 GoesToReplica (requests.Reserve k) = ⊥
 GoesToReplica (requests.Claim call k owner) = ⊥
 GoesToReplica (requests.Withdraw call k) = ⊥
-GoesToReplica (requests.Mark call k) = ⊥
-GoesToReplica (requests.Element call k) = ⊥
-GoesToReplica (requests.Unmark call k) = ⊥
 GoesToReplica request = Unit {0}
 
 pub reserves_none : (request : Request) → GoesToReplica request → (k : ℕ) → request ≢ requests.Reserve k
@@ -88,9 +85,10 @@ lent_carries (requests.Read k) hand t lent is = ap elements_or is.vector
 lent_carries (requests.Next call k) hand t lent is = ids_same (kept_asked (asked hand.op) t)
 lent_carries request hand t lent is = tt
 
--- what a request uses of the call's own: a commit is of its update, and an iteration has room for all identifiers or is there
+-- what a request uses of the call's own: a commit is of its update, marks are of a write, and an iteration has room for all identifiers or is there
 abbrev pub IsOfCall : Request → InHand → ClientState → Replica → Type 0
 IsOfCall (requests.Commit call k) hand t x = IsSomeAnd x.slot (λ slot. slot.update ≡ update_of hand.op)
+IsOfCall (requests.Mark call k) hand t x = IsWrite (update_of hand.op)
 IsOfCall (requests.Iterate call k choice) hand t x = IsSomeAnd hand.iteration (λ kept. IsRoomFor x.attributes kept.room)
 IsOfCall (requests.Next call k) hand t x = IsSome (kept_asked (asked hand.op) t)
 IsOfCall request hand t x = Unit {0}
@@ -104,7 +102,7 @@ pub has_lent : (request : Request) (hand : InHand) (t : ClientState) (lent : Len
 has_lent (requests.Stage call k time) hand t lent x goes is own = subst (λ o. IsSome o) (sym is) refl
 has_lent (requests.Commit call k) hand t lent x goes is own = room_to_commit hand.op lent x.slot is own
 has_lent (requests.Apply call k) hand t lent x goes is own = subst (λ o. IsSomeAnd o (λ update. HasRoomToTell update lent.read)) (sym is.update) is.room
-has_lent (requests.Mark call k) hand t lent x goes is own = absurd goes
+has_lent (requests.Mark call k) hand t lent x goes is own = subst (λ o. IsSomeAnd o IsWrite) (sym is) own
 has_lent (requests.Read k) hand t lent x goes is own = subst (λ o. IsSomeAnd o (λ elements. HasRoomToRead elements lent.read)) (sym is.vector) is.room
 has_lent (requests.Status k) hand t lent x goes is own = is
 has_lent (requests.Iterate call k choice) hand t lent x goes is own = own

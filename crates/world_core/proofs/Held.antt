@@ -11,6 +11,8 @@ use Rattle.cluster_record.specs.Calls.{left}
 use Rattle.cluster_record.specs.StepDone.{StepDone, counting}
 use Rattle.cluster_record.specs.DueOpen.{OpenState, create_taken, reserve_taken, open_taken_by}
 use Rattle.cluster_record.specs.DueUpdate.{UpdateState, stage_taken, commit_taken, update_taken_by}
+use Rattle.cluster_record.specs.DueActive.{ActiveState, marks_taken}
+use Rattle.cluster_record.specs.declared.calls.MarksMade.{MarksMade}
 use Rattle.node_msgs.specs.declared.steps.Verb.{Verb}
 use Rattle.node_msgs.specs.declared.steps.Verb.TheVariants as verbs
 use Rattle.node_msgs.specs.declared.steps.StepReply.{StepReply}
@@ -84,11 +86,23 @@ counted_update n d u verbs.Commit = by_reply d.reply where
   by_reply reply = refl
 counted_update n d u verb = refl
 
+counted_active : (n : ℕ) (d : StepDone) (a : ActiveState) (verb : Verb) → marks_taken (counting n d) a.kind verb d.reply a.marks ≡ marks_taken d a.kind verb d.reply a.marks
+counted_active n d a verbs.Mark = by_reply d.reply where
+  by_reply : (reply : StepReply) → marks_taken (counting n d) a.kind verbs.Mark reply a.marks ≡ marks_taken d a.kind verbs.Mark reply a.marks
+  by_reply words.Ok = refl
+  by_reply reply = refl
+counted_active n d a verbs.Element = by_reply d.reply a.marks where
+  by_reply : (reply : StepReply) (marks : Option MarksMade) → marks_taken (counting n d) a.kind verbs.Element reply marks ≡ marks_taken d a.kind verbs.Element reply marks
+  by_reply words.Ok None = refl
+  by_reply words.Ok (Some marks) = refl
+  by_reply reply marks = refl
+counted_active n d a verb = refl
+
 pub taken-counting : (n : ℕ) (d : StepDone) (x : Driver) → driver_taken (counting n d) x ≡ driver_taken d x
 taken-counting n d (drivers.Once x) = refl
 taken-counting n d (drivers.Open o) = ap drivers.Open (counted_open n d o d.verb)
 taken-counting n d (drivers.Update u) = ap drivers.Update (counted_update n d u d.verb)
-taken-counting n d (drivers.Active a) = refl
+taken-counting n d (drivers.Active a) = ap (λ marks. drivers.Active (record a { marks = marks })) (counted_active n d a d.verb)
 
 -- it goes on with it, or has ended
 pub left_shown : (h : History) (c : ℕ) (hand : InHand) (done : StepDone) (n : ℕ) (made : Option (List ℕ)) (end : Option Outcome) →

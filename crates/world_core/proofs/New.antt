@@ -21,7 +21,7 @@ abbrev no_call : CallId
 no_call = record { actor = Client 0; number = 0 }
 
 abbrev none_has_begun : Beginning
-none_has_begun = record { kept = record { ckpt = None; room = room_in None; all = false; node = 0; moment = pos 0 }; driver = Once Leave }
+none_has_begun = record { kept = record { ckpt = None; room = room_in None; all = false; weak = false; node = 0; moment = pos 0 }; driver = Once Leave }
 
 abbrev nothing : History
 nothing = record { effects = λ k r. []; origins = λ k r. no_call; beginnings = λ a. none_has_begun; steps = λ a. []; created = λ a. None }

@@ -1,6 +1,6 @@
 -- Where a call opens, or starts an iteration, there is room for it.
 use Rattle.std.proofs.Common.{◌≡◌, ℕ, ℤ, Bool, true, false, cond, refl, subst}
-use Rattle.std.specs.Prelude.{◌&&◌, Option, Some, None, not, nat_le, length}
+use Rattle.std.specs.Prelude.{◌&&◌, ◌==◌, Option, Some, None, not, nat_le, length}
 use Rattle.ckpt_types.specs.declared.answers.Outcome.{Outcome}
 use Rattle.ckpt_types.specs.declared.attributes.CreationAttributes.{CreationAttributes}
 use Rattle.ckpt_types.specs.declared.identities.CallId.{CallId}
@@ -13,7 +13,8 @@ use Rattle.cluster_record.specs.declared.calls.ActiveKind.{ActiveKind}
 use Rattle.cluster_record.specs.declared.calls.ActiveKind.TheVariants as kinds
 use Rattle.cluster_record.specs.declared.calls.Making.{Making}
 use Rattle.cluster_record.specs.declared.entries.Entry.{Entry}
-use Rattle.cluster_record.specs.DueActive.{ActiveState, on_active, active_on, request_by, starts_iteration}
+use Rattle.cluster_record.specs.DueActive.{ActiveState, unless_changed, on_active, active_on, weak_request, request_by, starts_iteration}
+use Rattle.cluster_record.specs.declared.calls.MarksMade.{MarksMade}
 use Rattle.cluster_record.specs.DueOpen.{OpenState, accepts, create_next, entry_by, entry_next, on_named, reserve_or_finish, on_making, by_making, open_next}
 use Rattle.cluster_record.specs.Opening.{answer_unless, answer_named, open_answer}
 use Rattle.cluster_record.specs.RecordState.{RecordState, entry_of, named}
@@ -71,17 +72,34 @@ abbrev HasPlaceFor : Bool → Next → Type 0
 HasPlaceFor room (Serve r (requests.Iterate call k choice)) = room ≡ true
 HasPlaceFor room next = Unit {0}
 
-place_kind : (room : Bool) (call : CallId) (k : ℕ) (kind : ActiveKind) (x : Outcome) (r : ℕ) → HasPlaceFor room (cond (starts_iteration kind && not room) (End x) (Serve r (request_by call k kind)))
-place_kind true call k (kinds.Iterate choice) x r = refl
-place_kind false call k (kinds.Iterate choice) x r = tt
-place_kind room call k kind x r = tt
+-- unless its marks are gone, in which case it ends
+place_marks : (room : Bool) (marks : Option MarksMade) (generation : ℕ) (next : Next) → HasPlaceFor room next → HasPlaceFor room (unless_changed marks generation next)
+place_marks room None generation next has = has
+place_marks room (Some marks) generation next has = by_generation (marks.generation == generation) _ where
+  by_generation : (b : Bool) (o : Outcome) → HasPlaceFor room (cond b next (End o))
+  by_generation true o = has
+  by_generation false o = tt
+
+place_weak : (room : Bool) (call : CallId) (k r : ℕ) (marks : Option MarksMade) → HasPlaceFor room (Serve r (weak_request call k marks))
+place_weak room call k r None = tt
+place_weak room call k r (Some marks) = by_left (marks.left == 0) where
+  by_left : (b : Bool) → HasPlaceFor room (Serve r (cond b (requests.Unmark call k) (requests.Element call k)))
+  by_left true = tt
+  by_left false = tt
+
+place_kind : (room : Bool) (call : CallId) (k : ℕ) (kind : ActiveKind) (marks : Option MarksMade) (generation : ℕ) (x : Outcome) (r : ℕ) →
+    HasPlaceFor room (cond (starts_iteration kind && not room) (End x) (unless_changed marks generation (Serve r (request_by call k kind marks))))
+place_kind true call k (kinds.Iterate choice) marks generation x r = place_marks true marks generation (Serve r (requests.Iterate call k choice)) refl
+place_kind false call k (kinds.Iterate choice) marks generation x r = tt
+place_kind room call k (kinds.Weak n) marks generation x r = place_marks room marks generation (Serve r (weak_request call k marks)) (place_weak room call k r marks)
+place_kind room call k kind marks generation x r = place_marks room marks generation (Serve r (request_by call k kind marks)) tt
 
 place_active : (room : Bool) (a : ActiveState) (e : Option Entry) → HasPlaceFor room (active_on room a e)
 place_active room a None = tt
-place_active room a (Some e) = at e.active where
-  at : (r : Option ℕ) → HasPlaceFor room (on_active room a r)
-  at None = tt
-  at (Some r) = place_kind room a.call a.ckpt a.kind _ r
+place_active room a (Some e) = at e.generation e.active where
+  at : (generation : ℕ) (r : Option ℕ) → HasPlaceFor room (on_active room a generation r)
+  at generation None = tt
+  at generation (Some r) = place_kind room a.call a.ckpt a.kind a.marks generation _ r
 
 open_place_of : (R : RecordState) (room : Rooms) (x : Driver) → OfAsked (HasPlaceFor room.iterations) x → HasPlaceFor room.iterations (driver_next R room x)
 open_place_of R room x asks = next_of (HasPlaceFor room.iterations) (λ o. tt) (λ step. tt) (λ r k. tt) R room x asks

@@ -15,21 +15,21 @@ use Rattle.node_msgs.specs.declared.requests.Request.TheVariants.{Reserve, Claim
 use Rattle.node_msgs.specs.declared.steps.Verb.TheVariants as verbs
 use Rattle.node_msgs.specs.declared.steps.StepReply.TheVariants as words
 use Rattle.cluster_record.specs.declared.entries.Entry.{Entry}
-use Rattle.replica.specs.Replicas.{Replica, committed, applied_by, or_same, standing_or, staged_by, outcome_on}
+use Rattle.replica.specs.Replicas.{Replica, committed, applied_by, or_same, standing_or, staged_by, marked_by, element_done, ended, outcome_on}
 use Rattle.stage_slot.specs.Slots.{Slot, IsOwnedBy}
-use Rattle.weak_marks.specs.Marks.{Marked}
+use Rattle.weak_marks.specs.Marks.{Marked, IsMarkedBy, with_next_done}
 use Rattle.cluster_record.specs.Places.{put2}
 use Rattle.cluster_record.specs.RecordState.{entry_of}
 use Rattle.node_msgs.specs.Requests.{ckpt_of}
 use Rattle.node_core.specs.Payloads.{Payload}
 use Rattle.node_core.specs.Seen.{RecordSeen, record_seen}
-use Rattle.node_core.specs.Serving.{reply_of, replica_after, stage_reply, apply_reply, next_reply}
+use Rattle.node_core.specs.Serving.{reply_of, replica_after, stage_reply, apply_reply, mark_reply, next_reply}
 use Rattle.node_core.specs.Fitting.{IsReadyFor}
 use Rattle.node_msgs.specs.Steps.{verb_of, word_of}
 use Rattle.ckpt_machine.specs.Machine.{Machine, Effect, Applied, ReplicaState, CallState}
-use Rattle.ckpt_machine.specs.Steps.{changed, on_ok, change_replica, chosen_at, given_at, ids_asked, payload_due, seen_at, with_slot, with_committed, with_applied, having_taken, with_tables, staged_moment}
+use Rattle.ckpt_machine.specs.Steps.{changed, on_ok, change_replica, chosen_at, given_at, ids_asked, payload_due, seen_at, with_slot, with_committed, with_applied, with_marks, with_element, without_marks, having_taken, with_tables, staged_moment}
 use Rattle.ckpt_machine.specs.Tables.{started, with_next, gone_on}
-use Rattle.world_core.specs.Shows.{shown_replica, shown_slot, FitsReplica, HasCount}
+use Rattle.world_core.specs.Shows.{shown_replica, shown_slot, FitsReplica, FitsSlot}
 use Rattle.ckpt_machine.proofs.Calls.{IsOwn}
 use Rattle.ckpt_machine.proofs.ClientTables.{same_tables}
 use Rattle.world_core.proofs.Carrying.{GoesToReplica, Carries}
@@ -47,9 +47,15 @@ effects_applied effect (Some marked) result E = E
 effects_applied effect None (Ok sections) E = E ++ effect ∷ []
 effects_applied effect None (Err why) E = E
 
+-- and one more where a weak write has been done
+abbrev pub effects_unmarked : Option Marked → List Effect → List Effect
+effects_unmarked None E = E
+effects_unmarked (Some marked) E = E ++ Applied marked.call marked.update marked.moment ∷ []
+
 abbrev pub effects_after : CallId → Request → Payload → RecordSeen → Option Replica → CallId → List Effect → List Effect
 effects_after by (Commit call k) p seen (Some x) o E = effects_with x.slot o E
 effects_after by (Apply call k) p seen (Some x) o E = effects_applied (Applied by p.update seen.moment) x.marks (outcome_on x p.update seen.moment) E
+effects_after by (Unmark call k) p seen (Some x) o E = effects_unmarked x.marks E
 effects_after by request p seen y o E = E
 
 -- what is the same of two payloads leaves the same effects
@@ -116,6 +122,31 @@ module _ (M : Machine) (s : CallState) (k r : ℕ) (E : List Effect) (o : CallId
   apply_moves row effect update None (Err why) is makes = stays (shown_replica E o (Some (record x { marks = None }))) is
   apply_moves row effect update None (Ok sections) is makes = ap (λ y. change_replica M k r y row) is ∙ ap (λ y. with (Some y)) (makes sections refl)
 
+  -- the marks of a weak write are made, where none stand and it has an outcome
+  mark_moves : (call : CallId) (p : Option Marked) (result : Result (List Section) Refusal) → M.replicas k r ≡ shown_replica E o (Some (record x { marks = p })) → call ≡ s.call →
+      changed M s verbs.Mark (Some k) (Some r) (word_of (mark_reply result p)) ≡ with (shown_replica E o (Some (record x { marks = standing_or p result (marked_by call (update_of s.op) M.cluster.moment x) })))
+  mark_moves call (Some marked) result is own = stays (shown_replica E o (Some (record x { marks = Some marked }))) is
+  mark_moves call None (Err why) is own = stays (shown_replica E o (Some (record x { marks = None }))) is
+  mark_moves call None (Ok sections) is own =
+      ap (λ y. change_replica M k r y (with_marks s.call (update_of s.op) M.cluster.moment)) is ∙ (λ i. with (Some (with_marks (sym own i) (update_of s.op) M.cluster.moment unmarked)))
+
+  -- its next element is done
+  element_moves : (p : Option Marked) (e : Entry) → entry_of k M.cluster.entries ≡ Some e → x.attributes ≡ e.attributes → M.replicas k r ≡ shown_replica E o (Some (record x { marks = p })) →
+      change_replica M k r (M.replicas k r) (with_element (entry_of k M.cluster.entries)) ≡ with (shown_replica E o (Some (element_done (record x { marks = p }) p)))
+  element_moves None e at same is =
+      ap (λ y. change_replica M k r y (with_element (entry_of k M.cluster.entries))) is
+      ∙ ap (λ f. change_replica M k r (shown_replica E o (Some (record x { marks = None }))) (with_element f)) at
+  element_moves (Some marked) e at same is =
+      ap (λ y. change_replica M k r y (with_element (entry_of k M.cluster.entries))) is
+      ∙ ap (λ f. change_replica M k r (shown_replica E o (Some (record x { marks = Some marked }))) (with_element f)) at
+      ∙ ap (λ a. change_replica M k r (shown_replica E o (Some (record x { marks = Some marked }))) (with_element (Some (record e { attributes = a })))) (sym same)
+
+  -- and its marks go, once it has been done
+  unmark_moves : (p : Option Marked) (call : CallId) → M.replicas k r ≡ shown_replica E o (Some (record x { marks = p })) → IsMarkedBy call p →
+      change_replica M k r (M.replicas k r) without_marks ≡ with (shown_replica (effects_unmarked p E) o (Some (ended (record x { marks = p }))))
+  unmark_moves None call is by = absurd by
+  unmark_moves (Some marked) call is by = ap (λ y. change_replica M k r y without_marks) is
+
   module _ (is : M.replicas k r ≡ shown_replica E o (Some x)) (seen : seen_at M k r ≡ Some x) where
     abbrev whole : Machine
     whole = with (shown_replica E o (Some x))
@@ -144,9 +175,9 @@ row_moves M s r E o x e (Apply call k) goes at same is seen ready own moment =
     (λ sections gives. ap (λ f. with_applied s.call (update_of s.op) M.cluster.moment f (unmarked M s k r E o x)) at
     ∙ ap (λ a. having_taken a s.call (update_of s.op) M.cluster.moment (unmarked M s k r E o x)) (sym same)
     ∙ ap (λ result. record (unmarked M s k r E o x) { sections = or_same result x.sections; effects = E ++ Applied s.call (update_of s.op) M.cluster.moment ∷ [] }) gives)
-row_moves M s r E o x e (Mark call k) goes at same is seen ready own moment = absurd goes
-row_moves M s r E o x e (Element call k) goes at same is seen ready own moment = absurd goes
-row_moves M s r E o x e (Unmark call k) goes at same is seen ready own moment = absurd goes
+row_moves M s r E o x e (Mark call k) goes at same is seen ready own moment = mark_moves M s k r E o x call x.marks (outcome_on x (update_of s.op) M.cluster.moment) is own
+row_moves M s r E o x e (Element call k) goes at same is seen ready own moment = element_moves M s k r E o x x.marks e at same is
+row_moves M s r E o x e (Unmark call k) goes at same is seen ready own moment = unmark_moves M s k r E o x x.marks call is ready.0
 row_moves M s r E o x e (Iterate call k choice) goes at same is seen ready own moment = starts M s k r E o x is seen
 row_moves M s r E o x e (Next call k) goes at same is seen ready own moment = goes_on M s k r E o x is seen (given (ids_asked M s) M.cluster.moment x.sections) refl
 row_moves M s r E o x e (Stage call k t) goes at same is seen ready own moment = stage_moves M s k r E o x call t x.slot (outcome_on x (update_of s.op) t) is own (λ n. moment call k t refl n)
@@ -159,10 +190,10 @@ fits_commit k e E o x None fits = fits
 fits_commit k None E o x (Some slot) fits = (fits.0, tt, length-append E (Applied o slot.update slot.moment ∷ []) ∙ ap (λ n. n + 1) fits.2, tt)
 fits_commit k (Some e) E o x (Some slot) fits = (fits.0, fits.1, length-append E (Applied o slot.update slot.moment ∷ []) ∙ ap (λ n. n + 1) fits.2, tt)
 
-staged_count : (call : CallId) (update : Update) (t : ℤ) (x : Replica) (result : Result (List Section) Refusal) (p : Option Slot) → HasCount x.count p → HasCount x.count (standing_or p result (staged_by call update t x))
-staged_count call update t x result (Some slot) has = has
-staged_count call update t x (Ok sections) None has = refl
-staged_count call update t x (Err why) None has = tt
+staged_fits : (call : CallId) (update : Update) (t : ℤ) (x : Replica) (result : Result (List Section) Refusal) (p : Option Slot) → x.marks ≡ None → FitsSlot x.count x.marks p → FitsSlot x.count x.marks (standing_or p result (staged_by call update t x))
+staged_fits call update t x result (Some slot) free fits = fits
+staged_fits call update t x (Ok sections) None free fits = (refl, free)
+staged_fits call update t x (Err why) None free fits = tt
 
 fits_apply : (k : ℕ) (e : Option Entry) (E : List Effect) (effect : Effect) (x : Replica) (p : Option Marked) (result : Result (List Section) Refusal) → x.slot ≡ None → FitsReplica k e E (Some x) → FitsReplica k e (effects_applied effect p result E) (Some (applied_by p result x))
 fits_apply k e E effect x (Some marked) result free fits = fits
@@ -171,10 +202,38 @@ fits_apply k e E effect x None (Ok sections) free fits = by_entry e fits where
   count : length (E ++ effect ∷ []) ≡ x.count + 1
   count = length-append E (effect ∷ []) ∙ ap (λ n. n + 1) fits.2
 
-  slot : HasCount (x.count + 1) x.slot
-  slot = subst (HasCount (x.count + 1)) (sym free) tt
+  slot : FitsSlot (x.count + 1) x.marks x.slot
+  slot = subst (FitsSlot (x.count + 1) x.marks) (sym free) tt
 
   by_entry : (e : Option Entry) → FitsReplica k e E (Some x) → FitsReplica k e (E ++ effect ∷ []) (Some (record x { sections = sections; count = x.count + 1 }))
+  by_entry None fits = (fits.0, tt, count, slot)
+  by_entry (Some e) fits = (fits.0, fits.1, count, slot)
+
+-- where marks stand nothing is staged, so that whatever becomes of them fits
+beside_marks : (count after : ℕ) (call : CallId) (marks others : Option Marked) (slot : Option Slot) → IsMarkedBy call marks → FitsSlot count marks slot → FitsSlot after others slot
+beside_marks count after call None others slot by fits = absurd by
+beside_marks count after call (Some marked) others None by fits = tt
+beside_marks count after call (Some marked) others (Some slot) by fits = let none = fits.1 in absurd (cc none)
+
+fits_mark : (k : ℕ) (e : Option Entry) (E : List Effect) (x : Replica) (marks : Option Marked) → x.slot ≡ None → FitsReplica k e E (Some x) → FitsReplica k e E (Some (record x { marks = marks }))
+fits_mark k None E x marks free fits = (fits.0, tt, fits.2, subst (FitsSlot x.count marks) (sym free) tt)
+fits_mark k (Some e) E x marks free fits = (fits.0, fits.1, fits.2, subst (FitsSlot x.count marks) (sym free) tt)
+
+fits_element : (k : ℕ) (e : Option Entry) (E : List Effect) (x : Replica) (call : CallId) (p : Option Marked) → IsMarkedBy call p → FitsReplica k e E (Some (record x { marks = p })) → FitsReplica k e E (Some (element_done (record x { marks = p }) p))
+fits_element k e E x call None by fits = absurd by
+fits_element k None E x call (Some marked) by fits = (fits.0, tt, fits.2, beside_marks x.count x.count call (Some marked) (with_next_done (Some marked)) x.slot by fits.3)
+fits_element k (Some e) E x call (Some marked) by fits = (fits.0, fits.1, fits.2, beside_marks x.count x.count call (Some marked) (with_next_done (Some marked)) x.slot by fits.3)
+
+fits_unmark : (k : ℕ) (e : Option Entry) (E : List Effect) (x : Replica) (call : CallId) (p : Option Marked) → IsMarkedBy call p → FitsReplica k e E (Some (record x { marks = p })) → FitsReplica k e (effects_unmarked p E) (Some (ended (record x { marks = p })))
+fits_unmark k e E x call None by fits = absurd by
+fits_unmark k e E x call (Some marked) by fits = by_entry e fits where
+  count : length (E ++ Applied marked.call marked.update marked.moment ∷ []) ≡ x.count + 1
+  count = length-append E (Applied marked.call marked.update marked.moment ∷ []) ∙ ap (λ n. n + 1) fits.2
+
+  slot : FitsSlot (x.count + 1) None x.slot
+  slot = beside_marks x.count (x.count + 1) call (Some marked) None x.slot by fits.3
+
+  by_entry : (e : Option Entry) → FitsReplica k e E (Some (record x { marks = Some marked })) → FitsReplica k e (E ++ Applied marked.call marked.update marked.moment ∷ []) (Some (ended (record x { marks = Some marked })))
   by_entry None fits = (fits.0, tt, count, slot)
   by_entry (Some e) fits = (fits.0, fits.1, count, slot)
 
@@ -182,11 +241,11 @@ pub row_fits : (k : ℕ) (e : Option Entry) (E : List Effect) (o : CallId) (x : 
 row_fits k e E o x by (Reserve j) p seen goes ready fits = absurd goes
 row_fits k e E o x by (Claim call j owner) p seen goes ready fits = absurd goes
 row_fits k e E o x by (Withdraw call j) p seen goes ready fits = absurd goes
-row_fits k e E o x by (Mark call j) p seen goes ready fits = absurd goes
-row_fits k e E o x by (Element call j) p seen goes ready fits = absurd goes
-row_fits k e E o x by (Unmark call j) p seen goes ready fits = absurd goes
-row_fits k None E o x by (Stage call j t) p seen goes ready fits = (fits.0, tt, fits.2, staged_count call p.update t x (outcome_on x p.update t) x.slot fits.3)
-row_fits k (Some e) E o x by (Stage call j t) p seen goes ready fits = (fits.0, fits.1, fits.2, staged_count call p.update t x (outcome_on x p.update t) x.slot fits.3)
+row_fits k e E o x by (Mark call j) p seen goes ready fits = fits_mark k e E x (standing_or x.marks (outcome_on x p.update seen.moment) (marked_by call p.update seen.moment x)) ready fits
+row_fits k e E o x by (Element call j) p seen goes ready fits = fits_element k e E x call x.marks ready.0 fits
+row_fits k e E o x by (Unmark call j) p seen goes ready fits = fits_unmark k e E x call x.marks ready.0 fits
+row_fits k None E o x by (Stage call j t) p seen goes ready fits = (fits.0, tt, fits.2, staged_fits call p.update t x (outcome_on x p.update t) x.slot ready fits.3)
+row_fits k (Some e) E o x by (Stage call j t) p seen goes ready fits = (fits.0, fits.1, fits.2, staged_fits call p.update t x (outcome_on x p.update t) x.slot ready fits.3)
 row_fits k e E o x by (Commit call j) p seen goes ready fits = fits_commit k e E o x x.slot fits
 row_fits k e E o x by (Apply call j) p seen goes ready fits = fits_apply k e E (Applied by p.update seen.moment) x x.marks (outcome_on x p.update seen.moment) ready fits
 row_fits k e E o x by request p seen goes ready fits = fits

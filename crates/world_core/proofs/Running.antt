@@ -1,6 +1,6 @@
 -- A run goes on by one label, and what the code may rely on in the world after it.
 use Rattle.std.proofs.Common.{◌≡◌, ℕ, ◌+◌, ◌*◌, ◌-◌, ◌<◌, ◌≤◌, ◌^◌, List, [], ◌∷◌, ◌++◌, length, Option, Some, None, Bool, true, false, cond, not, ◌&&◌, refl, sym, ap, subst, ◌∙◌, arith}
-use Rattle.std.specs.Prelude.{◌==◌}
+use Rattle.std.specs.Prelude.{◌==◌, IfSome}
 use Rattle.std.proofs.lemmas.Bool.{eq-eqb}
 use Rattle.std.proofs.lemmas.Option.{same_Some}
 use Rattle.ckpt_types.specs.declared.answers.Outcome.{Outcome}
@@ -15,7 +15,10 @@ use Rattle.run_labels.specs.declared.labels.Label.TheVariants.{Stepped}
 use Rattle.ckpt_machine.specs.Drivers.{Driver}
 use Rattle.ckpt_machine.specs.Drivers as drivers
 use Rattle.world_core.specs.declared.hands.InHand.{InHand}
+use Rattle.cluster_record.specs.declared.calls.ActiveKind.{ActiveKind}
+use Rattle.cluster_record.specs.declared.calls.ActiveKind.TheVariants as kinds
 use Rattle.cluster_record.specs.declared.calls.Making.{Making}
+use Rattle.cluster_record.specs.declared.calls.MarksMade.{MarksMade}
 use Rattle.cluster_record.specs.declared.entries.Entry.{Entry}
 use Rattle.world_core.specs.declared.world.World.{World}
 use Rattle.cluster_record.specs.Calls.{same_actor, left}
@@ -25,12 +28,13 @@ use Rattle.cluster_record.specs.StepDone.{done_of}
 use Rattle.ckpt_machine.specs.Machine.{Machine, CallState}
 use Rattle.ckpt_machine.specs.Steps.{driver_of, changed, claimed_count, kept_behind, step_of, after}
 use Rattle.ckpt_machine.specs.Facts.{Facts}
-use Rattle.world_core.specs.Shows.{Does, Shows, FitsReplica, IsShown, HasNumbersLeft, machine_of, shown_replica, hand_at}
+use Rattle.world_core.specs.Shows.{Does, Shows, History, HistoryFits, FitsReplica, IsShown, HasNumbersLeft, machine_of, shown_replica, hand_at}
 use Rattle.ckpt_machine.specs.Invariant.{InvariantIn, Invariant, IsGoodIn}
 use Rattle.ckpt_machine.specs.Shape.{Shape}
 use Rattle.ckpt_machine.specs.Runs.{Counts, last}
 use Rattle.world_core.specs.Runs.{IsRunTo}
-use Rattle.ckpt_machine.specs.Left.{lacking, having, making_left, steps_left, update_left}
+use Rattle.ckpt_machine.specs.InHand.{MarksFit, IsInPlace}
+use Rattle.ckpt_machine.specs.Left.{lacking, having, making_left, active_left, steps_left, update_left}
 use Rattle.cluster_record.specs.declared.calls.UpdatePhase.{UpdatePhase}
 use Rattle.cluster_record.specs.declared.calls.UpdatePhase.TheVariants.{Staging, Committing}
 use Rattle.world_core.specs.StepsLeft.{hand_left, left_of}
@@ -64,12 +68,18 @@ update_left-from_one : (complete owned : List ℕ) (phase : UpdatePhase) → 1 �
 update_left-from_one complete owned Staging = from_one _
 update_left-from_one complete owned Committing = from_one _
 
+active_left-from_one : (kind : ActiveKind) (marks : Option MarksMade) → 1 ≤ active_left kind marks
+active_left-from_one (kinds.Weak n) None = omega arith
+active_left-from_one (kinds.Weak n) (Some marks) = from_one _
+active_left-from_one kind None = omega arith
+active_left-from_one kind (Some marks) = from_one _
+
 -- at least one step is left of a call in hand
 pub steps_left-from_one : (R : RecordState) (d : Driver) → 1 ≤ steps_left R d
 steps_left-from_one R (drivers.Once x) = omega arith
 steps_left-from_one R (drivers.Open o) = making_left-from_one R o.making
 steps_left-from_one R (drivers.Update u) = update_left-from_one (complete_of (entry_of u.ckpt R.entries)) u.owned u.phase
-steps_left-from_one R (drivers.Active a) = omega arith
+steps_left-from_one R (drivers.Active a) = active_left-from_one a.kind a.marks
 
 -- after a step that does not end it a call is in hand with this step more
 step_of-in_hand : (m : Machine) (s : CallState) (c : ℕ) (verb : Verb) (k r : Option ℕ) (reply : StepReply) → s.call.actor ≡ Client c
@@ -135,38 +145,64 @@ complete_of-length shapes m k inv None is = refl
 complete_of-length shapes m k inv (Some e) is = complete_length m k (shapes k) e e.making (inv.entries k e is)
 
 -- so few steps are left
-making_left-few : (R : RecordState) (making : Option Making) → length R.up ≡ 8 → making_left R making ≤ 20
+making_left-few : (R : RecordState) (making : Option Making) → length R.up ≡ 8 → making_left R making ≤ 66
 making_left-few R None up = omega arith
-making_left-few R (Some making) up = elim making.refused as (λ b. cond b 1 (lacking R.up making.reserved + 1) ≤ 20) [
+making_left-few R (Some making) up = elim making.refused as (λ b. cond b 1 (lacking R.up making.reserved + 1) ≤ 66) [
   | true ↦ omega arith
   | false ↦ let few = lacking_having R.up making.reserved in omega (arith, few, up)
 ]
 
-staging_few : (x y n : ℕ) → x + y ≤ n → n ≡ 8 → 2 * x + y + 1 ≤ 20
+staging_few : (x y n : ℕ) → x + y ≤ n → n ≡ 8 → 2 * x + y + 1 ≤ 66
 staging_few x y n few eight = omega (arith, few, eight)
 
-committing_few : (x y n : ℕ) → x + y ≤ n → n ≡ 8 → y + 1 ≤ 20
+committing_few : (x y n : ℕ) → x + y ≤ n → n ≡ 8 → y + 1 ≤ 66
 committing_few x y n few eight = omega (arith, few, eight)
 
-update_few : (complete owned : List ℕ) (phase : UpdatePhase) → length complete ≡ 8 → update_left complete owned phase ≤ 20
+update_few : (complete owned : List ℕ) (phase : UpdatePhase) → length complete ≡ 8 → update_left complete owned phase ≤ 66
 update_few complete owned Staging eight = staging_few (lacking complete owned) (having complete owned) (length complete) (lacking_having complete owned) eight
 update_few complete owned Committing eight = committing_few (lacking complete owned) (having complete owned) (length complete) (lacking_having complete owned) eight
 
-steps_left-few : (R : RecordState) (d : Driver) → length R.up ≡ 8 → ((k : ℕ) → length (complete_of (entry_of k R.entries)) ≡ 8) → steps_left R d ≤ 20
-steps_left-few R (drivers.Once x) up complete = omega arith
-steps_left-few R (drivers.Open o) up complete = making_left-few R o.making up
-steps_left-few R (drivers.Update u) up complete = update_few (complete_of (entry_of u.ckpt R.entries)) u.owned u.phase (complete u.ckpt)
-steps_left-few R (drivers.Active a) up complete = omega arith
+-- a weak write has its marks, each of at most 64 elements, and the end of its marks
+active_few : (kind : ActiveKind) (marks : Option MarksMade) → MarksFit kind marks → active_left kind marks ≤ 66
+active_few (kinds.Weak n) None few = omega (arith, few)
+active_few (kinds.Weak n) (Some marks) few = let elements = few.0 in let left = few.1 in omega (arith, elements, left)
+active_few kind None few = omega arith
+active_few kind (Some marks) few = absurd few
 
-hand_left-few : (R : RecordState) (hand : Option InHand) → length R.up ≡ 8 → ((k : ℕ) → length (complete_of (entry_of k R.entries)) ≡ 8) → hand_left R hand ≤ 20
-hand_left-few R None up complete = omega arith
-hand_left-few R (Some hand) up complete = steps_left-few R hand.driver up complete
+-- what drives a call has few elements left
+abbrev HasFewLeft : Driver → Type 0
+HasFewLeft (drivers.Active a) = MarksFit a.kind a.marks
+HasFewLeft d = Unit {0}
+
+has_few : (m : Machine) (shapes : ℕ → Shape) (s : CallState) (d : Driver) → IsInPlace m shapes s d → HasFewLeft d
+has_few m shapes s (drivers.Active a) here = here.fit
+has_few m shapes s (drivers.Once x) here = tt
+has_few m shapes s (drivers.Open o) here = tt
+has_few m shapes s (drivers.Update u) here = tt
+
+steps_left-few : (R : RecordState) (d : Driver) → length R.up ≡ 8 → ((k : ℕ) → length (complete_of (entry_of k R.entries)) ≡ 8) → HasFewLeft d → steps_left R d ≤ 66
+steps_left-few R (drivers.Once x) up complete few = omega arith
+steps_left-few R (drivers.Open o) up complete few = making_left-few R o.making up
+steps_left-few R (drivers.Update u) up complete few = update_few (complete_of (entry_of u.ckpt R.entries)) u.owned u.phase (complete u.ckpt)
+steps_left-few R (drivers.Active a) up complete few = active_few a.kind a.marks few
+
+hand_left-few : (R : RecordState) (hand : Option InHand) → length R.up ≡ 8 → ((k : ℕ) → length (complete_of (entry_of k R.entries)) ≡ 8) → IfSome hand (λ h. HasFewLeft h.driver) → hand_left R hand ≤ 66
+hand_left-few R None up complete few = omega arith
+hand_left-few R (Some hand) up complete few = steps_left-few R hand.driver up complete few
+
+-- so it is of the call that a client has in hand
+hand_few : (w : World) (h : History) (c : ℕ) (shapes : ℕ → Shape) → InvariantIn shapes (machine_of w h) → HistoryFits w h → (o : Option InHand) → hand_at w.hands c ≡ o → IfSome o (λ h. HasFewLeft h.driver)
+hand_few w h c shapes inv fits None held = tt
+hand_few w h c shapes inv fits (Some hand) held =
+    let s = state_in h c hand in
+    subst HasFewLeft (sym (driver_is w h c hand held fits)) (has_few (machine_of w h) shapes s (driver_of s) (inv.hands (Client c) s (in_hand_is w h c hand held)).here)
 
 -- after any run few steps are left of a client's call
-pub few_left : (w : World) (log : List Label) (c : ℕ) → IsRunTo w log → left_of w (Client c) ≤ 20
+pub few_left : (w : World) (log : List Label) (c : ℕ) → IsRunTo w log → left_of w (Client c) ≤ 66
 few_left w log c to =
     let inv = subst Invariant to.shows.same (run_has log to.run).0 in
     hand_left-few w.cluster (hand_at w.hands c) (up_length inv.shapes (machine_of w to.shows.history) inv.holds) (λ k. complete_of-length inv.shapes (machine_of w to.shows.history) k inv.holds (entry_of k w.cluster.entries) refl)
+    (hand_few w to.shows.history c inv.shapes inv.holds to.shows.fits (hand_at w.hands c) refl)
 
 -- ---- no count is at its end
 

@@ -18,6 +18,7 @@ use Rattle.node_msgs.specs.declared.details.Details.TheVariants as beside
 use Rattle.ckpt_types.specs.declared.words.OpWord.{OpWord}
 use Rattle.node_msgs.specs.declared.steps.Verb.{Verb}
 use Rattle.node_msgs.specs.declared.steps.Verb.TheVariants as verbs
+use Rattle.cluster_record.specs.DueActive.{active_end}
 use Rattle.node_msgs.specs.declared.steps.StepReply.{StepReply}
 use Rattle.run_labels.specs.declared.labels.Label.TheVariants.{Stepped}
 use Rattle.ckpt_types.specs.OpWord.{word_of_op}
@@ -118,12 +119,12 @@ has_own_place : (request : Request) (w : World) (c r : ℕ) (x : Driver) → dri
 has_own_place (requests.Iterate call k choice) w c r x next = iterate_room w.cluster (rooms_at w c) x r call k choice next
 has_own_place request w c r x next = tt
 
--- a call to the active ends by any answer
-active_ends : (op : Op) (d : StepDone) (answer : Answer) (x : Driver) → IsActive x → IsSome (driver_end op d (replies.Done answer) (driver_taken d x))
-active_ends op d answer (drivers.Active a) is = refl
-active_ends op d answer (drivers.Once x) is = absurd is
-active_ends op d answer (drivers.Open o) is = absurd is
-active_ends op d answer (drivers.Update u) is = absurd is
+-- a call to the active ends where its iteration has started
+active_ends : (op : Op) (d : StepDone) (answer : Answer) (x : Driver) → d.verb ≡ verbs.Iter → IsActive x → IsSome (driver_end op d (replies.Done answer) (driver_taken d x))
+active_ends op d answer (drivers.Active a) iterates is = subst (λ verb. IsSome (active_end answer verb)) (sym iterates) refl
+active_ends op d answer (drivers.Once x) iterates is = absurd is
+active_ends op d answer (drivers.Open o) iterates is = absurd is
+active_ends op d answer (drivers.Update u) iterates is = absurd is
 
 -- so one that starts an iteration has ended
 ends_by : (request : Request) (w : World) (h : History) (c r : ℕ) (hand : InHand) (p : Payload) (reply : Reply) (known_is : IsKnown w h) (held : hand_at w.hands c ≡ Some hand) → driver_next w.cluster (rooms_at w c) hand.driver ≡ Serve r request → MayReply w.cluster (node_at w.nodes r) request p reply → EndsIts request (its_end w c r request hand p reply)
@@ -134,7 +135,7 @@ ends_by (requests.Iterate call k choice) w h c r hand p reply known_is held next
     let starting = known_is.facts.starts (Client c) (state_in h c hand) r call k choice (in_hand_is w h c hand held) due_here in
     let done : reply ≡ replies.Done answers.Nothing = may ∙ ap (reply_at request p (record_seen w.cluster k r)) served in
     subst (λ (z : Reply × Driver). IsSome (driver_end hand.op (served_done w.cluster request r z.0) z.0 (driver_taken (served_done w.cluster request r z.0) z.1)))
-    (λ i. (sym done i, sym (driver_is w h c hand held known_is.fits) i)) (active_ends hand.op (served_done w.cluster request r (replies.Done answers.Nothing)) answers.Nothing (driver_of (state_in h c hand)) starting.active)
+    (λ i. (sym done i, sym (driver_is w h c hand held known_is.fits) i)) (active_ends hand.op (served_done w.cluster request r (replies.Done answers.Nothing)) answers.Nothing (driver_of (state_in h c hand)) refl starting.active)
 ends_by request w h c r hand p reply known_is held next may = tt
 
 -- a node does what is due

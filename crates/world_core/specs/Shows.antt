@@ -12,6 +12,7 @@ use Rattle.cluster_record.specs.declared.entries.Entry.{Entry}
 use Rattle.ckpt_machine.specs.Drivers.{Driver}
 use Rattle.replica.specs.Replicas.{Replica}
 use Rattle.stage_slot.specs.Slots.{Slot}
+use Rattle.weak_marks.specs.Marks.{Marked}
 use Rattle.world_core.specs.declared.world.World.{World}
 use Rattle.cluster_record.specs.Places.{or_none}
 use Rattle.cluster_record.specs.RecordState.{RecordState, entry_of, complete_of}
@@ -127,15 +128,15 @@ abbrev pub HasAttributes : Option Entry → Replica → Type 0
 HasAttributes None x = Unit {0}
 HasAttributes (Some e) x = x.attributes ≡ e.attributes
 
--- a slot has the count that the replica has
-abbrev pub HasCount : ℕ → Option Slot → Type 0
-HasCount count None = Unit {0}
-HasCount count (Some slot) = slot.count ≡ count
+-- what is staged has the count that the replica has, and no marks stand beside it
+abbrev pub FitsSlot : ℕ → Option Marked → Option Slot → Type 0
+FitsSlot count marks None = Unit {0}
+FitsSlot count marks (Some slot) = (slot.count ≡ count) × (marks ≡ None)
 
--- a complete replica has its checkpoint's number and attributes, counts its effects, and what is staged on it has its count
+-- a complete replica has its checkpoint's number and attributes, counts its effects, and what is staged on it has its count, with no marks beside it
 abbrev pub FitsReplica : ℕ → Option Entry → List Effect → Option Replica → Type 0
 FitsReplica k e effects None = Unit {0}
-FitsReplica k e effects (Some x) = (x.ckpt ≡ k) × HasAttributes e x × (length effects ≡ x.count) × HasCount x.count x.slot
+FitsReplica k e effects (Some x) = (x.ckpt ≡ k) × HasAttributes e x × (length effects ≡ x.count) × FitsSlot x.count x.marks x.slot
 
 -- the room that a call has in hand for an iteration
 abbrev pub room_for : Ask → Room → Option KeptIds

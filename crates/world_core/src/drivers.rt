@@ -21,7 +21,8 @@ ghost use Rattle.node_msgs.specs.declared.steps.Verb.TheVariants as verbs;
 ghost use Rattle.ckpt_types.specs.declared.answers.Answer.TheVariants as answers;
 ghost use Rattle.world_core.specs.UpdateSteps.{IsUpdate, end_of_refused, ended_unless};
 ghost use Rattle.world_core.specs.TableState.{kept_by};
-ghost use Rattle.ckpt_machine.specs.Drivers.{Once, Update, Active};
+ghost use Rattle.ckpt_machine.specs.Drivers.{Once};
+ghost use Rattle.ckpt_machine.specs.Drivers as kinds;
 ghost use Rattle.cluster_record.specs.DueOnce.{Close, Retain};
 
 use crate::beginning::{choice_of, ckpt_of_handle};
@@ -243,7 +244,7 @@ fn take_update(
 ) -> Option<Outcome>
     requires { r < nodes_max }
     ensures new { update.new ≡ update_taken (done_of cluster.now (verb_of request.now) (Some (ckpt_of request.now)) (Some r) (word_of reply.now)) update.old }
-    ensures end { result ≡ driver_end op.now (done_of cluster.now (verb_of request.now) (Some (ckpt_of request.now)) (Some r) (word_of reply.now)) reply.now (Update update.new) }
+    ensures end { result ≡ driver_end op.now (done_of cluster.now (verb_of request.now) (Some (ckpt_of request.now)) (Some r) (word_of reply.now)) reply.now (kinds.Update update.new) }
 {
     match reply {
         Reply::Done(answer) => update.take(cluster, r, request, *answer),
@@ -266,7 +267,7 @@ fn take_active(
     reply: &Reply,
 ) -> Option<Outcome>
     ensures new { active.new ≡ active_taken (done_of cluster.now (verb_of request.now) (Some (ckpt_of request.now)) (Some r) (word_of reply.now)) active.old }
-    ensures end { result ≡ driver_end op.now (done_of cluster.now (verb_of request.now) (Some (ckpt_of request.now)) (Some r) (word_of reply.now)) reply.now (Active active.new) }
+    ensures end { result ≡ driver_end op.now (done_of cluster.now (verb_of request.now) (Some (ckpt_of request.now)) (Some r) (word_of reply.now)) reply.now (kinds.Active active.new) }
 {
     active.take(cluster, r, request, reply.word());
     match reply {

@@ -7,12 +7,12 @@ use Rattle.session_run.proofs.calls.steps_of.Goals as goal
 
 pub steps-requires-clause-room : goal.steps-requires-clause-room
 steps-requires-clause-room c =
-    let few : left_of c.args.world.now (Client c.in-Some.client) ≤ 20 = few_left c.args.world.now c.args.log.now.labels c.in-Some.client c.requires.run in
+    let few : left_of c.args.world.now (Client c.in-Some.client) ≤ 66 = few_left c.args.world.now c.args.log.now.labels c.in-Some.client c.requires.run in
     omega (arith, few, c.requires.room)
 
 pub returns-in-Some-clause-few : goal.returns-in-Some-clause-few
 returns-in-Some-clause-few c =
-    let few : left_of c.args.world.now (Client c.in-Some.client) ≤ 20 = few_left c.args.world.now c.args.log.now.labels c.in-Some.client c.requires.run in
+    let few : left_of c.args.world.now (Client c.in-Some.client) ≤ 66 = few_left c.args.world.now c.args.log.now.labels c.in-Some.client c.requires.run in
     omega (arith, few, c.steps.ensures.few)
 
 pub returns-in-None-clause-front : goal.returns-in-None-clause-front
