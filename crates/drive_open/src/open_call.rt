@@ -142,8 +142,11 @@ impl OpenCall {
         match &self.making {
             None => self.named_next(cluster, room),
             Some(making) => {
-                let next = making_next(making, &self.ask, cluster);
-                in_time(self.deadline, cluster.now(), next)
+                in_time(
+                    self.deadline,
+                    cluster.now(),
+                    self.making_next(making, cluster),
+                )
             }
         }
     }
@@ -157,6 +160,20 @@ impl OpenCall {
                 let next = entry_next(room, self.ask.attributes(), entry);
                 in_time(self.deadline, cluster.now(), next)
             }
+        }
+    }
+
+    // The next step of a making before its deadline.
+    fn making_next(&self, making: &Making, cluster: &Record) -> Next
+        ensures { result ≡ on_making cluster.now self.now.ask making.now }
+    {
+        if making.refused {
+            return Next::Event(RecordStep::Undo);
+        }
+        let targets = cluster.targets(self.ask.attributes(), self.ask.client);
+        match first_lacking(&targets, &making.reserved) {
+            Some(r) => Next::Serve(r, Request::Reserve(making.ckpt)),
+            None => Next::Event(RecordStep::Finish),
         }
     }
 
@@ -195,20 +212,6 @@ impl OpenCall {
         if let (RecordStep::Create, StepReply::Ok) = (step, word) {
             self.making = made_of(ckpt);
         }
-    }
-}
-
-// The next step of a making before its deadline.
-fn making_next(making: &Making, ask: &SharedAsk, cluster: &Record) -> Next
-    ensures { result ≡ on_making cluster.now ask.now making.now }
-{
-    if making.refused {
-        return Next::Event(RecordStep::Undo);
-    }
-    let targets = cluster.targets(ask.attributes(), ask.client);
-    match first_lacking(&targets, &making.reserved) {
-        Some(r) => Next::Serve(r, Request::Reserve(making.ckpt)),
-        None => Next::Event(RecordStep::Finish),
     }
 }
 
