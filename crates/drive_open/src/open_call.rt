@@ -142,11 +142,8 @@ impl OpenCall {
         match &self.making {
             None => self.named_next(cluster, room),
             Some(making) => {
-                in_time(
-                    self.deadline,
-                    cluster.now(),
-                    self.making_next(making, cluster),
-                )
+                let step = self.making_next(making, cluster);
+                in_time(self.deadline, cluster.now(), step)
             }
         }
     }
