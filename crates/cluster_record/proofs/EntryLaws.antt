@@ -11,8 +11,8 @@ use Rattle.ckpt_types.specs.Limits.{nodes_max, client_numbers}
 use Rattle.cluster_record.specs.declared.entries.Entry.{Entry}
 use Rattle.cluster_record.specs.Calls.{IsClient}
 use Rattle.cluster_record.specs.Kept.{IsName, IsMakingBy, IsComplete, IsKeptEntry}
-use Rattle.cluster_record.specs.Placement.{is_collocated, alone_on, targets}
-use Rattle.cluster_record.specs.RecordState.{RecordState, first_complete, first_active, has_references, referred, made_with, idle_from, unreferred, released_all, unnamed, retaining, new_entry}
+use Rattle.cluster_record.specs.Placement.{alone_on, is_collocated, targets}
+use Rattle.cluster_record.specs.RecordState.{RecordState, first_active, first_complete, has_references, referred, made_with, idle_from, unreferred, released_all, unnamed, retaining, new_entry}
 
 -- ---- what is in the making, or not
 
@@ -55,21 +55,14 @@ first_is cs few = by (first_complete 0 cs) refl where
       let at : f.0 ≡ r = omega (arith, f.1) in
       record { node = omega (arith, f.2, few, at); incarnation = subst (λ i. 1 ≤ slice_index cs i) at f.3 }
 
--- so is the active of a checkpoint that is made, where it has one
-first_active-is : (a : CreationAttributes) (cs : List ℕ) → length cs ≡ nodes_max → IfSome (first_active a cs) (λ r. IsComplete r cs)
-first_active-is a cs few = by_kind (is_collocated a)
-  where
-    by_kind : (b : Bool) → IfSome (cond b None (first_complete 0 cs)) (λ r. IsComplete r cs)
-    by_kind true = tt
-    by_kind false = first_is cs few
+-- ---- where a checkpoint is made
 
--- a checkpoint is made on one incarnation for each node
-pub targets-length : (a : CreationAttributes) (opener : ℕ) (up : List ℕ) → length up ≡ nodes_max → length (targets a opener up) ≡ nodes_max
-targets-length a opener up few = by_kind (is_collocated a)
-  where
-    by_kind : (b : Bool) → length (cond b (alone_on opener up) up) ≡ nodes_max
-    by_kind true = length-set (replicate nodes_max 0) opener (slice_index up opener)
-    by_kind false = few
+targets-length : (a : CreationAttributes) (opener : ℕ) (up : List ℕ) → length up ≡ nodes_max → length (targets a opener up) ≡ nodes_max
+targets-length a opener up few = elim (is_collocated a) as (λ b. length (cond b (alone_on opener up) up) ≡ nodes_max) [ true ↦ length-set (replicate nodes_max 0) opener (slice_index up opener) | false ↦ few ]
+
+-- its active, where there is one, is complete
+first_active-is : (a : CreationAttributes) (complete : List ℕ) → length complete ≡ nodes_max → IfSome (first_active a complete) (λ r. IsComplete r complete)
+first_active-is a complete few = elim (is_collocated a) as (λ b. IfSome (cond b None (first_complete 0 complete)) (λ r. IsComplete r complete)) [ true ↦ tt | false ↦ first_is complete few ]
 
 -- ---- one entry changed
 
@@ -119,7 +112,7 @@ module _ (t : ℤ) (e : Entry) (kept : IsKeptEntry t e) where
   referred-kept c made = with_references (slice_set e.references c (slice_index e.references c + 1)) e.idle made (as_many c (slice_index e.references c + 1)) kept.idle kept.past
 
   pub made_with-kept : (opener : ℕ) (up : List ℕ) (c : ℕ) → length up ≡ nodes_max → IsKeptEntry t (made_with opener up c e)
-  made_with-kept opener up c few = record {
+  made_with-kept opener up c few = let all = targets-length e.attributes opener up few in record {
     identity = kept.identity;
     name = kept.name;
     attributes = kept.attributes;
@@ -127,9 +120,9 @@ module _ (t : ℤ) (e : Entry) (kept : IsKeptEntry t e) where
     made = kept.made;
     idle = kept.idle;
     past = kept.past;
-    complete = targets-length e.attributes opener up few;
+    complete = all;
     references = as_many c (slice_index e.references c + 1);
-    active = first_active-is e.attributes (targets e.attributes opener up) (targets-length e.attributes opener up few);
+    active = first_active-is e.attributes (targets e.attributes opener up) all;
     generation = omega arith;
     making = tt;
   }

@@ -1,6 +1,6 @@
 -- Worked examples of the record's answers and steps, each by computation. A state has a name where the next example goes on
 -- from it.
-use Rattle.std.proofs.Common.{◌≡◌, ℕ, ◌-◌, ◌^◌, List, [], ◌∷◌, map, replicate, codes, pos, Option, Some, None, Ok, Err, true, false, refl}
+use Rattle.std.proofs.Common.{◌≡◌, ℕ, ◌+◌, ◌-◌, ◌^◌, List, [], ◌∷◌, map, replicate, codes, pos, Option, Some, None, Ok, Err, true, false, refl}
 use Rattle.std.specs.Prelude.{ℤ, slice_index}
 use Rattle.std.specs.Option.{option_map}
 use Rattle.ckpt_types.specs.declared.ais_error.AisError.TheVariants.{NotExist, Exist, BadOperation}
@@ -8,12 +8,13 @@ use Rattle.ckpt_types.specs.declared.attributes.CreationAttributes.{CreationAttr
 use Rattle.ckpt_types.specs.declared.calls.OpenAsk.{OpenAsk}
 use Rattle.ckpt_types.specs.declared.identities.ActorName.TheVariants.{Client, Node}
 use Rattle.ckpt_types.specs.declared.identities.CallId.{CallId}
-use Rattle.ckpt_types.specs.Limits.{wr_all_replicas, end_of_time}
+use Rattle.ckpt_types.specs.Limits.{wr_all_replicas, wr_active_replica, checkpoint_collocated, end_of_time}
 use Rattle.cluster_record.specs.declared.opening.OpenAnswer.TheVariants.{Opened, Made, Refused}
+use Rattle.cluster_record.specs.DueOpen.{targets_of}
 use Rattle.cluster_record.specs.LookUps.{identity_in}
 use Rattle.cluster_record.specs.Makings.{making_finished}
 use Rattle.cluster_record.specs.Opening.{open_answer, after_open}
-use Rattle.cluster_record.specs.RecordState.{RecordState, empty_record, brought_up, entered, new_entry, entry_of, identity_of, named, is_live, retained_until, swept, moved, closed, unlinked, retained, departed}
+use Rattle.cluster_record.specs.RecordState.{RecordState, empty_record, brought_up, entered, new_entry, entry_of, complete_of, identity_of, named, is_live, retained_until, swept, moved, closed, unlinked, retained, departed}
 use Rattle.cluster_record.specs.Refusals.{enter_answer, all_taken, plainly, held_by, unlink_answer, retain_answer}
 
 -- ---- the words of the examples
@@ -107,6 +108,33 @@ example_made = making_finished 1 example_making
 
 pub maker_has_it_open : example_open 0 1 example_made ≡ Some 1
 maker_has_it_open = refl
+
+-- ---- a collocated making: of three nodes that are up, by c0, which is on n1
+
+-- the attributes of one section of 16 bytes, collocated
+abbrev example_collocated : CreationAttributes
+example_collocated = record (example_sized 16 (pos 0)) { creation_flags = wr_active_replica + checkpoint_collocated }
+
+abbrev example_on_n1 : RecordState
+example_on_n1 = entered 0 1 1 (brought_up 3 empty_record)
+
+-- it is made on its opener's node alone
+pub collocated_is_made_with_its_opener : targets_of (record { name = ck; attrs = Some example_collocated; client = 0; node = 1 }) example_on_n1 ≡ 0 ∷ 1 ∷ 0 ∷ 0 ∷ 0 ∷ 0 ∷ 0 ∷ 0 ∷ []
+collocated_is_made_with_its_opener = refl
+
+abbrev collocated_made : RecordState
+collocated_made = making_finished 1 (after_open (example_call 0 2) (record { name = ck; attrs = Some example_collocated; client = 0; node = 1 }) example_on_n1)
+
+-- and complete there alone
+pub collocated_is_complete_with_its_opener : complete_of (entry_of 1 collocated_made.entries) ≡ 0 ∷ 1 ∷ 0 ∷ 0 ∷ 0 ∷ 0 ∷ 0 ∷ 0 ∷ []
+collocated_is_complete_with_its_opener = refl
+
+-- with no active, where another checkpoint has its lowest node
+pub collocated_has_no_active_yet : option_map (λ e. e.active) (entry_of 1 collocated_made.entries) ≡ Some None
+collocated_has_no_active_yet = refl
+
+pub another_has_its_lowest_node : option_map (λ e. e.active) (entry_of 1 example_made.entries) ≡ Some (Some 0)
+another_has_its_lowest_node = refl
 
 -- ---- attributes
 

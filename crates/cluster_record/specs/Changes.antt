@@ -1,6 +1,5 @@
 -- What a step changes of one entry.
-use Rattle.std.specs.Prelude.{Option, ◌<◌}
-use Rattle.ckpt_types.specs.Limits.{nodes_max}
+use Rattle.std.specs.Prelude.{Option}
 use Rattle.cluster_record.specs.declared.entries.Entry.{Entry}
 use Rattle.cluster_record.specs.declared.entries.Change.{Change}
 use Rattle.cluster_record.specs.declared.entries.Change.TheVariants.{Made, Referred, Released, Unnamed, Retaining}
@@ -9,7 +8,7 @@ use Rattle.cluster_record.specs.RecordState.{made_with, referred, unreferred, un
 
 -- what each change makes of an entry
 abbrev pub changed_by : Change → Entry → Entry
-changed_by (Made opener up c) = made_with opener up c
+changed_by (Made up opener c) = made_with opener up c
 changed_by (Referred c) = referred c
 changed_by (Released c t) = unreferred c t
 changed_by Unnamed = unnamed
@@ -17,7 +16,7 @@ changed_by (Retaining duration) = retaining duration
 
 -- a reference more wants a count of references that is not at its end
 abbrev pub CanChange : Change → Option Entry → Type 0
-CanChange (Made opener up c) e = (opener < nodes_max) × CanRefer c e
+CanChange (Made up opener c) e = CanRefer c e
 CanChange (Referred c) e = CanRefer c e
 CanChange (Released c t) e = Unit {0}
 CanChange Unnamed e = Unit {0}

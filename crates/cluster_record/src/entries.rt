@@ -1,7 +1,7 @@
 //! What the record keeps of each checkpoint, what a step makes of it, and when it is due to go.
 ghost use Rattle.std.specs.Prelude.{◌≡◌, ◌+◌, ◌-◌, ◌^◌, ◌<◌, ◌≤◌, Some, None, IfSome, IfOk, MatchOption, length, filter, map, not, ◌==◌, slice_index, slice_set, vec_capacity};
 ghost use Rattle.std.specs.List.{list_any, list_all};
-ghost use Rattle.ckpt_types.specs.Limits.{name_max, checkpoints_max, nodes_max};
+ghost use Rattle.ckpt_types.specs.Limits.{name_max, checkpoints_max};
 ghost use Rattle.moment_rules.specs.Times.{sum_until_end, is_reached};
 ghost use Rattle.cluster_record.specs.Numbers.{may_rise, entry_may_rise};
 ghost use Rattle.cluster_record.specs.Changes.{changed_by, CanChange};
@@ -59,15 +59,15 @@ impl Entry {
         add_one(&mut self.references, client);
     }
 
-    // The making is finished by a client on a node.
-    fn make(&mut self, opener: NodeId, up: &[u32; NODES_MAX], client: u8)
-        requires client { slice_index self.old.references client < 2 ^ 32 - 1 }
-        requires opener { opener < nodes_max }
+    // The making is finished, by an opener on a node.
+    fn make(&mut self, up: &[u32; NODES_MAX], opener: NodeId, client: u8)
+        requires { slice_index self.old.references client < 2 ^ 32 - 1 }
         ensures { self.new ≡ made_with opener up.now client self.old }
     {
+        let complete = targets(&self.attributes, opener, up);
         self.making = None;
-        self.complete = targets(&self.attributes, opener, up);
-        self.active = first_active(&self.attributes, &self.complete);
+        self.complete = complete;
+        self.active = first_active(&self.attributes, &complete);
         self.generation = 1;
         self.refer(client);
     }
@@ -106,7 +106,7 @@ impl Entry {
         ensures { self.new ≡ changed_by change self.old }
     {
         match change {
-            Change::Made(opener, up, client) => self.make(opener, &up, client),
+            Change::Made(up, opener, client) => self.make(&up, opener, client),
             Change::Referred(client) => self.refer(client),
             Change::Released(client, now) => self.release(client, now),
             Change::Unnamed => self.name = None,
@@ -258,11 +258,8 @@ fn is_over(from: Moment, duration: i64, now: Moment) -> bool
     reached(from.saturating_add(duration), now)
 }
 
-// The active of a checkpoint that is made on these nodes.
-fn first_active(
-    attributes: &CreationAttributes,
-    complete: &[u32; NODES_MAX],
-) -> Option<NodeId>
+// Its active behind its making, by the nodes on which it is complete: the lowest, and none of a collocated one.
+fn first_active(attributes: &CreationAttributes, complete: &[u32; NODES_MAX]) -> Option<NodeId>
     ensures { result ≡ first_active attributes.now complete.now }
 {
     if is_collocated(attributes) {
@@ -310,8 +307,8 @@ fn place_of(entries: &[Entry], identity: CkptId) -> Option<usize>
 /// What a step changes of one entry.
 #[derive(Clone, Copy, Debug)]
 pub(crate) enum Change {
-    /// Its making is finished by a client on this node, where these nodes are up, and the client has it open.
-    Made(NodeId, [u32; NODES_MAX], u8),
+    /// Its making is finished where these nodes are up, by an opener on this one, and the client has it open.
+    Made([u32; NODES_MAX], NodeId, u8),
     /// The client has it open once more.
     Referred(u8),
     /// The client closes it once, at the moment.

@@ -2,10 +2,10 @@
 ghost use Rattle.std.specs.Prelude.{◌≡◌, ℕ, List, ◌-◌, ◌^◌, ◌≤◌, ◌<◌, None, Some, true, slice_get, IfSome, IfOk, OnOk, OnErr, IfErr, MatchOption, length, nat_lt, pos, ◌≤ℤ◌, if◌then◌else◌};
 ghost use Rattle.moment_rules.specs.Times.{sum_until_end};
 ghost use Rattle.cluster_record.specs.LookUps.{node_in, life_of, up_as, declared_in, identity_in, at_ckpt};
+ghost use Rattle.cluster_record.specs.DueOpen.{targets_by};
 ghost use Rattle.cluster_record.specs.Identities.{IdentitiesRise, AllUpTo};
 ghost use Rattle.cluster_record.specs.Calls.{client_of, IsClient};
 ghost use Rattle.cluster_record.specs.Kept.{IsKeptEntry, AreKeptClients};
-ghost use Rattle.cluster_record.specs.DueOpen.{targets_by};
 ghost use Rattle.cluster_record.specs.Makings.{making_call, making_finished, making_undone};
 ghost use Rattle.cluster_record.specs.Numbers.{numbers_left};
 ghost use Rattle.cluster_record.specs.Opening.{answer_free, answer_named, open_answer, after_open};
@@ -13,7 +13,7 @@ ghost use Rattle.cluster_record.specs.Refusals.{enter_answer, all_taken, plainly
 ghost use Rattle.ckpt_types.specs.Limits.{nodes_max, client_numbers, clients_max, checkpoints_max};
 ghost use Rattle.cluster_record.specs.Places.{find_key};
 ghost use Rattle.cluster_record.specs.RecordReady.{CanBecomeLive, CanOpen, CanCreate, CanRefer, CanReferAt};
-ghost use Rattle.cluster_record.specs.RecordState.{empty_record, entry_of, named, complete_of, client_key, is_live_client, is_up, is_live, is_live_from, swept, first_nodes, home_of, brought_up, entered, created_by_ask, IsMomentFrom, moved, opened, closed, unlinked, retained, departed};
+ghost use Rattle.cluster_record.specs.RecordState.{empty_record, entry_of, named, complete_of, client_key, home_of, is_live_client, is_up, is_live, is_live_from, swept, first_nodes, brought_up, entered, created_by_ask, IsMomentFrom, moved, opened, closed, unlinked, retained, departed};
 
 use crate::clients::{LiveClient, copy_clients, find_client, number_of, take_out};
 use crate::entries::{
@@ -252,10 +252,9 @@ impl Record {
         }
     }
 
-    // The node of a client; n0 where it is not live.
+    // The node of a client that is live, and n0 for one that is not.
     fn home_of(&self, client: u8) -> NodeId
-        ensures node { result ≡ home_of client self.now }
-        ensures within { result < nodes_max }
+        ensures { result ≡ home_of client self.now }
     {
         match find_client(self.clients.as_slice(), client) {
             None => 0,
@@ -263,17 +262,14 @@ impl Record {
         }
     }
 
-    /// By node, the incarnation in which a checkpoint that a client asks for with these attributes is made there, or 0.
-    pub fn targets(
-        &self,
-        attributes: &Option<CreationAttributes>,
-        client: u8,
-    ) -> [u32; NODES_MAX]
+    /// By node, the incarnation in which a checkpoint with these attributes is made there, where this client opens it,
+    /// or 0; where none are given, that with which the node is up.
+    pub fn targets(&self, attributes: &Option<CreationAttributes>, client: u8) -> [u32; NODES_MAX]
         ensures { result ≡ targets_by attributes.now (home_of client self.now) self.now.up }
     {
         match attributes {
             None => self.up,
-            Some(declared) => targets(declared, self.home_of(client), &self.up),
+            Some(attributes) => targets(attributes, self.home_of(client), &self.up),
         }
     }
 
@@ -428,15 +424,16 @@ impl Record {
         }
     }
 
-    /// The making is finished: the nodes that are up are complete, of a collocated checkpoint that of the client whose
-    /// call is making it, and this client has it open. Nothing changes where it is not in the making.
+    /// The making is finished: the nodes on which it is made are complete, which are all that are up, or of a collocated
+    /// one that of the client whose call is making it; and that client has it open. Nothing changes where it is not in
+    /// the making.
     pub fn finish_create(&mut self, identity: CkptId)
         ensures { self.new ≡ making_finished identity self.old }
     {
         if let Some(call) = self.making_call(identity) {
             let client = number_of(&call.actor);
-            let change = Change::Made(self.home_of(client), self.up, client);
-            change_entry(&mut self.entries, identity, change);
+            let made = Change::Made(self.up, self.home_of(client), client);
+            change_entry(&mut self.entries, identity, made);
         }
     }
 

@@ -141,22 +141,11 @@ impl OpenCall {
     {
         match &self.making {
             None => self.named_next(cluster, room),
-            Some(making) => {
-                let step = self.making_next(making, cluster);
-                in_time(self.deadline, cluster.now(), step)
-            }
-        }
-    }
-
-    fn named_next(&self, cluster: &Record, room: bool) -> Next
-        ensures { result ≡ on_named cluster.now room self.now.deadline self.now.ask.attrs (named self.now.ask.name cluster.now.entries) }
-    {
-        match cluster.named(self.ask.name()) {
-            None => free_next(cluster, room, self.deadline, self.ask.attributes()),
-            Some(entry) => {
-                let next = entry_next(room, self.ask.attributes(), entry);
-                in_time(self.deadline, cluster.now(), next)
-            }
+            Some(making) => in_time(
+                self.deadline,
+                cluster.now(),
+                self.making_next(making, cluster),
+            ),
         }
     }
 
@@ -171,6 +160,18 @@ impl OpenCall {
         match first_lacking(&targets, &making.reserved) {
             Some(r) => Next::Serve(r, Request::Reserve(making.ckpt)),
             None => Next::Event(RecordStep::Finish),
+        }
+    }
+
+    fn named_next(&self, cluster: &Record, room: bool) -> Next
+        ensures { result ≡ on_named cluster.now room self.now.deadline self.now.ask.attrs (named self.now.ask.name cluster.now.entries) }
+    {
+        match cluster.named(self.ask.name()) {
+            None => free_next(cluster, room, self.deadline, self.ask.attributes()),
+            Some(entry) => {
+                let next = entry_next(room, self.ask.attributes(), entry);
+                in_time(self.deadline, cluster.now(), next)
+            }
         }
     }
 

@@ -15,4 +15,4 @@ pub change_entry-requires : goal.change_entry-requires
 change_entry-requires c =
     let entries = c.self.inside.entries.items in
     let is : making_call (entry_of c.args.identity entries) ≡ Some c.in-Some.call = ap (λ (R : RecordState). making_call (entry_of c.args.identity R.entries)) c.self.view_is ∙ sym c.making_call.ensures ∙ c.in-Some.is in
-    (c.home_of.ensures.within, maker_refers c.self.inside.moment c.args.identity c.number_of-client.result entries c.self.invariant.entries.each c.in-Some.call is)
+    maker_refers c.self.inside.moment c.args.identity c.number_of-client.result entries c.self.invariant.entries.each c.in-Some.call is
