@@ -15,7 +15,8 @@ use Rattle.replica.specs.Replicas.{Replica}
 use Rattle.world_core.specs.declared.world.World.{World}
 use Rattle.cluster_record.specs.Places.{change_key}
 use Rattle.cluster_record.specs.Calls.{client_of}
-use Rattle.cluster_record.specs.RecordState.{RecordState, identity_of, entry_of, named, stays, referred, made_with, new_entry, created_as, opened, finished, undone, has_references, idle_from, unreferred, released_all, unnamed, unlinked, retaining, is_call_of, departed, swept}
+use Rattle.cluster_record.specs.Placement.{targets}
+use Rattle.cluster_record.specs.RecordState.{RecordState, identity_of, entry_of, named, stays, referred, home_of, made_with, new_entry, created_as, opened, finished, undone, has_references, idle_from, unreferred, released_all, unnamed, unlinked, retaining, is_call_of, departed, swept}
 use Rattle.world_core.specs.Nodes.{replica_in}
 use Rattle.replica.specs.Replicas.{opened_replica}
 use Rattle.world_core.specs.RecordAfter.{once_change, event_change, event_after}
@@ -26,7 +27,7 @@ use Rattle.cluster_record.specs.LookUps.{at_ckpt, identity_in}
 use Rattle.ckpt_machine.specs.Machine.{Machine, CallState}
 use Rattle.cluster_record.specs.Identities.{AllUpTo, IdentitiesRise}
 use Rattle.world_core.specs.Holding.{HoldsOnlyWhatStands}
-use Rattle.ckpt_machine.specs.Facts.{Facts, IsEventReady, IsFinishable}
+use Rattle.ckpt_machine.specs.Facts.{Facts, IsEventReady, AllReserved, IsFinishable}
 use Rattle.world_core.specs.Shows.{History, machine_of, where_not_complete, shown_reservation}
 use Rattle.cluster_record.proofs.IdentityLaws.{IsLeft, KeepsIdentity, entry_of-beyond, IdentitiesRise-filter, IdentitiesRise-map, IdentitiesRise-change_key, IdentitiesRise-push, filter_leaves}
 use Rattle.cluster_record.proofs.Places.{find_changed, find_pushed, not_changed}
@@ -124,10 +125,10 @@ module _ (up : List ℕ) where
   left_goes f q j r old left y (inr same) = subst (λ (o : Option Entry). GoesAt up j old (option_map f o) r y) (sym same) (each_goes f q j r old y)
 
   -- a making that is finished
-  made_goes : (c k r : ℕ) (e : Entry) (y : Option Replica) → slice_index e.complete r ≡ 0 → ((slice_index up r == 0) ≡ false → y ≡ Some (opened_replica k e.attributes e.made)) → GoesAt up k (Some e) (Some (made_with up c e)) r y
-  made_goes c k r e y zero has = (refl, refl, by_test (slice_index up r == 0) refl, inr refl) where
-    by_test : (b : Bool) → (slice_index up r == 0) ≡ b → NodeGoes k e (made_with up c e) r y
-    by_test true t = inl (eqb-true (slice_index up r) 0 t ∙ sym zero)
+  made_goes : (opener c k r : ℕ) (e : Entry) (y : Option Replica) → slice_index e.complete r ≡ 0 → ((slice_index (targets e.attributes opener up) r == 0) ≡ false → y ≡ Some (opened_replica k e.attributes e.made)) → GoesAt up k (Some e) (Some (made_with opener up c e)) r y
+  made_goes opener c k r e y zero has = (refl, refl, by_test (slice_index (targets e.attributes opener up) r == 0) refl, inr refl) where
+    by_test : (b : Bool) → (slice_index (targets e.attributes opener up) r == 0) ≡ b → NodeGoes k e (made_with opener up c e) r y
+    by_test true t = inl (eqb-true (slice_index (targets e.attributes opener up) r) 0 t ∙ sym zero)
     by_test false t = inr (zero, refl, has t)
 
   -- a making that begins
@@ -229,17 +230,17 @@ module _ (w : World) (h : History) (facts : Facts (machine_of w h)) (holds : Hol
       let p = λ (e : Entry). not (e.identity == k) in
       (λ j r. goes_left R.up j (entry_of j R.entries) (entry_of j R.entries) (entry_of j (filter p R.entries)) r (replica_in w.nodes j r) (goes_same R.up j (entry_of j R.entries) r (replica_in w.nodes j r)) (filter_leaves p R.entries facts.rises j), IdentitiesRise-filter p R.entries facts.rises)
 
-  finished_go : (c : ℕ) (s : CallState) (making : Option Making) → IsFinishable m making → Goes (at_ckpt (making_ckpt making) R (λ k. finished k c R))
+  finished_go : (c : ℕ) (s : CallState) (making : Option Making) → IsFinishable m c making → Goes (at_ckpt (making_ckpt making) R (λ k. finished k c R))
   finished_go c s None ready = absurd ready
   finished_go c s (Some making) ready =
       let k = making.ckpt in
-      let there = some_of (entry_of k R.entries) (λ (e : Entry). (e.generation ≡ 1) × ((r : ℕ) → slice_index e.complete r ≡ 0)) ready.1 in
+      let there = some_of (entry_of k R.entries) (λ (e : Entry). AllReserved m c k e × (e.generation ≡ 1) × ((r : ℕ) → slice_index e.complete r ≡ 0)) ready in
       let e : Entry = there.0 in
       let is : entry_of k R.entries ≡ Some e = there.1 in
-      let has = λ (r : ℕ) (up : (slice_index R.up r == 0) ≡ false). reserved_there k r (slice_index R.up r) (entry_of k R.entries) e (replica_in w.nodes k r) is (there.2.1 r) (ready.0 r up) (λ x. opening_there R w.nodes holds k r e x is (there.2.1 r)) in (
-        λ j r. changed_goes R.up (made_with R.up c) (λ e. refl) k j r R.entries e (replica_in w.nodes j r) is
-            (λ s. subst (λ (j : ℕ). GoesAt R.up j (Some e) (Some (made_with R.up c e)) r (replica_in w.nodes j r)) (sym s) (made_goes R.up c k r e (replica_in w.nodes k r) (there.2.1 r) (has r))),
-        IdentitiesRise-change_key (made_with R.up c) (λ e. refl) k R.entries facts.rises,
+      let has = λ (r : ℕ) (target : (slice_index (targets e.attributes (home_of c R) R.up) r == 0) ≡ false). reserved_there k r (slice_index R.up r) (entry_of k R.entries) e (replica_in w.nodes k r) is (there.2.2 r) (there.2.0 r target) (λ x. opening_there R w.nodes holds k r e x is (there.2.2 r)) in (
+        λ j r. changed_goes R.up (made_with (home_of c R) R.up c) (λ e. refl) k j r R.entries e (replica_in w.nodes j r) is
+            (λ s. subst (λ (j : ℕ). GoesAt R.up j (Some e) (Some (made_with (home_of c R) R.up c e)) r (replica_in w.nodes j r)) (sym s) (made_goes R.up (home_of c R) c k r e (replica_in w.nodes k r) (there.2.2 r) (has r))),
+        IdentitiesRise-change_key (made_with (home_of c R) R.up c) (λ e. refl) k R.entries facts.rises,
       )
 
   once_go : (call : CallId) (x : OneStep) → Goes (once_change call x R)

@@ -17,7 +17,7 @@ use Rattle.ckpt_types.specs.declared.words.OpWord.{OpWord}
 use Rattle.ckpt_types.specs.OpWord.{word_of_op}
 use Rattle.cluster_record.specs.declared.calls.Making.{Making}
 use Rattle.cluster_record.specs.declared.entries.Entry.{Entry}
-use Rattle.cluster_record.specs.DueOpen.{making_ckpt, reserve_or_finish, on_making, by_making}
+use Rattle.cluster_record.specs.DueOpen.{making_ckpt, reserve_or_finish, targets_of, on_making, by_making}
 use Rattle.cluster_record.specs.Makings.{making_call, making_of, undone_by, making_undone}
 use Rattle.cluster_record.specs.RecordState.{RecordState, entry_of, swept, undone}
 use Rattle.cluster_record.specs.StepDone.{first_lacking}
@@ -61,7 +61,7 @@ late_next R room (drivers.Open o) k is = of_making o.making is where
 
   of_making : (making : Option Making) → making_ckpt making ≡ Some k → IsNoDone (by_making R room.handles o making)
   of_making None is = absurd (cc is)
-  of_making (Some m) is = in_time-cases IsNoDone o.deadline R.moment (on_making R m) (λ d is late. tt) (λ before. by_test m m.refused (first_lacking 0 R.up m.reserved))
+  of_making (Some m) is = in_time-cases IsNoDone o.deadline R.moment (on_making R o.ask m) (λ d is late. tt) (λ before. by_test m m.refused (first_lacking 0 (targets_of o.ask R) m.reserved))
 late_next R room x k is = absurd (cc is)
 
 -- what is in the making by a call is undone

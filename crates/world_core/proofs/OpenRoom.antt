@@ -15,7 +15,7 @@ use Rattle.cluster_record.specs.declared.calls.Making.{Making}
 use Rattle.cluster_record.specs.declared.entries.Entry.{Entry}
 use Rattle.cluster_record.specs.DueActive.{ActiveState, unless_changed, on_active, active_on, weak_request, request_by, starts_iteration}
 use Rattle.cluster_record.specs.declared.calls.MarksMade.{MarksMade}
-use Rattle.cluster_record.specs.DueOpen.{OpenState, accepts, create_next, entry_by, entry_next, on_named, reserve_or_finish, on_making, by_making, open_next}
+use Rattle.cluster_record.specs.DueOpen.{OpenState, accepts, create_next, entry_by, entry_next, on_named, reserve_or_finish, targets_of, on_making, by_making, open_next}
 use Rattle.cluster_record.specs.Opening.{answer_unless, answer_named, open_answer}
 use Rattle.cluster_record.specs.RecordState.{RecordState, entry_of, named}
 use Rattle.cluster_record.specs.StepDone.{first_lacking}
@@ -56,7 +56,7 @@ room_named R room deadline a (Some e) = in_time-either (HasRoomFor (refusal_in (
 
 room_making : (R : RecordState) (room : Bool) (o : OpenState) (m : Option Making) → HasRoomFor (refusal_in (open_answer R o.ask)) room (by_making R room o m)
 room_making R room o None = room_named R room o.deadline o.ask.attrs (named o.ask.name R.entries)
-room_making R room o (Some m) = in_time-either (HasRoomFor (refusal_in (open_answer R o.ask)) room) o.deadline R.moment (on_making R m) (λ o. tt) (by_test m.refused (first_lacking 0 R.up m.reserved)) where
+room_making R room o (Some m) = in_time-either (HasRoomFor (refusal_in (open_answer R o.ask)) room) o.deadline R.moment (on_making R o.ask m) (λ o. tt) (by_test m.refused (first_lacking 0 (targets_of o.ask R) m.reserved)) where
   by_test : (b : Bool) (r : Option ℕ) → HasRoomFor (refusal_in (open_answer R o.ask)) room (cond b (Event events.Undo) (reserve_or_finish m.ckpt r))
   by_test true r = tt
   by_test false None = tt

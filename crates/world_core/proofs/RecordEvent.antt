@@ -63,9 +63,9 @@ identity_there : (P : Entry → Type 0) (e : Option Entry) → IsSomeAnd e P →
 identity_there P None there = absurd there
 identity_there P (Some e) there = refl
 
-pub finishable_there : (m : Machine) (making : Option Making) → IsFinishable m making → IsSome making
-finishable_there m None ready = absurd ready
-finishable_there m (Some making) ready = refl
+pub finishable_there : (m : Machine) (c : ℕ) (making : Option Making) → IsFinishable m c making → IsSome making
+finishable_there m c None ready = absurd ready
+finishable_there m c (Some making) ready = refl
 
 ckpt_there : (making : Option Making) → IsSome making → IsSome (making_ckpt making)
 ckpt_there None there = absurd (cc there)
@@ -103,7 +103,7 @@ module _ (m : Machine) (s : CallState) where
   change_done (drivers.Once (once.Retain k duration)) events.Retain ready drives = ap (λ ask. record_step (retained_for ask k) m) drives.asks
   change_done (drivers.Open o) events.Create ready drives = ap (λ ask. record_step (created_for s.call ask) m) drives.asks
   change_done (drivers.Open o) events.Open ready drives = given_at opened o.ask.client (identity_in (named o.ask.name m.cluster.entries)) drives.client (identity_there _ (named o.ask.name m.cluster.entries) ready.0)
-  change_done (drivers.Open o) events.Finish ready drives = given_at finished o.ask.client (making_ckpt o.making) drives.client (ckpt_there o.making (finishable_there m o.making ready.0))
+  change_done (drivers.Open o) events.Finish ready drives = given_at finished o.ask.client (making_ckpt o.making) drives.client (ckpt_there o.making (finishable_there m o.ask.client o.making ready.0))
   change_done (drivers.Open o) events.Undo ready drives = step_at undone (making_ckpt o.making) (ckpt_there o.making (some_there _ o.making ready.0))
   change_done x step ready drives = absurd ready
 

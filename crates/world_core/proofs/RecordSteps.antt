@@ -75,7 +75,7 @@ module _ (w : World) (c : ℕ) (step : RecordStep) (hand : InHand) (held : hand_
 
   by_step : (step : RecordStep) (x : Driver) → hand.driver ≡ x → HasNumbersLeft w → driver_next w.cluster (rooms_at w c) x ≡ Event step → event_refusal w.cluster step x ≡ None → IsReady x step → CanSettle c hand.op step w.tables
   by_step events.Open (drivers.Open o) driver roomy next granted ready = can_give o driver roomy (open_room w.cluster (rooms_at w c).handles o next granted)
-  by_step events.Finish (drivers.Open o) driver roomy next granted ready = can_give o driver roomy ((open_known o driver).0 (finishable_there (machine_of w shown.shows.history) o.making ready.0))
+  by_step events.Finish (drivers.Open o) driver roomy next granted ready = can_give o driver roomy ((open_known o driver).0 (finishable_there (machine_of w shown.shows.history) o.ask.client o.making ready.0))
   by_step events.Open (drivers.Once once.Leave) driver roomy next granted ready = absurd ready
   by_step events.Open x driver roomy next granted ready = absurd ready
   by_step events.Finish (drivers.Once once.Leave) driver roomy next granted ready = absurd ready

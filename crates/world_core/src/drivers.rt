@@ -8,9 +8,7 @@ ghost use Rattle.cluster_record.specs.StepDone.{done_of, names_live};
 ghost use Rattle.cluster_record.specs.DueActive.{active_taken, active_end};
 ghost use Rattle.cluster_record.specs.DueUpdate.{update_taken};
 ghost use Rattle.cluster_record.specs.Calls.{client_of};
-ghost use Rattle.cluster_record.specs.LookUps.{node_of_client};
-ghost use Rattle.cluster_record.specs.Places.{find_key};
-ghost use Rattle.cluster_record.specs.RecordState.{client_key};
+ghost use Rattle.cluster_record.specs.RecordState.{home_of};
 ghost use Rattle.ckpt_types.specs.Asks.{asked};
 ghost use Rattle.ckpt_machine.specs.Options.{is_all, is_weak};
 ghost use Rattle.ckpt_machine.specs.Steps.{declares_at, kept_at_beginning};
@@ -223,7 +221,7 @@ fn open_ask(
     client: u8,
     cluster: &Record,
 ) -> Result<SharedAsk, AllocError>
-    ensures { IfOk result (λ ask. ask ≡ record { name = name.now; attrs = attributes.now; client = client; node = node_of_client (find_key client_key client cluster.now.clients) }) }
+    ensures { IfOk result (λ ask. ask ≡ record { name = name.now; attrs = attributes.now; client = client; node = home_of client cluster.now }) }
 {
     Ok(SharedAsk {
         name: name.share()?,
@@ -306,7 +304,7 @@ fn end_of_refused(op: &Op, cluster: &Record, reply: &Reply) -> Option<Outcome>
 
 // The node of a client; 0 where it is not live, and then its open ends at once.
 fn node_of(cluster: &Record, client: u8) -> NodeId
-    ensures { result ≡ node_of_client (find_key client_key client cluster.now.clients) }
+    ensures { result ≡ home_of client cluster.now }
 {
     match cluster.node_of(client) {
         None => 0,
