@@ -1,6 +1,6 @@
 -- What a due request finds on its node: for all but a reservation the replica that the machine has there.
-use Rattle.std.proofs.Common.{◌≡◌, ℕ, ◌<◌, ◌==◌, Bool, true, false, not, cond, List, [], ◌∷◌, length, refl, sym, ap, subst, ◌∙◌}
-use Rattle.std.specs.Prelude.{Option, Some, None, IfSome, IsSome, IsSomeAnd, slice_index}
+use Rattle.std.proofs.Common.{◌≡◌, ℕ, ◌<◌, ◌==◌, Bool, true, false, not, cond, List, length, refl, sym, ap, subst, ◌∙◌}
+use Rattle.std.specs.Prelude.{Option, Some, None, IsSome, IsSomeAnd, slice_index}
 use Rattle.std.specs.Option.{option_and_then}
 use Rattle.ckpt_types.specs.declared.identities.ActorName.TheVariants.{Client}
 use Rattle.ckpt_types.specs.declared.identities.CallId.{CallId}
@@ -14,13 +14,12 @@ use Rattle.cluster_record.specs.declared.calls.MarksMade.{MarksMade}
 use Rattle.cluster_record.specs.declared.calls.ActiveKind.{ActiveKind}
 use Rattle.cluster_record.specs.declared.calls.ActiveKind.TheVariants as kinds
 use Rattle.cluster_record.specs.declared.entries.Entry.{Entry}
-use Rattle.replica.specs.Replicas.{Replica, IsWrite}
+use Rattle.replica.specs.Replicas.{Replica}
 use Rattle.weak_marks.specs.Marks.{Marked}
 use Rattle.stage_slot.specs.Slots.{Slot}
 use Rattle.world_core.specs.declared.hands.InHand.{InHand}
 use Rattle.world_core.specs.declared.world.World.{World}
 use Rattle.cluster_record.specs.RecordState.{entry_of, complete_of, no_nodes}
-use Rattle.cluster_record.specs.StepDone.{StepDone}
 use Rattle.node_msgs.specs.Requests.{ckpt_of}
 use Rattle.node_core.specs.Nodes.{replica_served, where_seen}
 use Rattle.node_core.specs.Seen.{record_seen, entry_seen, is_complete, is_complete_in}
@@ -28,15 +27,13 @@ use Rattle.node_core.specs.Fitting.{IsReadyFor}
 use Rattle.world_core.specs.Nodes.{node_at, replica_in}
 use Rattle.ckpt_machine.specs.Drivers.{Driver}
 use Rattle.ckpt_machine.specs.Drivers as drivers
-use Rattle.ckpt_machine.specs.Driving.{Kept, on_kept, driver_start, driver_state, driver_taken, driver_next, kind_of_change, change_start}
+use Rattle.ckpt_machine.specs.Driving.{driver_next}
 use Rattle.ckpt_machine.specs.Machine.{Machine, Effect, ReplicaState, CallState}
 use Rattle.ckpt_machine.specs.Tables.{handle_asked}
-use Rattle.ckpt_machine.specs.Steps.{seen_by, seen_at, seen_slot, due, rooms_of, driver_of, IsDriven, room_in}
+use Rattle.ckpt_machine.specs.Steps.{seen_by, seen_at, seen_slot, due, room_in}
 use Rattle.cluster_record.specs.LookUps.{declared_in}
-use Rattle.ckpt_types.specs.Asks.{Ask, asked, update_asked, update_of}
-use Rattle.ckpt_types.specs.Asks as asks
+use Rattle.ckpt_types.specs.Asks.{asked, update_of}
 use Rattle.ckpt_types.specs.declared.update.Update.{Update}
-use Rattle.ckpt_types.specs.declared.update.Update.TheVariants as updates
 use Rattle.client_handles.specs.ClientState.{ClientState, iteration_at}
 use Rattle.client_handles.specs.declared.handle_view.HandleView.{HandleView}
 use Rattle.section_iter.specs.KeptIds.{KeptIds}
@@ -47,7 +44,7 @@ use Rattle.ckpt_machine.specs.Facts.{Facts, IsServable}
 use Rattle.world_core.specs.Shows.{HistoryFits, FitsReplica, FitsSlot, History, machine_of, shown_replica, shown_slot, where_complete, complete_replica, room_for, tables_of, hand_at}
 use Rattle.ckpt_machine.proofs.NextOf.{OfAsked, next_of}
 use Rattle.world_core.proofs.Carrying.{GoesToReplica, IsOfCall}
-use Rattle.world_core.proofs.Held.{state_in, in_hand_is, actor_is, driver_is, iteration_is, due_is}
+use Rattle.world_core.proofs.Held.{state_in, in_hand_is, actor_is, iteration_is, due_is}
 use Rattle.world_core.proofs.IterationSteps.{TablesReady, goes_on_with, asked_is, room_for_declared}
 use Rattle.world_core.proofs.Recording.{zero_there}
 
@@ -58,90 +55,31 @@ abbrev pub IsReservationOr : Request → Type 0
 IsReservationOr (Reserve k) = Unit {0}
 IsReservationOr request = GoesToReplica request
 
--- marks are of a write
-abbrev IsOfWrite : Update → Request → Type 0
-IsOfWrite update (requests.Mark call k) = IsWrite update
-IsOfWrite update request = Unit {0}
+abbrev AsksSo : Next → Type 0
+AsksSo (Serve r request) = IsReservationOr request
+AsksSo next = Unit {0}
 
--- so asks a call of this update
-abbrev AsksSo : Update → Next → Type 0
-AsksSo update (Serve r request) = IsReservationOr request × IsOfWrite update request
-AsksSo update next = Unit {0}
-
--- a weak write is a write
-abbrev WritesSo : Update → ActiveKind → Type 0
-WritesSo update (kinds.Weak n) = IsWrite update
-WritesSo update kind = Unit {0}
-
-weak_asks : (update : Update) (call : CallId) (k r : ℕ) (marks : Option MarksMade) → IsWrite update → AsksSo update (Serve r (weak_request call k marks))
-weak_asks update call k r None write = (tt, write)
-weak_asks update call k r (Some marks) write = by_left (marks.left == 0)
+weak_goes : (call : CallId) (k : ℕ) (marks : Option MarksMade) → IsReservationOr (weak_request call k marks)
+weak_goes call k None = tt
+weak_goes call k (Some marks) = by_left (marks.left == 0)
   where
-    by_left : (b : Bool) → AsksSo update (Serve r (cond b (requests.Unmark call k) (requests.Element call k)))
-    by_left true = (tt, tt)
-    by_left false = (tt, tt)
+    by_left : (b : Bool) → IsReservationOr (cond b (requests.Unmark call k) (requests.Element call k))
+    by_left true = tt
+    by_left false = tt
 
-kind_asks : (update : Update) (call : CallId) (k r : ℕ) (kind : ActiveKind) (marks : Option MarksMade) → WritesSo update kind → AsksSo update (Serve r (request_by call k kind marks))
-kind_asks update call k r kinds.Apply marks so = (tt, tt)
-kind_asks update call k r (kinds.Weak n) marks so = weak_asks update call k r marks so
-kind_asks update call k r kinds.Read marks so = (tt, tt)
-kind_asks update call k r kinds.Status marks so = (tt, tt)
-kind_asks update call k r (kinds.Iterate choice) marks so = (tt, tt)
-kind_asks update call k r kinds.Next marks so = (tt, tt)
+kind_goes : (call : CallId) (k : ℕ) (kind : ActiveKind) (marks : Option MarksMade) → IsReservationOr (request_by call k kind marks)
+kind_goes call k kinds.Apply marks = tt
+kind_goes call k (kinds.Weak n) marks = weak_goes call k marks
+kind_goes call k kinds.Read marks = tt
+kind_goes call k kinds.Status marks = tt
+kind_goes call k (kinds.Iterate choice) marks = tt
+kind_goes call k kinds.Next marks = tt
 
--- what drives a call of this update: where it is a weak write, the update is a write
-abbrev DrivesSo : Update → Driver → Type 0
-DrivesSo update (drivers.Active a) = WritesSo update a.kind
-DrivesSo update x = Unit {0}
-
-asked_so : (update : Update) (x : Driver) → DrivesSo update x → OfAsked (AsksSo update) x
-asked_so update (drivers.Update u) so = (λ r t. (tt, tt), λ r. (tt, tt))
-asked_so update (drivers.Active a) so = λ r. kind_asks update a.call a.ckpt r a.kind a.marks so
-asked_so update x so = tt
-
-kept_so : (update : Update) (o : Option ℕ) (start : ℕ → Driver) → ((k : ℕ) → DrivesSo update (start k)) → IfSome (on_kept o start) (DrivesSo update)
-kept_so update None start each = tt
-kept_so update (Some k) start each = each k
-
-change_so : (weak : Bool) (update : Update) → WritesSo update (kind_of_change weak update)
-change_so true (updates.Write elements) = tt
-change_so true update = tt
-change_so false update = tt
-
--- so it begins, whatever is asked for
-start_so : (call : CallId) (ask : Ask) (kept : Kept) → IfSome (driver_start call ask kept) (DrivesSo (update_asked ask))
-start_so call (asks.Change place update) kept = by_all kept.all
-  where
-    by_all : (all : Bool) → IfSome (change_start call all (kind_of_change kept.weak update) kept.ckpt) (DrivesSo update)
-    by_all true = kept_so update kept.ckpt _ (λ k. tt)
-    by_all false = kept_so update kept.ckpt _ (λ k. change_so kept.weak update)
-start_so call (asks.Read place elements) kept = kept_so updates.Nothing kept.ckpt _ (λ k. tt)
-start_so call (asks.Status place) kept = kept_so updates.Nothing kept.ckpt _ (λ k. tt)
-start_so call (asks.Iterate iteration place chosen time) kept = kept_so updates.Nothing kept.ckpt _ (λ k. tt)
-start_so call (asks.Next iteration) kept = kept_so updates.Nothing kept.ckpt _ (λ k. tt)
-start_so call (asks.Close place) kept = kept_so updates.Nothing kept.ckpt _ (λ k. tt)
-start_so call (asks.Retain place duration) kept = kept_so updates.Nothing kept.ckpt _ (λ k. tt)
-start_so call ask kept = tt
-
--- and so it goes on
-taken_so : (update : Update) (d : StepDone) (x : Driver) → DrivesSo update x → DrivesSo update (driver_taken d x)
-taken_so update d (drivers.Active a) so = so
-taken_so update d (drivers.Update u) so = tt
-taken_so update d (drivers.Once x) so = tt
-taken_so update d (drivers.Open o) so = tt
-
-state_so : (update : Update) (begun : Driver) (steps : List StepDone) → DrivesSo update begun → DrivesSo update (driver_state begun steps)
-state_so update begun [] so = so
-state_so update begun (d ∷ steps) so = taken_so update d (driver_state begun steps) (state_so update begun steps so)
-
-driven_so : (s : CallState) → IsDriven s → DrivesSo (update_of s.op) (driver_of s)
-driven_so s driven = state_so (update_of s.op) s.begun s.steps (subst (λ o. IfSome o (DrivesSo (update_of s.op))) driven (start_so s.call (asked s.op) s.kept))
-
--- what is due is asked so
-due_so : (m : Machine) (s : CallState) (r : ℕ) (request : Request) → IsDriven s → due m s ≡ Serve r request → AsksSo (update_of s.op) (Serve r request)
-due_so m s r request driven is =
-    let update = update_of s.op in
-    subst (AsksSo update) is (next_of (AsksSo update) (λ o. tt) (λ step. tt) (λ r k. (tt, tt)) m.cluster (rooms_of m s) (driver_of s) (asked_so update (driver_of s) (driven_so s driven)))
+asked_goes : (x : Driver) → OfAsked AsksSo x
+asked_goes (drivers.Update u) = (λ r t. tt, λ r. tt)
+asked_goes (drivers.Active a) = λ r. kind_goes a.call a.ckpt a.kind a.marks
+asked_goes (drivers.Once x) = tt
+asked_goes (drivers.Open o) = tt
 
 -- ---- the replica that is there
 
@@ -213,7 +151,7 @@ module _ (w : World) (h : History) (c r : ℕ) (request : Request) (hand : InHan
 
   -- and it is one of a call that is built
   pub built : IsReservationOr request
-  built = let s = state_in h c hand in (due_so m s r request (facts.driven (Client c) s (in_hand_is w h c hand held)) due_here).0
+  built = subst AsksSo next (next_of AsksSo (λ o. tt) (λ step. tt) (λ r k. tt) w.cluster (rooms_at w c) hand.driver (asked_goes hand.driver))
 
   module _ (goes : GoesToReplica request) where
     -- the node has the replica
@@ -272,7 +210,7 @@ module _ (w : World) (h : History) (c r : ℕ) (hand : InHand) (facts : Facts (m
   of_call (requests.Commit call k) is E o x e at same is_shown =
       let own = facts.commits (Client c) s r call k (in_hand_is w h c hand held) is in
       shown_update (update_of hand.op) o x.slot (subst (λ (y : Option ReplicaState). IsSomeAnd y (λ x. IsSomeAnd x.slot (λ slot. slot.update ≡ update_of hand.op))) is_shown own)
-  of_call (requests.Mark call k) is E o x e at same is_shown = (due_so M s r (requests.Mark call k) (facts.driven (Client c) s (in_hand_is w h c hand held)) is).1
+  of_call (requests.Mark call k) is E o x e at same is_shown = facts.marks (Client c) s r call k (in_hand_is w h c hand held) is
   of_call (requests.Iterate call k choice) is E o x e at same is_shown =
       let ready = tables_ready (requests.Iterate call k choice) is in
       let room : room_declared x.attributes ≡ s.kept.room = ap room_declared same ∙ sym (ready.0.room ∙ ap (λ o. room_in (declared_in o)) at) in
