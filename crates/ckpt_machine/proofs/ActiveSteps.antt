@@ -82,6 +82,7 @@ module _ (m : Machine) (shapes : ℕ → Shape) (inv : InvariantIn shapes m) (s 
     up_to = inv.up_to;
     swept = inv.swept;
     entries = λ j e found. IsGoodIn-other m.replicas None (λ j q other. refl) j (shapes j) e e.making (apart j e found (j == a.ckpt) refl) (inv.entries j e found);
+    reserves = inv.reserves;
     handles = inv.handles;
     rest = inv.rest;
     clients = inv.clients;
@@ -149,7 +150,7 @@ module _ (m : Machine) (shapes : ℕ → Shape) (inv : InvariantIn shapes m) (s 
       up = λ r up. up;
       lives = refl;
       tables = refl;
-      making = λ v at. making_still m then_machine z v (λ w at. record { there = at.there; declares = at.declares; nodes = at.nodes; reserved = at.reserved }) at;
+      making = λ v at. making_still m then_machine z v (λ w at. record { there = at.there; declares = at.declares; nodes = at.nodes; reserved = at.reserved; only = at.only; within = at.within }) at;
       made = λ k was. was;
       later = λ k was e found. (e, found, refl, refl, refl);
       owners = λ j was q. elim (j == a.ckpt) as (λ b. (j == a.ckpt) ≡ b → is_owner z.call ((cond b (marked_so (shapes a.ckpt) marks) (shapes j)).owners q) ≡ is_owner z.call ((shapes j).owners q)) [
@@ -171,6 +172,7 @@ module _ (m : Machine) (shapes : ℕ → Shape) (inv : InvariantIn shapes m) (s 
       up_to = inv.up_to;
       swept = inv.swept;
       entries = λ j f there. by_test j f there (j == a.ckpt) refl;
+      reserves = inv.reserves;
       handles = inv.handles;
       rest = inv.rest;
       clients = inv.clients;

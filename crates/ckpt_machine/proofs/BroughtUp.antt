@@ -38,6 +38,7 @@ module _ (m : Machine) (shapes : ℕ → Shape) (inv : InvariantIn shapes m) (n 
     up_to = inv.up_to;
     swept = inv.swept;
     entries = λ k e found. IsGoodIn-alike m then_machine k (shapes k) e e (IsLaterEntry-refl e) (λ r there. refl) (λ d own. refl) (λ marks own. refl) (λ d own. refl) e.making (inv.entries k e found);
+    reserves = inv.reserves;
     handles = inv.handles;
     rest = inv.rest;
     clients = λ c. subst (λ clients. IfSome (find_key client_key c clients) (IsGoodClient m.next (brought_up n m.cluster) c)) (sym (inv.none_live none)) tt;

@@ -26,6 +26,7 @@ use Rattle.ckpt_machine.proofs.EntryLists.{entry_of-given, find_key-push, AllSta
 use Rattle.ckpt_machine.proofs.OtherCalls.{LooksAlike, making_still, IsInHand-alike, IsGoodIn-alike, IsLaterEntry-refl}
 use Rattle.ckpt_machine.proofs.OptionLemmas.{IsSomeAnd-at, IsSomeAnd-from}
 use Rattle.ckpt_machine.proofs.ReplicaSteps.{put_actor-cases, put_actor-here, put_actor-other}
+use Rattle.ckpt_machine.proofs.ReservedUnder.{under_there}
 use Rattle.ckpt_machine.proofs.PlainCalls.{is_plain, owner_apart, marker_apart, maker_apart}
 
 module _ (m : Machine) (shapes : ℕ → Shape) (inv : InvariantIn shapes m) (s : CallState) (held : m.in_hand s.call.actor ≡ Some s) (plain : is_plain (driver_of s) ≡ true) (name : List ℕ) (a : CreationAttributes) (good : is_malformed a ≡ false)
@@ -122,6 +123,11 @@ module _ (m : Machine) (shapes : ℕ → Shape) (inv : InvariantIn shapes m) (s 
               ap (λ o. reservation_under o r (m.reserved x.ckpt r)) still
               ∙ ap (λ b. cond b (m.reserved x.ckpt r) None) (ap (λ nodes. slice_index nodes r == 0) was.0.complete ∙ ap (λ n. n == 0) (slice_index-replicate 8 r))
               ∙ at.reserved r had;
+          only = λ r none.
+              ap (λ o. reservation_under o r (m.reserved x.ckpt r)) still
+              ∙ ap (λ b. cond b (m.reserved x.ckpt r) None) (ap (λ nodes. slice_index nodes r == 0) was.0.complete ∙ ap (λ n. n == 0) (slice_index-replicate 8 r))
+              ∙ at.only r none;
+          within = at.within;
         }
 
     -- all that it looks at is as it was
@@ -148,6 +154,7 @@ module _ (m : Machine) (shapes : ℕ → Shape) (inv : InvariantIn shapes m) (s 
     up_to = AllUpTo-push m.cluster.last_identity m.cluster.entries new inv.up_to refl;
     swept = AllStay-push m.cluster.moment m.cluster.entries new inv.swept refl;
     entries = λ j e found. by_test j e found (j == next) refl;
+    reserves = λ j q n reserved. under_there (entry_of j R.entries) q n (m.reserved j q) reserved;
     handles = λ b h among. WasMade-then h.id (inv.handles b h among);
     rest = inv.rest;
     clients = inv.clients;

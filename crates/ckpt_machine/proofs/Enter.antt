@@ -67,7 +67,7 @@ module _ (m : Machine) (shapes : ℕ → Shape) (inv : InvariantIn shapes m) (s 
           | false ↦ λ other. inv.clients d
         ] refl))
         (λ a z other at live. let apart = other_client m shapes s.call.actor inv at_enter.client a z other at in live_alike m.cluster R z.call apart.0 (found_other (client_of z.call) apart.1) ∙ live)
-        (λ a z other at. let apart = other_client m shapes s.call.actor inv at_enter.client a z other at in ap is_some (found_other (client_of z.call) apart.1))
+        (λ a z other at. let apart = other_client m shapes s.call.actor inv at_enter.client a z other at in found_other (client_of z.call) apart.1)
         (λ a z k e other at was by. ap is_some was);
   }
 

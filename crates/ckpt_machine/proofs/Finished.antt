@@ -30,6 +30,7 @@ use Rattle.ckpt_machine.proofs.Targets.{targets-length}
 use Rattle.cluster_record.specs.Placement.{targets}
 use Rattle.ckpt_machine.proofs.Actors.{same_actor-refl, same_actor-true}
 use Rattle.ckpt_machine.proofs.EntryLists.{find_key-change_key}
+use Rattle.ckpt_machine.proofs.ReservedUnder.{under_there}
 use Rattle.ckpt_machine.proofs.NodeLists.{slice_index-replicate}
 use Rattle.ckpt_machine.specs.Options.{is_all}
 
@@ -179,6 +180,11 @@ module _ (m : Machine) (shapes : ℕ → Shape) (inv : InvariantIn shapes m) (s 
               ap (λ o. reservation_under o r (m.reserved w.ckpt r)) (entry_other w.ckpt apart ∙ was)
               ∙ ap (λ b. cond b (m.reserved w.ckpt r) None) (ap (λ nodes. slice_index nodes r == 0) good.0.complete ∙ ap (λ n. n == 0) (slice_index-replicate 8 r))
               ∙ at.reserved r had;
+          only = λ r none.
+              ap (λ o. reservation_under o r (m.reserved w.ckpt r)) (entry_other w.ckpt apart ∙ was)
+              ∙ ap (λ b. cond b (m.reserved w.ckpt r) None) (ap (λ nodes. slice_index nodes r == 0) good.0.complete ∙ ap (λ n. n == 0) (slice_index-replicate 8 r))
+              ∙ at.only r none;
+          within = at.within;
         }
       where
         not_this : (g : Entry) → entry_of w.ckpt m.cluster.entries ≡ Some g → g.making ≡ Some z.call → (w.ckpt == making.ckpt) ≡ false
@@ -214,6 +220,7 @@ module _ (m : Machine) (shapes : ℕ → Shape) (inv : InvariantIn shapes m) (s 
     up_to = AllUpTo-change_key (made_with (home_of c m.cluster) m.cluster.up c) (λ x. refl) m.cluster.last_identity making.ckpt m.cluster.entries inv.up_to;
     swept = stays;
     entries = λ j g there. by_test j g there (j == making.ckpt) refl;
+    reserves = λ j q n reserved. under_there (entry_of j R.entries) q n (m.reserved j q) reserved;
     handles = λ b h among. WasMade-then h.id (inv.handles b h among);
     rest = inv.rest;
     clients = inv.clients;

@@ -41,6 +41,7 @@ pub mod Active
 pub mod ActiveNode
 pub mod ActiveSteps
 pub mod MarksAt
+pub mod ReservedUnder
 pub mod Targets
 pub mod OnTheActive
 pub mod Weak

@@ -223,7 +223,7 @@ module _ (m : Machine) (shapes : ℕ → Shape) (inv : InvariantIn shapes m) (s 
         (λ none. ap (filter (λ live. not (client_key live == leaver))) (inv.none_live none))
         (λ d. subst (λ o. IfSome o (IsGoodClient m.next left_then d)) (sym (find_key-without client_key leaver d m.cluster.clients)) (elim (d == leaver) as (λ b. IfSome (cond b None (find_key client_key d m.cluster.clients)) (IsGoodClient m.next left_then d)) [ true ↦ tt | false ↦ inv.clients d ]))
         (λ a z other at live. let apart = other_client m shapes s.call.actor inv (inv.hands s.call.actor s held).client a z other at in live_alike m.cluster left_then z.call apart.0 (found_other (client_of z.call) apart.1) ∙ live)
-        (λ a z other at. let apart = other_client m shapes s.call.actor inv (inv.hands s.call.actor s held).client a z other at in ap is_some (found_other (client_of z.call) apart.1))
+        (λ a z other at. let apart = other_client m shapes s.call.actor inv (inv.hands s.call.actor s held).client a z other at in found_other (client_of z.call) apart.1)
         (λ a z j e other at was by.
         let apart = other_client m shapes s.call.actor inv (inv.hands s.call.actor s held).client a z other at in
         ap is_some (found_map (released_all leaver m.cluster.moment) (released_all-identity leaver m.cluster.moment) j (filter others_made m.cluster.entries) e

@@ -1,5 +1,5 @@
 -- An open that makes nothing yet is refused, creates a checkpoint, or opens one that is there; with any calls of others in hand.
-use Rattle.std.proofs.Common.{◌≡◌, ℕ, ◌+◌, ◌<◌, inl, inr, ◌∷◌, length, Option, Some, None, Bool, true, false, cond, not, ◌==◌, ◌&&◌, nat_le, ℤ, refl, sym, ap, subst, ◌∙◌, arith}
+use Rattle.std.proofs.Common.{◌≡◌, ◌≤◌, ℕ, ◌+◌, ◌<◌, inl, inr, ◌∷◌, length, Option, Some, None, Bool, true, false, cond, not, ◌==◌, ◌&&◌, nat_le, ℤ, refl, sym, ap, subst, ◌∙◌, arith}
 use Rattle.std.specs.Prelude.{is_some, slice_index}
 use Rattle.std.proofs.lemmas.Bool.{leb-true, leb-false}
 use Rattle.moment_rules.specs.Times.{is_reached}
@@ -35,12 +35,12 @@ use Rattle.ckpt_machine.specs.InHand.{attributes_asked, AreGoodAttributes, is_en
 use Rattle.ckpt_machine.specs.Invariant.{IsMaker, IsGoodIn, InvariantIn, Invariant}
 use Rattle.ckpt_machine.specs.Left.{steps_left}
 use Rattle.ckpt_machine.specs.Machine.{Machine, CallState}
-use Rattle.ckpt_machine.specs.Steps.{Told, IsDone, IsEvent, IsRecordAnswer, driver_of, rooms_of, with_record, created_for}
+use Rattle.ckpt_machine.specs.Steps.{reservation_under, Told, IsDone, IsEvent, IsRecordAnswer, driver_of, rooms_of, with_record, created_for}
 use Rattle.ckpt_machine.specs.Shape.{Shape}
 use Rattle.ckpt_machine.proofs.Created.{entry_new, created_keeps}
 use Rattle.ckpt_machine.proofs.Deadlines.{in_time-cases}
 use Rattle.ckpt_machine.proofs.NodeLists.{slice_index-replicate}
-use Rattle.ckpt_machine.proofs.EntryLists.{swept-all}
+use Rattle.ckpt_machine.proofs.EntryLists.{entry_of-given, swept-all}
 use Rattle.ckpt_machine.proofs.EntryLists.{AllStay-push}
 use Rattle.ckpt_machine.proofs.StepLabels.{IsEvent-told}
 use Rattle.ckpt_machine.proofs.StepLabels.{Told-is}
@@ -139,15 +139,30 @@ module _ (m : Machine) (shapes : ℕ → Shape) (inv : InvariantIn shapes m) (s 
         named = at_open.named;
         declared = at_open.declared;
         deadline = at_open.deadline;
-        making = record { there = IsSomeAnd-from (entry_of next after_it.entries) (λ e. e.making ≡ Some s.call) new found_new refl; declares = IsSomeAnd-from (entry_of next after_it.entries) _ new found_new (ap attributes_asked at_open.asks.asks ∙ given); nodes = refl; reserved = λ r had. absurd (none_reserved r (slice_index m.cluster.up r) had) };
+        making = record { there = IsSomeAnd-from (entry_of next after_it.entries) (λ e. e.making ≡ Some s.call) new found_new refl; declares = IsSomeAnd-from (entry_of next after_it.entries) _ new found_new (ap attributes_asked at_open.asks.asks ∙ given); nodes = refl; reserved = λ r had. absurd (none_reserved r (slice_index m.cluster.up r) had); only = λ r none. never_reserved r; within = λ r some. absurd (let w : true ≡ false = sym (ap (λ (n : ℕ). n == 0) (slice_index-replicate 8 r)) ∙ some in cc w) };
         given = λ some. ap is_some given;
         room = λ some. room;
       });
     }
       where
+        -- nobody has reserved for an identity that was not given
+        not_given : (r : ℕ) → m.reserved next r ≡ None
+        not_given r = by_reserved (m.reserved next r) refl
+          where
+            by_entry : (e : Option Entry) → entry_of next m.cluster.entries ≡ e → is_some e ≡ true → m.reserved next r ≡ None
+            by_entry None found some = absurd (cc some)
+            by_entry (Some e) found some = absurd (let below : next ≤ m.cluster.last_identity = entry_of-given m.cluster.last_identity next m.cluster.entries e inv.up_to found in omega (arith, below))
+
+            by_reserved : (n : Option ℕ) → m.reserved next r ≡ n → m.reserved next r ≡ None
+            by_reserved None none = none
+            by_reserved (Some n) some = by_entry (entry_of next m.cluster.entries) refl (inv.reserves next r n some)
+
         -- its entry is the new one
         found_new : entry_of next after_it.entries ≡ Some new
         found_new = entry_new m shapes inv s held (ap is_plain is) ask.name a (subst AreGoodAttributes given at_open.declared) then_state refl at_making driver_then making refl refl
+
+        never_reserved : (r : ℕ) → then_machine.reserved next r ≡ None
+        never_reserved r = ap (λ o. reservation_under o r (m.reserved next r)) found_new ∙ ap (λ b. cond b (m.reserved next r) None) (ap (λ (n : ℕ). n == 0) (slice_index-replicate 8 r)) ∙ not_given r
 
     -- no sweep takes anything
     created_is : swept (created_for s.call (asked s.op) m.cluster) ≡ after_it

@@ -43,7 +43,7 @@ use Rattle.ckpt_machine.proofs.EntryLists.{swept-all}
 use Rattle.ckpt_machine.proofs.EntryLists.{entry_of-given, find_key-change_key, AllStay-change_key, open-stays, list_any-first}
 use Rattle.ckpt_machine.proofs.StepLabels.{IsServed-told, IsEvent-told}
 use Rattle.ckpt_machine.proofs.StepsLeft.{lacking-set}
-use Rattle.ckpt_machine.proofs.NodeLists.{first_lacking-is, first_lacking-None, index-other, length-slice_set, index-within, not-lacked, lacked-has, first_complete-there}
+use Rattle.ckpt_machine.proofs.NodeLists.{first_lacking-is, first_lacking-None, index-set, index-other, length-slice_set, index-within, not-lacked, lacked-has, first_complete-there}
 use Rattle.ckpt_machine.proofs.OpenReady.{client_live}
 use Rattle.ckpt_machine.proofs.OptionLemmas.{IsSomeAnd-from}
 use Rattle.ckpt_machine.proofs.Targets.{targets-length, target-up, target-home}
@@ -291,19 +291,45 @@ module _ (m : Machine) (shapes : ℕ → Shape) (inv : InvariantIn shapes m) (s 
           | false ↦ λ other. its.reserved q (ap (has (slice_index m.cluster.up q)) (sym (index-other making.reserved r q (slice_index m.cluster.up r) other)) ∙ had)
         ] refl)
 
+    -- the node is up, so it is kept as one that has reserved
+    up_some : (slice_index (slice_set making.reserved r (slice_index m.cluster.up r)) r == 0) ≡ false
+    up_some =
+        let there : (slice_index m.cluster.up r == 0) ≡ false = (lacked-has (slice_index m.cluster.up r) (slice_index making.reserved r) lacked).0 in
+        let below : r < length making.reserved = subst (λ (n : ℕ). r < n) (sym same_length) (index-within m.cluster.up r there) in
+        ap (λ (n : ℕ). n == 0) (index-set making.reserved r (slice_index m.cluster.up r) below) ∙ there
+
+    -- no other node has
+    only_then : (q : ℕ) → (slice_index (slice_set making.reserved r (slice_index m.cluster.up r)) q == 0) ≡ true → put_there k q ≡ None
+    only_then q none =
+        subst (λ b. cond (b && (q == r)) (Some (slice_index m.cluster.up r)) (m.reserved k q) ≡ None) (sym (eq-eqb k k refl))
+        (elim (q == r) as (λ b. (q == r) ≡ b → cond b (Some (slice_index m.cluster.up r)) (m.reserved k q) ≡ None) [
+          | true ↦ λ same. absurd (let w : true ≡ false = sym none ∙ ap (λ (n : ℕ). slice_index (slice_set making.reserved r (slice_index m.cluster.up r)) n == 0) (eqb-true q r same) ∙ up_some in cc w)
+          | false ↦ λ other. its.only q (ap (λ (n : ℕ). n == 0) (sym (index-other making.reserved r q (slice_index m.cluster.up r) other)) ∙ none)
+        ] refl)
+
+    -- it is to be made on each that has
+    targets_now : targets_by (attributes_asked (asked s.op)) (home_of (client_of s.call) m.cluster) m.cluster.up ≡ targets_of ask m.cluster
+    targets_now = (λ i. targets_by (ap attributes_asked at_open.asks.asks i) (home_of (sym at_open.client i) m.cluster) m.cluster.up)
+
+    within_then : (q : ℕ) → (slice_index (slice_set making.reserved r (slice_index m.cluster.up r)) q == 0) ≡ false → (slice_index (targets_by (attributes_asked (asked s.op)) (home_of (client_of s.call) m.cluster) m.cluster.up) q == 0) ≡ false
+    within_then q some = elim (q == r) as (λ b. (q == r) ≡ b → (slice_index (targets_by (attributes_asked (asked s.op)) (home_of (client_of s.call) m.cluster) m.cluster.up) q == 0) ≡ false) [
+      | true ↦ λ same. ap (λ nodes. slice_index nodes q == 0) targets_now ∙ ap (λ (n : ℕ). slice_index (targets_of ask m.cluster) n == 0) (eqb-true q r same) ∙ target
+      | false ↦ λ other. its.within q (ap (λ (n : ℕ). n == 0) (sym (index-other making.reserved r q (slice_index m.cluster.up r) other)) ∙ some)
+    ] refl
+
     -- the invariant holds after the reservation
     reserved_holds : Invariant (going_on s reserve_done (with_reservation k r m))
     reserved_holds = record {
       shapes = shapes;
       holds = goes_on reserve_done reserved put_there refl refl (λ j q other. ap (λ b. cond (b && (q == r)) (Some (slice_index m.cluster.up r)) (m.reserved j q)) other)
-          (record { there = its.there; declares = its.declares; nodes = length-slice_set making.reserved r (slice_index m.cluster.up r) ∙ its.nodes; reserved = reserved_then });
+          (record { there = its.there; declares = its.declares; nodes = length-slice_set making.reserved r (slice_index m.cluster.up r) ∙ its.nodes; reserved = reserved_then; only = only_then; within = within_then });
     }
 
     -- and after its refusal
     refused_holds : Invariant (going_on s memory_done m)
     refused_holds = record {
       shapes = shapes;
-      holds = goes_on memory_done refused m.reserved refl refl (λ j q other. refl) (record { there = its.there; declares = its.declares; nodes = its.nodes; reserved = its.reserved });
+      holds = goes_on memory_done refused m.reserved refl refl (λ j q other. refl) (record { there = its.there; declares = its.declares; nodes = its.nodes; reserved = its.reserved; only = its.only; within = its.within });
     }
 
     -- ---- nearer to its end

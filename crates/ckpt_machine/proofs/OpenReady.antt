@@ -181,6 +181,17 @@ module _ (m : Machine) (shapes : ℕ → Shape) (inv : InvariantIn shapes m) (s 
           tt,
         )
 
+    -- a node on which it is not made has not reserved
+    none_else : (r : ℕ) → (slice_index (targets entry.0.attributes (home_of o.ask.client m.cluster) m.cluster.up) r == 0) ≡ true → m.reserved making.ckpt r ≡ None
+    none_else r none = by_test (slice_index making.reserved r == 0) refl
+      where
+        targets_now : targets_by (attributes_asked (asked s.op)) (home_of (client_of s.call) m.cluster) m.cluster.up ≡ targets_of o.ask m.cluster
+        targets_now = (λ i. targets_by (ap attributes_asked at_open.asks.asks i) (home_of (sym at_open.client i) m.cluster) m.cluster.up)
+
+        by_test : (b : Bool) → (slice_index making.reserved r == 0) ≡ b → m.reserved making.ckpt r ≡ None
+        by_test true free = its.only r free
+        by_test false some = absurd (let w : true ≡ false = sym none ∙ ap (λ nodes. slice_index nodes r == 0) (sym (targets_now ∙ targets_are)) ∙ its.within r some in cc w)
+
     -- where none is lacked it can be finished
     finish_ready : first_lacking 0 (targets_of o.ask m.cluster) making.reserved ≡ None → IsReadyOpen m s o (Event events.Finish)
     finish_ready none = (
@@ -188,6 +199,7 @@ module _ (m : Machine) (shapes : ℕ → Shape) (inv : InvariantIn shapes m) (s 
         λ r there.
             let target : (slice_index (targets_of o.ask m.cluster) r == 0) ≡ false = ap (λ nodes. slice_index nodes r == 0) targets_are ∙ there in
             its.reserved r (ap (λ n. has n (slice_index making.reserved r)) (sym (there_up r target)) ∙ not-lacked (slice_index (targets_of o.ask m.cluster) r) (slice_index making.reserved r) target (first_lacking-None 0 (targets_of o.ask m.cluster) making.reserved same_length none r)),
+        λ r none. none_else r none,
         entry.3.generation,
         none_complete,
       )),

@@ -188,7 +188,7 @@ module _ (m : Machine) (shapes : ℕ → Shape) (next : ActorName → ℕ) (f : 
     up = λ r up. up;
     lives = refl;
     tables = refl;
-    making = λ o at. making_still m with_hands z o (λ w at. record { there = at.there; declares = at.declares; nodes = at.nodes; reserved = at.reserved }) at;
+    making = λ o at. making_still m with_hands z o (λ w at. record { there = at.there; declares = at.declares; nodes = at.nodes; reserved = at.reserved; only = at.only; within = at.within }) at;
     made = λ k was. was;
     later = λ k was e found. (e, found, refl, refl, refl);
     owners = λ k was r. refl;

@@ -124,6 +124,7 @@ module _ (m : Machine) (shapes : ℕ → Shape) (inv : InvariantIn shapes m) (s 
     up_to = inv.up_to;
     swept = inv.swept;
     entries = λ k e found. IsGoodIn-apart m shapes m.next others owner_stays marker_stays maker_stays k (shapes k) e e.making (inv.entries k e found);
+    reserves = inv.reserves;
     handles = inv.handles;
     rest = inv.rest;
     clients = inv.clients;
@@ -142,7 +143,7 @@ module _ (m : Machine) (shapes : ℕ → Shape) (inv : InvariantIn shapes m) (s 
   module _ (R : RecordState) (rises : IdentitiesRise R.entries) (up_to : AllUpTo m.cluster.last_identity R.entries) (up : R.up ≡ m.cluster.up) (last : R.last_identity ≡ m.cluster.last_identity) (later : ComesOf IsLaterEntry m.cluster.entries R.entries)
       (none_live : m.cluster.up ≡ no_nodes → R.clients ≡ []) (clients : (c : ℕ) → IfSome (find_key client_key c R.clients) (IsGoodClient m.next R c))
       (live : (a : ActorName) (z : CallState) → same_actor a s.call.actor ≡ false → m.in_hand a ≡ Some z → is_live m.cluster z.call ≡ true → is_live R z.call ≡ true)
-      (lives : (a : ActorName) (z : CallState) → same_actor a s.call.actor ≡ false → m.in_hand a ≡ Some z → is_live_client (client_of z.call) R ≡ is_live_client (client_of z.call) m.cluster)
+      (lives : (a : ActorName) (z : CallState) → same_actor a s.call.actor ≡ false → m.in_hand a ≡ Some z → find_key client_key (client_of z.call) R.clients ≡ find_key client_key (client_of z.call) m.cluster.clients)
       (makes : (a : ActorName) (z : CallState) (k : ℕ) (e : Entry) → same_actor a s.call.actor ≡ false → m.in_hand a ≡ Some z → entry_of k m.cluster.entries ≡ Some e → e.making ≡ Some z.call → IsSome (entry_of k R.entries)) where
     left_later : ComesOf IsLaterEntry m.cluster.entries (swept R).entries
     left_later = ComesOf-then IsLaterEntry IsLaterEntry IsLaterEntry IsLaterEntry-then m.cluster.entries R.entries (swept R).entries later (ComesOf-filter IsLaterEntry IsLaterEntry-refl (stays R.moment) R.entries rises)

@@ -6,7 +6,8 @@ use Rattle.ckpt_types.specs.declared.identities.ActorName.{ActorName}
 use Rattle.ckpt_types.specs.declared.identities.CallId.{CallId}
 use Rattle.cluster_record.specs.declared.calls.Making.{Making}
 use Rattle.cluster_record.specs.declared.entries.Entry.{Entry}
-use Rattle.cluster_record.specs.RecordState.{RecordState, entry_of, complete_of, no_nodes}
+use Rattle.cluster_record.specs.DueOpen.{targets_by}
+use Rattle.cluster_record.specs.RecordState.{RecordState, entry_of, node_of_client, complete_of, no_nodes}
 use Rattle.cluster_record.specs.StepDone.{has}
 use Rattle.ckpt_machine.specs.Entries.{WasMade}
 use Rattle.ckpt_types.specs.Asks.{asked}
@@ -18,6 +19,7 @@ use Rattle.ckpt_machine.specs.Shape.{Shape, IsCompleteOn}
 use Rattle.ckpt_machine.specs.Later.{IsLaterEntry, IsLaterRecord}
 use Rattle.ckpt_machine.proofs.OtherCalls.{LooksAlike, making_still, IsInHand-alike, IsGoodIn-alike}
 use Rattle.ckpt_machine.proofs.OptionLemmas.{IsSomeAnd-at, IsSomeAnd-from}
+use Rattle.ckpt_machine.proofs.ReservedUnder.{under_there}
 use Rattle.ckpt_machine.proofs.NodeLists.{slice_index-replicate}
 
 module _ (m : Machine) (shapes : ℕ → Shape) (inv : InvariantIn shapes m) (R : RecordState) (hands : ActorName → Option CallState) (after_it : IsLaterRecord m R hands) where
@@ -80,6 +82,8 @@ module _ (m : Machine) (shapes : ℕ → Shape) (inv : InvariantIn shapes m) (R 
               reserved = λ r had. reservation_kept making.ckpt r f is (ap (λ nodes. slice_index nodes r == 0) none ∙ zeros r)
                   ∙ at.reserved r (subst (λ nodes. has (slice_index nodes r) (slice_index making.reserved r) ≡ true) after_it.up had)
                   ∙ ap (λ nodes. Some (slice_index nodes r)) (sym after_it.up);
+              only = λ r nothing. reservation_kept making.ckpt r f is (ap (λ nodes. slice_index nodes r == 0) none ∙ zeros r) ∙ at.only r nothing;
+              within = λ r some. (λ i. slice_index (targets_by (attributes_asked (asked z.op)) (node_of_client (after_it.lives a z left i)) (after_it.up i)) r == 0) ∙ at.within r some;
             }
           where
             declared_at : (e : Entry) → entry_of making.ckpt m.cluster.entries ≡ Some e → IsMakingIn m z making → attributes_asked (asked z.op) ≡ Some e.attributes
@@ -91,7 +95,7 @@ module _ (m : Machine) (shapes : ℕ → Shape) (inv : InvariantIn shapes m) (R 
     looks_kept : LooksAlike m then_machine shapes shapes z
     looks_kept = record {
       up = λ r up. ap (λ nodes. nat_lt r 8 && not (slice_index nodes r == 0)) after_it.up ∙ up;
-      lives = after_it.lives a z left;
+      lives = ap is_some (after_it.lives a z left);
       tables = refl;
       making = λ o at. making_still m then_machine z o making_kept at;
       made = WasMade-kept;
@@ -113,6 +117,7 @@ module _ (m : Machine) (shapes : ℕ → Shape) (inv : InvariantIn shapes m) (R 
     entries = λ k f is. (
         let (e, was, later) = after_it.later k f is in
         subst (IsGoodIn then_machine k (shapes k) f) (sym later.making) (IsGoodIn-kept k (shapes k) e f e.making was is later (inv.entries k e was)));
+    reserves = λ j q n reserved. under_there (entry_of j R.entries) q n (m.reserved j q) reserved;
     handles = λ b h among. WasMade-kept h.id (inv.handles b h among);
     rest = inv.rest;
     clients = after_it.clients;

@@ -1,12 +1,15 @@
 -- A step that changes the reservations of the checkpoint that a call is making, and how far this call is: what holds of every other call and of every checkpoint stays.
 use Rattle.std.proofs.Common.{◌≡◌, ◌≢◌, ℕ, inl, inr, Option, Some, None, Bool, true, false, ◌==◌, refl, sym, ap, subst, ◌∙◌}
 use Rattle.std.proofs.lemmas.Option.{same_Some}
+use Rattle.std.specs.Prelude.{is_some, IsSome}
+use Rattle.std.proofs.lemmas.Bool.{eqb-true}
 use Rattle.ckpt_types.specs.declared.identities.CallId.{CallId}
 use Rattle.cluster_record.specs.declared.calls.Making.{Making}
 use Rattle.cluster_record.specs.declared.entries.Entry.{Entry}
 use Rattle.cluster_record.specs.DueOpen.{OpenState}
 use Rattle.cluster_record.specs.Calls.{same_actor, put_actor}
 use Rattle.weak_marks.specs.Marks.{Marked}
+use Rattle.cluster_record.specs.RecordState.{entry_of}
 use Rattle.ckpt_machine.specs.Drivers as drivers
 use Rattle.ckpt_machine.specs.Machine.{Machine, CallState}
 use Rattle.ckpt_machine.specs.Steps.{driver_of}
@@ -15,7 +18,8 @@ use Rattle.ckpt_machine.specs.InHand.{IsMakingIn, IsInHand}
 use Rattle.ckpt_machine.specs.Invariant.{IsMaker, IsGoodIn, InvariantIn}
 use Rattle.ckpt_machine.proofs.Actors.{same_actor-true}
 use Rattle.ckpt_machine.proofs.OtherCalls.{making_still, LooksAlike, IsInHand-alike, IsOwner-alike, IsMarker-alike, IsMaker-alike}
-use Rattle.ckpt_machine.proofs.OwnMaking.{owner_apart, marker_apart, maker_same, not_own, actor_apart}
+use Rattle.ckpt_machine.proofs.OwnMaking.{making_at, owner_apart, marker_apart, maker_same, not_own, actor_apart}
+use Rattle.ckpt_machine.proofs.OptionLemmas.{IsSomeAnd-at}
 use Rattle.ckpt_machine.proofs.ReplicaSteps.{put_actor-cases, put_actor-here, put_actor-other}
 
 module _ (m : Machine) (shapes : ℕ → Shape) (inv : InvariantIn shapes m) (s : CallState) (o : OpenState) (making : Making) (held : m.in_hand s.call.actor ≡ Some s) (is : driver_of s ≡ drivers.Open o) (makes : o.making ≡ Some making)
@@ -75,7 +79,7 @@ module _ (m : Machine) (shapes : ℕ → Shape) (inv : InvariantIn shapes m) (s 
 
   -- another call makes what it made
   making_then : (z : CallState) → z.call ≢ s.call → (x : Making) → IsMakingIn m z x → IsMakingIn then_machine z x
-  making_then z other x at = record { there = at.there; declares = at.declares; nodes = at.nodes; reserved = λ r had. elsewhere x.ckpt r (not_own m shapes inv s o making held is makes z other x at) ∙ at.reserved r had }
+  making_then z other x at = record { there = at.there; declares = at.declares; nodes = at.nodes; reserved = λ r had. elsewhere x.ckpt r (not_own m shapes inv s o making held is makes z other x at) ∙ at.reserved r had; only = λ r none. elsewhere x.ckpt r (not_own m shapes inv s o making held is makes z other x at) ∙ at.only r none; within = at.within }
 
   -- so it sees what it saw
   looks_then : (z : CallState) → z.call ≢ s.call → LooksAlike m then_machine shapes shapes z
@@ -92,6 +96,16 @@ module _ (m : Machine) (shapes : ℕ → Shape) (inv : InvariantIn shapes m) (s 
 
   -- ---- the whole
 
+  -- what is reserved then is for a checkpoint that is there: this one, or one for which it was
+  there_then : (j q n : ℕ) → g j q ≡ Some n → IsSome (entry_of j m.cluster.entries)
+  there_then j q n reserved = by_test (j == making.ckpt) refl
+    where
+      by_test : (b : Bool) → (j == making.ckpt) ≡ b → IsSome (entry_of j m.cluster.entries)
+      by_test false other = inv.reserves j q n (sym (elsewhere j q other) ∙ reserved)
+      by_test true same =
+          let (e, found, by) = IsSomeAnd-at (entry_of making.ckpt m.cluster.entries) (λ e. e.making ≡ Some s.call) (making_at m shapes inv s o making held is makes).there in
+          ap is_some (ap (λ k. entry_of k m.cluster.entries) (eqb-true j making.ckpt same) ∙ found)
+
   -- the invariant holds after it, where it holds of the call
   pub reserved_keeps : IsInHand then_machine shapes s.call.actor w → InvariantIn shapes then_machine
   reserved_keeps own = record {
@@ -101,6 +115,7 @@ module _ (m : Machine) (shapes : ℕ → Shape) (inv : InvariantIn shapes m) (s 
     up_to = inv.up_to;
     swept = inv.swept;
     entries = λ j e found. IsGoodIn-then j (shapes j) e e.making (inv.entries j e found);
+    reserves = there_then;
     handles = inv.handles;
     rest = inv.rest;
     clients = inv.clients;

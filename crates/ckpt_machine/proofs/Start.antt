@@ -20,6 +20,7 @@ invariant_empty = record {
     up_to = tt;
     swept = tt;
     entries = λ k e found. absurd (cc found);
+    reserves = λ k r n none. absurd (cc none);
     handles = λ c h among. let (i, below, is) = among in absurd (omega (arith, below));
     rest = λ a. NoneLent-no_tables;
     clients = λ c. tt;

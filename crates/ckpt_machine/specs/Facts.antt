@@ -54,10 +54,14 @@ HasNoSlot x = x.slot ≡ None
 abbrev pub AllReserved : Machine → ℕ → ℕ → Entry → Type 0
 AllReserved m c k e = (r : ℕ) → (slice_index (targets e.attributes (home_of c m.cluster) m.cluster.up) r == 0) ≡ false → m.reserved k r ≡ Some (slice_index m.cluster.up r)
 
+-- and no other node has
+abbrev pub NoneReservedElse : Machine → ℕ → ℕ → Entry → Type 0
+NoneReservedElse m c k e = (r : ℕ) → (slice_index (targets e.attributes (home_of c m.cluster) m.cluster.up) r == 0) ≡ true → m.reserved k r ≡ None
+
 -- a making of a client can be finished
 abbrev pub IsFinishable : Machine → ℕ → Option Making → Type 0
 IsFinishable m c None = ⊥
-IsFinishable m c (Some making) = IsSomeAnd (entry_of making.ckpt m.cluster.entries) (λ e. AllReserved m c making.ckpt e × (e.generation ≡ 1) × ((r : ℕ) → slice_index e.complete r ≡ 0))
+IsFinishable m c (Some making) = IsSomeAnd (entry_of making.ckpt m.cluster.entries) (λ e. AllReserved m c making.ckpt e × NoneReservedElse m c making.ckpt e × (e.generation ≡ 1) × ((r : ℕ) → slice_index e.complete r ≡ 0))
 
 -- what a due step of the record asks of it
 abbrev pub IsEventReady : Machine → CallState → Driver → RecordStep → Type 0

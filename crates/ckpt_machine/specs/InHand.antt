@@ -1,5 +1,5 @@
 -- Where a call in hand is: what is so of it, by what drives it.
-use Rattle.std.specs.Prelude.{◌≡◌, ℕ, ◌<◌, ◌≤◌, length, Option, Some, None, is_some, IsSome, IsSomeAnd, IfSome, true, false, ℤ, pos, ◌≤ℤ◌, slice_index, Bool}
+use Rattle.std.specs.Prelude.{◌≡◌, ◌==◌, ℕ, ◌<◌, ◌≤◌, length, Option, Some, None, is_some, IsSome, IsSomeAnd, IfSome, true, false, ℤ, pos, ◌≤ℤ◌, slice_index, Bool}
 use Rattle.ckpt_types.specs.declared.attributes.CreationAttributes.{CreationAttributes}
 use Rattle.ckpt_types.specs.declared.calls.CallbackSet.{CallbackSet}
 use Rattle.ckpt_types.specs.declared.calls.Version.{Version}
@@ -9,7 +9,7 @@ use Rattle.ckpt_types.specs.Attributes.{is_malformed}
 use Rattle.ckpt_types.specs.Limits.{client_numbers, nodes_max, vector_max}
 use Rattle.ckpt_machine.specs.Drivers.{Driver}
 use Rattle.cluster_record.specs.declared.calls.Making.{Making}
-use Rattle.cluster_record.specs.DueOpen.{OpenState}
+use Rattle.cluster_record.specs.DueOpen.{OpenState, targets_by}
 use Rattle.cluster_record.specs.DueActive.{ActiveState}
 use Rattle.cluster_record.specs.declared.calls.MarksMade.{MarksMade}
 use Rattle.weak_marks.specs.Marks.{Marked}
@@ -19,7 +19,7 @@ use Rattle.cluster_record.specs.DueUpdate.{UpdateState}
 use Rattle.cluster_record.specs.declared.calls.UpdatePhase.TheVariants.{Staging, Committing}
 use Rattle.cluster_record.specs.Calls.{IsClient, client_of, same_call}
 use Rattle.ckpt_types.specs.declared.identities.CallId.{CallId}
-use Rattle.cluster_record.specs.RecordState.{entry_of, is_live_client, is_up, is_live}
+use Rattle.cluster_record.specs.RecordState.{entry_of, home_of, is_live_client, is_up, is_live}
 use Rattle.ckpt_machine.specs.Driving.{deadline_from, kind_of_change}
 use Rattle.cluster_record.specs.DueOnce.{OneStep}
 use Rattle.cluster_record.specs.DueOnce as once
@@ -78,6 +78,9 @@ pub record IsMakingIn (m : Machine) (s : CallState) (making : Making) : Type 0 w
   pub declares : IsSomeAnd (entry_of making.ckpt m.cluster.entries) (λ e. attributes_asked (asked s.op) ≡ Some e.attributes)
   pub nodes : length making.reserved ≡ nodes_max
   pub reserved : (r : ℕ) → has (slice_index m.cluster.up r) (slice_index making.reserved r) ≡ true → m.reserved making.ckpt r ≡ Some (slice_index m.cluster.up r)
+  -- no other node has, and each that has is one on which it is made
+  pub only : (r : ℕ) → (slice_index making.reserved r == 0) ≡ true → m.reserved making.ckpt r ≡ None
+  pub within : (r : ℕ) → (slice_index making.reserved r == 0) ≡ false → (slice_index (targets_by (attributes_asked (asked s.op)) (home_of (client_of s.call) m.cluster) m.cluster.up) r == 0) ≡ false
 
 -- an open asks what its operation does, for its client, on a node that is up; and what it makes is there
 pub record IsOpenIn (m : Machine) (s : CallState) (o : OpenState) : Type 0 where

@@ -6,7 +6,7 @@ use Rattle.cluster_record.specs.declared.entries.Entry.{Entry}
 use Rattle.cluster_record.specs.Calls.{client_of}
 use Rattle.cluster_record.specs.Identities.{IdentitiesRise, AllUpTo}
 use Rattle.cluster_record.specs.Places.{find_key}
-use Rattle.cluster_record.specs.RecordState.{RecordState, entry_of, client_key, no_nodes, is_live, is_live_client}
+use Rattle.cluster_record.specs.RecordState.{RecordState, entry_of, client_key, no_nodes, is_live}
 use Rattle.ckpt_machine.specs.Entries.{AllStay}
 use Rattle.ckpt_machine.specs.Invariant.{IsMaker, IsGoodClient}
 use Rattle.ckpt_machine.specs.Machine.{Machine, CallState}
@@ -36,7 +36,7 @@ pub record IsLaterRecord (m : Machine) (R : RecordState) (hands : ActorName → 
   pub was_held : (a : ActorName) (z : CallState) → hands a ≡ Some z → m.in_hand a ≡ Some z
   -- live as they were, and with what they are making
   pub live : (a : ActorName) (z : CallState) → hands a ≡ Some z → is_live m.cluster z.call ≡ true → is_live R z.call ≡ true
-  pub lives : (a : ActorName) (z : CallState) → hands a ≡ Some z → is_live_client (client_of z.call) R ≡ is_live_client (client_of z.call) m.cluster
+  pub lives : (a : ActorName) (z : CallState) → hands a ≡ Some z → find_key client_key (client_of z.call) R.clients ≡ find_key client_key (client_of z.call) m.cluster.clients
   pub makes : (a : ActorName) (z : CallState) (k : ℕ) (e : Entry) → hands a ≡ Some z → entry_of k m.cluster.entries ≡ Some e → e.making ≡ Some z.call → IsSome (entry_of k R.entries)
   -- those who own slots, have marks, or are making what is left, are left
   pub owners : (k : ℕ) (sh : Shape) (call : CallId) → IsOwner m k sh call → hands call.actor ≡ m.in_hand call.actor

@@ -115,8 +115,9 @@ held_case R N r x (Some e) (Some f) up goes was is there held = record {
   as_up : slice_index f.complete r ≡ slice_index R.up r → slice_index f.complete r ≡ slice_index N.up r
   as_up same = same ∙ ap (λ (up : List ℕ). slice_index up r) (sym up)
 
-  by_node : StandsOn R.up e f r → (slice_index f.complete r ≡ slice_index N.up r) ⊎ IsReservation f r x
-  by_node (inr complete) = inl (as_up complete)
+  by_node : StandsOn R.up e f r (Some x) → (slice_index f.complete r ≡ slice_index N.up r) ⊎ IsReservation f r x
+  by_node (inr (inl complete)) = inl (as_up complete)
+  by_node (inr (inr none)) = absurd (cc none)
   by_node (inl same) = elim stood [
     | inl complete ↦ inl (as_up (same.1 ∙ complete))
     | inr reservation ↦ inr (record {

@@ -27,12 +27,13 @@ use Rattle.cluster_record.specs.LookUps.{at_ckpt, identity_in}
 use Rattle.ckpt_machine.specs.Machine.{Machine, CallState}
 use Rattle.cluster_record.specs.Identities.{AllUpTo, IdentitiesRise}
 use Rattle.world_core.specs.Holding.{HoldsOnlyWhatStands}
-use Rattle.ckpt_machine.specs.Facts.{Facts, IsEventReady, AllReserved, IsFinishable}
+use Rattle.ckpt_machine.specs.Facts.{Facts, IsEventReady, AllReserved, NoneReservedElse, IsFinishable}
 use Rattle.world_core.specs.Shows.{History, machine_of, where_not_complete, shown_reservation}
 use Rattle.cluster_record.proofs.IdentityLaws.{IsLeft, KeepsIdentity, entry_of-beyond, IdentitiesRise-filter, IdentitiesRise-map, IdentitiesRise-change_key, IdentitiesRise-push, filter_leaves}
 use Rattle.cluster_record.proofs.Places.{find_changed, find_pushed, not_changed}
 use Rattle.world_core.proofs.HoldingLaws.{none_gone, opening_there}
-use Rattle.world_core.proofs.Recording.{GoesAt, NodeGoes, zero_there}
+use Rattle.ckpt_machine.proofs.Targets.{target-up}
+use Rattle.world_core.proofs.Recording.{StandsOn, GoesAt, NodeGoes, zero_there}
 
 -- ---- changes of an entry of which a node sees nothing
 
@@ -86,6 +87,13 @@ reserved_there k r u f e y is free reserved opening = at y has opening where
   at None has opening = absurd (cc has)
   at (Some x) has opening = ap Some (opening x refl)
 
+-- and one that has not has none
+unreserved_there : (r u : ℕ) (f : Option Entry) (e : Entry) (y : Option Replica) → f ≡ Some e → slice_index e.complete r ≡ 0 → where_not_complete f r (shown_reservation u y) ≡ None → y ≡ None
+unreserved_there r u f e y is free none = at y (sym (ap (λ f. where_not_complete f r (shown_reservation u y)) is ∙ ap (λ b. cond b (shown_reservation u y) None) (ap (λ n. n == 0) free)) ∙ none) where
+  at : (y : Option Replica) → shown_reservation u y ≡ None → y ≡ None
+  at None none = refl
+  at (Some x) none = absurd (cc none)
+
 -- ---- what each entry goes on to, with the incarnations with which the nodes are up
 
 module _ (up : List ℕ) where
@@ -125,8 +133,12 @@ module _ (up : List ℕ) where
   left_goes f q j r old left y (inr same) = subst (λ (o : Option Entry). GoesAt up j old (option_map f o) r y) (sym same) (each_goes f q j r old y)
 
   -- a making that is finished
-  made_goes : (opener c k r : ℕ) (e : Entry) (y : Option Replica) → slice_index e.complete r ≡ 0 → ((slice_index (targets e.attributes opener up) r == 0) ≡ false → y ≡ Some (opened_replica k e.attributes e.made)) → GoesAt up k (Some e) (Some (made_with opener up c e)) r y
-  made_goes opener c k r e y zero has = (refl, refl, by_test (slice_index (targets e.attributes opener up) r == 0) refl, inr refl) where
+  made_goes : (opener c k r : ℕ) (e : Entry) (y : Option Replica) → slice_index e.complete r ≡ 0 → ((slice_index (targets e.attributes opener up) r == 0) ≡ false → y ≡ Some (opened_replica k e.attributes e.made)) → ((slice_index (targets e.attributes opener up) r == 0) ≡ true → y ≡ None) → GoesAt up k (Some e) (Some (made_with opener up c e)) r y
+  made_goes opener c k r e y zero has has_not = (refl, refl, by_test (slice_index (targets e.attributes opener up) r == 0) refl, stands (slice_index (targets e.attributes opener up) r == 0) refl) where
+    stands : (b : Bool) → (slice_index (targets e.attributes opener up) r == 0) ≡ b → StandsOn up e (made_with opener up c e) r y
+    stands true t = inr (inr (has_not t))
+    stands false t = inr (inl (target-up e.attributes opener up r t))
+
     by_test : (b : Bool) → (slice_index (targets e.attributes opener up) r == 0) ≡ b → NodeGoes k e (made_with opener up c e) r y
     by_test true t = inl (eqb-true (slice_index (targets e.attributes opener up) r) 0 t ∙ sym zero)
     by_test false t = inr (zero, refl, has t)
@@ -234,12 +246,13 @@ module _ (w : World) (h : History) (facts : Facts (machine_of w h)) (holds : Hol
   finished_go c s None ready = absurd ready
   finished_go c s (Some making) ready =
       let k = making.ckpt in
-      let there = some_of (entry_of k R.entries) (λ (e : Entry). AllReserved m c k e × (e.generation ≡ 1) × ((r : ℕ) → slice_index e.complete r ≡ 0)) ready in
+      let there = some_of (entry_of k R.entries) (λ (e : Entry). AllReserved m c k e × NoneReservedElse m c k e × (e.generation ≡ 1) × ((r : ℕ) → slice_index e.complete r ≡ 0)) ready in
       let e : Entry = there.0 in
       let is : entry_of k R.entries ≡ Some e = there.1 in
-      let has = λ (r : ℕ) (target : (slice_index (targets e.attributes (home_of c R) R.up) r == 0) ≡ false). reserved_there k r (slice_index R.up r) (entry_of k R.entries) e (replica_in w.nodes k r) is (there.2.2 r) (there.2.0 r target) (λ x. opening_there R w.nodes holds k r e x is (there.2.2 r)) in (
+      let has = λ (r : ℕ) (target : (slice_index (targets e.attributes (home_of c R) R.up) r == 0) ≡ false). reserved_there k r (slice_index R.up r) (entry_of k R.entries) e (replica_in w.nodes k r) is (there.2.3 r) (there.2.0 r target) (λ x. opening_there R w.nodes holds k r e x is (there.2.3 r)) in
+      let has_not = λ (r : ℕ) (none : (slice_index (targets e.attributes (home_of c R) R.up) r == 0) ≡ true). unreserved_there r (slice_index R.up r) (entry_of k R.entries) e (replica_in w.nodes k r) is (there.2.3 r) (there.2.1 r none) in (
         λ j r. changed_goes R.up (made_with (home_of c R) R.up c) (λ e. refl) k j r R.entries e (replica_in w.nodes j r) is
-            (λ s. subst (λ (j : ℕ). GoesAt R.up j (Some e) (Some (made_with (home_of c R) R.up c e)) r (replica_in w.nodes j r)) (sym s) (made_goes R.up (home_of c R) c k r e (replica_in w.nodes k r) (there.2.2 r) (has r))),
+            (λ s. subst (λ (j : ℕ). GoesAt R.up j (Some e) (Some (made_with (home_of c R) R.up c e)) r (replica_in w.nodes j r)) (sym s) (made_goes R.up (home_of c R) c k r e (replica_in w.nodes k r) (there.2.3 r) (has r) (has_not r))),
         IdentitiesRise-change_key (made_with (home_of c R) R.up c) (λ e. refl) k R.entries facts.rises,
       )
 

@@ -16,15 +16,15 @@ use Rattle.world_core.specs.Shows.{History, HistoryFits, FitsReplica, machine_of
 abbrev pub NodeGoes : ℕ → Entry → Entry → ℕ → Option Replica → Type 0
 NodeGoes k e f r y = (slice_index f.complete r ≡ slice_index e.complete r) ⊎ ((slice_index e.complete r ≡ 0) × (f.generation ≡ 1) × (y ≡ Some (opened_replica k f.attributes f.made)))
 
--- it is in the making and the node complete as before, or the node is complete as it is up
-abbrev pub StandsOn : List ℕ → Entry → Entry → ℕ → Type 0
-StandsOn up e f r = ((f.making ≡ e.making) × (slice_index f.complete r ≡ slice_index e.complete r)) ⊎ (slice_index f.complete r ≡ slice_index up r)
+-- it is in the making and the node complete as before, or the node is complete as it is up, or has none of it
+abbrev pub StandsOn : List ℕ → Entry → Entry → ℕ → Option Replica → Type 0
+StandsOn up e f r y = ((f.making ≡ e.making) × (slice_index f.complete r ≡ slice_index e.complete r)) ⊎ ((slice_index f.complete r ≡ slice_index up r) ⊎ (y ≡ None))
 
 -- what a step may make of an entry, by what a node has of it: it goes, it is new and nowhere complete, or its nodes go on
 abbrev pub GoesAt : List ℕ → ℕ → Option Entry → Option Entry → ℕ → Option Replica → Type 0
 GoesAt up k old None r y = Unit {0}
 GoesAt up k None (Some f) r y = (slice_index f.complete r ≡ 0) × (y ≡ None)
-GoesAt up k (Some e) (Some f) r y = (f.attributes ≡ e.attributes) × (f.made ≡ e.made) × NodeGoes k e f r y × StandsOn up e f r
+GoesAt up k (Some e) (Some f) r y = (f.attributes ≡ e.attributes) × (f.made ≡ e.made) × NodeGoes k e f r y × StandsOn up e f r y
 
 pub zero_there : (r : ℕ) → slice_index no_nodes r ≡ 0
 zero_there zero = refl
