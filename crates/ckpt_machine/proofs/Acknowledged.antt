@@ -40,7 +40,7 @@ use Rattle.ckpt_machine.specs.Owned.{OwnsNothing}
 use Rattle.ckpt_machine.specs.Runs.{last_from, last, IsRunFrom, IsRun}
 use Rattle.node_core.specs.Serving.{update_answer}
 use Rattle.ckpt_machine.specs.Shape.{IsCompleteOn}
-use Rattle.ckpt_machine.specs.Steps.{Told, IsDue, with_record, record_step, created_for, retained_for, change_replica, with_committed, committed_slot, with_applied, having_taken, with_marks, with_element, without_marks, marks_ended, with_slot, effect_of, changed, on_ok, on_look, without_making, at_some, replica_under, opened_state, stepped, step_of, staged_moment, after}
+use Rattle.ckpt_machine.specs.Steps.{Told, IsDue, with_record, record_step, created_for, retained_for, change_replica, with_committed, committed_slot, with_applied, having_taken, with_marks, with_next_element, without_marks, marks_ended, with_slot, effect_of, changed, on_ok, on_look, without_making, at_some, replica_under, opened_state, stepped, step_of, staged_moment, after}
 use Rattle.ckpt_machine.proofs.AllOrNone.{all_or_none}
 use Rattle.ckpt_machine.proofs.Entries.{ComesOf-filter}
 use Rattle.ckpt_machine.proofs.EachReplica.{made_where_complete}
@@ -202,7 +202,7 @@ module _ (k : ℕ) (call : CallId) (update : Update) (m : Machine) (stay : Stays
     changed_stays s verbs.Apply j q reply needs = ok_stays reply _ (both_stay j q _ (λ j q. replica_stays j q (m.replicas j q) refl (with_applied s.call (update_of s.op) m.cluster.moment (entry_of j m.cluster.entries))
         (λ x has. applied_has (entry_of j m.cluster.entries) s.call (update_of s.op) m.cluster.moment x call update has)))
     changed_stays s verbs.Mark j q reply needs = ok_stays reply _ (both_stay j q _ (λ j q. replica_stays j q (m.replicas j q) refl (with_marks s.call (update_of s.op) m.cluster.moment) (λ x has. has)))
-    changed_stays s verbs.Element j q reply needs = ok_stays reply _ (both_stay j q _ (λ j q. replica_stays j q (m.replicas j q) refl (with_element (entry_of j m.cluster.entries)) (λ x has. subst (HasUpdate call update) (sym (element_effects (entry_of j m.cluster.entries) x)) has)))
+    changed_stays s verbs.Element j q reply needs = ok_stays reply _ (both_stay j q _ (λ j q. replica_stays j q (m.replicas j q) refl (with_next_element (entry_of j m.cluster.entries)) (λ x has. subst (HasUpdate call update) (sym (element_effects (entry_of j m.cluster.entries) x)) has)))
     changed_stays s verbs.Unmark j q reply needs = ok_stays reply _ (both_stay j q _ (λ j q. replica_stays j q (m.replicas j q) refl without_marks (λ x has. unmarked_has x call update has)))
     changed_stays s verbs.Iter j q reply needs = ok_stays reply _ (both_stay j q _ (λ j q. stay))
     changed_stays s verbs.Next j q reply needs = ok_stays reply _ (both_stay j q _ (λ j q. stay))

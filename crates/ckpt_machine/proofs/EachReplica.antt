@@ -30,7 +30,7 @@ use Rattle.ckpt_machine.specs.Machine.{Machine, ReplicaState, CallState, empty_c
 use Rattle.ckpt_machine.specs.Options.{is_all, is_weak, is_by_element}
 use Rattle.ckpt_machine.specs.Runs.{last, IsRun}
 use Rattle.ckpt_machine.specs.Shape.{IsCompleteOn, IsShapedBy}
-use Rattle.ckpt_machine.specs.Steps.{Told, IsDone, IsDue, due, with_record, record_step, created_for, retained_for, change_replica, having_taken, committed_slot, with_committed, with_applied, with_slot, with_marks, element_written, with_element, marks_ended, without_marks, changed, on_ok, on_look, without_making, at_some, replica_under, opened_state, step_of, staged_moment, after}
+use Rattle.ckpt_machine.specs.Steps.{Told, IsDone, IsDue, due, with_record, record_step, created_for, retained_for, change_replica, having_taken, committed_slot, with_committed, with_applied, with_slot, with_marks, next_element_written, with_next_element, marks_ended, without_marks, changed, on_ok, on_look, without_making, at_some, replica_under, opened_state, step_of, staged_moment, after}
 use Rattle.ckpt_machine.proofs.Entries.{ComesOf-filter}
 use Rattle.ckpt_machine.proofs.EntryLists.{entry_of-given}
 use Rattle.ckpt_machine.proofs.Follows.{IsBare}
@@ -112,7 +112,7 @@ module _ (Q : Option Entry → ℕ → ReplicaState → Type 0) where
     pub committed : (m : Machine) (s : CallState) (k r : ℕ) (x : ReplicaState) (e : Entry) → StepsOn m s verbs.Commit k r x → DeclaresAll m k e → Q (Some e) r x → Q (Some e) r (committed_slot e.attributes x x.slot)
     pub applied : (m : Machine) (s : CallState) (k r : ℕ) (x : ReplicaState) (e : Entry) → StepsOn m s verbs.Apply k r x → IsActiveOf m k r e → x.marks ≡ None → Q (Some e) r x → Q (Some e) r (having_taken e.attributes s.call (update_of s.op) m.cluster.moment x)
     pub marked : (m : Machine) (s : CallState) (k r : ℕ) (x : ReplicaState) (e : Entry) → StepsOn m s verbs.Mark k r x → IsActiveOf m k r e → CanBeMarked e (update_of s.op) m.cluster.moment x → Q (Some e) r x → Q (Some e) r (with_marks s.call (update_of s.op) m.cluster.moment x)
-    pub element : (m : Machine) (s : CallState) (k r : ℕ) (x : ReplicaState) (e : Entry) (marks : Marked) → StepsOn m s verbs.Element k r x → IsActiveOf m k r e → IsMarkedFor s.call (update_of s.op) true x marks → Q (Some e) r x → Q (Some e) r (element_written e.attributes x (Some marks))
+    pub element : (m : Machine) (s : CallState) (k r : ℕ) (x : ReplicaState) (e : Entry) (marks : Marked) → StepsOn m s verbs.Element k r x → IsActiveOf m k r e → IsMarkedFor s.call (update_of s.op) true x marks → Q (Some e) r x → Q (Some e) r (next_element_written e.attributes x (Some marks))
     pub unmarked : (m : Machine) (s : CallState) (k r : ℕ) (x : ReplicaState) (e : Entry) (marks : Marked) → StepsOn m s verbs.Unmark k r x → IsActiveOf m k r e → IsMarkedFor s.call (update_of s.op) false x marks → Q (Some e) r x → Q (Some e) r (marks_ended x (Some marks))
 
   module _ (kept : IsKept) (m : Machine) (inv : Invariant m) (history : HasHistory m) (arguments : HaveGoodArguments m) (each : Each m) where
@@ -192,7 +192,7 @@ module _ (Q : Option Entry → ℕ → ReplicaState → Type 0) where
     Needs s verbs.Commit k r reply = Becomes k r reply (λ k. with_committed (entry_of k m.cluster.entries))
     Needs s verbs.Apply k r reply = Becomes k r reply (λ k. with_applied s.call (update_of s.op) m.cluster.moment (entry_of k m.cluster.entries))
     Needs s verbs.Mark k r reply = Becomes k r reply (λ k. with_marks s.call (update_of s.op) m.cluster.moment)
-    Needs s verbs.Element k r reply = Becomes k r reply (λ k. with_element (entry_of k m.cluster.entries))
+    Needs s verbs.Element k r reply = Becomes k r reply (λ k. with_next_element (entry_of k m.cluster.entries))
     Needs s verbs.Unmark k r reply = Becomes k r reply (λ k. without_marks)
     Needs s verb k r reply = Unit {0}
 
@@ -272,11 +272,11 @@ module _ (Q : Option Entry → ℕ → ReplicaState → Type 0) where
           let (marks, is, are) = IsSomeAnd-at x.marks (AreMarksOf s.call update left) stand in
           (e, marks, active, record { stand = is; are = subst (λ update. AreMarksOf s.call update left marks) own are })
 
-      element_needs : StepsOn m s verbs.Element k r x → OnActive m update true k r (λ e x. IsSomeAnd x.marks (AreMarksOf s.call update true)) → Q (entry_of k m.cluster.entries) r (with_element (entry_of k m.cluster.entries) x)
+      element_needs : StepsOn m s verbs.Element k r x → OnActive m update true k r (λ e x. IsSomeAnd x.marks (AreMarksOf s.call update true)) → Q (entry_of k m.cluster.entries) r (with_next_element (entry_of k m.cluster.entries) x)
       element_needs step on =
           let (e, marks, active, stand) = marks_there true on in
           let then = kept.element m s k r x e marks step active stand (there_by e active.found) in
-          subst (λ o. Q o r (with_element o x)) (sym active.found) (subst (λ marks. Q (Some e) r (element_written e.attributes x marks)) (sym stand.stand) then)
+          subst (λ o. Q o r (with_next_element o x)) (sym active.found) (subst (λ marks. Q (Some e) r (next_element_written e.attributes x marks)) (sym stand.stand) then)
 
       unmarked_needs : StepsOn m s verbs.Unmark k r x → OnActive m update true k r (λ e x. IsSomeAnd x.marks (AreMarksOf s.call update false)) → Q (entry_of k m.cluster.entries) r (without_marks x)
       unmarked_needs step on =

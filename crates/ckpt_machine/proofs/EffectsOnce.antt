@@ -64,8 +64,8 @@ committed_once a x once = by_slot x.slot refl
     by_slot (Some slot) is = record { each = once_more x.effects (effect_of slot) once.each (once.fresh slot is); fresh = λ other none. absurd (cc none) }
 
 -- with an effect more, of a call of which it had none, where nothing is staged
-one_more : (x y : ReplicaState) (new : Effect) → y.effects ≡ x.effects ++ new ∷ [] → y.slot ≡ None → (HasEffect (call_of_effect new) x.effects → ⊥) → IsOnce x → IsOnce y
-one_more x y new effects free none once = record {
+one_effect_more : (x y : ReplicaState) (new : Effect) → y.effects ≡ x.effects ++ new ∷ [] → y.slot ≡ None → (HasEffect (call_of_effect new) x.effects → ⊥) → IsOnce x → IsOnce y
+one_effect_more x y new effects free none once = record {
   each = subst EachCallOnce (sym effects) (once_more x.effects new once.each none);
   fresh = λ slot staged. absurd (let w : None ≡ Some slot = sym free ∙ staged in cc w);
 }
@@ -119,13 +119,13 @@ kept_once = record {
   committed = λ m s k r x e step all once. committed_once e.attributes x once;
   applied = λ m s k r x e step active none once.
       let y = having_taken e.attributes s.call (update_of s.op) m.cluster.moment x in
-      one_more x y (Applied s.call (update_of s.op) m.cluster.moment) refl (alone_free m step.inv step.history.bare k r x e step.there active.found active.alone) (none_yet m s verbs.Apply k r x step (λ is. cc is) (λ is. cc is)) once;
+      one_effect_more x y (Applied s.call (update_of s.op) m.cluster.moment) refl (alone_free m step.inv step.history.bare k r x e step.there active.found active.alone) (none_yet m s verbs.Apply k r x step (λ is. cc is) (λ is. cc is)) once;
   -- a weak write is no effect until its end
   marked = λ m s k r x e step active can once. record { each = once.each; fresh = once.fresh };
   element = λ m s k r x e marks step active stand once. record { each = once.each; fresh = once.fresh };
   unmarked = λ m s k r x e marks step active stand once.
       let none = none_yet m s verbs.Unmark k r x step (λ is. cc is) (λ is. cc is) in
-      one_more x (marks_ended x (Some marks)) (Applied marks.call marks.update marks.moment) refl (alone_free m step.inv step.history.bare k r x e step.there active.found active.alone) (λ has. none (subst (λ d. HasEffect d x.effects) stand.are.call_is has)) once;
+      one_effect_more x (marks_ended x (Some marks)) (Applied marks.call marks.update marks.moment) refl (alone_free m step.inv step.history.bare k r x e step.there active.found active.alone) (λ has. none (subst (λ d. HasEffect d x.effects) stand.are.call_is has)) once;
 }
 
 -- THE LAW: no replica has two effects of one call

@@ -24,7 +24,7 @@ use Rattle.ckpt_types.specs.Asks as asks
 use Rattle.ckpt_machine.specs.Machine.{Machine, Effect, Applied, ReplicaState, Staged, CallState}
 use Rattle.ckpt_machine.specs.Owned.{IsEffectOf, HasEffect}
 use Rattle.ckpt_machine.specs.Shape.{IsCompleteOn}
-use Rattle.ckpt_machine.specs.Steps.{with_record, record_step, created_for, retained_for, change_replica, with_slot, staged_moment, with_committed, committed_slot, with_applied, with_marks, with_element, element_written, without_marks, marks_ended, effect_of, changed, on_ok, on_look, without_making, at_some, replica_under, reservation_under, opened_state}
+use Rattle.ckpt_machine.specs.Steps.{with_record, record_step, created_for, retained_for, change_replica, with_slot, staged_moment, with_committed, committed_slot, with_applied, with_marks, with_next_element, next_element_written, without_marks, marks_ended, effect_of, changed, on_ok, on_look, without_making, at_some, replica_under, reservation_under, opened_state}
 
 -- ---- what is so in every state of a run
 
@@ -104,11 +104,11 @@ applied_effects None call update t x d has = inl has
 applied_effects (Some e) call update t x d has = effect_more d x.effects (Applied call update t) has
 
 -- an element of a weak write takes none
-pub element_effects : (o : Option Entry) (x : ReplicaState) → (with_element o x).effects ≡ x.effects
+pub element_effects : (o : Option Entry) (x : ReplicaState) → (with_next_element o x).effects ≡ x.effects
 element_effects None x = refl
 element_effects (Some e) x = by_marks x.marks
   where
-    by_marks : (marks : Option Marked) → (element_written e.attributes x marks).effects ≡ x.effects
+    by_marks : (marks : Option Marked) → (next_element_written e.attributes x marks).effects ≡ x.effects
     by_marks None = refl
     by_marks (Some marked) = refl
 

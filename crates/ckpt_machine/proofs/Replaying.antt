@@ -24,7 +24,7 @@ use Rattle.ckpt_machine.specs.Options.{is_all, is_by_element}
 use Rattle.ckpt_machine.specs.Replays.{each_done, effect_done, effects_done, replay, with_marked, IsReplay}
 use Rattle.ckpt_machine.specs.Runs.{last, IsRun}
 use Rattle.ckpt_machine.specs.Shape.{IsShapedBy}
-use Rattle.ckpt_machine.specs.Steps.{opened_state, having_taken, committed_slot, with_marks, element_written, marks_ended}
+use Rattle.ckpt_machine.specs.Steps.{opened_state, having_taken, committed_slot, with_marks, next_element_written, marks_ended}
 use Rattle.ckpt_machine.proofs.EachReplica.{CanBeMarked, shaped_there, IsKept, run_each}
 use Rattle.ckpt_machine.proofs.ElementsDone.{each_done-next, each_done-write}
 use Rattle.ckpt_machine.proofs.Follows.{IsBare}
@@ -106,7 +106,7 @@ module _ (e : Entry) (x : ReplicaState) (marks : Marked) (stand : x.marks ≡ So
   there = was.replays ∙ ap (λ o. with_marked e.attributes o under) stand
 
   -- the next element is one more that is done
-  element_replay : is_left marks ≡ true → IsReplayed e (element_written e.attributes x (Some marks))
+  element_replay : is_left marks ≡ true → IsReplayed e (next_element_written e.attributes x (Some marks))
   element_replay left =
       let next : Marked = record marks { done = marks.done + 1 } in
       let then : with_next_done (Some marks) ≡ Some next = ap (λ b. cond b (Some next) (Some marks)) left in
@@ -161,7 +161,7 @@ kept_replay = record {
   committed = λ m s k r x e step all was f found. subst (λ f. IsReplayed f (committed_slot e.attributes x x.slot)) (same_Some e f found) (committed_replay e x x.slot (all_unmarked m step.inv step.history.bare k r x e step.there all.found all.all) (was e refl));
   applied = λ m s k r x e step active none was f found. subst (λ f. IsReplayed f (having_taken e.attributes s.call (update_of s.op) m.cluster.moment x)) (same_Some e f found) (taken_replay e s.call (update_of s.op) m.cluster.moment x none (was e refl));
   marked = λ m s k r x e step active can was f found. subst (λ f. IsReplayed f (with_marks s.call (update_of s.op) m.cluster.moment x)) (same_Some e f found) (marked_replay e s.call (update_of s.op) m.cluster.moment x can (was e refl));
-  element = λ m s k r x e marks step active stand was f found. subst (λ f. IsReplayed f (element_written e.attributes x (Some marks))) (same_Some e f found) (element_replay e x marks stand.stand (was e refl) stand.are.left_is);
+  element = λ m s k r x e marks step active stand was f found. subst (λ f. IsReplayed f (next_element_written e.attributes x (Some marks))) (same_Some e f found) (element_replay e x marks stand.stand (was e refl) stand.are.left_is);
   unmarked = λ m s k r x e marks step active stand was f found. subst (λ f. IsReplayed f (marks_ended x (Some marks))) (same_Some e f found) (unmarked_replay e x marks stand.stand (was e refl) stand.are.left_is);
 }
 

@@ -38,7 +38,7 @@ use Rattle.ckpt_machine.specs.Invariant.{InvariantIn, Invariant}
 use Rattle.ckpt_machine.specs.Left.{steps_left}
 use Rattle.ckpt_machine.specs.Machine.{Machine, ReplicaState, CallState}
 use Rattle.ckpt_machine.specs.Shape.{Shape, IsMarker}
-use Rattle.ckpt_machine.specs.Steps.{Told, IsDone, IsServed, ended_details, driver_of, payload_due, details_due, change_replica, with_marks, with_element, element_written, without_marks, marks_ended, kept_behind, stepped}
+use Rattle.ckpt_machine.specs.Steps.{Told, IsDone, IsServed, ended_details, driver_of, payload_due, details_due, change_replica, with_marks, with_next_element, next_element_written, without_marks, marks_ended, kept_behind, stepped}
 use Rattle.ckpt_machine.proofs.Actors.{same_actor-refl, same_call-refl, same_call-true}
 use Rattle.ckpt_machine.proofs.ActiveNode.{ActiveOf, active_seen}
 use Rattle.ckpt_machine.proofs.ActiveSteps.{marked_so, active_keeps}
@@ -283,7 +283,7 @@ module _ (m : Machine) (shapes : ℕ → Shape) (inv : InvariantIn shapes m) (s 
 
       -- the replica after it
       abbrev written : ReplicaState
-      written = element_written at.entry.attributes at.replica (Some its_own.marks)
+      written = next_element_written at.entry.attributes at.replica (Some its_own.marks)
 
       abbrev next_marks : Marked
       next_marks = record its_own.marks { done = its_own.marks.done + 1 }
@@ -297,10 +297,10 @@ module _ (m : Machine) (shapes : ℕ → Shape) (inv : InvariantIn shapes m) (s 
       element_takes : driver_taken (done verbs.Element) (driver_of s) ≡ drivers.Active (driving (Some next_made))
       element_takes = ap (driver_taken (done verbs.Element)) (is ∙ ap (λ o. drivers.Active (driving o)) made_is)
 
-      element_is : with_element (entry_of k m.cluster.entries) at.replica ≡ written
-      element_is = ap (λ o. with_element o at.replica) at.found ∙ ap (element_written at.entry.attributes at.replica) stand_there
+      element_is : with_next_element (entry_of k m.cluster.entries) at.replica ≡ written
+      element_is = ap (λ o. with_next_element o at.replica) at.found ∙ ap (next_element_written at.entry.attributes at.replica) stand_there
 
-      holds_written : Invariant (record m { replicas = put2 m.replicas k at.node (Some (with_element (entry_of k m.cluster.entries) at.replica)); in_hand = put_actor m.in_hand s.call.actor (Some (then_state verbs.Element)) })
+      holds_written : Invariant (record m { replicas = put2 m.replicas k at.node (Some (with_next_element (entry_of k m.cluster.entries) at.replica)); in_hand = put_actor m.in_hand s.call.actor (Some (then_state verbs.Element)) })
       holds_written = subst (λ y. Invariant (record m { replicas = put2 m.replicas k at.node (Some y); in_hand = put_actor m.in_hand s.call.actor (Some (then_state verbs.Element)) })) (sym element_is)
           (goes_on_keeps verbs.Element written next_marks next_made free next_done its_own.own its_own.update (let l = its_own.left in let above = positive w.left left_some in omega (arith, l, above)) (let f = few_left in omega (arith, f))
           ((subst (λ o. IfSome o (λ (v : MarksMade). v.generation ≡ at.entry.generation)) made_is (its.generation at.entry at.found))) element_takes others_unmarked)
@@ -309,8 +309,8 @@ module _ (m : Machine) (shapes : ℕ → Shape) (inv : InvariantIn shapes m) (s 
       element_goes t served = subst (Goes m s (driver_of s)) (sym (IsServed-told m s at.node to_do t _ (replies.Done answers.Nothing) served is
           (served.may ∙ ap (reply_at to_do (payload_due m s) (record_seen m.cluster k at.node)) (active_seen m (shapes k).marks k at)))) (record {
             row = (_, update_of s.op, asks_own m shapes inv s call k (kinds.Weak n) made held at refl is, (on_active m shapes inv s call k (kinds.Weak n) made held at refl is (λ e x. IsSomeAnd x.marks (AreMarksOf s.call (update_of s.op) true)) (are_marks true left_is), refl, refl));
-            holds = subst (λ o. let n = change_replica m k at.node o (with_element (entry_of k m.cluster.entries)) in Invariant (stepped n (kept_behind m s n.cluster verbs.Element (Some k) (Some at.node) words.Ok) None)) (sym at.there) holds_written;
-            nearer = λ goes_on. subst (λ o. let R = (change_replica m k at.node o (with_element (entry_of k m.cluster.entries))).cluster in
+            holds = subst (λ o. let n = change_replica m k at.node o (with_next_element (entry_of k m.cluster.entries)) in Invariant (stepped n (kept_behind m s n.cluster verbs.Element (Some k) (Some at.node) words.Ok) None)) (sym at.there) holds_written;
+            nearer = λ goes_on. subst (λ o. let R = (change_replica m k at.node o (with_next_element (entry_of k m.cluster.entries))).cluster in
                 steps_left R (driver_taken (done_of R verbs.Element (Some k) (Some at.node) words.Ok) (driver_of s)) < steps_left m.cluster (driver_of s)) (sym at.there)
                 (subst (λ d. steps_left m.cluster (driver_taken (done_of m.cluster verbs.Element (Some k) (Some at.node) words.Ok) d) < steps_left m.cluster d) (sym (is ∙ ap (λ o. drivers.Active (driving o)) made_is)) (let above = positive w.left left_some in omega (arith, above)));
           })

@@ -342,17 +342,17 @@ abbrev pub with_marks : CallId → Update → ℤ → ReplicaState → ReplicaSt
 with_marks call update t x = record x { marks = Some (record { call = call; update = update; moment = t; done = 0; generation = x.generation }) }
 
 -- the next element of the weak write is done, at the moment of its marks
-abbrev pub element_written : CreationAttributes → ReplicaState → Option Marked → ReplicaState
-element_written a x None = x
-element_written a x (Some marked) = record x {
+abbrev pub next_element_written : CreationAttributes → ReplicaState → Option Marked → ReplicaState
+next_element_written a x None = x
+next_element_written a x (Some marked) = record x {
   sections = first_written a marked.moment (elements_left marked) x.sections;
   marks = with_next_done (Some marked);
 }
 
 -- by what its checkpoint declares
-abbrev pub with_element : Option Entry → ReplicaState → ReplicaState
-with_element None x = x
-with_element (Some e) x = element_written e.attributes x x.marks
+abbrev pub with_next_element : Option Entry → ReplicaState → ReplicaState
+with_next_element None x = x
+with_next_element (Some e) x = next_element_written e.attributes x x.marks
 
 -- the weak write has been done, and its marks go
 abbrev pub marks_ended : ReplicaState → Option Marked → ReplicaState
@@ -456,7 +456,7 @@ changed m s verbs.Stage k r reply = on_ok reply m (at_some k m (λ k. at_some r 
 changed m s verbs.Commit k r reply = on_ok reply m (at_some k m (λ k. at_some r m (λ r. change_replica m k r (m.replicas k r) (with_committed (entry_of k m.cluster.entries)))))
 changed m s verbs.Apply k r reply = on_ok reply m (at_some k m (λ k. at_some r m (λ r. change_replica m k r (m.replicas k r) (with_applied s.call (update_of s.op) m.cluster.moment (entry_of k m.cluster.entries)))))
 changed m s verbs.Mark k r reply = on_ok reply m (at_some k m (λ k. at_some r m (λ r. change_replica m k r (m.replicas k r) (with_marks s.call (update_of s.op) m.cluster.moment))))
-changed m s verbs.Element k r reply = on_ok reply m (at_some k m (λ k. at_some r m (λ r. change_replica m k r (m.replicas k r) (with_element (entry_of k m.cluster.entries)))))
+changed m s verbs.Element k r reply = on_ok reply m (at_some k m (λ k. at_some r m (λ r. change_replica m k r (m.replicas k r) (with_next_element (entry_of k m.cluster.entries)))))
 changed m s verbs.Unmark k r reply = on_ok reply m (at_some k m (λ k. at_some r m (λ r. change_replica m k r (m.replicas k r) without_marks)))
 changed m s verbs.Iter k r reply = on_ok reply m (at_some k m (λ k. at_some r m (λ r. with_started s k r m)))
 changed m s verbs.Next k r reply = on_ok reply m (at_some k m (λ k. at_some r m (λ r. with_gone_on s k r m)))

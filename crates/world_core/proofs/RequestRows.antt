@@ -27,7 +27,7 @@ use Rattle.node_core.specs.Serving.{reply_of, replica_after, stage_reply, apply_
 use Rattle.node_core.specs.Fitting.{IsReadyFor}
 use Rattle.node_msgs.specs.Steps.{verb_of, word_of}
 use Rattle.ckpt_machine.specs.Machine.{Machine, Effect, Applied, ReplicaState, CallState}
-use Rattle.ckpt_machine.specs.Steps.{changed, on_ok, change_replica, chosen_at, given_at, ids_asked, payload_due, seen_at, with_slot, with_committed, with_applied, with_marks, with_element, without_marks, having_taken, with_tables, staged_moment}
+use Rattle.ckpt_machine.specs.Steps.{changed, on_ok, change_replica, chosen_at, given_at, ids_asked, payload_due, seen_at, with_slot, with_committed, with_applied, with_marks, with_next_element, without_marks, having_taken, with_tables, staged_moment}
 use Rattle.ckpt_machine.specs.Tables.{started, with_next, gone_on}
 use Rattle.world_core.specs.Shows.{shown_replica, shown_slot, FitsReplica, FitsSlot}
 use Rattle.ckpt_machine.proofs.Calls.{IsOwn}
@@ -132,14 +132,14 @@ module _ (M : Machine) (s : CallState) (k r : ℕ) (E : List Effect) (o : CallId
 
   -- its next element is done
   element_moves : (p : Option Marked) (e : Entry) → entry_of k M.cluster.entries ≡ Some e → x.attributes ≡ e.attributes → M.replicas k r ≡ shown_replica E o (Some (record x { marks = p })) →
-      change_replica M k r (M.replicas k r) (with_element (entry_of k M.cluster.entries)) ≡ with (shown_replica E o (Some (element_done (record x { marks = p }) p)))
+      change_replica M k r (M.replicas k r) (with_next_element (entry_of k M.cluster.entries)) ≡ with (shown_replica E o (Some (element_done (record x { marks = p }) p)))
   element_moves None e at same is =
-      ap (λ y. change_replica M k r y (with_element (entry_of k M.cluster.entries))) is
-      ∙ ap (λ f. change_replica M k r (shown_replica E o (Some (record x { marks = None }))) (with_element f)) at
+      ap (λ y. change_replica M k r y (with_next_element (entry_of k M.cluster.entries))) is
+      ∙ ap (λ f. change_replica M k r (shown_replica E o (Some (record x { marks = None }))) (with_next_element f)) at
   element_moves (Some marked) e at same is =
-      ap (λ y. change_replica M k r y (with_element (entry_of k M.cluster.entries))) is
-      ∙ ap (λ f. change_replica M k r (shown_replica E o (Some (record x { marks = Some marked }))) (with_element f)) at
-      ∙ ap (λ a. change_replica M k r (shown_replica E o (Some (record x { marks = Some marked }))) (with_element (Some (record e { attributes = a })))) (sym same)
+      ap (λ y. change_replica M k r y (with_next_element (entry_of k M.cluster.entries))) is
+      ∙ ap (λ f. change_replica M k r (shown_replica E o (Some (record x { marks = Some marked }))) (with_next_element f)) at
+      ∙ ap (λ a. change_replica M k r (shown_replica E o (Some (record x { marks = Some marked }))) (with_next_element (Some (record e { attributes = a })))) (sym same)
 
   -- and its marks go, once it has been done
   unmark_moves : (p : Option Marked) (call : CallId) → M.replicas k r ≡ shown_replica E o (Some (record x { marks = p })) → IsMarkedBy call p →
