@@ -17,7 +17,7 @@ use Rattle.cluster_record.specs.Calls.{same_actor, client_of, put_actor}
 use Rattle.cluster_record.specs.Identities.{IdentitiesRise, AllUpTo}
 use Rattle.cluster_record.specs.Makings.{making_of}
 use Rattle.cluster_record.specs.Places.{find_key, change_key}
-use Rattle.cluster_record.specs.RecordState.{RecordState, entry_of, identity_of, client_key, is_live, is_live_client, no_nodes, stays, swept}
+use Rattle.cluster_record.specs.RecordState.{RecordState, entry_of, identity_of, client_key, is_live, no_nodes, stays, swept}
 use Rattle.cluster_record.proofs.IdentityLaws.{KeepsIdentity, IdentitiesRise-filter, AllUpTo-filter, IdentitiesRise-change_key, AllUpTo-change_key}
 use Rattle.ckpt_machine.specs.Drivers.{Driver}
 use Rattle.ckpt_machine.specs.Drivers as drivers

@@ -49,9 +49,9 @@ use Rattle.cluster_record.specs.declared.entries.Entry.{Entry}
 use Rattle.replica.specs.Replicas.{Replica}
 use Rattle.stage_slot.specs.Slots.{Slot}
 use Rattle.cluster_record.specs.Calls.{number_of, client_of, IsClient, put_actor, left}
-use Rattle.cluster_record.specs.Places.{find_key, put2}
+use Rattle.cluster_record.specs.Places.{put2}
 use Rattle.cluster_record.specs.LookUps.{declared_in, creation_flags_of}
-use Rattle.cluster_record.specs.RecordState.{RecordState, entry_of, complete_of, client_key, is_live_client, home_of, is_up, no_nodes, brought_up, IsMomentFrom, moved, swept, entered, created_as, finished, opened, undone, closed, unlinked, retained, departed}
+use Rattle.cluster_record.specs.RecordState.{RecordState, entry_of, complete_of, is_live_client, home_of, is_up, no_nodes, brought_up, IsMomentFrom, moved, swept, entered, created_as, finished, opened, undone, closed, unlinked, retained, departed}
 use Rattle.node_msgs.specs.Requests.{ckpt_of}
 use Rattle.node_core.specs.Serving.{made_id, reply_at, details_at}
 use Rattle.node_core.specs.Seen.{record_seen}

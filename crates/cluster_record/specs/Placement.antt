@@ -1,5 +1,5 @@
 -- On which nodes a checkpoint has its replicas, and which of them is the active.
-use Rattle.std.specs.Prelude.{ℕ, List, Option, None, Some, Bool, replicate, slice_index, slice_set, if◌then◌else◌}
+use Rattle.std.specs.Prelude.{ℕ, List, Bool, replicate, slice_index, slice_set, if◌then◌else◌}
 use Rattle.ckpt_types.specs.declared.attributes.CreationAttributes.{CreationAttributes}
 use Rattle.ckpt_types.specs.Attributes.{has_flag}
 use Rattle.ckpt_types.specs.Limits.{nodes_max, checkpoint_collocated}
