@@ -8,7 +8,7 @@ use Rattle.ckpt_types.specs.declared.operation.Op.TheVariants as ops
 use Rattle.ckpt_types.specs.declared.update.ReadElement.{ReadElement}
 use Rattle.ckpt_types.specs.declared.update.Update.{Update}
 use Rattle.ckpt_types.specs.declared.update.Update.TheVariants as updates
-use Rattle.ckpt_types.specs.Limits.{wr_active_replica, wr_active_replica_weak, checkpoint_collocated, places_max, nodes_max}
+use Rattle.ckpt_types.specs.Limits.{places_max, nodes_max}
 
 -- what a call asks for; of places, that of the handle stands first, and that of an iteration before it
 pub data Ask : Type 0 where
@@ -89,20 +89,10 @@ pub record RegistersNone (callbacks : CallbackSet) : Type 0 where
   pub opens : callbacks.opens ≡ false
   pub syncs : callbacks.syncs ≡ false
 
--- of the attributes that pass their check, those of a collocated checkpoint are not built yet
-pub record IsBuiltAttributes (a : CreationAttributes) : Type 0 where
-  pub not_active : a.creation_flags ≢ wr_active_replica + checkpoint_collocated
-  pub not_weak : a.creation_flags ≢ wr_active_replica_weak + checkpoint_collocated
-
--- attributes are of a kind that is built, where they are given
-abbrev pub AreBuilt : Option CreationAttributes → Type 0
-AreBuilt None = Unit {0}
-AreBuilt (Some a) = IsBuiltAttributes a
-
 -- what is asked for is built, and names a node and places that there are
 abbrev pub IsBuiltAsk : Ask → Type 0
 IsBuiltAsk (Enter r version callbacks) = (r < nodes_max) × RegistersNone callbacks
-IsBuiltAsk (Open place name flags timeout a) = (place < places_max) × AreBuilt a
+IsBuiltAsk (Open place name flags timeout a) = place < places_max
 IsBuiltAsk (Change place update) = place < places_max
 IsBuiltAsk (Read place elements) = place < places_max
 IsBuiltAsk (Status place) = place < places_max

@@ -5,11 +5,10 @@ use Rattle.std.proofs.lemmas.Int.{ints}
 use Rattle.std.proofs.lemmas.List.{length-map}
 use Rattle.std.proofs.lemmas.List.Elements.{All-nil, All-cons}
 use Rattle.std.proofs.lemmas.List.Sums.{sum_by-cons}
-use Rattle.ckpt_types.specs.declared.attributes.CreationAttributes.{CreationAttributes}
 use Rattle.ckpt_types.specs.declared.calls.CallbackSet.{CallbackSet}
 use Rattle.ckpt_types.specs.declared.update.ReadElement.{ReadElement}
 use Rattle.ckpt_types.specs.declared.update.Update.TheVariants as updates
-use Rattle.ckpt_types.specs.Asks.{RegistersNone, IsBuiltAttributes, AreBuilt}
+use Rattle.ckpt_types.specs.Asks.{RegistersNone}
 use Rattle.ckpt_types.specs.Limits.{script_lines_max, script_reads_max, line_elements_max}
 use Rattle.script_words.specs.declared.reason.Reason.{Reason}
 use Rattle.script_words.specs.declared.reason.Reason.TheVariants as reasons
@@ -20,7 +19,7 @@ use Rattle.ckpt_types.specs.declared.words.OpWord.TheVariants as calls
 use Rattle.script_lang.specs.declared.lines.Line.{Line}
 use Rattle.script_lang.specs.declared.lines.Line.TheVariants as lines
 use Rattle.script_lang.specs.Table.{Values, LineValues, form, is_later, only_begun, attributes, attributes_of, io_group, io_element, read_group, read_element}
-use Rattle.script_lang.specs.Grammar.{marks_of, moment_behind_all, order_fault, is_nodes, goes_back, is_later_line, is_later_declared, is_later_attributes, asked_in}
+use Rattle.script_lang.specs.Grammar.{marks_of, moment_behind_all, order_fault, is_nodes, goes_back, is_later_line, asked_in}
 use Rattle.script_lang.specs.Scripts.{FitAll, FitMore, FitGroups, FitValues, IsLine, Orderly, IsScript}
 use Rattle.script_lang.specs.BuiltScripts.{HasNumbersInRange, HaveNumbersInRange, IsIoElement, IsReadElement, AreWrites, AreReads, IsBuiltLine, AreBuiltLines, AreFirstNodes, AreNodesFirst, IsBuiltScript}
 
@@ -33,16 +32,6 @@ none_registered set h = go set.opens set.syncs h refl refl
     go true syncs h opens_is syncs_is = absurd (cc)
     go false true h opens_is syncs_is = absurd (cc)
     go false false h opens_is syncs_is = record { opens = opens_is; syncs = syncs_is }
-
-built_attributes : (a : CreationAttributes) → is_later_declared a ≡ false → IsBuiltAttributes a
-built_attributes a h = record {
-  not_active = grind (arith, h);
-  not_weak = grind (arith, h);
-}
-
-all_built : (o : Option CreationAttributes) → is_later_attributes o ≡ false → AreBuilt o
-all_built None h = tt
-all_built (Some a) h = built_attributes a h
 
 numbers : (v : Values attributes) → FitAll attributes v → HasNumbersInRange (attributes_of v)
 numbers v f = record {
@@ -83,7 +72,7 @@ later_moment t (negsuc n) f h = absurd f
 line_built : (t : ℤ) (k : FirstWord) (v : LineValues (form k).shape) → FitValues (form k).shape v → is_later k ≡ false → is_nodes ((form k).line v) ≡ false → goes_back ((form k).line v) t ≡ false → is_later_line ((form k).line v) ≡ false → asked_in ((form k).line v) ≤ script_reads_max → IsBuiltLine t ((form k).line v)
 line_built t words.Nodes v f b n m h asked = absurd (cc n)
 line_built t (words.Op calls.Client) v f b n m h asked = (omega (arith, f.0), (omega (arith, f.1.0), none_registered v.1.1.1.0 h), f.1.1.0)
-line_built t (words.Op calls.Open) v f b n m h asked = (omega (arith, f.0.0), (omega (arith, f.0.1.0), all_built (option_map attributes_of v.1) h), (omega (arith, f.0.1.1.1.0.1), all_numbers v.1 f.1))
+line_built t (words.Op calls.Open) v f b n m h asked = (omega (arith, f.0.0), omega (arith, f.0.1.0), (omega (arith, f.0.1.1.1.0.1), all_numbers v.1 f.1))
 line_built t (words.Op calls.Status) v f b n m h asked = (omega (arith, f.0), omega (arith, f.1.0), tt)
 line_built t (words.Op calls.Finalize) v f b n m h asked = (omega (arith, f.0), tt, tt)
 line_built t (words.Op calls.Close) v f b n m h asked = (omega (arith, f.0), omega (arith, f.1.0), tt)

@@ -1,10 +1,9 @@
 -- A script: its lines one after the other, and the first that is at fault.
 use Rattle.std.specs.Prelude.{ℕ, ◌+◌, ◌≤◌, Bool, true, false, not, cond, ◌&&◌, ◌||◌, List, [], ◌∷◌, length, reverse, ℤ, pos, Option, Some, None, is_some, option_map, Result, Ok, Err, nat_le, nat_lt, int_lt, ◌==◌, if◌then◌else◌, bytes_eq, sum_by}
 use Rattle.std.specs.List.{slice_split, onto_first, list_any}
-use Rattle.ckpt_types.specs.declared.attributes.CreationAttributes.{CreationAttributes}
 use Rattle.ckpt_types.specs.declared.operation.Op.{Op}
 use Rattle.ckpt_types.specs.declared.operation.Op.TheVariants as ops
-use Rattle.ckpt_types.specs.Limits.{block_lines_max, script_reads_max, script_shows_max, script_lines_max, script_bytes_max, wr_active_replica, wr_active_replica_weak, checkpoint_collocated}
+use Rattle.ckpt_types.specs.Limits.{block_lines_max, script_reads_max, script_shows_max, script_lines_max, script_bytes_max}
 use Rattle.script_words.specs.declared.reason.Reason.{Reason}
 use Rattle.script_words.specs.declared.reason.Reason.TheVariants as reasons
 use Rattle.script_words.specs.Words.{or_else}
@@ -186,20 +185,9 @@ limit_fault m x =
 
 -- THE NARROWER FORMS THAT ARE NOT BUILT YET
 
--- creation flags of a collocated checkpoint
-abbrev pub is_later_declared : CreationAttributes → Bool
-is_later_declared a = a.creation_flags == wr_active_replica + checkpoint_collocated || a.creation_flags == wr_active_replica_weak + checkpoint_collocated
-
--- attributes that are given, with such flags
-abbrev pub is_later_attributes : Option CreationAttributes → Bool
-is_later_attributes None = false
-is_later_attributes (Some a) = is_later_declared a
-
--- a call that wants callbacks, or attributes with such flags
+-- a call that wants callbacks
 abbrev pub is_later_op : Op → Bool
 is_later_op (ops.Client node version set) = set.opens || set.syncs
-is_later_op (ops.Open place name flags timeout attributes) = is_later_attributes attributes
-is_later_op (ops.OpenAsync place invocation name flags attributes) = is_later_attributes attributes
 is_later_op _ = false
 
 -- a call as above, plain or behind `begin`

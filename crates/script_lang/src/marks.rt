@@ -1,12 +1,11 @@
 //! What the lines so far tell of the next: which may come, and how much is left of each limit.
 ghost use Rattle.std.specs.Prelude.{◌≡◌, ◌<◌, ◌≤◌, ◌+◌, OnOk, IfErr, IfSome, IfNone, IfOk, Some, None, false, sum_by};
 ghost use Rattle.ckpt_types.specs.Limits.{block_lines_max, script_shows_max};
-ghost use Rattle.script_lang.specs.Grammar.{fault_after, marks_after, IsSmall, is_nodes, is_end, is_show, is_race as spec_is_race, goes_back, may_race_op as spec_may_race_op, may_race as spec_may_race, breaks_block, asked_in, moment_behind, block_after, block_size, shows_after, is_later_declared as spec_is_later_declared, is_later_attributes as spec_is_later_attributes, is_later_op as spec_is_later_op, is_later_line as spec_is_later_line};
+ghost use Rattle.script_lang.specs.Grammar.{fault_after, marks_after, IsSmall, is_nodes, is_end, is_show, is_race as spec_is_race, goes_back, may_race_op as spec_may_race_op, may_race as spec_may_race, breaks_block, asked_in, moment_behind, block_after, block_size, shows_after, is_later_op as spec_is_later_op, is_later_line as spec_is_later_line};
 
 use crate::lines::Line;
 use ckpt_types::{
-    BLOCK_LINES_MAX, CHECKPOINT_COLLOCATED, CreationAttributes, Moment, Op, ReadElement,
-    SCRIPT_READS_MAX, SCRIPT_SHOWS_MAX, WR_ACTIVE_REPLICA, WR_ACTIVE_REPLICA_WEAK,
+    BLOCK_LINES_MAX, Moment, Op, ReadElement, SCRIPT_READS_MAX, SCRIPT_SHOWS_MAX,
 };
 use script_words::Reason;
 
@@ -212,26 +211,6 @@ fn is_later_op(op: &Op) -> bool
 {
     match op {
         Op::Client(_, _, callbacks) => callbacks.opens || callbacks.syncs,
-        Op::Open(_, _, _, _, attributes) => is_later_attributes(attributes.value()),
-        Op::OpenAsync(_, _, _, _, attributes) => is_later_attributes(attributes.value()),
         _ => false,
     }
-}
-
-fn is_later_attributes(attributes: &Option<CreationAttributes>) -> bool
-    ensures { result ≡ spec_is_later_attributes attributes.now }
-{
-    match attributes {
-        Some(declared) => is_later_declared(declared),
-        None => false,
-    }
-}
-
-// Collocated checkpoints.
-fn is_later_declared(declared: &CreationAttributes) -> bool
-    ensures { result ≡ spec_is_later_declared declared.now }
-{
-    let flags = declared.creation_flags;
-    flags == WR_ACTIVE_REPLICA + CHECKPOINT_COLLOCATED
-        || flags == WR_ACTIVE_REPLICA_WEAK + CHECKPOINT_COLLOCATED
 }
