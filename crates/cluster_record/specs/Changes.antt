@@ -4,12 +4,12 @@ use Rattle.cluster_record.specs.declared.entries.Entry.{Entry}
 use Rattle.cluster_record.specs.declared.entries.Change.{Change}
 use Rattle.cluster_record.specs.declared.entries.Change.TheVariants.{Made, Referred, Released, Unnamed, Retaining}
 use Rattle.cluster_record.specs.RecordReady.{CanRefer}
-use Rattle.cluster_record.specs.RecordState.{made_with, referred, unreferred, unnamed, retaining}
+use Rattle.cluster_record.specs.RecordState.{made_with, opened_with, unreferred, unnamed, retaining}
 
 -- what each change makes of an entry
 abbrev pub changed_by : Change → Entry → Entry
 changed_by (Made up opener c) = made_with opener up c
-changed_by (Referred c) = referred c
+changed_by (Referred up opener c) = opened_with opener up c
 changed_by (Released c t) = unreferred c t
 changed_by Unnamed = unnamed
 changed_by (Retaining duration) = retaining duration
@@ -17,7 +17,7 @@ changed_by (Retaining duration) = retaining duration
 -- a reference more wants a count of references that is not at its end
 abbrev pub CanChange : Change → Option Entry → Type 0
 CanChange (Made up opener c) e = CanRefer c e
-CanChange (Referred c) e = CanRefer c e
+CanChange (Referred up opener c) e = CanRefer c e
 CanChange (Released c t) e = Unit {0}
 CanChange Unnamed e = Unit {0}
 CanChange (Retaining duration) e = Unit {0}

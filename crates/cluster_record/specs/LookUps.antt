@@ -1,8 +1,9 @@
 -- What is read of a client and of a checkpoint that may be there or not.
-use Rattle.std.specs.Prelude.{ℕ, Option, Some, None, slice_index, if◌then◌else◌}
+use Rattle.std.specs.Prelude.{ℕ, Option, Some, None, Bool, false, slice_index, if◌then◌else◌}
 use Rattle.ckpt_types.specs.declared.attributes.CreationAttributes.{CreationAttributes}
 use Rattle.cluster_record.specs.declared.entries.Entry.{Entry}
 use Rattle.cluster_record.specs.declared.clients.LiveClient.{LiveClient}
+use Rattle.cluster_record.specs.Placement.{adds}
 use Rattle.cluster_record.specs.RecordState.{RecordState, is_up}
 
 -- the node of a client that is live
@@ -28,6 +29,11 @@ declared_in (Some e) = Some e.attributes
 abbrev pub creation_flags_of : Option Entry → ℕ
 creation_flags_of None = 0
 creation_flags_of (Some e) = e.attributes.creation_flags
+
+-- an open from this node adds a replica of a checkpoint that is there
+abbrev pub adds_in : ℕ → Option Entry → Bool
+adds_in opener None = false
+adds_in opener (Some e) = adds e.attributes opener e.complete
 
 -- the identity of the checkpoint of a name
 abbrev pub identity_in : Option Entry → Option ℕ

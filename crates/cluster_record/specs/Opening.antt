@@ -1,5 +1,5 @@
 -- An open as one step of the record: what it answers, and what the record becomes.
-use Rattle.std.specs.Prelude.{◌+◌, length, Option, Some, None, false, not, nat_le, if◌then◌else◌}
+use Rattle.std.specs.Prelude.{ℕ, ◌+◌, length, Option, Some, None, not, nat_le, if◌then◌else◌}
 use Rattle.ckpt_types.specs.declared.ais_error.AisError.TheVariants.{NotExist, Exist}
 use Rattle.ckpt_types.specs.declared.attributes.CreationAttributes.{CreationAttributes}
 use Rattle.ckpt_types.specs.declared.calls.OpenAsk.{OpenAsk}
@@ -10,16 +10,17 @@ use Rattle.cluster_record.specs.declared.opening.OpenAnswer.{OpenAnswer}
 use Rattle.cluster_record.specs.declared.opening.OpenAnswer.TheVariants.{Opened, Made, Refused}
 use Rattle.cluster_record.specs.DueOpen.{accepts}
 use Rattle.cluster_record.specs.Refusals.{plainly, held_by, all_taken}
-use Rattle.cluster_record.specs.RecordState.{RecordState, named, created_by_ask, opened}
+use Rattle.cluster_record.specs.Placement.{adds}
+use Rattle.cluster_record.specs.RecordState.{RecordState, home_of, named, created_by_ask, opened}
 
 -- what is in the making is not opened by another call, and what is there only with the attributes that it has
-abbrev pub answer_unless : Option CallId → Option CreationAttributes → Entry → OpenAnswer
-answer_unless (Some call) a e = Refused (held_by call)
-answer_unless None a e = if not (accepts a e) then Refused (plainly Exist) else Opened e.identity false
+abbrev pub answer_unless : Option CallId → Option CreationAttributes → ℕ → Entry → OpenAnswer
+answer_unless (Some call) a opener e = Refused (held_by call)
+answer_unless None a opener e = if not (accepts a e) then Refused (plainly Exist) else Opened e.identity (adds e.attributes opener e.complete)
 
--- what an open gets of the checkpoint that has its name
-abbrev pub answer_of : Option CreationAttributes → Entry → OpenAnswer
-answer_of a e = answer_unless e.making a e
+-- what an open from this node gets of the checkpoint that has its name
+abbrev pub answer_of : Option CreationAttributes → ℕ → Entry → OpenAnswer
+answer_of a opener e = answer_unless e.making a opener e
 
 -- of a name that no checkpoint has: one is made where attributes are given, and room is left
 abbrev pub answer_free : RecordState → Option CreationAttributes → OpenAnswer
@@ -27,13 +28,13 @@ answer_free R None = Refused (plainly NotExist)
 answer_free R (Some a) = if nat_le checkpoints_max (length R.entries) then Refused (all_taken checkpoints_max) else Made (R.last_identity + 1)
 
 -- what an open gets of its name, whether a checkpoint has it or not
-abbrev pub answer_named : RecordState → Option CreationAttributes → Option Entry → OpenAnswer
-answer_named R a None = answer_free R a
-answer_named R a (Some e) = answer_of a e
+abbrev pub answer_named : RecordState → Option CreationAttributes → ℕ → Option Entry → OpenAnswer
+answer_named R a opener None = answer_free R a
+answer_named R a opener (Some e) = answer_of a opener e
 
 -- what an open answers
 abbrev pub open_answer : RecordState → OpenAsk → OpenAnswer
-open_answer R ask = answer_named R ask.attrs (named ask.name R.entries)
+open_answer R ask = answer_named R ask.attrs (home_of ask.client R) (named ask.name R.entries)
 
 -- what the record becomes by the answer of an open; a refusal leaves it as it was
 abbrev pub after_answer : CallId → OpenAsk → RecordState → OpenAnswer → RecordState

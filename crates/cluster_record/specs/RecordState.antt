@@ -9,7 +9,7 @@ use Rattle.ckpt_types.specs.declared.identities.CallId.{CallId}
 use Rattle.ckpt_types.specs.declared.attributes.CreationAttributes.{CreationAttributes}
 use Rattle.ckpt_types.specs.declared.calls.OpenAsk.{OpenAsk}
 use Rattle.ckpt_types.specs.Limits.{nodes_max, client_numbers}
-use Rattle.cluster_record.specs.Placement.{targets, is_collocated}
+use Rattle.cluster_record.specs.Placement.{targets, is_collocated, adds}
 use Rattle.cluster_record.specs.declared.entries.Entry.{Entry}
 use Rattle.cluster_record.specs.declared.clients.LiveClient.{LiveClient}
 use Rattle.cluster_record.specs.Places.{find_key, change_key}
@@ -195,9 +195,17 @@ finished k c R = record R { entries = change_key identity_of k (made_with (home_
 abbrev pub undone : ℕ → RecordState → RecordState
 undone k R = record R { entries = filter (λ e. not (e.identity == k)) R.entries }
 
+-- opened from this node, where these nodes are up: from then on it is complete there too, where that adds a replica
+abbrev pub joined : ℕ → List ℕ → Entry → Entry
+joined opener up e = if adds e.attributes opener e.complete then record e { complete = slice_set e.complete opener (slice_index up opener) } else e
+
+-- opened by a client from this node
+abbrev pub opened_with : ℕ → List ℕ → ℕ → Entry → Entry
+opened_with opener up c e = referred c (joined opener up e)
+
 -- a client opens a checkpoint that is there
 abbrev pub opened : ℕ → ℕ → RecordState → RecordState
-opened k c R = record R { entries = change_key identity_of k (referred c) R.entries }
+opened k c R = record R { entries = change_key identity_of k (opened_with (home_of c R) R.up c) R.entries }
 
 -- ---- the end of a checkpoint's life
 

@@ -7,9 +7,9 @@ ghost use Rattle.cluster_record.specs.Numbers.{may_rise, entry_may_rise};
 ghost use Rattle.cluster_record.specs.Changes.{changed_by, CanChange};
 ghost use Rattle.cluster_record.specs.NamesOf.{stays_by, without_name, without_gone};
 ghost use Rattle.cluster_record.specs.Places.{change_key, place_key};
-ghost use Rattle.cluster_record.specs.RecordState.{no_nodes, no_references, identity_of, entry_of, first_active, first_complete, stays, has_references, referred, made_with, idle_from, unreferred, released_all, is_call_of};
+ghost use Rattle.cluster_record.specs.RecordState.{no_nodes, no_references, identity_of, entry_of, first_active, first_complete, stays, has_references, referred, joined, opened_with, made_with, idle_from, unreferred, released_all, is_call_of};
 
-use crate::placement::{is_collocated, targets};
+use crate::placement::{adds, is_collocated, targets};
 use ckpt_types::{
     ActorName, Bytes, CHECKPOINTS_MAX, CLIENT_NUMBERS, CallId, CkptId, CreationAttributes, Moment,
     NODES_MAX, NodeId, SectionId,
@@ -57,6 +57,25 @@ impl Entry {
         ensures { self.new ≡ referred client self.old }
     {
         add_one(&mut self.references, client);
+    }
+
+    // It is opened from a node: where that adds a replica, it is complete there too.
+    fn join(&mut self, up: &[u32; NODES_MAX], opener: NodeId)
+        ensures { self.new ≡ joined opener up.now self.old }
+    {
+        let place = opener as usize;
+        if place < NODES_MAX && adds(&self.attributes, opener, &self.complete) {
+            self.complete[place] = up[place];
+        }
+    }
+
+    // A client opens it from a node.
+    fn open(&mut self, up: &[u32; NODES_MAX], opener: NodeId, client: u8)
+        requires { slice_index self.old.references client < 2 ^ 32 - 1 }
+        ensures { self.new ≡ opened_with opener up.now client self.old }
+    {
+        self.join(up, opener);
+        self.refer(client);
     }
 
     // The making is finished, by an opener on a node.
@@ -107,7 +126,7 @@ impl Entry {
     {
         match change {
             Change::Made(up, opener, client) => self.make(&up, opener, client),
-            Change::Referred(client) => self.refer(client),
+            Change::Referred(up, opener, client) => self.open(&up, opener, client),
             Change::Released(client, now) => self.release(client, now),
             Change::Unnamed => self.name = None,
             Change::Retaining(duration) => self.retention = duration,
@@ -309,8 +328,8 @@ fn place_of(entries: &[Entry], identity: CkptId) -> Option<usize>
 pub(crate) enum Change {
     /// Its making is finished where these nodes are up, by an opener on this one, and the client has it open.
     Made([u32; NODES_MAX], NodeId, u8),
-    /// The client has it open once more.
-    Referred(u8),
+    /// The client has it open once more, where these nodes are up, by an open from this one.
+    Referred([u32; NODES_MAX], NodeId, u8),
     /// The client closes it once, at the moment.
     Released(u8, Moment),
     /// It has no name any more.

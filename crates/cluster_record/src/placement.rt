@@ -1,6 +1,6 @@
-//! On which nodes a checkpoint is made.
-ghost use Rattle.std.specs.Prelude.{◌≡◌};
-ghost use Rattle.cluster_record.specs.Placement.{is_collocated, alone_on, targets};
+//! On which nodes a checkpoint is made, and where an open adds a replica.
+ghost use Rattle.std.specs.Prelude.{◌≡◌, slice_index};
+ghost use Rattle.cluster_record.specs.Placement.{is_collocated, alone_on, targets, adds};
 
 use ckpt_types::{CHECKPOINT_COLLOCATED, CreationAttributes, NODES_MAX, NodeId};
 
@@ -37,4 +37,23 @@ pub(crate) fn targets(
     } else {
         *up
     }
+}
+
+/// Whether an open from this node adds a replica there: the checkpoint is collocated, and not complete on it.
+pub(crate) fn adds(
+    attributes: &CreationAttributes,
+    opener: NodeId,
+    complete: &[u32; NODES_MAX],
+) -> bool
+    ensures { result ≡ adds attributes.now opener complete.now }
+{
+    is_collocated(attributes) && incarnation_at(complete, opener) == 0
+}
+
+// The incarnation that such a list has of a node; 0 of one that is none of the cluster's.
+fn incarnation_at(nodes: &[u32; NODES_MAX], node: NodeId) -> u32
+    ensures { result ≡ slice_index nodes.now node }
+{
+    let place = node as usize;
+    if place < NODES_MAX { nodes[place] } else { 0 }
 }

@@ -1,7 +1,7 @@
 //! The record: what all nodes agree on, and each step that may be made on it.
 ghost use Rattle.std.specs.Prelude.{◌≡◌, ℕ, List, ◌-◌, ◌^◌, ◌≤◌, ◌<◌, None, Some, true, slice_get, IfSome, IfOk, OnOk, OnErr, IfErr, MatchOption, length, nat_lt, pos, ◌≤ℤ◌, if◌then◌else◌};
 ghost use Rattle.moment_rules.specs.Times.{sum_until_end};
-ghost use Rattle.cluster_record.specs.LookUps.{node_in, life_of, up_as, declared_in, identity_in, at_ckpt};
+ghost use Rattle.cluster_record.specs.LookUps.{node_in, life_of, up_as, declared_in, adds_in, identity_in, at_ckpt};
 ghost use Rattle.cluster_record.specs.DueOpen.{targets_by};
 ghost use Rattle.cluster_record.specs.Identities.{IdentitiesRise, AllUpTo};
 ghost use Rattle.cluster_record.specs.Calls.{client_of, IsClient};
@@ -21,7 +21,7 @@ use crate::entries::{
     keep_only, kept_name, new_entry, release_everywhere,
 };
 use crate::opening::{OpenAnswer, answer_of};
-use crate::placement::targets;
+use crate::placement::{adds, targets};
 use ckpt_types::{
     ActorName, AisError, Bytes, CHECKPOINTS_MAX, CLIENTS_MAX, CallId, Cause, CkptId,
     CreationAttributes, Incarnation, Moment, NODES_MAX, NodeId, OpenAsk,
@@ -354,14 +354,30 @@ impl Record {
         OpenAnswer::Made(self.last_identity + 1)
     }
 
-    /// What an open of the name gets, with the attributes to make the checkpoint with.
-    pub fn open_answer(&self, name: &Bytes, attributes: &Option<CreationAttributes>) -> OpenAnswer
+    /// What an open of the name by this client gets, with the attributes to make the checkpoint with.
+    pub fn open_answer(
+        &self,
+        name: &Bytes,
+        attributes: &Option<CreationAttributes>,
+        client: u8,
+    ) -> OpenAnswer
         requires { self.now.last_identity < 2 ^ 32 - 1 }
-        ensures { result ≡ answer_named self.now attributes.now (named name.now self.now.entries) }
+        ensures { result ≡ answer_named self.now attributes.now (home_of client self.now) (named name.now self.now.entries) }
     {
         match self.named(name) {
             None => self.answer_free(attributes),
-            Some(entry) => answer_of(entry, attributes),
+            Some(entry) => answer_of(entry, attributes, self.home_of(client)),
+        }
+    }
+
+    /// Whether an open by this client adds a replica of a checkpoint on the client's node: the checkpoint is
+    /// collocated, and not complete there.
+    pub fn adds_replica(&self, identity: CkptId, client: u8) -> bool
+        ensures { result ≡ adds_in (home_of client self.now) (entry_of identity self.now.entries) }
+    {
+        match self.entry(identity) {
+            None => false,
+            Some(entry) => adds(&entry.attributes, self.home_of(client), &entry.complete),
         }
     }
 
@@ -384,19 +400,21 @@ impl Record {
         self.entries.push_reserved(entry);
     }
 
-    // A client has a checkpoint open once more.
+    // A client has a checkpoint open once more, by an open from its node.
     fn refer(&mut self, identity: CkptId, client: u8)
         requires can { CanRefer client (entry_of identity self.old.entries) }
         requires made { (name : List ℕ) × (identity_in (named name self.old.entries) ≡ Some identity) × (making_call (named name self.old.entries) ≡ None) }
         ensures { self.new ≡ opened identity client self.old }
     {
-        change_entry(&mut self.entries, identity, Change::Referred(client));
+        let referred = Change::Referred(self.up, self.home_of(client), client);
+        change_entry(&mut self.entries, identity, referred);
     }
 
     /// A client opens the checkpoint of a name, or makes it where it is not there and attributes are given. NOT_EXIST
     /// where it is not there and none are given, TRY_AGAIN, with the call, where one is making it, EXIST where it has
     /// other attributes than those given, and NO_RESOURCES, with the count 16, where so many checkpoints are there and
-    /// it is not; then nothing changes. It takes no memory.
+    /// it is not; then nothing changes. A collocated one that is opened is complete on the client's node from then on.
+    /// It takes no memory.
     pub fn open(&mut self, call: CallId, ask: OpenAsk) -> OpenAnswer
         requires caller { IsClient call.actor }
         requires can { CanOpen ask self.old }
@@ -405,7 +423,7 @@ impl Record {
         ensures answer { result ≡ open_answer self.old ask }
         ensures after { self.new ≡ after_open call ask self.old }
     {
-        let answer = self.open_answer(&ask.name, &ask.attrs);
+        let answer = self.open_answer(&ask.name, &ask.attrs, ask.client);
         match answer {
             OpenAnswer::Opened(identity, _) => self.refer(identity, ask.client),
             OpenAnswer::Made(_) => self.create(call, ask),
