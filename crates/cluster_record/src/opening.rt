@@ -4,8 +4,8 @@ ghost use Rattle.cluster_record.specs.DueOpen.{accepts};
 ghost use Rattle.cluster_record.specs.Opening.{answer_of};
 
 use crate::entries::Entry;
-use crate::record::{RecordRefused, held_by, plainly};
 use crate::placement::adds;
+use crate::record::{RecordRefused, held_by, plainly};
 use ckpt_types::{AisError, CkptId, CreationAttributes, NodeId};
 
 /// What the record answers to an open.
