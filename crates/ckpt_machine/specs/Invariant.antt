@@ -1,5 +1,5 @@
 -- What holds in every state of a run, of any number of nodes up to eight and of calls in hand; from it follow the guards, and all that the code relies on.
-use Rattle.std.specs.Prelude.{◌≡◌, ℕ, ◌<◌, [], Option, Some, None, IsSome, IfSome, Contains, true}
+use Rattle.std.specs.Prelude.{◌≡◌, ℕ, ◌<◌, [], Option, Some, None, IsSome, IsSomeAnd, IfSome, Contains, true}
 use Rattle.ckpt_types.specs.declared.identities.ActorName.{ActorName}
 use Rattle.ckpt_types.specs.declared.identities.CallId.{CallId}
 use Rattle.client_handles.specs.declared.handle_view.HandleView.{HandleView}
@@ -48,8 +48,8 @@ pub record InvariantIn (shapes : ℕ → Shape) (m : Machine) : Type 0 where
   pub up_to : AllUpTo m.cluster.last_identity m.cluster.entries
   pub swept : AllStay m.cluster.moment m.cluster.entries
   pub entries : (k : ℕ) (e : Entry) → entry_of k m.cluster.entries ≡ Some e → IsGoodIn m k (shapes k) e e.making
-  -- what is reserved is for a checkpoint that is there
-  pub reserves : (k r n : ℕ) → m.reserved k r ≡ Some n → IsSome (entry_of k m.cluster.entries)
+  -- what is reserved is for a checkpoint that is in the making
+  pub reserves : (k r n : ℕ) → m.reserved k r ≡ Some n → IsSomeAnd (entry_of k m.cluster.entries) (λ e. IsSome e.making)
   pub handles : (a : ActorName) (h : HandleView) → Contains (m.tables a).handles h → WasMade m.cluster h.id
   -- no iteration is lent between two steps
   pub rest : (a : ActorName) → NoneLent (m.tables a)
