@@ -1,9 +1,9 @@
 -- What is kept of each checkpoint is kept by each change of one.
-use Rattle.std.proofs.Common.{◌≡◌, ℕ, ◌+◌, ◌-◌, ◌<◌, ◌≤◌, zero, suc, List, [], ◌∷◌, length, replicate, Bool, true, false, cond, ◌==◌, refl, sym, ap, subst, ◌∙◌, arith}
+use Rattle.std.proofs.Common.{◌≡◌, ◌≢◌, ℕ, ◌+◌, ◌-◌, ◌<◌, ◌≤◌, zero, suc, List, [], ◌∷◌, length, replicate, Bool, true, false, cond, ◌==◌, refl, sym, ap, subst, ◌∙◌, arith}
 use Rattle.std.specs.Prelude.{Option, Some, None, IfSome, ℤ, pos, ◌≤ℤ◌, slice_set, slice_index}
-use Rattle.std.proofs.lemmas.Bool.{eqb-false}
+use Rattle.std.proofs.lemmas.Bool.{eqb-false, eqb-true, and_parts}
 use Rattle.std.proofs.lemmas.Int.{ints}
-use Rattle.std.proofs.lemmas.List.{length-set}
+use Rattle.std.proofs.lemmas.List.{length-set, get_or-set_other}
 use Rattle.ckpt_types.specs.declared.attributes.CreationAttributes.{CreationAttributes}
 use Rattle.ckpt_types.specs.declared.identities.CallId.{CallId}
 use Rattle.ckpt_types.specs.Attributes.{IsWellFormed}
@@ -111,6 +111,29 @@ module _ (t : ℤ) (e : Entry) (kept : IsKeptEntry t e) where
   pub referred-kept : (c : ℕ) → e.making ≡ None → IsKeptEntry t (referred c e)
   referred-kept c made = with_references (slice_set e.references c (slice_index e.references c + 1)) e.idle made (as_many c (slice_index e.references c + 1)) kept.idle kept.past
 
+  -- complete on one node more, which is up in an incarnation
+  complete_more : (r n : ℕ) → e.making ≡ None → slice_index e.complete r ≡ 0 → IsKeptEntry t (record e { complete = slice_set e.complete r n })
+  complete_more r n made free = record {
+    identity = kept.identity;
+    name = kept.name;
+    attributes = kept.attributes;
+    retention = kept.retention;
+    made = kept.made;
+    idle = kept.idle;
+    past = kept.past;
+    complete = length-set e.complete r n ∙ kept.complete;
+    references = kept.references;
+    active = still_complete e.active kept.active;
+    generation = kept.generation;
+    making = unless_none e.making _ made;
+  }
+    where
+      still_complete : (o : Option ℕ) → IfSome o (λ q. IsComplete q e.complete) → IfSome o (λ q. IsComplete q (slice_set e.complete r n))
+      still_complete None is = tt
+      still_complete (Some q) is =
+          let other : q ≢ r = λ same. (let none : slice_index e.complete q ≡ 0 = ap (slice_index e.complete) same ∙ free in let some = is.incarnation in omega (arith, none, some)) in
+          record { node = is.node; incarnation = subst (λ n. 1 ≤ n) (sym (get_or-set_other e.complete r q n 0 other)) is.incarnation }
+
   pub made_with-kept : (opener : ℕ) (up : List ℕ) (c : ℕ) → length up ≡ nodes_max → IsKeptEntry t (made_with opener up c e)
   made_with-kept opener up c few = let all = targets-length e.attributes opener up few in record {
     identity = kept.identity;
@@ -193,3 +216,12 @@ new_entry-kept call name a R client fits formed start = record {
   generation = omega arith;
   making = record { maker = client; name = refl; complete = refl; active = refl; generation = refl; references = refl; hold = refl };
 }
+
+-- opened from a node, where that adds a replica or not
+pub opened_with-kept : (t : ℤ) (e : Entry) → IsKeptEntry t e → (opener : ℕ) (up : List ℕ) (c : ℕ) → e.making ≡ None → IsKeptEntry t (opened_with opener up c e)
+opened_with-kept t e kept opener up c made = by (adds e.attributes opener e.complete) refl where
+  by : (b : Bool) → adds e.attributes opener e.complete ≡ b → IsKeptEntry t (referred c (cond b (record e { complete = slice_set e.complete opener (slice_index up opener) }) e))
+  by false is = referred-kept t e kept c made
+  by true is =
+      let free : slice_index e.complete opener ≡ 0 = eqb-true (slice_index e.complete opener) 0 (and_parts (is_collocated e.attributes) (slice_index e.complete opener == 0) is).1 in
+      referred-kept t (record e { complete = slice_set e.complete opener (slice_index up opener) }) (complete_more t e kept opener (slice_index up opener) made free) c made

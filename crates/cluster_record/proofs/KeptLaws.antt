@@ -15,7 +15,8 @@ use Rattle.cluster_record.specs.Kept.{IsKeptEntry, IsKeptClient, AreKeptClients}
 use Rattle.cluster_record.specs.NamesOf.{names_of, without_gone}
 use Rattle.cluster_record.specs.Places.{find_key, change_key}
 use Rattle.cluster_record.specs.LookUps.{identity_in}
-use Rattle.cluster_record.specs.RecordState.{identity_of, entry_of, named, unnamed, has_references, idle_from, unreferred, released_all}
+use Rattle.cluster_record.specs.Placement.{adds}
+use Rattle.cluster_record.specs.RecordState.{identity_of, entry_of, named, unnamed, has_references, idle_from, referred, opened_with, unreferred, released_all}
 use Rattle.cluster_record.specs.RecordView.{AreKeptEntries, IsKept}
 use Rattle.cluster_record.specs.Makings.{making_call}
 use Rattle.cluster_record.specs.RecordReady.{CanRefer}
@@ -213,6 +214,12 @@ unless-keeps : (g : Entry → Bool) (f : Entry → Entry) → Keeps f → Keeps 
 unless-keeps g f keeps = (
   λ e. elim (g e) as (λ b. (cond b e (f e)).name ≡ e.name) [ true ↦ refl | false ↦ keeps.0 e ],
   λ e. elim (g e) as (λ b. (cond b e (f e)).identity ≡ e.identity) [ true ↦ refl | false ↦ keeps.1 e ],
+)
+
+pub opened_with-keeps : (opener : ℕ) (up : List ℕ) (c : ℕ) → Keeps (opened_with opener up c)
+opened_with-keeps opener up c = (
+  λ e. elim (adds e.attributes opener e.complete) as (λ b. (referred c (cond b (record e { complete = slice_set e.complete opener (slice_index up opener) }) e)).name ≡ e.name) [ true ↦ refl | false ↦ refl ],
+  λ e. elim (adds e.attributes opener e.complete) as (λ b. (referred c (cond b (record e { complete = slice_set e.complete opener (slice_index up opener) }) e)).identity ≡ e.identity) [ true ↦ refl | false ↦ refl ],
 )
 
 pub released-keeps : (c : ℕ) (t : ℤ) → Keeps (unreferred c t)

@@ -14,7 +14,7 @@ use Rattle.cluster_record.specs.DueOpen.{targets_of}
 use Rattle.cluster_record.specs.LookUps.{identity_in}
 use Rattle.cluster_record.specs.Makings.{making_finished}
 use Rattle.cluster_record.specs.Opening.{open_answer, after_open}
-use Rattle.cluster_record.specs.RecordState.{RecordState, empty_record, brought_up, entered, new_entry, entry_of, complete_of, identity_of, named, is_live, retained_until, swept, moved, closed, unlinked, retained, departed}
+use Rattle.cluster_record.specs.RecordState.{RecordState, empty_record, brought_up, entered, new_entry, entry_of, complete_of, identity_of, named, is_live, retained_until, swept, moved, opened, closed, unlinked, retained, departed}
 use Rattle.cluster_record.specs.Refusals.{enter_answer, all_taken, plainly, held_by, unlink_answer, retain_answer}
 
 -- ---- the words of the examples
@@ -135,6 +135,34 @@ collocated_has_no_active_yet = refl
 
 pub another_has_its_lowest_node : option_map (λ e. e.active) (entry_of 1 example_made.entries) ≡ Some (Some 0)
 another_has_its_lowest_node = refl
+
+-- ---- opened by c1, which is on n2
+
+abbrev collocated_with_two : RecordState
+collocated_with_two = entered 1 2 2 collocated_made
+
+-- that adds a replica on n2
+pub open_from_another_node_adds_a_replica : open_answer collocated_with_two (example_ask 1 ck None) ≡ Opened 1 true
+open_from_another_node_adds_a_replica = refl
+
+abbrev collocated_on_two : RecordState
+collocated_on_two = opened 1 1 collocated_with_two
+
+pub it_is_complete_on_both_nodes : complete_of (entry_of 1 collocated_on_two.entries) ≡ 0 ∷ 1 ∷ 1 ∷ 0 ∷ 0 ∷ 0 ∷ 0 ∷ 0 ∷ []
+it_is_complete_on_both_nodes = refl
+
+pub it_has_no_active_still : option_map (λ e. e.active) (entry_of 1 collocated_on_two.entries) ≡ Some None
+it_has_no_active_still = refl
+
+pub both_have_it_open : (example_open 0 1 collocated_on_two ≡ Some 1) × (example_open 1 1 collocated_on_two ≡ Some 1)
+both_have_it_open = (refl, refl)
+
+-- a second open from there adds none, nor does any open of another checkpoint
+pub second_open_adds_none : open_answer collocated_on_two (example_ask 1 ck None) ≡ Opened 1 false
+second_open_adds_none = refl
+
+pub open_of_what_is_not_collocated_adds_none : open_answer example_made (example_ask 1 ck None) ≡ Opened 1 false
+open_of_what_is_not_collocated_adds_none = refl
 
 -- ---- attributes
 

@@ -252,9 +252,10 @@ impl Record {
         }
     }
 
-    // The node of a client that is live, and n0 for one that is not.
-    fn home_of(&self, client: u8) -> NodeId
-        ensures { result ≡ home_of client self.now }
+    /// The node of a client that is live, and n0 for one that is not.
+    pub fn home_of(&self, client: u8) -> NodeId
+        ensures node { result ≡ home_of client self.now }
+        ensures within { result < nodes_max }
     {
         match find_client(self.clients.as_slice(), client) {
             None => 0,

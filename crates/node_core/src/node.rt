@@ -1,10 +1,12 @@
 //! A node, and the requests that it serves.
-ghost use Rattle.std.specs.Prelude.{◌≡◌, [], IfOk, IfSome, IsSomeAnd, MatchOption, None, Some, OnErr, OnOk, true};
+ghost use Rattle.std.specs.Prelude.{◌≡◌, [], IfOk, IfSome, IsSomeAnd, MatchOption, None, Some, OnErr, OnOk, false, true};
+ghost use Rattle.ckpt_types.specs.Attributes.{is_malformed};
 ghost use Rattle.node_msgs.specs.Requests.{ckpt_of};
 ghost use Rattle.stage_slot.specs.Slots.{owner_of, IsOwnedBy};
 ghost use Rattle.replica.specs.Replicas.{answer_unless, committed, outcome_on, staged};
 ghost use Rattle.cluster_record.specs.Places.{find_key, change_key};
-ghost use Rattle.node_core.specs.Changing.{changed_node, ChangeFits, IsAddition};
+ghost use Rattle.cluster_record.specs.RecordState.{entry_of};
+ghost use Rattle.node_core.specs.Changing.{added_for, changed_node, ChangeFits, IsAddition};
 ghost use Rattle.node_core.specs.Details.{details_told};
 ghost use Rattle.node_core.specs.Fitting.{RequestFits, TakesUpdate};
 ghost use Rattle.node_core.specs.Nodes.{NodeState, replica_key, seen_from, replica_served, MayReply, node_after, freed_node};
@@ -155,6 +157,22 @@ impl Node {
             }
             _ => Ok(()),
         }
+    }
+
+    /// A replica of a checkpoint is added, with this generation, as `change` does it.
+    pub fn add(
+        &mut self,
+        alloc: Global,
+        seen: &Record,
+        ckpt: CkptId,
+        generation: u64,
+    ) -> Result<(), AllocError>
+        requires there { IsSomeAnd (entry_of ckpt seen.now.entries) (λ e. is_malformed e.attributes ≡ false) }
+        requires free { find_key replica_key ckpt self.old.replicas ≡ None }
+        ensures ok { OnOk result (self.new ≡ record self.old { replicas = added_for (entry_of ckpt seen.now.entries) ckpt generation self.old.replicas }) }
+        ensures err { OnErr result (self.new ≡ self.old) }
+    {
+        add_in(&mut self.replicas, alloc, seen, ckpt, generation)
     }
 
     /// Whether a change may come to the node, with what is lent.

@@ -1,11 +1,14 @@
 -- The nodes of a world, each by its number.
-use Rattle.std.specs.Prelude.{◌≡◌, ℕ, List, length, map, Option, Some, slice_get, slice_set}
+use Rattle.std.specs.Prelude.{◌≡◌, ℕ, List, length, map, Option, Some, None, slice_get, slice_set, if◌then◌else◌}
 use Rattle.ckpt_types.specs.Limits.{nodes_max}
 use Rattle.node_msgs.specs.declared.replies.Reply.{Reply}
 use Rattle.node_msgs.specs.declared.requests.Request.{Request}
+use Rattle.cluster_record.specs.declared.entries.Entry.{Entry}
+use Rattle.cluster_record.specs.Placement.{adds}
 use Rattle.cluster_record.specs.Places.{find_key, change_key, list_or}
 use Rattle.cluster_record.specs.RecordState.{RecordState}
 use Rattle.replica.specs.Replicas.{Replica}
+use Rattle.node_core.specs.Changing.{added_for}
 use Rattle.node_core.specs.Nodes.{NodeState, replica_key, replicas_after}
 use Rattle.node_core.specs.Payloads.{Payload}
 
@@ -24,6 +27,15 @@ nodes_after R nodes r request p reply = slice_set nodes r (replicas_after R (nod
 -- the nodes with the replica of a checkpoint on one of them changed
 abbrev pub with_changed : ℕ → ℕ → (Replica → Replica) → List (List Replica) → List (List Replica)
 with_changed k r change nodes = slice_set nodes r (change_key replica_key k change (list_or (slice_get nodes r)))
+
+-- the nodes with a replica more on one of them, as a checkpoint that is there was made, with its generation
+abbrev pub with_added : Entry → ℕ → List (List Replica) → List (List Replica)
+with_added e r nodes = slice_set nodes r (added_for (Some e) e.identity e.generation (list_or (slice_get nodes r)))
+
+-- the nodes behind an open from one of them, of a checkpoint that is there or not: a replica more, where it adds one
+abbrev pub with_opened : Option Entry → ℕ → List (List Replica) → List (List Replica)
+with_opened None r nodes = nodes
+with_opened (Some e) r nodes = if adds e.attributes r e.complete then with_added e r nodes else nodes
 
 -- ---- how they are kept
 

@@ -1,5 +1,5 @@
 -- What a step of a call asks of the record.
-use Rattle.std.specs.Prelude.{◌≡◌, ℕ, ◌+◌, ◌-◌, ◌^◌, ◌<◌, length, Option, Some, None, IsSome, IsSomeAnd, IsTrue, false, pos, ◌≤ℤ◌}
+use Rattle.std.specs.Prelude.{◌≡◌, ℕ, ◌+◌, ◌-◌, ◌^◌, ◌<◌, length, Option, Some, None, IsSome, IsSomeAnd, IsTrue, List, Bool, true, pos, ◌≤ℤ◌}
 use Rattle.ckpt_types.specs.declared.answers.Outcome.{Outcome}
 use Rattle.ckpt_types.specs.declared.answers.Outcome.TheVariants.{NoMemory}
 use Rattle.node_msgs.specs.declared.next.RecordStep.{RecordStep}
@@ -14,15 +14,19 @@ use Rattle.cluster_record.specs.DueOpen.{OpenState}
 use Rattle.ckpt_types.specs.declared.calls.OpenAsk.{OpenAsk}
 use Rattle.ckpt_types.specs.declared.identities.CallId.{CallId}
 use Rattle.ckpt_types.specs.Limits.{clients_max}
+use Rattle.cluster_record.specs.declared.entries.Entry.{Entry}
 use Rattle.cluster_record.specs.declared.opening.OpenAnswer.{OpenAnswer}
 use Rattle.cluster_record.specs.declared.opening.OpenAnswer.TheVariants.{Opened, Made, Refused}
 use Rattle.cluster_record.specs.Opening.{open_answer}
 use Rattle.cluster_record.specs.Calls.{IsClient}
 use Rattle.cluster_record.specs.RecordReady.{CanBecomeLive, CanOpen, CanReferAt}
-use Rattle.cluster_record.specs.RecordState.{RecordState, named, entry_of}
+use Rattle.cluster_record.specs.Placement.{adds}
+use Rattle.cluster_record.specs.RecordState.{RecordState, named, entry_of, home_of}
 use Rattle.cluster_record.specs.DueOpen.{making_ckpt}
 use Rattle.cluster_record.specs.LookUps.{identity_in}
 use Rattle.cluster_record.specs.Makings.{IsMakingOf}
+use Rattle.replica.specs.Replicas.{Replica}
+use Rattle.world_core.specs.Nodes.{replica_in}
 
 -- an open can be asked of the record: by a client's call, as every open, and no number is at its end
 pub record CanAsk (call : CallId) (R : RecordState) (ask : OpenAsk) : Type 0 where
@@ -40,10 +44,20 @@ IsGranted (Refused refused) = ⊥
 -- a creation and an opening are the same call, and are answered as they were decided
 abbrev pub IsOpenReady : CallId → RecordState → OpenState → RecordStep → Type 0
 IsOpenReady call R o events.Create = CanAsk call R o.ask × (open_answer R o.ask ≡ Made (R.last_identity + 1))
-IsOpenReady call R o events.Open = CanAsk call R o.ask × ((k : ℕ) × (identity_in (named o.ask.name R.entries) ≡ Some k) × (open_answer R o.ask ≡ Opened k false))
+IsOpenReady call R o events.Open = CanAsk call R o.ask × ((k : ℕ) × (added : Bool) × (identity_in (named o.ask.name R.entries) ≡ Some k) × (open_answer R o.ask ≡ Opened k added))
 IsOpenReady call R o events.Finish = IsMakingOf R o.ask.client (making_ckpt o.making)
 IsOpenReady call R o events.Undo = IsMakingOf R o.ask.client (making_ckpt o.making)
 IsOpenReady call R o step = Unit {0}
+
+-- where an open from this node adds a replica, the node has none of the checkpoint yet
+abbrev pub HasNoneOf : Option Entry → ℕ → List (List Replica) → Type 0
+HasNoneOf None r nodes = Unit {0}
+HasNoneOf (Some e) r nodes = adds e.attributes r e.complete ≡ true → replica_in nodes e.identity r ≡ None
+
+-- a step of a call that drives so can add what it adds
+abbrev pub CanAdd : Driver → RecordStep → RecordState → List (List Replica) → Type 0
+CanAdd (drivers.Open o) events.Open R nodes = HasNoneOf (named o.ask.name R.entries) (home_of o.ask.client R) nodes
+CanAdd driver step R nodes = Unit {0}
 
 -- a step is refused so: by the record, or the memory that it takes
 abbrev pub IsRefusedWith : Option Outcome → RecordStep → StepReply → Outcome → Type 0

@@ -1,46 +1,57 @@
-//! What a step of a call does to the record.
-ghost use Rattle.std.specs.Prelude.{◌≡◌, IfOk, OnOk, OnErr, IsTrue};
+//! What a step of a call does to the record, and to the nodes by it.
+ghost use Rattle.std.specs.Prelude.{◌≡◌, OnOk, OnErr, IsTrue};
 ghost use Rattle.cluster_record.specs.Opening.{open_answer, after_open};
+ghost use Rattle.cluster_record.specs.RecordState.{named, home_of};
 ghost use Rattle.world_core.specs.CallStates.{step_in};
-ghost use Rattle.world_core.specs.RecordAfter.{once_change, event_change, event_after};
-ghost use Rattle.world_core.specs.RecordReady.{CanAsk, IsGranted, IsOnceReady, IsOpenReady, IsRecordReady};
+ghost use Rattle.world_core.specs.Nodes.{with_opened};
+ghost use Rattle.world_core.specs.RecordAfter.{once_change, event_change, event_after, nodes_behind};
+ghost use Rattle.world_core.specs.RecordReady.{CanAsk, CanAdd, HasNoneOf, IsGranted, IsOnceReady, IsOpenReady, IsRecordReady};
 ghost use Rattle.ckpt_machine.specs.Driving.{takes_memory};
 ghost use Rattle.ckpt_machine.specs.Drivers.{Open};
 
 use crate::drivers::{Driver, DriverKind};
+use crate::nodes::Nodes;
 use crate::one_step::OneStep;
-use ckpt_types::CallId;
+use ckpt_types::{CallId, OpenAsk};
 use cluster_record::{OpenAnswer, Record, number_of};
 use drive_open::{OpenCall, SharedAsk};
 use node_msgs::RecordStep;
-use std::alloc::AllocError;
+use std::alloc::{AllocError, Global};
 
-/// A step of a call that drives so, and the sweep behind it.
+/// A step of a call that drives so, and the sweep behind it. An open may add a replica on its client's node.
 pub fn apply(
+    alloc: Global,
     cluster: &mut Record,
+    nodes: &mut Nodes,
     call: CallId,
     driver: &Driver,
     step: RecordStep,
 ) -> Result<(), AllocError>
-    requires { IsRecordReady call cluster.old driver.now step }
+    requires ready { IsRecordReady call cluster.old driver.now step }
+    requires free { CanAdd driver.now step cluster.old nodes.old }
     ensures ok { OnOk result (cluster.new ≡ event_after call driver.now step cluster.old) }
-    ensures err { OnErr result (cluster.new ≡ cluster.old) }
+    ensures nodes { OnOk result (nodes.new ≡ nodes_behind driver.now step cluster.old nodes.old) }
+    ensures err { OnErr result ((cluster.new ≡ cluster.old) × (nodes.new ≡ nodes.old)) }
     ensures memory { OnErr result (IsTrue (takes_memory step)) }
 {
-    change(cluster, call, driver, step)?;
+    change(alloc, cluster, nodes, call, driver, step)?;
     cluster.sweep();
     Ok(())
 }
 
 fn change(
+    alloc: Global,
     cluster: &mut Record,
+    nodes: &mut Nodes,
     call: CallId,
     driver: &Driver,
     step: RecordStep,
 ) -> Result<(), AllocError>
-    requires { IsRecordReady call cluster.old driver.now step }
+    requires ready { IsRecordReady call cluster.old driver.now step }
+    requires free { CanAdd driver.now step cluster.old nodes.old }
     ensures ok { OnOk result (cluster.new ≡ event_change call driver.now step cluster.old) }
-    ensures err { OnErr result (cluster.new ≡ cluster.old) }
+    ensures nodes { OnOk result (nodes.new ≡ nodes_behind driver.now step cluster.old nodes.old) }
+    ensures err { OnErr result ((cluster.new ≡ cluster.old) × (nodes.new ≡ nodes.old)) }
     ensures memory { OnErr result (IsTrue (takes_memory step)) }
 {
     match &driver.kind {
@@ -48,7 +59,9 @@ fn change(
             change_once(cluster, call, one_step);
             Ok(())
         }
-        DriverKind::Open(open_call) => change_by_open(cluster, call, open_call, step),
+        DriverKind::Open(open_call) => {
+            change_by_open(alloc, cluster, nodes, call, open_call, step)
+        }
         DriverKind::Update(_) | DriverKind::Active(_) => Ok(()),
     }
 }
@@ -79,18 +92,23 @@ fn change_once(cluster: &mut Record, call: CallId, step: &OneStep)
 }
 
 fn change_by_open(
+    alloc: Global,
     cluster: &mut Record,
+    nodes: &mut Nodes,
     call: CallId,
     open_call: &OpenCall,
     step: RecordStep,
 ) -> Result<(), AllocError>
-    requires { IsOpenReady call cluster.old open_call.now step }
+    requires ready { IsOpenReady call cluster.old open_call.now step }
+    requires free { CanAdd (Open open_call.now) step cluster.old nodes.old }
     ensures ok { OnOk result (cluster.new ≡ event_change call (Open open_call.now) step cluster.old) }
-    ensures err { OnErr result (cluster.new ≡ cluster.old) }
+    ensures nodes { OnOk result (nodes.new ≡ nodes_behind (Open open_call.now) step cluster.old nodes.old) }
+    ensures err { OnErr result ((cluster.new ≡ cluster.old) × (nodes.new ≡ nodes.old)) }
     ensures memory { OnErr result (IsTrue (takes_memory step)) }
 {
     match step {
-        RecordStep::Create | RecordStep::Open => ask(cluster, call, open_call.ask()),
+        RecordStep::Create => create(cluster, call, open_call.ask()),
+        RecordStep::Open => open(alloc, cluster, nodes, call, open_call.ask()),
         RecordStep::Finish => {
             if let Some(ckpt) = open_call.making() {
                 cluster.finish_create(ckpt);
@@ -107,16 +125,65 @@ fn change_by_open(
     }
 }
 
-// The record opens the checkpoint of the ask, or puts it into the making: that none of both is refused was decided before.
-fn ask(cluster: &mut Record, call: CallId, ask: &SharedAsk) -> Result<(), AllocError>
+// The record puts the checkpoint of the ask into the making.
+fn create(cluster: &mut Record, call: CallId, ask: &SharedAsk) -> Result<(), AllocError>
     requires can { CanAsk call cluster.old ask.now }
     requires granted { IsGranted (open_answer cluster.old ask.now) }
     ensures ok { OnOk result (cluster.new ≡ after_open call ask.now cluster.old) }
     ensures err { OnErr result (cluster.new ≡ cluster.old) }
 {
+    put(cluster, call, ask.to_ask()?);
+    Ok(())
+}
+
+// The record opens the checkpoint of the ask, and where that adds a replica, the client's node has it.
+fn open(
+    alloc: Global,
+    cluster: &mut Record,
+    nodes: &mut Nodes,
+    call: CallId,
+    ask: &SharedAsk,
+) -> Result<(), AllocError>
+    requires can { CanAsk call cluster.old ask.now }
+    requires granted { IsGranted (open_answer cluster.old ask.now) }
+    requires free { HasNoneOf (named ask.now.name cluster.old.entries) (home_of ask.now.client cluster.old) nodes.old }
+    ensures ok { OnOk result (cluster.new ≡ after_open call ask.now cluster.old) }
+    ensures nodes { OnOk result (nodes.new ≡ with_opened (named ask.now.name cluster.old.entries) (home_of ask.now.client cluster.old) nodes.old) }
+    ensures err { OnErr result ((cluster.new ≡ cluster.old) × (nodes.new ≡ nodes.old)) }
+{
     let ask = ask.to_ask()?;
+    add_replica(alloc, cluster, nodes, &ask)?;
+    put(cluster, call, ask);
+    Ok(())
+}
+
+// The client's node gets the replica that the open adds, if it adds one.
+fn add_replica(
+    alloc: Global,
+    cluster: &Record,
+    nodes: &mut Nodes,
+    ask: &OpenAsk,
+) -> Result<(), AllocError>
+    requires { HasNoneOf (named ask.now.name cluster.now.entries) (home_of ask.now.client cluster.now) nodes.old }
+    ensures ok { OnOk result (nodes.new ≡ with_opened (named ask.now.name cluster.now.entries) (home_of ask.now.client cluster.now) nodes.old) }
+    ensures err { OnErr result (nodes.new ≡ nodes.old) }
+{
+    let Some(entry) = cluster.named(&ask.name) else {
+        return Ok(());
+    };
+    if !cluster.adds_replica(entry.identity, ask.client) {
+        return Ok(());
+    }
+    nodes.add(alloc, cluster.home_of(ask.client), cluster, entry)
+}
+
+// The record opens the checkpoint of the ask, or puts it into the making: that none of both is refused was decided before.
+fn put(cluster: &mut Record, call: CallId, ask: OpenAsk)
+    requires can { CanAsk call cluster.old ask }
+    requires granted { IsGranted (open_answer cluster.old ask) }
+    ensures { cluster.new ≡ after_open call ask cluster.old }
+{
     if let OpenAnswer::Refused(_) = cluster.open(call, ask) {
         unreachable!()
     }
-    Ok(())
 }

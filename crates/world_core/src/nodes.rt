@@ -1,6 +1,8 @@
 //! The nodes n0 to n7, and the requests that they serve.
-ghost use Rattle.std.specs.Prelude.{◌≡◌, ◌<◌, [], None, Some, IfOk, IfSome, IsSomeAnd, MatchOption, length, replicate};
+ghost use Rattle.std.specs.Prelude.{◌≡◌, ◌<◌, [], None, Some, IfOk, IfSome, IsSomeAnd, MatchOption, OnErr, OnOk, false, length, replicate};
+ghost use Rattle.ckpt_types.specs.Attributes.{is_malformed};
 ghost use Rattle.ckpt_types.specs.Limits.{nodes_max};
+ghost use Rattle.cluster_record.specs.RecordState.{entry_of};
 ghost use Rattle.node_msgs.specs.Requests.{ckpt_of};
 ghost use Rattle.node_core.specs.Details.{details_told};
 ghost use Rattle.node_core.specs.Fitting.{RequestFits, TakesUpdate};
@@ -10,10 +12,10 @@ ghost use Rattle.node_core.specs.Serving.{details_at, iteration_behind};
 ghost use Rattle.replica.specs.Replicas.{answer_unless, committed, outcome_on, staged};
 ghost use Rattle.stage_slot.specs.Slots.{IsOwnedBy, owner_of};
 ghost use Rattle.world_core.specs.Freeing.{freed};
-ghost use Rattle.world_core.specs.Nodes.{node_at, nodes_after, nodes_shown, replica_in, with_changed, StandByNumber};
+ghost use Rattle.world_core.specs.Nodes.{node_at, nodes_after, nodes_shown, replica_in, with_added, with_changed, StandByNumber};
 
 use ckpt_types::{CallId, CkptId, Moment, NODES_MAX, NodeId, SharedUpdate};
-use cluster_record::Record;
+use cluster_record::{Entry, Record};
 use node_core::{Lent, Node};
 use node_msgs::{Reply, Request};
 use replica::{Replica, StageRefused};
@@ -99,6 +101,24 @@ impl Nodes {
         commit_node(self.list.as_mut_slice(), r, call, ckpt);
     }
 
+    /// A node gets the replica of a checkpoint, as the record has it. Where memory is refused, nothing changes.
+    pub fn add(
+        &mut self,
+        alloc: Global,
+        r: NodeId,
+        seen: &Record,
+        entry: &Entry,
+    ) -> Result<(), AllocError>
+        requires node { r < nodes_max }
+        requires there { entry_of entry.now.identity seen.now.entries ≡ Some entry.now }
+        requires well_formed { is_malformed entry.now.attributes ≡ false }
+        requires free { replica_in self.old entry.now.identity r ≡ None }
+        ensures ok { OnOk result (self.new ≡ with_added entry.now r self.old) }
+        ensures err { OnErr result (self.new ≡ self.old) }
+    {
+        add_to(self.list.as_mut_slice(), alloc, r, seen, entry)
+    }
+
     /// The replica that a node has of a checkpoint, complete or reserved.
     pub fn find(&self, r: NodeId, ckpt: CkptId) -> Option<&Replica>
         requires { r < nodes_max }
@@ -110,7 +130,8 @@ impl Nodes {
     /// On all nodes the replicas go, complete or reserved, whose checkpoint has no entry in the record. It
     /// takes no memory.
     pub fn free_gone(&mut self, seen: &Record)
-        ensures { self.new ≡ freed seen.now.entries self.old }
+        ensures new { self.new ≡ freed seen.now.entries self.old }
+        ensures eight { length self.old ≡ nodes_max }
     {
         free_nodes(self.list.as_mut_slice(), seen);
     }
@@ -178,6 +199,26 @@ fn commit_node(nodes: &mut [Node], r: NodeId, call: CallId, ckpt: CkptId)
 {
     let node = &mut nodes[r as usize];
     node.commit(call, ckpt);
+}
+
+fn add_to(
+    nodes: &mut [Node],
+    alloc: Global,
+    r: NodeId,
+    seen: &Record,
+    entry: &Entry,
+) -> Result<(), AllocError>
+    requires numbered { StandByNumber nodes.old }
+    requires node { r < length nodes.old }
+    requires there { entry_of entry.now.identity seen.now.entries ≡ Some entry.now }
+    requires well_formed { is_malformed entry.now.attributes ≡ false }
+    requires free { replica_in (nodes_shown nodes.old) entry.now.identity r ≡ None }
+    ensures numbered { StandByNumber nodes.new }
+    ensures ok { OnOk result (nodes_shown nodes.new ≡ with_added entry.now r (nodes_shown nodes.old)) }
+    ensures err { OnErr result (nodes_shown nodes.new ≡ nodes_shown nodes.old) }
+{
+    let node = &mut nodes[r as usize];
+    node.add(alloc, seen, entry.identity, entry.generation)
 }
 
 fn find_at(nodes: &[Node], r: NodeId, ckpt: CkptId) -> Option<&Replica>

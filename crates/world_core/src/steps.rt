@@ -69,7 +69,7 @@ impl World {
                 Ok(())
             }
             Next::Event(step) => {
-                self.event_step(c, step, log);
+                self.event_step(alloc, c, step, log);
                 Ok(())
             }
             Next::End(end) => {
@@ -149,7 +149,7 @@ impl World {
         ensures { Adds log.old log.new (IsStep c self.old self.new) }
     {
         match self.tables.take_room(alloc, c) {
-            Ok(()) => self.record_step(c, RecordStep::Enter, log),
+            Ok(()) => self.record_step(alloc, c, RecordStep::Enter, log),
             Err(AllocError) => self.refuse_step(
                 c,
                 RecordStep::Enter,
@@ -161,7 +161,7 @@ impl World {
     }
 
     // A step of the record, which it may refuse.
-    fn event_step(&mut self, c: u8, step: RecordStep, log: &mut RunLog)
+    fn event_step(&mut self, alloc: Global, c: u8, step: RecordStep, log: &mut RunLog)
         requires next { IsNext self.old c (nexts.Event step) }
         requires not_enter { step ≢ events.Enter }
         requires client { c < client_numbers }
@@ -172,7 +172,7 @@ impl World {
     {
         match self.refusal(c, &step) {
             Some(end) => self.refuse_step(c, step, StepReply::Refused, end, log),
-            None => self.record_step(c, step, log),
+            None => self.record_step(alloc, c, step, log),
         }
     }
 
@@ -216,8 +216,8 @@ impl World {
     }
 
     // The call takes a step that the record does not refuse; where its memory is refused, the call ends. A client
-    // that becomes live has its room.
-    fn record_step(&mut self, c: u8, step: RecordStep, log: &mut RunLog)
+    // that becomes live has its room. An open may add a replica.
+    fn record_step(&mut self, alloc: Global, c: u8, step: RecordStep, log: &mut RunLog)
         requires next { IsNext self.old c (nexts.Event step) }
         requires granted { (hand : InHand) → hand_at self.old.hands c ≡ Some hand → event_refusal self.old.cluster step hand.driver ≡ None }
         requires has_room { step ≡ events.Enter → room_is_taken (slice_get self.old.tables c) ≡ true }
@@ -234,7 +234,8 @@ impl World {
         let ckpt = event_ckpt(&self.cluster, &hand.driver, &step);
         let node = event_node(&hand.driver, &step);
         let verb = step.verb();
-        if apply(&mut self.cluster, call, &hand.driver, step).is_err() {
+        let cluster = &mut self.cluster;
+        if apply(alloc, cluster, &mut self.nodes, call, &hand.driver, step).is_err() {
             *slot = None;
             let end = Some(Outcome::NoMemory);
             log.push(stepped(call, op, verb, ckpt, node, StepReply::Memory, end));

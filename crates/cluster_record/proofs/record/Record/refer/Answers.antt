@@ -1,9 +1,9 @@
 use Rattle.std.proofs.Common.{◌≡◌, Some, None, refl, sym, ap, ◌∙◌}
 use Rattle.cluster_record.specs.LookUps.{identity_in}
 use Rattle.cluster_record.specs.Makings.{making_call}
-use Rattle.cluster_record.specs.RecordState.{RecordState, entry_of, named, referred}
-use Rattle.cluster_record.proofs.EntryLaws.{referred-kept}
-use Rattle.cluster_record.proofs.KeptLaws.{kept-changed}
+use Rattle.cluster_record.specs.RecordState.{RecordState, entry_of, named}
+use Rattle.cluster_record.proofs.EntryLaws.{opened_with-kept}
+use Rattle.cluster_record.proofs.KeptLaws.{kept-changed, opened_with-keeps}
 use Rattle.cluster_record.proofs.NameLaws.{named-entry}
 use Rattle.cluster_record.proofs.record.Record.refer.Goals as goal
 
@@ -15,4 +15,5 @@ invariant_of-self c =
     let made : making_call (entry_of c.args.identity entries) ≡ None =
     ap making_call (named-entry name entries c.args.identity c.self.invariant.entries.order (sym is)) ∙ ap (λ (R : RecordState). making_call (named name R.entries)) c.self.view_is ∙ made_is
     in
-    kept-changed c.self.inside _ (referred c.args.client) c.args.identity c.self.invariant (λ e. refl) (λ e. refl) (λ e there is. referred-kept c.self.inside.moment e is c.args.client (sym (ap making_call there) ∙ made)) c.change_entry.ensures.items c.change_entry.ensures.capacity refl
+    let keeps = opened_with-keeps c.home_of.result c.self.inside.up c.args.client in
+    kept-changed c.self.inside _ _ c.args.identity c.self.invariant keeps.0 keeps.1 (λ e there is. opened_with-kept c.self.inside.moment e is _ c.self.inside.up c.args.client (sym (ap making_call there) ∙ made)) c.change_entry.ensures.items c.change_entry.ensures.capacity refl
