@@ -64,8 +64,9 @@ abbrev pub IsFinishable : Machine → ℕ → Option Making → Type 0
 IsFinishable m c None = ⊥
 IsFinishable m c (Some making) = IsSomeAnd (entry_of making.ckpt m.cluster.entries) (λ e. AllReserved m c making.ckpt e × NoneReservedElse m c making.ckpt e × (e.generation ≡ 1) × ((r : ℕ) → slice_index e.complete r ≡ 0))
 
--- an open of a client can add a replica of a checkpoint: the client's node is up, and has nothing reserved for it
+-- an open of a client can add a replica of a checkpoint: the entry has each node, the client's is up, and has nothing reserved for it
 pub record IsAddable (m : Machine) (c : ℕ) (e : Entry) : Type 0 where
+  pub nodes : length e.complete ≡ nodes_max
   pub up : is_up (home_of c m.cluster) m.cluster ≡ true
   pub unreserved : m.reserved e.identity (home_of c m.cluster) ≡ None
 

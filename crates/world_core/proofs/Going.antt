@@ -141,7 +141,7 @@ module _ (up : List ℕ) where
 
     by_test : (b : Bool) → (slice_index (targets e.attributes opener up) r == 0) ≡ b → NodeGoes k e (made_with opener up c e) r y
     by_test true t = inl (eqb-true (slice_index (targets e.attributes opener up) r) 0 t ∙ sym zero)
-    by_test false t = inr (zero, refl, has t)
+    by_test false t = inr (zero, has t)
 
   -- a making that begins
   pushed_goes : (n : ℕ) (xs : List Entry) (new : Entry) (j r : ℕ) (y : ℕ → Option Replica) → AllUpTo n xs → new.identity ≡ n + 1 → slice_index new.complete r ≡ 0 → y (n + 1) ≡ None → GoesAt up j (entry_of j xs) (entry_of j (xs ++ new ∷ [])) r (y j)

@@ -120,7 +120,7 @@ module _ (w : World) (c : ℕ) (o : Outcome) (hand : InHand) (held : hand_at w.h
           change = late_changes h is o (subst IsNoDone next (late_next w.cluster (rooms_at w c) hand.driver k making));
           fits = let f = record_fits w h R (goes h is) refl is.fits in record { replicas = f.replicas; hands = f.hands };
         }))
-        (λ m s f. holds_freed w.cluster R w.nodes s.holds refl (goes s.history (known_by w m s f)))
+        (λ m s f. holds_freed w.cluster R w.nodes refl (goes s.history (known_by w m s f)) s.holds)
         (λ m s f. rooms_looked w R c o hand.op (λ d live. s.rooms d live))
 
     -- it is in the making by the call

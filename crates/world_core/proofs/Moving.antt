@@ -56,7 +56,7 @@ moved_before w t may = record {
 moved_done : (w : World) (t : ℤ) (R : RecordState) → IsMomentFrom w.cluster.moment t → R ≡ moved t w.cluster → Does w (record w { cluster = R; nodes = freed R.entries w.nodes }) (labels.Moved t)
 moved_done w t R may R_is = subst (λ (R : RecordState). Does w (record w { cluster = R; nodes = freed R.entries w.nodes }) (labels.Moved t)) (sym R_is)
     (does_freed w (record w { cluster = moved t w.cluster }) (labels.Moved t) (moved_before w t may)
-    (λ m s f. holds_freed w.cluster (moved t w.cluster) w.nodes s.holds refl (moved_goes w s.history t (subst Facts s.same f)))
+    (λ m s f. holds_freed w.cluster (moved t w.cluster) w.nodes refl (moved_goes w s.history t (subst Facts s.same f)) s.holds)
     (λ m s f. s.rooms))
 
 -- the moment is set, and the nodes are freed of what is gone, with the label as the code names it

@@ -12,9 +12,9 @@ use Rattle.ckpt_machine.specs.Machine.{Effect}
 use Rattle.ckpt_machine.specs.Steps.{opened_state, replica_under, reservation_under, with_record}
 use Rattle.world_core.specs.Shows.{History, HistoryFits, FitsReplica, machine_of, shown_replica, shown_reservation, where_complete, where_not_complete}
 
--- the node is complete as before, or newly with the replica that it has reserved
+-- the node is complete as before, or newly with a replica as its checkpoint was made, of this generation
 abbrev pub NodeGoes : ℕ → Entry → Entry → ℕ → Option Replica → Type 0
-NodeGoes k e f r y = (slice_index f.complete r ≡ slice_index e.complete r) ⊎ ((slice_index e.complete r ≡ 0) × (f.generation ≡ 1) × (y ≡ Some (opened_replica k f.attributes f.made)))
+NodeGoes k e f r y = (slice_index f.complete r ≡ slice_index e.complete r) ⊎ ((slice_index e.complete r ≡ 0) × (y ≡ Some (record (opened_replica k f.attributes f.made) { generation = f.generation })))
 
 -- it is in the making and the node complete as before, or the node is complete as it is up, or has none of it
 abbrev pub StandsOn : List ℕ → Entry → Entry → ℕ → Option Replica → Type 0
@@ -67,7 +67,7 @@ record_shown_case up k (Some e) (Some f) r E o y goes = by_node goes.2 where
 
   by_node : NodeGoes k e f r y → cond (slice_index f.complete r == 0) None (cond (slice_index e.complete r == 0) (Some (opened_state f)) (shown_replica E o (cond (slice_index e.complete r == 0) None y))) ≡ shown_replica (cond (slice_index e.complete r == 0) [] E) o (cond (slice_index f.complete r == 0) None y)
   by_node (inl same) = by_tests (slice_index f.complete r == 0) (slice_index e.complete r == 0) (ap (λ n. n == 0) same)
-  by_node (inr new) = newly (slice_index f.complete r == 0) (slice_index e.complete r == 0) (test_zero (slice_index e.complete r) new.0) ((λ i. Some (record (opened_state f) { generation = new.1 i })) ∙ ap (shown_replica [] o) (sym new.2))
+  by_node (inr new) = newly (slice_index f.complete r == 0) (slice_index e.complete r == 0) (test_zero (slice_index e.complete r) new.0) (ap (shown_replica [] o) (sym new.1))
 
 record_fits_case : (up : List ℕ) (k : ℕ) (old new : Option Entry) (r : ℕ) (E : List Effect) (y : Option Replica) → GoesAt up k old new r y → FitsReplica k old E (where_complete (slice_index (complete_of old) r) y) →
     FitsReplica k new (effects_under (slice_index (complete_of old) r) E) (where_complete (slice_index (complete_of new) r) y)
@@ -90,7 +90,7 @@ record_fits_case up k (Some e) (Some f) r E y goes fits = by_node goes.2 where
 
   by_node : NodeGoes k e f r y → FitsReplica k (Some f) (cond (slice_index e.complete r == 0) [] E) (cond (slice_index f.complete r == 0) None y)
   by_node (inl same) = by_tests (slice_index f.complete r == 0) (slice_index e.complete r == 0) (ap (λ n. n == 0) same) fits
-  by_node (inr new) = newly (slice_index f.complete r == 0) (slice_index e.complete r == 0) (test_zero (slice_index e.complete r) new.0) (subst (FitsReplica k (Some f) []) (sym new.2) (refl, refl, refl, tt))
+  by_node (inr new) = newly (slice_index f.complete r == 0) (slice_index e.complete r == 0) (test_zero (slice_index e.complete r) new.0) (subst (FitsReplica k (Some f) []) (sym new.1) (refl, refl, refl, tt))
 
 -- ---- the reservations
 
