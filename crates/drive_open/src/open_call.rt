@@ -132,7 +132,7 @@ impl OpenCall {
         requires { cluster.now.last_identity < 2 ^ 32 - 1 }
         ensures { result ≡ open_answer cluster.now self.now.ask }
     {
-        cluster.open_answer(self.ask.name(), self.ask.attributes())
+        cluster.open_answer(self.ask.name(), self.ask.attributes(), self.ask.client)
     }
 
     /// What it does next; `room` tells whether the client has a free place for a handle.

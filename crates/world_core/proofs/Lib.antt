@@ -1,3 +1,4 @@
+pub mod Adding
 pub mod Begin
 pub mod CallSteps
 pub mod Carrying

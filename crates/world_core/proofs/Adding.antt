@@ -1,0 +1,70 @@
+-- A replica that an open adds on a node: what the machine shows of it before the record has it, and that the nodes hold it once the record has.
+use Rattle.std.proofs.Common.{◌≡◌, ◌⊎◌, inl, inr, ℕ, ◌<◌, ◌++◌, Bool, true, false, List, [], ◌∷◌, length, refl, sym, ap, subst, ◌∙◌, cond}
+use Rattle.std.specs.Prelude.{Option, Some, None, IfSome, ◌==◌, ◌&&◌, slice_get, slice_set, slice_index}
+use Rattle.cluster_record.specs.declared.entries.Entry.{Entry}
+use Rattle.cluster_record.specs.Places.{list_or}
+use Rattle.cluster_record.specs.RecordState.{RecordState, entry_of, complete_of}
+use Rattle.cluster_record.proofs.IdentityLaws.{IsLeft}
+use Rattle.ckpt_machine.specs.Steps.{with_record, replica_under, reservation_under}
+use Rattle.node_core.specs.Nodes.{with_reserved}
+use Rattle.replica.specs.Replicas.{Replica, opened_replica}
+use Rattle.world_core.specs.declared.world.World.{World}
+use Rattle.world_core.specs.Nodes.{replica_in, with_added}
+use Rattle.world_core.specs.Shows.{History, HistoryFits, FitsReplica, machine_of, shown_replica, shown_reservation, where_complete, where_not_complete, complete_replica, reserved_in}
+use Rattle.world_core.proofs.Reserve.{reserved_here}
+
+-- ---- what is on the nodes
+
+-- the replica that an open of a checkpoint adds
+abbrev pub added_replica : Entry → Replica
+added_replica e = record (opened_replica e.identity e.attributes e.made) { generation = e.generation }
+
+-- after an addition, the replica of each checkpoint on each node
+pub added_here : (nodes : List (List Replica)) (r : ℕ) (e : Entry) → r < length nodes → replica_in nodes e.identity r ≡ None →
+    (j q : ℕ) → replica_in (with_added e r nodes) j q ≡ cond ((j == e.identity) && (q == r)) (Some (added_replica e)) (replica_in nodes j q)
+added_here nodes r e within none j q =
+    ap (λ o. replica_in (slice_set nodes r (with_reserved o (added_replica e) (list_or (slice_get nodes r)))) j q) (sym none)
+    ∙ reserved_here nodes r (added_replica e) within (subst (λ o. IfSome o (λ x. x ≡ added_replica e)) (sym none) tt) j q
+
+-- ---- what the machine shows
+
+-- of a checkpoint whose entry becomes another, a node has the replica that it had, or it was not complete and is then, where the checkpoint is left
+abbrev pub AddedAt : Option Entry → Option Entry → ℕ → Option Replica → Option Replica → Type 0
+AddedAt old new r y z = (z ≡ y) ⊎ ((slice_index (complete_of old) r ≡ 0) × IfSome new (λ f. (slice_index f.complete r == 0) ≡ false))
+
+pub added_left : (old mid new : Option Entry) (r : ℕ) (y z : Option Replica) → AddedAt old mid r y z → IsLeft mid new → AddedAt old new r y z
+added_left old mid new r y z (inl same) left = inl same
+added_left old mid new r y z (inr now) (inl none) = inr (now.0, subst (λ (o : Option Entry). IfSome o (λ f. (slice_index f.complete r == 0) ≡ false)) (sym none) tt)
+added_left old mid new r y z (inr now) (inr same) = inr (now.0, subst (λ (o : Option Entry). IfSome o (λ f. (slice_index f.complete r == 0) ≡ false)) (sym same) now.1)
+
+-- a node that is complete then has nothing reserved, whatever it had
+none_reserved : (o : Option Entry) (r : ℕ) → IfSome o (λ f. (slice_index f.complete r == 0) ≡ false) → (x y : Option ℕ) → reservation_under o r x ≡ reservation_under o r y
+none_reserved None r full x y = refl
+none_reserved (Some f) r full x y = ap (λ b. cond b x None) full ∙ sym (ap (λ b. cond b y None) full)
+
+module _ (w : World) (h : History) (R : RecordState) (nodes : List (List Replica)) (added : (k r : ℕ) → AddedAt (entry_of k w.cluster.entries) (entry_of k R.entries) r (replica_in w.nodes k r) (replica_in nodes k r)) where
+  complete_same : (k r : ℕ) → complete_replica w.cluster nodes k r ≡ complete_replica w.cluster w.nodes k r
+  complete_same k r = elim (added k r) [
+    | inl same ↦ ap (where_complete (slice_index (complete_of (entry_of k w.cluster.entries)) r)) same
+    | inr now ↦ (λ i. where_complete (now.0 i) (replica_in nodes k r)) ∙ sym (λ i. where_complete (now.0 i) (replica_in w.nodes k r))
+  ]
+
+  reserved_same : (k r : ℕ) → reservation_under (entry_of k R.entries) r (reserved_in w.cluster nodes k r) ≡ reservation_under (entry_of k R.entries) r (reserved_in w.cluster w.nodes k r)
+  reserved_same k r = elim (added k r) [
+    | inl same ↦ ap (λ y. reservation_under (entry_of k R.entries) r (where_not_complete (entry_of k w.cluster.entries) r (shown_reservation (slice_index w.cluster.up r) y))) same
+    | inr now ↦ none_reserved (entry_of k R.entries) r now.1 (reserved_in w.cluster nodes k r) (reserved_in w.cluster w.nodes k r)
+  ]
+
+  -- with the record behind it, the machine is the same with the replica and without
+  pub added_record : with_record (machine_of w h) R ≡ with_record (machine_of (record w { nodes = nodes }) h) R
+  added_record = λ i. record (with_record (machine_of w h) R) {
+    replicas = λ k r. replica_under (entry_of k R.entries) (slice_index (complete_of (entry_of k w.cluster.entries)) r) r (shown_replica (h.effects k r) (h.origins k r) (sym (complete_same k r) i));
+    reserved = λ k r. sym (reserved_same k r) i;
+  }
+
+  -- and so are the histories that fit
+  pub added_fits : HistoryFits w h → HistoryFits (record w { nodes = nodes }) h
+  added_fits fits = record {
+    replicas = λ k r. subst (FitsReplica k (entry_of k w.cluster.entries) (h.effects k r)) (sym (complete_same k r)) (fits.replicas k r);
+    hands = fits.hands;
+  }
