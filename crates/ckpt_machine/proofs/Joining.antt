@@ -1,6 +1,6 @@
 -- What an open leaves of the entry that it opens: a collocated checkpoint may be complete on its client's node too.
-use Rattle.std.proofs.Common.{◌≡◌, ℕ, List, Some, None, Bool, true, false, cond, ◌&&◌, ◌==◌, length, refl, sym, ap, subst, ◌∙◌}
-use Rattle.std.specs.Prelude.{is_some, IsSome, slice_index, slice_set}
+use Rattle.std.proofs.Common.{◌≡◌, ℕ, List, None, Bool, true, false, cond, ◌==◌, length, refl, sym, ap, subst, ◌∙◌}
+use Rattle.std.specs.Prelude.{is_some, slice_index, slice_set}
 use Rattle.std.proofs.lemmas.Bool.{eqb-true, and_parts}
 use Rattle.ckpt_types.specs.declared.attributes.CreationAttributes.{CreationAttributes}
 use Rattle.ckpt_types.specs.Attributes.{has_flag}

@@ -1,6 +1,6 @@
 -- An open that is making a checkpoint reserves it on each node that is up, and finishes it; or undoes it, where memory was refused or its deadline is reached; with any calls of others in hand.
 use Rattle.std.proofs.Common.{◌≡◌, ℕ, ◌+◌, ◌<◌, inl, inr, ◌∷◌, length, Option, Some, None, Bool, true, false, cond, not, ◌==◌, ◌&&◌, nat_lt, ℤ, refl, sym, ap, subst, ◌∙◌, arith}
-use Rattle.std.specs.Prelude.{is_some, IsSome, IsSomeAnd, IfSome, slice_index, slice_set}
+use Rattle.std.specs.Prelude.{IsSome, IsSomeAnd, IfSome, slice_index, slice_set}
 use Rattle.std.proofs.lemmas.Bool.{eqb-true, eq-eqb, lt-ltb, ltb-true, and_parts}
 use Rattle.std.proofs.lemmas.Option.{same_Some}
 use Rattle.moment_rules.specs.Times.{is_reached}
@@ -21,18 +21,16 @@ use Rattle.cluster_record.specs.declared.entries.Entry.{Entry}
 use Rattle.cluster_record.specs.Calls.{client_of, put_actor}
 use Rattle.cluster_record.specs.DueOpen.{OpenState, IsBefore, in_time, reserve_or_finish, targets_by, targets_of, on_making}
 use Rattle.cluster_record.specs.Placement.{targets}
-use Rattle.cluster_record.specs.declared.clients.LiveClient.{LiveClient}
 use Rattle.cluster_record.specs.Places.{put2}
-use Rattle.cluster_record.specs.Places.{find_key}
 use Rattle.ckpt_types.specs.Asks.{asked}
-use Rattle.cluster_record.specs.RecordState.{RecordState, entry_of, identity_of, named, is_up, is_live_client, client_key, node_of_client, first_complete, home_of, made_with, finished, swept, stays}
+use Rattle.cluster_record.specs.RecordState.{RecordState, entry_of, identity_of, named, is_up, is_live_client, first_complete, home_of, made_with, finished, swept, stays}
 use Rattle.cluster_record.specs.StepDone.{StepDone, done_of, first_lacking, has, lacks}
 use Rattle.ckpt_machine.specs.Drivers as drivers
 use Rattle.ckpt_machine.specs.Driving.{driver_taken}
 use Rattle.ckpt_machine.specs.Guards.{IsMadeBy, IsTarget, IsInTime}
 use Rattle.ckpt_machine.specs.Entries.{WasMade, IsMakingEntry, AllStay}
 use Rattle.ckpt_machine.specs.InHand.{is_enter, attributes_asked, IsMakingIn, IsInPlace, IsOpenIn}
-use Rattle.ckpt_machine.specs.Invariant.{IsGoodClient, InvariantIn, Invariant}
+use Rattle.ckpt_machine.specs.Invariant.{InvariantIn, Invariant}
 use Rattle.ckpt_machine.specs.Left.{steps_left, lacking}
 use Rattle.ckpt_machine.specs.Machine.{Machine, CallState}
 use Rattle.ckpt_machine.specs.Steps.{Told, IsDone, IsServed, IsEvent, driver_of, with_record, with_given, with_reservation, record_step, without_making}
