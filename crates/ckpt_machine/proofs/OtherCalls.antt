@@ -154,7 +154,7 @@ module _ (m n : Machine) (k : ℕ) where
   pub IsMaker-alike : (d : CallId) → n.in_hand d.actor ≡ m.in_hand d.actor → IsMaker m k d → IsMaker n k d
   IsMaker-alike d same own = record { state = own.state; in_hand = same ∙ own.in_hand; call_is = own.call_is; driver = own.driver; driver_is = own.driver_is; making = own.making; making_is = own.making_is; ckpt = own.ckpt }
 
-  -- the checkpoint is as it was, where its replicas are, a node that joins it has the opening one, and those who own its slots, have marks on it or are making it stay
+  -- the checkpoint is as it was, where its replicas stay, a node on which it is complete now has the opening one, and those who own its slots, have marks on it or are making it stay
   pub IsGoodIn-later : (sh : Shape) (e f : Entry) → IsLaterEntry e f → ((r : ℕ) → IsCompleteOn e r → n.replicas k r ≡ m.replicas k r) → ((r : ℕ) → (slice_index e.complete r == 0) ≡ true → IsCompleteOn f r → n.replicas k r ≡ Some (opened_state f))
       → ((d : CallId) → IsOwner m k sh d → f.complete ≡ e.complete) → ((d : CallId) → IsOwner m k sh d → n.in_hand d.actor ≡ m.in_hand d.actor) → ((marks : Marked) → IsMarker m k marks → n.in_hand marks.call.actor ≡ m.in_hand marks.call.actor) → ((d : CallId) → IsMaker m k d → n.in_hand d.actor ≡ m.in_hand d.actor)
       → (maker : Option CallId) → (IsSome maker → f.complete ≡ e.complete) → IsGoodIn m k sh e maker → IsGoodIn n k sh f maker

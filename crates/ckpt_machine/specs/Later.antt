@@ -17,6 +17,7 @@ use Rattle.weak_marks.specs.Marks.{Marked}
 -- the same as far as the invariant looks; one that is made and collocated may be complete on further nodes
 pub record IsLaterEntry (e f : Entry) : Type 0 where
   pub making : f.making ≡ e.making
+  -- one in the making, or not collocated, has the same nodes; any other has these at least
   pub unmade : IsSome e.making → f.complete ≡ e.complete
   pub placed : is_collocated e.attributes ≡ false → f.complete ≡ e.complete
   pub nodes : length f.complete ≡ length e.complete
