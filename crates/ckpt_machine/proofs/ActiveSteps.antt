@@ -21,7 +21,7 @@ use Rattle.ckpt_machine.specs.Options.{is_all}
 use Rattle.ckpt_machine.specs.Shape.{Shape, IsApart, IsShapedBy, PhaseFits, is_owner, IsOwner, IsMarker, IsSpread}
 use Rattle.ckpt_machine.specs.Steps.{driver_of}
 use Rattle.ckpt_machine.proofs.Actors.{same_actor-true}
-use Rattle.ckpt_machine.proofs.OtherCalls.{LooksAlike, making_still, IsInHand-alike, IsIn-apart, IsOwner-alike, IsGoodIn-alike, IsLaterEntry-refl}
+use Rattle.ckpt_machine.proofs.OtherCalls.{LooksAlike, making_still, IsInHand-alike, IsIn-apart, IsOwner-alike, IsGoodIn-alike}
 use Rattle.ckpt_machine.proofs.ReplicaSteps.{put_actor-cases, put_actor-other}
 
 -- the same checkpoint with other marks
@@ -69,7 +69,7 @@ module _ (m : Machine) (shapes : ℕ → Shape) (inv : InvariantIn shapes m) (s 
 
   -- another checkpoint is as it was
   IsGoodIn-other : (f : ℕ → ℕ → Option ReplicaState) (o : Option CallState) → ((j q : ℕ) → (j == a.ckpt) ≡ false → f j q ≡ m.replicas j q) → (j : ℕ) (sh : Shape) (e : Entry) (maker : Option CallId) → (j == a.ckpt) ≡ false → IsGoodIn m j sh e maker → IsGoodIn (with_step f o) j sh e maker
-  IsGoodIn-other f o stays j sh e maker other good = IsGoodIn-alike m (with_step f o) j sh e e (IsLaterEntry-refl e) (λ q there. stays j q other)
+  IsGoodIn-other f o stays j sh e maker other good = IsGoodIn-alike m (with_step f o) j sh e (λ q there. stays j q other)
       (λ d own. put_actor-other m.in_hand s.call.actor o d.actor (owner_other j sh d own)) (λ marks own. put_actor-other m.in_hand s.call.actor o marks.call.actor (marker_other j marks other own)) (λ d own. put_actor-other m.in_hand s.call.actor o d.actor (maker_other j d own)) maker good
 
   -- ---- its checkpoint is gone, and it ends
@@ -152,7 +152,7 @@ module _ (m : Machine) (shapes : ℕ → Shape) (inv : InvariantIn shapes m) (s 
       tables = refl;
       making = λ v at. making_still m then_machine z v (λ w at. record { there = at.there; declares = at.declares; nodes = at.nodes; reserved = at.reserved; only = at.only; within = at.within }) at;
       made = λ k was. was;
-      later = λ k was e found. (e, found, refl, refl, refl);
+      later = λ k was e found. (e, found, λ all. refl, refl, refl);
       owners = λ j was q. elim (j == a.ckpt) as (λ b. (j == a.ckpt) ≡ b → is_owner z.call ((cond b (marked_so (shapes a.ckpt) marks) (shapes j)).owners q) ≡ is_owner z.call ((shapes j).owners q)) [
         | true ↦ λ same. ap (λ n. is_owner z.call ((shapes n).owners q)) (sym (eqb-true j a.ckpt same))
         | false ↦ λ same. refl

@@ -6,7 +6,7 @@ use Rattle.cluster_record.specs.RecordState.{client_key, no_nodes, is_up, brough
 use Rattle.ckpt_machine.specs.Machine.{Machine, CallState}
 use Rattle.ckpt_machine.specs.Shape.{Shape}
 use Rattle.ckpt_machine.specs.Invariant.{IsGoodClient, InvariantIn}
-use Rattle.ckpt_machine.proofs.OtherCalls.{LooksAlike, IsInHand-alike, IsGoodIn-alike, IsLaterEntry-refl}
+use Rattle.ckpt_machine.proofs.OtherCalls.{LooksAlike, IsInHand-alike, IsGoodIn-alike}
 use Rattle.ckpt_machine.proofs.EndedTables.{live_alike}
 use Rattle.ckpt_machine.proofs.NodeLists.{is_up-none}
 
@@ -25,7 +25,7 @@ module _ (m : Machine) (shapes : ℕ → Shape) (inv : InvariantIn shapes m) (n 
     tables = refl;
     making = λ o at. none_up o.ask.node at.node;
     made = λ k was. was;
-    later = λ k was e found. (e, found, refl, refl, refl);
+    later = λ k was e found. (e, found, λ all. refl, refl, refl);
     owners = λ k was r. refl;
     marks = λ k was. refl;
   }
@@ -37,7 +37,7 @@ module _ (m : Machine) (shapes : ℕ → Shape) (inv : InvariantIn shapes m) (n 
     rises = inv.rises;
     up_to = inv.up_to;
     swept = inv.swept;
-    entries = λ k e found. IsGoodIn-alike m then_machine k (shapes k) e e (IsLaterEntry-refl e) (λ r there. refl) (λ d own. refl) (λ marks own. refl) (λ d own. refl) e.making (inv.entries k e found);
+    entries = λ k e found. IsGoodIn-alike m then_machine k (shapes k) e (λ r there. refl) (λ d own. refl) (λ marks own. refl) (λ d own. refl) e.making (inv.entries k e found);
     reserves = inv.reserves;
     handles = inv.handles;
     rest = inv.rest;

@@ -10,7 +10,7 @@ use Rattle.ckpt_machine.specs.Invariant.{InvariantIn}
 use Rattle.ckpt_machine.specs.Machine.{Machine, CallState}
 use Rattle.ckpt_machine.specs.Steps.{with_tables}
 use Rattle.ckpt_machine.specs.Shape.{Shape}
-use Rattle.ckpt_machine.proofs.OtherCalls.{LooksAlike, making_still, IsInHand-alike, IsGoodIn-alike, IsLaterEntry-refl}
+use Rattle.ckpt_machine.proofs.OtherCalls.{LooksAlike, making_still, IsInHand-alike, IsGoodIn-alike}
 use Rattle.ckpt_machine.proofs.ReplicaSteps.{put_actor-other, put_actor-same, held_by_other}
 
 -- where nothing is made of them the state stays
@@ -28,7 +28,7 @@ module _ (m : Machine) (shapes : ℕ → Shape) (inv : InvariantIn shapes m) (a 
     tables = put_actor-other m.tables a (change (m.tables a)) z.call.actor other;
     making = λ o at. making_still m then_machine z o (λ w at. record { there = at.there; declares = at.declares; nodes = at.nodes; reserved = at.reserved; only = at.only; within = at.within }) at;
     made = λ k was. was;
-    later = λ k was e found. (e, found, refl, refl, refl);
+    later = λ k was e found. (e, found, λ all. refl, refl, refl);
     owners = λ k was r. refl;
     marks = λ k was. refl;
   }
@@ -41,7 +41,7 @@ module _ (m : Machine) (shapes : ℕ → Shape) (inv : InvariantIn shapes m) (a 
     rises = inv.rises;
     up_to = inv.up_to;
     swept = inv.swept;
-    entries = λ k e found. IsGoodIn-alike m then_machine k (shapes k) e e (IsLaterEntry-refl e) (λ r there. refl) (λ d own. refl) (λ marks own. refl) (λ d own. refl) e.making (inv.entries k e found);
+    entries = λ k e found. IsGoodIn-alike m then_machine k (shapes k) e (λ r there. refl) (λ d own. refl) (λ marks own. refl) (λ d own. refl) e.making (inv.entries k e found);
     reserves = inv.reserves;
     handles = λ b h. elim (same_actor b a) as (λ t. Contains (cond t (change (m.tables a)) (m.tables b)).handles h → WasMade m.cluster h.id) [ true ↦ λ among. good h among | false ↦ λ among. inv.handles b h among ];
     rest = λ b. elim (same_actor b a) as (λ t. NoneLent (cond t (change (m.tables a)) (m.tables b))) [ true ↦ at_rest | false ↦ inv.rest b ];

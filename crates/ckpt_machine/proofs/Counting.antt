@@ -28,7 +28,8 @@ use Rattle.cluster_record.specs.Identities.{IdentitiesRise, AllUpTo}
 use Rattle.cluster_record.specs.LookUps.{creation_flags_of}
 use Rattle.cluster_record.specs.Makings.{making_of}
 use Rattle.cluster_record.specs.Places.{change_key, put2}
-use Rattle.cluster_record.specs.RecordState.{RecordState, entry_of, identity_of, has_references, stays, swept, entered, created_as, new_entry, referred, home_of, made_with, unreferred, released_all, unnamed, retaining, is_call_of, departed, moved, undone, complete_of}
+use Rattle.cluster_record.specs.Placement.{adds}
+use Rattle.cluster_record.specs.RecordState.{RecordState, entry_of, identity_of, has_references, stays, swept, entered, created_as, new_entry, referred, opened_with, home_of, made_with, unreferred, released_all, unnamed, retaining, is_call_of, departed, moved, undone, complete_of}
 use Rattle.cluster_record.proofs.IdentityLaws.{KeepsIdentity, IdentitiesRise-change_key, IdentitiesRise-filter, IdentitiesRise-map, IdentitiesRise-push}
 use Rattle.ckpt_types.specs.Asks.{Ask, asked, update_of}
 use Rattle.ckpt_types.specs.Asks as asks
@@ -39,6 +40,7 @@ use Rattle.ckpt_machine.specs.Steps.{given_at, chosen_at}
 use Rattle.ckpt_machine.specs.Steps.{with_record, record_step, with_tables, with_given, with_started, with_gone_on, ids_asked, seen_at, created_for, retained_for, change_replica, with_committed, committed_slot, with_applied, with_marks, without_marks, marks_ended, effect_of, begun, begun_call, changed, step_of, on_ok, on_look, without_making, at_some, replica_under, opened_state}
 use Rattle.ckpt_machine.specs.Tables.{handle_given, with_iteration, started, with_next, gone_on, closing, ended_at_once}
 use Rattle.ckpt_machine.proofs.References.{released-identity, released_all-identity}
+use Rattle.ckpt_machine.proofs.Joining.{opened_with-identity}
 use Rattle.ckpt_machine.proofs.Entries.{ComesOf, ComesOf-filter, ComesOf-change_key, ComesOf-map}
 use Rattle.ckpt_machine.proofs.Follows.{element_effects}
 use Rattle.ckpt_machine.proofs.NodeLists.{slice_index-replicate}
@@ -154,6 +156,12 @@ OneMore-released_all c t e = left_fewer e t (slice_set e.references c 0) (λ d. 
 
 OneMore-referred : (c : ℕ) (e : Entry) → OneMore e (referred c e)
 OneMore-referred c e n few d = slice_index-one_more e.references c d n few
+
+OneMore-opened : (opener : ℕ) (up : List ℕ) (c : ℕ) (e : Entry) → OneMore e (opened_with opener up c e)
+OneMore-opened opener up c e = elim (adds e.attributes opener e.complete) as (λ b. OneMore e (referred c (cond b (record e { complete = slice_set e.complete opener (slice_index up opener) }) e))) [
+  | true ↦ λ n few d. slice_index-one_more e.references c d n few
+  | false ↦ OneMore-referred c e
+]
 
 OneMore-made : (opener : ℕ) (up : List ℕ) (c : ℕ) (e : Entry) → OneMore e (made_with opener up c e)
 OneMore-made opener up c e n few d = slice_index-one_more e.references c d n few
@@ -378,7 +386,7 @@ module _ (m : Machine) (n : ℕ) (rises : IdentitiesRise m.cluster.entries) (up_
   changed_counts verbs.Reserve k r reply = ok_on m n counts reply _ (both_on m n counts k r _ (λ k r. let c = more m n counts in record { next = c.next; last_handles = c.last_handles; last_iterations = c.last_iterations; effects = c.effects; identity = c.identity; references = c.references }))
   changed_counts verbs.Finish k r reply = ok_on m n counts reply _ (some_on m n counts k _ (λ k. entry_given k (made_with (home_of (client_of s.call) m.cluster) m.cluster.up (client_of s.call)) (λ e. refl) (OneMore-made (home_of (client_of s.call) m.cluster) m.cluster.up (client_of s.call))))
   changed_counts verbs.Undo k r reply = ok_on m n counts reply _ (some_on m n counts k _ (undone_on m n counts rises up_to))
-  changed_counts verbs.Open k r reply = ok_on m n counts reply _ (some_on m n counts k _ (λ k. entry_given k (referred (client_of s.call)) (λ e. refl) (OneMore-referred (client_of s.call))))
+  changed_counts verbs.Open k r reply = ok_on m n counts reply _ (some_on m n counts k _ (λ k. entry_given k (opened_with (home_of (client_of s.call) m.cluster) m.cluster.up (client_of s.call)) (opened_with-identity (home_of (client_of s.call) m.cluster) m.cluster.up (client_of s.call)) (OneMore-opened (home_of (client_of s.call) m.cluster) m.cluster.up (client_of s.call))))
   changed_counts verbs.Close k r reply = ok_on m n counts reply _ (some_on m n counts k _ (λ k. tables_on m n counts _ (entry_changed k (unreferred (client_of s.call) m.cluster.moment) (released-identity (client_of s.call) m.cluster.moment) (OneMore-released (client_of s.call) m.cluster.moment)) s.call.actor (closing (asked s.op)) (CountsOne-closing (asked s.op) (m.tables s.call.actor))))
   changed_counts verbs.Unlink k r reply = ok_on m n counts reply _ (some_on m n counts k _ (λ k. entry_changed k unnamed (λ e. refl) (λ e. OneMore-fewer e (unnamed e) (λ c. omega arith))))
   changed_counts verbs.Retain k r reply = ok_on m n counts reply _ (some_on m n counts k _ (λ k. on_step m n counts (retained_for (asked s.op) k) (retained_for_on m.cluster rises up_to (asked s.op) k)))

@@ -1,6 +1,6 @@
 -- A checkpoint is created: one entry more, in the making by a call that made nothing before; what holds of every other call and of every other checkpoint stays.
 use Rattle.std.proofs.Common.{◌≡◌, ℕ, ◌+◌, ◌≤◌, inl, inr, List, Option, Some, None, Bool, true, false, cond, ◌==◌, refl, sym, ap, subst, ◌∙◌, arith}
-use Rattle.std.specs.Prelude.{IsSomeAnd, IfSome, slice_index}
+use Rattle.std.specs.Prelude.{is_some, IsSome, IsSomeAnd, IfSome, slice_index}
 use Rattle.std.proofs.lemmas.Bool.{eqb-true, eq-eqb}
 use Rattle.std.proofs.lemmas.List.{length-replicate}
 use Rattle.std.proofs.lemmas.Option.{same_Some}
@@ -23,10 +23,10 @@ use Rattle.ckpt_machine.specs.Steps.{driver_of, with_record, replica_under, rese
 use Rattle.ckpt_machine.specs.Shape.{Shape, IsCompleteOn}
 use Rattle.ckpt_machine.proofs.NodeLists.{slice_index-replicate}
 use Rattle.ckpt_machine.proofs.EntryLists.{entry_of-given, find_key-push, AllStay-push}
-use Rattle.ckpt_machine.proofs.OtherCalls.{LooksAlike, making_still, IsInHand-alike, IsGoodIn-alike, IsLaterEntry-refl}
+use Rattle.ckpt_machine.proofs.OtherCalls.{LooksAlike, making_still, IsInHand-alike, IsGoodIn-alike}
 use Rattle.ckpt_machine.proofs.OptionLemmas.{IsSomeAnd-at, IsSomeAnd-from}
 use Rattle.ckpt_machine.proofs.ReplicaSteps.{put_actor-cases, put_actor-here, put_actor-other}
-use Rattle.ckpt_machine.proofs.ReservedUnder.{under_there}
+use Rattle.ckpt_machine.proofs.ReservedUnder.{was_reserved}
 use Rattle.ckpt_machine.proofs.PlainCalls.{is_plain, owner_apart, marker_apart, maker_apart}
 
 module _ (m : Machine) (shapes : ℕ → Shape) (inv : InvariantIn shapes m) (s : CallState) (held : m.in_hand s.call.actor ≡ Some s) (plain : is_plain (driver_of s) ≡ true) (name : List ℕ) (a : CreationAttributes) (good : is_malformed a ≡ false)
@@ -99,7 +99,7 @@ module _ (m : Machine) (shapes : ℕ → Shape) (inv : InvariantIn shapes m) (s 
 
   -- a checkpoint that was there is as it was
   IsGoodIn-then : (j : ℕ) (sh : Shape) (e : Entry) (maker : Option CallId) → entry_of j m.cluster.entries ≡ Some e → IsGoodIn m j sh e maker → IsGoodIn then_machine j sh e maker
-  IsGoodIn-then j sh e maker found was = IsGoodIn-alike m then_machine j sh e e (IsLaterEntry-refl e) (λ r there. replica_other j r e found there)
+  IsGoodIn-then j sh e maker found was = IsGoodIn-alike m then_machine j sh e (λ r there. replica_other j r e found there)
       (λ d own. put_actor-other m.in_hand s.call.actor (Some w) d.actor (owner_apart m shapes inv s held plain j sh d own)) (λ marks own. put_actor-other m.in_hand s.call.actor (Some w) marks.call.actor (marker_apart m shapes inv s held plain j marks own)) (λ d own. put_actor-other m.in_hand s.call.actor (Some w) d.actor (maker_apart m shapes inv s held plain j d own)) maker was
 
   -- the new one is as it was created
@@ -138,12 +138,19 @@ module _ (m : Machine) (shapes : ℕ → Shape) (inv : InvariantIn shapes m) (s 
       tables = refl;
       making = λ x at. making_still m then_machine z x making_then at;
       made = WasMade-then;
-      later = λ j was e found. (e, sym (entry_other j (given_apart j was.given)) ∙ found, refl, refl, refl);
+      later = λ j was e found. (e, sym (entry_other j (given_apart j was.given)) ∙ found, λ all. refl, refl, refl);
       owners = λ j was r. refl;
       marks = λ j was. refl;
     }
 
   -- ---- the whole
+
+  -- what is reserved is for a checkpoint that is in the making: the new one, or one for which it was
+  reserves_then : (j q n : ℕ) (f : Entry) → entry_of j R.entries ≡ Some f → m.reserved j q ≡ Some n → (b : Bool) → (j == next) ≡ b → IsSome f.making
+  reserves_then j q n f found was false other = subst (λ o. IsSomeAnd o (λ (x : Entry). IsSome x.making)) (sym (entry_other j other) ∙ found) (inv.reserves j q n was)
+  reserves_then j q n f found was true same =
+      let new_is : new ≡ f = same_Some new f (sym entry_new ∙ ap (λ n. entry_of n R.entries) (sym (eqb-true j next same)) ∙ found) in
+      ap (λ (x : Entry). is_some x.making) (sym new_is)
 
   -- the invariant holds after it, where it holds of the call
   pub created_keeps : IsInHand then_machine shapes s.call.actor w → InvariantIn shapes then_machine
@@ -154,7 +161,7 @@ module _ (m : Machine) (shapes : ℕ → Shape) (inv : InvariantIn shapes m) (s 
     up_to = AllUpTo-push m.cluster.last_identity m.cluster.entries new inv.up_to refl;
     swept = AllStay-push m.cluster.moment m.cluster.entries new inv.swept refl;
     entries = λ j e found. by_test j e found (j == next) refl;
-    reserves = λ j q n reserved. under_there (entry_of j R.entries) q n (m.reserved j q) reserved;
+    reserves = λ j q n reserved. was_reserved (entry_of j R.entries) q n (m.reserved j q) (λ f. IsSome f.making) (λ f found free was. reserves_then j q n f found was (j == next) refl) reserved;
     handles = λ b h among. WasMade-then h.id (inv.handles b h among);
     rest = inv.rest;
     clients = inv.clients;

@@ -23,19 +23,19 @@ use Rattle.ckpt_machine.specs.Machine.{Machine, CallState}
 use Rattle.ckpt_machine.specs.Steps.{driver_of, with_record, replica_under, reservation_under, opened_state}
 use Rattle.ckpt_machine.specs.Shape.{Shape, IsCompleteOn, IsShapedBy, is_owner, IsOwner, IsMarker, IsSpread}
 use Rattle.ckpt_machine.proofs.ReplicaSteps.{put_actor-cases, put_actor-other}
-use Rattle.ckpt_machine.proofs.OtherCalls.{LooksAlike, making_still, IsInHand-alike, IsGoodIn-alike, IsLaterEntry-refl}
+use Rattle.ckpt_machine.proofs.OtherCalls.{LooksAlike, making_still, IsInHand-alike, IsGoodIn-alike}
 use Rattle.ckpt_machine.proofs.OptionLemmas.{IsSomeAnd-at, IsSomeAnd-from}
 use Rattle.ckpt_machine.proofs.MarksAt.{none_marked}
 use Rattle.ckpt_machine.proofs.Targets.{targets-length}
 use Rattle.cluster_record.specs.Placement.{targets}
 use Rattle.ckpt_machine.proofs.Actors.{same_actor-refl, same_actor-true}
 use Rattle.ckpt_machine.proofs.EntryLists.{find_key-change_key}
-use Rattle.ckpt_machine.proofs.ReservedUnder.{under_there}
+use Rattle.ckpt_machine.proofs.ReservedUnder.{was_reserved}
 use Rattle.ckpt_machine.proofs.NodeLists.{slice_index-replicate}
 use Rattle.ckpt_machine.specs.Options.{is_all}
 
 module _ (m : Machine) (shapes : ℕ → Shape) (inv : InvariantIn shapes m) (s : CallState) (o : OpenState) (making : Making) (held : m.in_hand s.call.actor ≡ Some s) (is : driver_of s ≡ drivers.Open o) (makes : o.making ≡ Some making)
-    (c : ℕ) (e : Entry) (found : entry_of making.ckpt m.cluster.entries ≡ Some e) (by : e.making ≡ Some s.call) (some : IsSome (first_complete 0 (targets e.attributes (home_of c m.cluster) m.cluster.up))) (stays : AllStay m.cluster.moment (change_key identity_of making.ckpt (made_with (home_of c m.cluster) m.cluster.up c) m.cluster.entries)) where
+    (c : ℕ) (e : Entry) (found : entry_of making.ckpt m.cluster.entries ≡ Some e) (by : e.making ≡ Some s.call) (some : IsSome (first_complete 0 (targets e.attributes (home_of c m.cluster) m.cluster.up))) (none_else : (r : ℕ) → (slice_index (targets e.attributes (home_of c m.cluster) m.cluster.up) r == 0) ≡ true → m.reserved making.ckpt r ≡ None) (stays : AllStay m.cluster.moment (change_key identity_of making.ckpt (made_with (home_of c m.cluster) m.cluster.up c) m.cluster.entries)) where
   abbrev k : ℕ
   k = making.ckpt
 
@@ -126,7 +126,7 @@ module _ (m : Machine) (shapes : ℕ → Shape) (inv : InvariantIn shapes m) (s 
       ∙ (λ i. cond (there i) None (cond (there i) (Some (opened_state g)) (m.replicas j r)))
 
   IsGoodIn-then : (j : ℕ) (sh : Shape) (g : Entry) (maker : Option CallId) → (j == making.ckpt) ≡ false → entry_of j m.cluster.entries ≡ Some g → IsGoodIn m j sh g maker → IsGoodIn then_machine j sh g maker
-  IsGoodIn-then j sh g maker other was good = IsGoodIn-alike m then_machine j sh g g (IsLaterEntry-refl g) (λ r there. replica_other j r g other was there) (owner_stays j sh) (marker_stays j) (λ d own. maker_stays j d other own) maker good
+  IsGoodIn-then j sh g maker other was good = IsGoodIn-alike m then_machine j sh g (λ r there. replica_other j r g other was there) (owner_stays j sh) (marker_stays j) (λ d own. maker_stays j d other own) maker good
 
   -- ---- the checkpoint that is made
 
@@ -204,12 +204,21 @@ module _ (m : Machine) (shapes : ℕ → Shape) (inv : InvariantIn shapes m) (s 
       tables = refl;
       making = λ v at. making_still m then_machine z v making_then at;
       made = WasMade-then;
-      later = λ j was g found. (g, sym (entry_other j (not_made j was)) ∙ found, refl, refl, refl);
+      later = λ j was g found. (g, sym (entry_other j (not_made j was)) ∙ found, λ all. refl, refl, refl);
       owners = λ j was r. ap (λ (sh : Shape). is_owner z.call (sh.owners r)) (ap (λ b. cond b opened_shape (shapes j)) (not_made j was));
       marks = λ j was. ap (λ (sh : Shape). is_marked_by z.call sh.marks) (ap (λ b. cond b opened_shape (shapes j)) (not_made j was));
     }
 
   -- ---- the whole
+
+  -- what is reserved is for another checkpoint, since a node on which this one is not made had none
+  reserves_then : (j q n : ℕ) (g : Entry) → entry_of j R.entries ≡ Some g → (slice_index g.complete q == 0) ≡ true → m.reserved j q ≡ Some n → (b : Bool) → (j == making.ckpt) ≡ b → IsSome g.making
+  reserves_then j q n g there free was false other = subst (λ o. IsSomeAnd o (λ (x : Entry). IsSome x.making)) (sym (entry_other j other) ∙ there) (inv.reserves j q n was)
+  reserves_then j q n g there free was true same =
+      let at_k : making.ckpt ≡ j = sym (eqb-true j making.ckpt same) in
+      let g_is : f ≡ g = same_Some f g (sym entry_here ∙ ap (λ n. entry_of n R.entries) at_k ∙ there) in
+      let none : m.reserved making.ckpt q ≡ None = none_else q (ap (λ (x : Entry). slice_index x.complete q == 0) g_is ∙ free) in
+      absurd (let w : None ≡ Some n = sym none ∙ ap (λ i. m.reserved i q) at_k ∙ was in cc w)
 
   -- the invariant holds after it
   pub finish_keeps : InvariantIn (put shapes making.ckpt opened_shape) then_machine
@@ -220,7 +229,7 @@ module _ (m : Machine) (shapes : ℕ → Shape) (inv : InvariantIn shapes m) (s 
     up_to = AllUpTo-change_key (made_with (home_of c m.cluster) m.cluster.up c) (λ x. refl) m.cluster.last_identity making.ckpt m.cluster.entries inv.up_to;
     swept = stays;
     entries = λ j g there. by_test j g there (j == making.ckpt) refl;
-    reserves = λ j q n reserved. under_there (entry_of j R.entries) q n (m.reserved j q) reserved;
+    reserves = λ j q n reserved. was_reserved (entry_of j R.entries) q n (m.reserved j q) (λ g. IsSome g.making) (λ g found free was. reserves_then j q n g found free was (j == making.ckpt) refl) reserved;
     handles = λ b h among. WasMade-then h.id (inv.handles b h among);
     rest = inv.rest;
     clients = inv.clients;

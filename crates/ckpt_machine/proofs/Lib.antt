@@ -13,6 +13,7 @@ pub mod Replaying
 pub mod ReplicaSteps
 pub mod NodeLists
 pub mod Owning
+pub mod Joining
 pub mod RecordSteps
 pub mod Stage
 pub mod StagedMoment

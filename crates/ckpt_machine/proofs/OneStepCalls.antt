@@ -38,6 +38,7 @@ use Rattle.ckpt_machine.proofs.EndedTables.{live_alike, other_client, closing_ke
 use Rattle.ckpt_machine.proofs.Enter.{enter_goes}
 use Rattle.ckpt_machine.proofs.Moment.{IsLaterEntry-refl}
 use Rattle.ckpt_machine.proofs.NodeLists.{length-slice_set}
+use Rattle.ckpt_machine.proofs.Joining.{same_nodes-later}
 use Rattle.ckpt_machine.proofs.PlainCalls.{is_plain, ending, IsLaterEntry-then, maker_apart, plain_ends, look_goes, swept_keeps, changed_keeps}
 use Rattle.ckpt_machine.proofs.ReplicaSteps.{put_actor-here}
 use Rattle.ckpt_machine.proofs.References.{released-identity, released_all-identity}
@@ -51,8 +52,8 @@ use Rattle.ckpt_machine.proofs.EntryLists.{find_key-without}
 -- a last close changes nothing that the invariant looks at, nor does what is left where a client has no reference
 fewer_later : (e : Entry) (t : ℤ) (references : List ℕ) → length references ≡ length e.references → (none left : Bool) → IsLaterEntry e (cond none e (cond left (record e { references = references }) (record e { references = references; idle = t })))
 fewer_later e t references same true left = IsLaterEntry-refl e
-fewer_later e t references same false true = record { making = refl; complete = refl; active = refl; attributes = refl; generation = refl; clients = same }
-fewer_later e t references same false false = record { making = refl; complete = refl; active = refl; attributes = refl; generation = refl; clients = same }
+fewer_later e t references same false true = same_nodes-later e _ refl refl refl refl refl same
+fewer_later e t references same false false = same_nodes-later e _ refl refl refl refl refl same
 
 module _ (c : ℕ) (t : ℤ) (e : Entry) where
   abbrev one_less : List ℕ
@@ -68,10 +69,10 @@ module _ (c : ℕ) (t : ℤ) (e : Entry) where
   released_all-later = fewer_later e t none_of_it (length-slice_set e.references c 0) (slice_index e.references c == 0) (has_references (record e { references = none_of_it }))
 
 unnamed-later : (e : Entry) → IsLaterEntry e (unnamed e)
-unnamed-later e = record { making = refl; complete = refl; active = refl; attributes = refl; generation = refl; clients = refl }
+unnamed-later e = same_nodes-later e (unnamed e) refl refl refl refl refl refl
 
 retaining-later : (duration : ℤ) (e : Entry) → IsLaterEntry e (retaining duration e)
-retaining-later duration e = record { making = refl; complete = refl; active = refl; attributes = refl; generation = refl; clients = refl }
+retaining-later duration e = same_nodes-later e (retaining duration e) refl refl refl refl refl refl
 
 -- ---- a close
 
@@ -90,7 +91,7 @@ module _ (m : Machine) (shapes : ℕ → Shape) (inv : InvariantIn shapes m) (s 
   close_event t e found event = elim (IsEvent-told m s events.Close t (drivers.Once (Close k)) event is refl) [
     | inl ok ↦ subst (Goes m s (driver_of s)) (sym ok) (record {
       row = ((at_close.place, at_close.asks, (at_close.kept, ap is_some found, refl)), refl);
-      holds = closing_ends (record_step (closed k c) m) (changed_keeps m shapes inv s held (ap is_plain is) k (unreferred c m.cluster.moment) (released-identity c m.cluster.moment) (released-later c m.cluster.moment));
+      holds = closing_ends (record_step (closed k c) m) (changed_keeps m shapes inv s held (ap is_plain is) k (unreferred c m.cluster.moment) (released-identity c m.cluster.moment) (λ e found. released-later c m.cluster.moment e));
       nearer = λ none. absurd (cc none);
     })
     | inr memory ↦ absurd (cc (memory.0))
@@ -122,7 +123,7 @@ module _ (m : Machine) (shapes : ℕ → Shape) (inv : InvariantIn shapes m) (s 
     unlink_event t made event = elim (IsEvent-told m s events.Unlink t (drivers.Once (Unlink name)) event is refl) [
       | inl ok ↦ subst (Goes m s (driver_of s)) (sym (ok ∙ (λ i. record { verb = verbs.Unlink; ckpt = identity_in (found i); node = None; reply = words.Ok; end = Some (Done answers.Nothing); details = beside.Nothing }))) (record {
         row = ((name, at_unlink, (IsSomeAnd-from (named name m.cluster.entries) (CanUnlink e.identity) e found (record { identity = refl; made = made }), refl)), refl);
-        holds = record { shapes = shapes; holds = changed_keeps m shapes inv s held (ap is_plain is) e.identity unnamed (λ x. refl) unnamed-later };
+        holds = record { shapes = shapes; holds = changed_keeps m shapes inv s held (ap is_plain is) e.identity unnamed (λ x. refl) (λ e found. unnamed-later e) };
         nearer = λ none. absurd (cc none);
       })
       | inr memory ↦ absurd (cc (memory.0))
@@ -164,7 +165,7 @@ module _ (m : Machine) (shapes : ℕ → Shape) (inv : InvariantIn shapes m) (s 
     | inl ok ↦ subst (Goes m s (driver_of s)) (sym ok) (record {
       row = ((at_retain.place, duration, at_retain.asks, (at_retain.kept, IsSomeAnd-from (entry_of k m.cluster.entries) (λ e. IsSome e.name) e found has, refl)), refl);
       holds = subst (λ ask. Invariant (ending s (record_step (retained_for ask k) m))) (sym at_retain.asks)
-          (record { shapes = shapes; holds = changed_keeps m shapes inv s held (ap is_plain is) k (retaining duration) (λ x. refl) (retaining-later duration) });
+          (record { shapes = shapes; holds = changed_keeps m shapes inv s held (ap is_plain is) k (retaining duration) (λ x. refl) (λ e found. retaining-later duration e) });
       nearer = λ none. absurd (cc none);
     })
     | inr memory ↦ absurd (cc (memory.0))

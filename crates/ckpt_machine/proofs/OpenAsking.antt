@@ -1,6 +1,6 @@
 -- An open that makes nothing yet is refused, creates a checkpoint, or opens one that is there; with any calls of others in hand.
 use Rattle.std.proofs.Common.{◌≡◌, ◌≤◌, ℕ, ◌+◌, ◌<◌, inl, inr, ◌∷◌, length, Option, Some, None, Bool, true, false, cond, not, ◌==◌, ◌&&◌, nat_le, ℤ, refl, sym, ap, subst, ◌∙◌, arith}
-use Rattle.std.specs.Prelude.{is_some, slice_index}
+use Rattle.std.specs.Prelude.{is_some, IsSome, IsSomeAnd, slice_index}
 use Rattle.std.proofs.lemmas.Bool.{leb-true, leb-false}
 use Rattle.moment_rules.specs.Times.{is_reached}
 use Rattle.ckpt_types.specs.declared.ais_error.AisError.{AisError}
@@ -22,7 +22,8 @@ use Rattle.cluster_record.specs.Calls.{client_of, put_actor}
 use Rattle.cluster_record.specs.DueOpen.{OpenState, IsBefore, accepts, create_next, entry_by, entry_next, on_named, on_free_name}
 use Rattle.cluster_record.specs.LookUps.{identity_in}
 use Rattle.cluster_record.specs.Opening.{answer_named, answer_unless}
-use Rattle.cluster_record.specs.RecordState.{RecordState, entry_of, named, no_nodes, is_live, new_entry, created_as, swept}
+use Rattle.cluster_record.specs.RecordState.{RecordState, entry_of, home_of, named, no_nodes, is_live, new_entry, created_as, swept}
+use Rattle.cluster_record.specs.Placement.{adds}
 use Rattle.cluster_record.specs.Refusals.{plainly}
 use Rattle.cluster_record.specs.StepDone.{StepDone, done_of, has}
 use Rattle.cluster_record.proofs.IdentityLaws.{entry_of-find}
@@ -149,8 +150,8 @@ module _ (m : Machine) (shapes : ℕ → Shape) (inv : InvariantIn shapes m) (s 
         not_given : (r : ℕ) → m.reserved next r ≡ None
         not_given r = by_reserved (m.reserved next r) refl
           where
-            by_entry : (e : Option Entry) → entry_of next m.cluster.entries ≡ e → is_some e ≡ true → m.reserved next r ≡ None
-            by_entry None found some = absurd (cc some)
+            by_entry : (e : Option Entry) → entry_of next m.cluster.entries ≡ e → IsSomeAnd e (λ e. IsSome e.making) → m.reserved next r ≡ None
+            by_entry None found some = absurd some
             by_entry (Some e) found some = absurd (let below : next ≤ m.cluster.last_identity = entry_of-given m.cluster.last_identity next m.cluster.entries e inv.up_to found in omega (arith, below))
 
             by_reserved : (n : Option ℕ) → m.reserved next r ≡ n → m.reserved next r ≡ None
@@ -209,8 +210,8 @@ module _ (m : Machine) (shapes : ℕ → Shape) (inv : InvariantIn shapes m) (s 
     there = entry_of-find _ m.cluster.entries e inv.rises found
 
     -- what the record answers
-    answered : event_refusal m.cluster events.Open (driver_of s) ≡ refusal_in (answer_unless e.making ask.attrs e)
-    answered = ap (event_refusal m.cluster events.Open) is ∙ ap (λ o. refusal_in (answer_named m.cluster ask.attrs o)) found
+    answered : event_refusal m.cluster events.Open (driver_of s) ≡ refusal_in (answer_unless e.making ask.attrs (home_of ask.client m.cluster) e)
+    answered = ap (event_refusal m.cluster events.Open) is ∙ ap (λ o. refusal_in (answer_named m.cluster ask.attrs (home_of ask.client m.cluster) o)) found
 
     -- another call, which is live, is making it
     module _ (by : CallId) (made_by : e.making ≡ Some by) where
@@ -234,7 +235,7 @@ module _ (m : Machine) (shapes : ℕ → Shape) (inv : InvariantIn shapes m) (s 
       -- the label
       held_told : (t : Told) → IsEvent m s events.Open t → t ≡ record { verb = verbs.Open; ckpt = Some e.identity; node = None; reply = words.Refused; end = Some (Refused TryAgain (Holder by)); details = beside.Nothing }
       held_told t event =
-          let refusal : event_refusal m.cluster events.Open (driver_of s) ≡ Some (Refused TryAgain (Holder by)) = answered ∙ ap (λ c. refusal_in (answer_unless c ask.attrs e)) made_by in
+          let refusal : event_refusal m.cluster events.Open (driver_of s) ≡ Some (Refused TryAgain (Holder by)) = answered ∙ ap (λ c. refusal_in (answer_unless c ask.attrs (home_of ask.client m.cluster) e)) made_by in
           let (reply, end) = subst (λ o. IsRecordAnswer o events.Open t) refusal event.answer in
           let ckpt : t.ckpt ≡ Some e.identity = event.ckpt ∙ ckpt_then is ∙ ap identity_in found in
           let node : t.node ≡ None = event.node ∙ node_then is in
@@ -267,9 +268,9 @@ module _ (m : Machine) (shapes : ℕ → Shape) (inv : InvariantIn shapes m) (s 
       -- the record does not refuse it
       granted : accepts ask.attrs e ≡ true → event_refusal m.cluster events.Open (drivers.Open asking) ≡ None
       granted accepted =
-          ap (λ o. refusal_in (answer_named m.cluster ask.attrs o)) found
-          ∙ ap (λ c. refusal_in (answer_unless c ask.attrs e)) made
-          ∙ ap (λ b. refusal_in (cond (not b) (opening.Refused (plainly Exist)) (opening.Opened e.identity false))) accepted
+          ap (λ o. refusal_in (answer_named m.cluster ask.attrs (home_of ask.client m.cluster) o)) found
+          ∙ ap (λ c. refusal_in (answer_unless c ask.attrs (home_of ask.client m.cluster) e)) made
+          ∙ ap (λ b. refusal_in (cond (not b) (opening.Refused (plainly Exist)) (opening.Opened e.identity (adds e.attributes (home_of ask.client m.cluster) e.complete)))) accepted
 
       -- the opening
       open_goes : (t : Told) → accepts ask.attrs e ≡ true → (rooms_of m s).handles ≡ true → IsEvent m s events.Open t → Goes m s (drivers.Open asking) t

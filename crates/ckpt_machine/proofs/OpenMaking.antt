@@ -1,6 +1,6 @@
 -- An open that is making a checkpoint reserves it on each node that is up, and finishes it; or undoes it, where memory was refused or its deadline is reached; with any calls of others in hand.
 use Rattle.std.proofs.Common.{◌≡◌, ℕ, ◌+◌, ◌<◌, inl, inr, ◌∷◌, length, Option, Some, None, Bool, true, false, cond, not, ◌==◌, ◌&&◌, nat_lt, ℤ, refl, sym, ap, subst, ◌∙◌, arith}
-use Rattle.std.specs.Prelude.{is_some, IsSome, IsSomeAnd, IfSome, slice_index, slice_set}
+use Rattle.std.specs.Prelude.{IsSome, IsSomeAnd, IfSome, slice_index, slice_set}
 use Rattle.std.proofs.lemmas.Bool.{eqb-true, eq-eqb, lt-ltb, ltb-true, and_parts}
 use Rattle.std.proofs.lemmas.Option.{same_Some}
 use Rattle.moment_rules.specs.Times.{is_reached}
@@ -21,18 +21,16 @@ use Rattle.cluster_record.specs.declared.entries.Entry.{Entry}
 use Rattle.cluster_record.specs.Calls.{client_of, put_actor}
 use Rattle.cluster_record.specs.DueOpen.{OpenState, IsBefore, in_time, reserve_or_finish, targets_by, targets_of, on_making}
 use Rattle.cluster_record.specs.Placement.{targets}
-use Rattle.cluster_record.specs.declared.clients.LiveClient.{LiveClient}
 use Rattle.cluster_record.specs.Places.{put2}
-use Rattle.cluster_record.specs.Places.{find_key}
 use Rattle.ckpt_types.specs.Asks.{asked}
-use Rattle.cluster_record.specs.RecordState.{RecordState, entry_of, identity_of, named, is_up, is_live_client, client_key, node_of_client, first_complete, home_of, made_with, finished, swept, stays}
+use Rattle.cluster_record.specs.RecordState.{RecordState, entry_of, identity_of, named, is_up, is_live_client, first_complete, home_of, made_with, finished, swept, stays}
 use Rattle.cluster_record.specs.StepDone.{StepDone, done_of, first_lacking, has, lacks}
 use Rattle.ckpt_machine.specs.Drivers as drivers
 use Rattle.ckpt_machine.specs.Driving.{driver_taken}
 use Rattle.ckpt_machine.specs.Guards.{IsMadeBy, IsTarget, IsInTime}
 use Rattle.ckpt_machine.specs.Entries.{WasMade, IsMakingEntry, AllStay}
 use Rattle.ckpt_machine.specs.InHand.{is_enter, attributes_asked, IsMakingIn, IsInPlace, IsOpenIn}
-use Rattle.ckpt_machine.specs.Invariant.{IsGoodClient, InvariantIn, Invariant}
+use Rattle.ckpt_machine.specs.Invariant.{InvariantIn, Invariant}
 use Rattle.ckpt_machine.specs.Left.{steps_left, lacking}
 use Rattle.ckpt_machine.specs.Machine.{Machine, CallState}
 use Rattle.ckpt_machine.specs.Steps.{Told, IsDone, IsServed, IsEvent, driver_of, with_record, with_given, with_reservation, record_step, without_making}
@@ -44,7 +42,7 @@ use Rattle.ckpt_machine.proofs.EntryLists.{entry_of-given, find_key-change_key, 
 use Rattle.ckpt_machine.proofs.StepLabels.{IsServed-told, IsEvent-told}
 use Rattle.ckpt_machine.proofs.StepsLeft.{lacking-set}
 use Rattle.ckpt_machine.proofs.NodeLists.{first_lacking-is, first_lacking-None, index-set, index-other, length-slice_set, index-within, not-lacked, lacked-has, first_complete-there}
-use Rattle.ckpt_machine.proofs.OpenReady.{client_live}
+use Rattle.ckpt_machine.proofs.OpenReady.{client_live, home_is_up, none_else}
 use Rattle.ckpt_machine.proofs.OptionLemmas.{IsSomeAnd-from}
 use Rattle.ckpt_machine.proofs.Targets.{targets-length, target-up, target-home}
 use Rattle.ckpt_machine.proofs.OpenFacts.{LookRefused-open, may_exist, given_ends}
@@ -145,14 +143,7 @@ module _ (m : Machine) (shapes : ℕ → Shape) (inv : InvariantIn shapes m) (s 
   home_up : is_up (home_of ask.client m.cluster) m.cluster ≡ true
   home_up =
       let hand = inv.hands s.call.actor s held in
-      home_is_up ask.client (subst (λ (c : ℕ). is_live_client c m.cluster ≡ true) (sym at_open.client) (client_live m.cluster s.call hand.client (hand.live (ap is_enter is))))
-    where
-      home_is_up : (c : ℕ) → is_live_client c m.cluster ≡ true → is_up (home_of c m.cluster) m.cluster ≡ true
-      home_is_up c live = by_client (find_key client_key c m.cluster.clients) live (inv.clients c)
-        where
-          by_client : (o : Option LiveClient) → is_some o ≡ true → IfSome o (IsGoodClient m.next m.cluster c) → is_up (node_of_client o) m.cluster ≡ true
-          by_client None live good = absurd (cc live)
-          by_client (Some x) live good = good.1
+      home_is_up m shapes inv ask.client (subst (λ (c : ℕ). is_live_client c m.cluster ≡ true) (sym at_open.client) (client_live m.cluster s.call hand.client (hand.live (ap is_enter is))))
 
   -- what is asked for is what the checkpoint declares, so these are the nodes on which it is made
   targets_are : targets_of ask m.cluster ≡ targets entry.0.attributes (home_of ask.client m.cluster) m.cluster.up
@@ -179,7 +170,7 @@ module _ (m : Machine) (shapes : ℕ → Shape) (inv : InvariantIn shapes m) (s 
   finished_keeps : Invariant (ending s (with_given s k (record_step (finished k (client_of s.call)) m)))
   finished_keeps = subst (λ R. Invariant (ending s (with_given s k (with_record m R)))) (sym finished_is) (record {
     shapes = _;
-    holds = given_ends (with_record m finished_then) _ s k (finish_keeps m shapes inv s at_making making held is refl ask.client entry.0 entry.1 entry.2 some_up finished_stays) made_now;
+    holds = given_ends (with_record m finished_then) _ s k (finish_keeps m shapes inv s at_making making held is refl ask.client entry.0 entry.1 entry.2 some_up (none_else m shapes inv s at_making held is making refl) finished_stays) made_now;
   })
 
   -- every node on which it is made has reserved

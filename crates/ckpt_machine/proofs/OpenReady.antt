@@ -27,15 +27,16 @@ use Rattle.ckpt_types.specs.Asks.{asked}
 use Rattle.cluster_record.specs.Makings.{IsMakingOf}
 use Rattle.cluster_record.specs.Places.{find_key}
 use Rattle.cluster_record.specs.RecordReady.{CanOpen}
-use Rattle.cluster_record.specs.RecordState.{RecordState, entry_of, home_of, named, client_key, is_live, is_live_client, is_live_from}
+use Rattle.cluster_record.specs.RecordState.{RecordState, entry_of, home_of, named, client_key, node_of_client, is_up, is_live, is_live_client, is_live_from}
 use Rattle.cluster_record.specs.StepDone.{has, lacks, first_lacking}
+use Rattle.cluster_record.proofs.IdentityLaws.{entry_of-find}
 use Rattle.cluster_record.proofs.MakingLaws.{making-own}
 use Rattle.ckpt_machine.specs.Drivers as drivers
 use Rattle.ckpt_machine.specs.Driving.{driver_next}
-use Rattle.ckpt_machine.specs.Facts.{IsServable, IsReservable, IsFinishable, IsEventReady}
+use Rattle.ckpt_machine.specs.Facts.{IsServable, IsReservable, IsFinishable, IsAddable, IsOpenable, IsEventReady}
 use Rattle.ckpt_machine.specs.Entries.{IsMakingEntry}
 use Rattle.ckpt_machine.specs.InHand.{AreGoodAttributes, attributes_asked, is_enter, IsMakingIn, IsOpenIn}
-use Rattle.ckpt_machine.specs.Invariant.{InvariantIn}
+use Rattle.ckpt_machine.specs.Invariant.{IsGoodClient, InvariantIn}
 use Rattle.ckpt_machine.specs.Machine.{Machine, CallState}
 use Rattle.ckpt_machine.specs.Steps.{due, driver_of, rooms_of}
 use Rattle.ckpt_machine.specs.Shape.{Shape}
@@ -79,6 +80,14 @@ client_live R call client live = by_actor call.actor call.number client live
     by_actor (Client c) n client live = by_found (find_key client_key c R.clients) n live
     by_actor (Node r) n client live = absurd client
 
+-- the node of a client that is live is up
+pub home_is_up : (m : Machine) (shapes : ℕ → Shape) → InvariantIn shapes m → (c : ℕ) → is_live_client c m.cluster ≡ true → is_up (home_of c m.cluster) m.cluster ≡ true
+home_is_up m shapes inv c live = by_client (find_key client_key c m.cluster.clients) live (inv.clients c)
+  where
+    by_client : (o : Option LiveClient) → is_some o ≡ true → IfSome o (IsGoodClient m.next m.cluster c) → is_up (node_of_client o) m.cluster ≡ true
+    by_client None live good = absurd (cc live)
+    by_client (Some x) live good = good.1
+
 module _ (m : Machine) (shapes : ℕ → Shape) (inv : InvariantIn shapes m) (s : CallState) (o : OpenState) (held : m.in_hand s.call.actor ≡ Some s) (is : driver_of s ≡ drivers.Open o) where
   -- where its steps have led it
   at_open : IsOpenIn m s o
@@ -111,9 +120,29 @@ module _ (m : Machine) (shapes : ℕ → Shape) (inv : InvariantIn shapes m) (s 
   free_ready room None given free = tt
   free_ready room (Some a) given free = in_time-either (IsReadyOpen m s o) o.deadline m.cluster.moment (create_next m.cluster room) (λ outcome. tt) (create_ready room a given free)
 
+  -- its client is live
+  own_live : is_live_client (client_of s.call) m.cluster ≡ true
+  own_live = let hand = inv.hands s.call.actor s held in client_live m.cluster s.call hand.client (hand.live (ap is_enter is))
+
+  -- a replica of one that is made can be added: nothing is reserved for it
+  addable : (e : Entry) → named o.ask.name m.cluster.entries ≡ Some e → e.making ≡ None → IsAddable m o.ask.client e
+  addable e found made = record {
+    up = home_is_up m shapes inv o.ask.client (subst (λ (c : ℕ). is_live_client c m.cluster ≡ true) (sym at_open.client) own_live);
+    unreserved = by_reserved (m.reserved e.identity (home_of o.ask.client m.cluster)) refl;
+  }
+    where
+      there : entry_of e.identity m.cluster.entries ≡ Some e
+      there = entry_of-find _ m.cluster.entries e inv.rises found
+
+      by_reserved : (w : Option ℕ) → m.reserved e.identity (home_of o.ask.client m.cluster) ≡ w → m.reserved e.identity (home_of o.ask.client m.cluster) ≡ None
+      by_reserved None none = none
+      by_reserved (Some n) some =
+          let making : IsSome e.making = subst (λ o. IsSomeAnd o (λ (x : Entry). IsSome x.making)) there (inv.reserves e.identity (home_of o.ask.client m.cluster) n some) in
+          absurd (let w : false ≡ true = sym (ap (λ o. is_some o) made) ∙ making in cc w)
+
   -- the record is asked to open what has the attributes asked for, where it is made
   asked_ready : (e : Entry) → named o.ask.name m.cluster.entries ≡ Some e → (e.making ≡ None → accepts o.ask.attrs e ≡ true) → IsReadyOpen m s o (Event events.Open)
-  asked_ready e found takes = (IsSomeAnd-from (named o.ask.name m.cluster.entries) (λ e. e.making ≡ None → accepts o.ask.attrs e ≡ true) e found takes, can_open, at_open.caller)
+  asked_ready e found takes = (IsSomeAnd-from (named o.ask.name m.cluster.entries) (IsOpenable m o.ask) e found (λ made. (takes made, addable e found made)), can_open, at_open.caller)
 
   -- one that is made is opened where it has the attributes asked for and there is room for the handle
   made_ready : (room accepted : Bool) (e : Entry) → accepts o.ask.attrs e ≡ accepted → named o.ask.name m.cluster.entries ≡ Some e → IsReadyOpen m s o (cond (not accepted) (End (Refused Exist Plain)) (cond (not room) (End (Refused NoResources (Count 32))) (Event events.Open)))
@@ -182,7 +211,7 @@ module _ (m : Machine) (shapes : ℕ → Shape) (inv : InvariantIn shapes m) (s 
         )
 
     -- a node on which it is not made has not reserved
-    none_else : (r : ℕ) → (slice_index (targets entry.0.attributes (home_of o.ask.client m.cluster) m.cluster.up) r == 0) ≡ true → m.reserved making.ckpt r ≡ None
+    pub none_else : (r : ℕ) → (slice_index (targets entry.0.attributes (home_of o.ask.client m.cluster) m.cluster.up) r == 0) ≡ true → m.reserved making.ckpt r ≡ None
     none_else r none = by_test (slice_index making.reserved r == 0) refl
       where
         targets_now : targets_by (attributes_asked (asked s.op)) (home_of (client_of s.call) m.cluster) m.cluster.up ≡ targets_of o.ask m.cluster
@@ -235,4 +264,4 @@ module _ (m : Machine) (shapes : ℕ → Shape) (inv : InvariantIn shapes m) (s 
 
   -- with a checkpoint in the making it has room for the handle, and its client is live
   pub open_fits : (IsSome o.making → (rooms_of m s).handles ≡ true) × (is_live_client (client_of s.call) m.cluster ≡ true)
-  open_fits = let hand = inv.hands s.call.actor s held in (at_open.room, client_live m.cluster s.call hand.client (hand.live (ap is_enter is)))
+  open_fits = (at_open.room, own_live)

@@ -1,5 +1,5 @@
 -- A state that looks like the one before, to a call in hand or to a checkpoint: they are where they were.
-use Rattle.std.proofs.Common.{◌≡◌, ℕ, ◌<◌, List, length, Option, Some, None, true, false, ◌==◌, refl, sym, ap, subst, ◌∙◌}
+use Rattle.std.proofs.Common.{◌≡◌, ℕ, ◌<◌, List, Option, Some, None, Bool, true, false, cond, ◌==◌, refl, sym, ap, subst, ◌∙◌}
 use Rattle.std.specs.Prelude.{is_some, IsSome, IsSomeAnd, IfSome, slice_index}
 use Rattle.ckpt_types.specs.Attributes.{is_malformed}
 use Rattle.ckpt_types.specs.Updates.{outcome}
@@ -16,7 +16,8 @@ use Rattle.cluster_record.specs.DueOnce.{OneStep}
 use Rattle.cluster_record.specs.DueOnce as once
 use Rattle.cluster_record.specs.DueOpen.{OpenState}
 use Rattle.cluster_record.specs.DueUpdate.{UpdateState}
-use Rattle.cluster_record.specs.RecordState.{entry_of, first_complete, first_active, is_live, is_live_client, is_up}
+use Rattle.cluster_record.specs.Placement.{is_collocated}
+use Rattle.cluster_record.specs.RecordState.{entry_of, first_complete, is_live, is_live_client, is_up}
 use Rattle.cluster_record.specs.StepDone.{has, last_having}
 use Rattle.ckpt_types.specs.Asks.{asked}
 use Rattle.ckpt_machine.specs.Drivers.{Driver}
@@ -27,11 +28,15 @@ use Rattle.ckpt_machine.specs.Machine.{Machine, ReplicaState, CallState}
 use Rattle.ckpt_machine.specs.Options.{is_all, is_weak}
 use Rattle.weak_marks.specs.Marks.{Marked}
 use Rattle.ckpt_machine.specs.Shape.{Shape, IsCompleteOn, IsShapedBy, is_owner, IsOwner, IsMarker}
-use Rattle.ckpt_machine.specs.Steps.{driver_of, asked_handle}
+use Rattle.ckpt_machine.specs.Steps.{opened_state, driver_of, asked_handle}
 use Rattle.ckpt_machine.specs.Tables.{handle_asked}
-use Rattle.ckpt_machine.specs.InHand.{is_marked_by, IsMakingIn, IsOpenIn, HasSome, IsOnceAt, IsInPlace, IsInHand}
+use Rattle.ckpt_machine.specs.InHand.{is_marked_by, IsMakingIn, IsOpenIn, IsUpdateIn, HasSome, IsOnceAt, IsInPlace, IsInHand}
 use Rattle.ckpt_machine.specs.Invariant.{IsMaker, IsGoodIn}
 use Rattle.ckpt_machine.specs.Later.{IsLaterEntry}
+pub use Rattle.ckpt_machine.proofs.Joining.{IsLaterEntry-refl}
+use Rattle.ckpt_machine.proofs.Joining.{collocated_apart}
+use Rattle.ckpt_machine.proofs.NodeLists.{first_complete-some, first_complete-there}
+use Rattle.ckpt_machine.proofs.OptionLemmas.{IsSomeAnd-from}
 
 -- ---- a call in hand
 
@@ -48,9 +53,9 @@ pub record LooksAlike (m n : Machine) (shapes then_shapes : ℕ → Shape) (z : 
   pub lives : is_live_client (client_of z.call) n.cluster ≡ is_live_client (client_of z.call) m.cluster
   pub tables : n.tables z.call.actor ≡ m.tables z.call.actor
   pub making : (o : OpenState) → IsOpenIn m z o → IfSome o.making (IsMakingIn n z)
-  -- of the checkpoints that were made, those that are left are as they were
+  -- of the checkpoints that were made, those that are left are as they were, with the same nodes where updates are on all replicas
   pub made : (k : ℕ) → WasMade m.cluster k → WasMade n.cluster k
-  pub later : (k : ℕ) → WasMade m.cluster k → (f : Entry) → entry_of k n.cluster.entries ≡ Some f → (e : Entry) × (entry_of k m.cluster.entries ≡ Some e) × (f.complete ≡ e.complete) × (f.attributes ≡ e.attributes) × (f.generation ≡ e.generation)
+  pub later : (k : ℕ) → WasMade m.cluster k → (f : Entry) → entry_of k n.cluster.entries ≡ Some f → (e : Entry) × (entry_of k m.cluster.entries ≡ Some e) × (is_all e.attributes ≡ true → f.complete ≡ e.complete) × (f.attributes ≡ e.attributes) × (f.generation ≡ e.generation)
   pub owners : (k : ℕ) → WasMade m.cluster k → (r : ℕ) → is_owner z.call ((then_shapes k).owners r) ≡ is_owner z.call ((shapes k).owners r)
   pub marks : (k : ℕ) → WasMade m.cluster k → is_marked_by z.call (then_shapes k).marks ≡ is_marked_by z.call (shapes k).marks
 
@@ -67,6 +72,10 @@ module _ (m n : Machine) (shapes then_shapes : ℕ → Shape) (z : CallState) (a
       by_entry (Some f) is =
           let (e, there, complete, attributes, generation) = alike.later k was f is in
           subst P (sym attributes) (subst (λ o. IfSome o (λ (e : Entry). P e.attributes)) there holds)
+
+  -- the checkpoint of an update
+  all_at : (u : UpdateState) → IsUpdateIn m shapes z u → (e : Entry) → entry_of u.ckpt m.cluster.entries ≡ Some e → is_all e.attributes ≡ true
+  all_at u at e was = subst (λ o. IfSome o (λ (e : Entry). is_all e.attributes ≡ true)) was at.all
 
   HasSome-alike : (u : UpdateState) (e f : Entry) → f.complete ≡ e.complete → (ph : UpdatePhase) → HasSome u e ph → HasSome u f ph
   HasSome-alike u e f same Staging some = tt
@@ -106,9 +115,9 @@ module _ (m n : Machine) (shapes then_shapes : ℕ → Shape) (z : CallState) (a
     nodes = at.nodes;
     owns = λ f is r full.
         let (e, was, complete, attributes, generation) = alike.later u.ckpt at.made f is in
-        subst (λ (cs : List ℕ). (slice_index cs r == 0) ≡ false → has (slice_index cs r) (slice_index u.owned r) ≡ is_owner z.call ((shapes u.ckpt).owners r)) (sym complete) (at.owns e was r) full
+        subst (λ (cs : List ℕ). (slice_index cs r == 0) ≡ false → has (slice_index cs r) (slice_index u.owned r) ≡ is_owner z.call ((shapes u.ckpt).owners r)) (sym (complete (all_at u at e was))) (at.owns e was r) full
         ∙ sym (alike.owners u.ckpt at.made r);
-    some = λ f is. let (e, was, complete, attributes, generation) = alike.later u.ckpt at.made f is in HasSome-alike u e f complete u.phase (at.some e was);
+    some = λ f is. let (e, was, complete, attributes, generation) = alike.later u.ckpt at.made f is in HasSome-alike u e f (complete (all_at u at e was)) u.phase (at.some e was);
   }
   IsIn-alike (drivers.Active a) at = record {
     call = at.call;
@@ -145,27 +154,45 @@ module _ (m n : Machine) (k : ℕ) where
   pub IsMaker-alike : (d : CallId) → n.in_hand d.actor ≡ m.in_hand d.actor → IsMaker m k d → IsMaker n k d
   IsMaker-alike d same own = record { state = own.state; in_hand = same ∙ own.in_hand; call_is = own.call_is; driver = own.driver; driver_is = own.driver_is; making = own.making; making_is = own.making_is; ckpt = own.ckpt }
 
-  -- the checkpoint is as it was, where its replicas are and where those who own its slots, have marks on it or are making it stay
-  pub IsGoodIn-alike : (sh : Shape) (e f : Entry) → IsLaterEntry e f → ((r : ℕ) → IsCompleteOn e r → n.replicas k r ≡ m.replicas k r) → ((d : CallId) → IsOwner m k sh d → n.in_hand d.actor ≡ m.in_hand d.actor) → ((marks : Marked) → IsMarker m k marks → n.in_hand marks.call.actor ≡ m.in_hand marks.call.actor) → ((d : CallId) → IsMaker m k d → n.in_hand d.actor ≡ m.in_hand d.actor)
-      → (maker : Option CallId) → IsGoodIn m k sh e maker → IsGoodIn n k sh f maker
-  IsGoodIn-alike sh e f later replicas owners markers makers None was = record {
-    nodes = ap length later.complete ∙ was.nodes;
-    some = subst (λ (cs : List ℕ). IsSome (first_complete 0 cs)) (sym later.complete) was.some;
-    active = later.active ∙ was.active ∙ (λ i. first_active (sym later.attributes i) (sym later.complete i));
-    replicas = λ r there. let before = was_complete r there in subst (λ (z : Option ReplicaState × CreationAttributes × Option ℕ). IsSomeAnd z.0 (IsShapedBy (is_all z.1) sh z.2 r)) (λ i. (sym (replicas r before) i, sym later.attributes i, sym later.active i)) (was.replicas r before);
+  -- the checkpoint is as it was, where its replicas stay, a node on which it is complete now has the opening one, and those who own its slots, have marks on it or are making it stay
+  pub IsGoodIn-later : (sh : Shape) (e f : Entry) → IsLaterEntry e f → ((r : ℕ) → IsCompleteOn e r → n.replicas k r ≡ m.replicas k r) → ((r : ℕ) → (slice_index e.complete r == 0) ≡ true → IsCompleteOn f r → n.replicas k r ≡ Some (opened_state f))
+      → ((d : CallId) → IsOwner m k sh d → f.complete ≡ e.complete) → ((d : CallId) → IsOwner m k sh d → n.in_hand d.actor ≡ m.in_hand d.actor) → ((marks : Marked) → IsMarker m k marks → n.in_hand marks.call.actor ≡ m.in_hand marks.call.actor) → ((d : CallId) → IsMaker m k d → n.in_hand d.actor ≡ m.in_hand d.actor)
+      → (maker : Option CallId) → (IsSome maker → f.complete ≡ e.complete) → IsGoodIn m k sh e maker → IsGoodIn n k sh f maker
+  IsGoodIn-later sh e f later replicas joins same_owned owners markers makers None unmade was = record {
+    nodes = later.nodes ∙ was.nodes;
+    some = let (q, there) = first_complete-some 0 e.complete was.some in first_complete-there 0 f.complete q (later.grows q there);
+    active = later.active ∙ was.active ∙ active_same (is_collocated e.attributes) refl;
+    replicas = λ r there. by_before r there (slice_index e.complete r == 0) refl;
     fits = λ r d owns. ap (λ a. outcome a sh.update sh.moment sh.sections) later.attributes ∙ was.fits r d owns;
-    complete = λ r d owns. subst (λ (cs : List ℕ). (slice_index cs r == 0) ≡ false) (sym later.complete) (was.complete r d owns);
-    lowest = λ q r d below there owns. was.lowest q r d below (was_complete q there) owns;
+    complete = λ r d owns. later.grows r (was.complete r d owns);
+    lowest = λ q r d below there owns. was.lowest q r d below (subst (λ (cs : List ℕ). (slice_index cs q == 0) ≡ false) (same_owned d (was.owned r d owns)) there) owns;
     owned = λ r d owns. let own = was.owned r d owns in IsOwner-alike sh d (owners d own) own;
     led = λ marks is. ap is_some later.active ∙ was.led marks is;
     marked = λ marks is. let own = was.marked marks is in IsMarker-alike marks (markers marks own) own;
   }
     where
-      was_complete : (r : ℕ) → IsCompleteOn f r → IsCompleteOn e r
-      was_complete r there = subst (λ (cs : List ℕ). (slice_index cs r == 0) ≡ false) later.complete there
-  IsGoodIn-alike sh e f later replicas owners markers makers (Some d) was = (
+      -- its active is told of its nodes still
+      active_same : (b : Bool) → is_collocated e.attributes ≡ b → cond (is_collocated e.attributes) None (first_complete 0 e.complete) ≡ cond (is_collocated f.attributes) None (first_complete 0 f.complete)
+      active_same true is = ap (λ b. cond b None (first_complete 0 e.complete)) is ∙ sym (ap (λ b. cond b None (first_complete 0 f.complete)) (ap is_collocated later.attributes ∙ is))
+      active_same false is = (λ i. cond (is_collocated (sym later.attributes i)) None (first_complete 0 (sym (later.placed is) i)))
+
+      -- one that a node joins is collocated
+      joined_collocated : (r : ℕ) → (slice_index e.complete r == 0) ≡ true → IsCompleteOn f r → (b : Bool) → is_collocated e.attributes ≡ b → is_collocated e.attributes ≡ true
+      joined_collocated r none there true is = is
+      joined_collocated r none there false is = absurd (let w : true ≡ false = sym none ∙ ap (λ (cs : List ℕ). slice_index cs r == 0) (sym (later.placed is)) ∙ there in cc w)
+
+      -- a replica is the one that was, or the opening one
+      by_before : (r : ℕ) → IsCompleteOn f r → (b : Bool) → (slice_index e.complete r == 0) ≡ b → IsSomeAnd (n.replicas k r) (IsShapedBy (is_all f.attributes) sh f.active r)
+      by_before r there false before = subst (λ (z : Option ReplicaState × CreationAttributes × Option ℕ). IsSomeAnd z.0 (IsShapedBy (is_all z.1) sh z.2 r)) (λ i. (sym (replicas r before) i, sym later.attributes i, sym later.active i)) (was.replicas r before)
+      by_before r there true none =
+          let collocated : is_collocated e.attributes ≡ true = joined_collocated r none there (is_collocated e.attributes) refl in
+          let not_all : is_all f.attributes ≡ false = ap is_all later.attributes ∙ collocated_apart e.attributes collocated in
+          let no_active : f.active ≡ None = later.active ∙ was.active ∙ ap (λ b. cond b None (first_complete 0 e.complete)) collocated in
+          IsSomeAnd-from (n.replicas k r) (IsShapedBy (is_all f.attributes) sh f.active r) (opened_state f) (joins r none there)
+          (subst (λ (z : Bool × Option ℕ). IsShapedBy z.0 sh z.1 r (opened_state f)) (λ i. (sym not_all i, sym no_active i)) (record { free = refl; marks_are = refl }))
+  IsGoodIn-later sh e f later replicas joins same_owned owners markers makers (Some d) unmade was = (
     record {
-      complete = later.complete ∙ was.0.complete;
+      complete = unmade refl ∙ was.0.complete;
       generation = later.generation ∙ was.0.generation;
       well_formed = ap is_malformed later.attributes ∙ was.0.well_formed;
       clients = later.clients ∙ was.0.clients;
@@ -173,9 +200,10 @@ module _ (m n : Machine) (k : ℕ) where
     IsMaker-alike d (makers d was.1) was.1,
   )
 
--- the same as far as the invariant looks
-pub IsLaterEntry-refl : (e : Entry) → IsLaterEntry e e
-IsLaterEntry-refl e = record { making = refl; complete = refl; active = refl; attributes = refl; generation = refl; clients = refl }
+  -- the checkpoint is as it was, where its entry and its replicas are and where those who own its slots, have marks on it or are making it stay
+  pub IsGoodIn-alike : (sh : Shape) (e : Entry) → ((r : ℕ) → IsCompleteOn e r → n.replicas k r ≡ m.replicas k r) → ((d : CallId) → IsOwner m k sh d → n.in_hand d.actor ≡ m.in_hand d.actor) → ((marks : Marked) → IsMarker m k marks → n.in_hand marks.call.actor ≡ m.in_hand marks.call.actor) → ((d : CallId) → IsMaker m k d → n.in_hand d.actor ≡ m.in_hand d.actor)
+      → (maker : Option CallId) → IsGoodIn m k sh e maker → IsGoodIn n k sh e maker
+  IsGoodIn-alike sh e replicas owners markers makers maker was = IsGoodIn-later sh e e (IsLaterEntry-refl e) replicas (λ r none there. absurd (let w : true ≡ false = sym none ∙ there in cc w)) (λ d own. refl) owners markers makers maker (λ some. refl) was
 
 -- ---- other calls in hand, and other numbers
 
@@ -190,7 +218,7 @@ module _ (m : Machine) (shapes : ℕ → Shape) (next : ActorName → ℕ) (f : 
     tables = refl;
     making = λ o at. making_still m with_hands z o (λ w at. record { there = at.there; declares = at.declares; nodes = at.nodes; reserved = at.reserved; only = at.only; within = at.within }) at;
     made = λ k was. was;
-    later = λ k was e found. (e, found, refl, refl, refl);
+    later = λ k was e found. (e, found, λ all. refl, refl, refl);
     owners = λ k was r. refl;
     marks = λ k was. refl;
   }
@@ -202,4 +230,4 @@ module _ (m : Machine) (shapes : ℕ → Shape) (next : ActorName → ℕ) (f : 
   -- a checkpoint is as it was, where those who own its slots, have marks on it or are making it stay
   pub IsGoodIn-apart : ((k : ℕ) (sh : Shape) (d : CallId) → IsOwner m k sh d → f d.actor ≡ m.in_hand d.actor) → ((k : ℕ) (marks : Marked) → IsMarker m k marks → f marks.call.actor ≡ m.in_hand marks.call.actor) → ((k : ℕ) (d : CallId) → IsMaker m k d → f d.actor ≡ m.in_hand d.actor)
       → (k : ℕ) (sh : Shape) (e : Entry) (maker : Option CallId) → IsGoodIn m k sh e maker → IsGoodIn with_hands k sh e maker
-  IsGoodIn-apart owners markers makers k sh e maker was = IsGoodIn-alike m with_hands k sh e e (IsLaterEntry-refl e) (λ r there. refl) (owners k sh) (markers k) (makers k) maker was
+  IsGoodIn-apart owners markers makers k sh e maker was = IsGoodIn-alike m with_hands k sh e (λ r there. refl) (owners k sh) (markers k) (makers k) maker was

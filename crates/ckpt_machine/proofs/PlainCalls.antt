@@ -16,6 +16,7 @@ use Rattle.cluster_record.specs.DueOpen.{making_ckpt}
 use Rattle.cluster_record.specs.Calls.{same_actor, client_of, put_actor}
 use Rattle.cluster_record.specs.Identities.{IdentitiesRise, AllUpTo}
 use Rattle.cluster_record.specs.Makings.{making_of}
+use Rattle.cluster_record.specs.Placement.{is_collocated}
 use Rattle.cluster_record.specs.Places.{find_key, change_key}
 use Rattle.cluster_record.specs.RecordState.{RecordState, entry_of, identity_of, client_key, is_live, no_nodes, stays, swept}
 use Rattle.cluster_record.proofs.IdentityLaws.{KeepsIdentity, IdentitiesRise-filter, AllUpTo-filter, IdentitiesRise-change_key, AllUpTo-change_key}
@@ -31,7 +32,7 @@ use Rattle.weak_marks.specs.Marks.{Marked}
 use Rattle.ckpt_machine.specs.Invariant.{IsMaker, IsGoodClient, InvariantIn, Invariant}
 use Rattle.ckpt_machine.specs.Later.{IsLaterEntry, IsLaterRecord}
 use Rattle.ckpt_machine.proofs.OtherCalls.{IsIn-apart, IsGoodIn-apart}
-use Rattle.ckpt_machine.proofs.Entries.{ComesOf, ComesOf-filter, ComesOf-change_key, ComesOf-then, found_filter, there_still}
+use Rattle.ckpt_machine.proofs.Entries.{ComesOf, ComesOf-filter, ComesOf-change_found, ComesOf-then, found_filter, there_still}
 use Rattle.ckpt_machine.proofs.Moment.{IsLaterEntry-refl, making_stays}
 use Rattle.ckpt_machine.proofs.ReplicaSteps.{put_actor-cases, put_actor-other}
 use Rattle.ckpt_machine.proofs.OwnMaking.{making_is}
@@ -64,7 +65,10 @@ ending s m = record m { in_hand = put_actor m.in_hand s.call.actor None }
 pub IsLaterEntry-then : (e f g : Entry) → IsLaterEntry e f → IsLaterEntry f g → IsLaterEntry e g
 IsLaterEntry-then e f g first second = record {
   making = second.making ∙ first.making;
-  complete = second.complete ∙ first.complete;
+  unmade = λ some. second.unmade (ap (λ o. is_some o) first.making ∙ some) ∙ first.unmade some;
+  placed = λ apart. second.placed (ap is_collocated first.attributes ∙ apart) ∙ first.placed apart;
+  nodes = second.nodes ∙ first.nodes;
+  grows = λ r there. second.grows r (first.grows r there);
   active = second.active ∙ first.active;
   attributes = second.attributes ∙ first.attributes;
   generation = second.generation ∙ first.generation;
@@ -190,8 +194,8 @@ module _ (m : Machine) (shapes : ℕ → Shape) (inv : InvariantIn shapes m) (s 
     swept_keeps = record_keeps m shapes inv (swept R) others swept_later
 
   -- one entry was changed
-  pub changed_keeps : (k : ℕ) (f : Entry → Entry) → KeepsIdentity f → ((e : Entry) → IsLaterEntry e (f e)) → InvariantIn shapes (record (with_record m (swept (record m.cluster { entries = change_key identity_of k f m.cluster.entries }))) { in_hand = put_actor m.in_hand s.call.actor None })
+  pub changed_keeps : (k : ℕ) (f : Entry → Entry) → KeepsIdentity f → ((e : Entry) → entry_of k m.cluster.entries ≡ Some e → IsLaterEntry e (f e)) → InvariantIn shapes (record (with_record m (swept (record m.cluster { entries = change_key identity_of k f m.cluster.entries }))) { in_hand = put_actor m.in_hand s.call.actor None })
   changed_keeps k f keeps later = swept_keeps (record m.cluster { entries = change_key identity_of k f m.cluster.entries })
       (IdentitiesRise-change_key f keeps k m.cluster.entries inv.rises) (AllUpTo-change_key f keeps m.cluster.last_identity k m.cluster.entries inv.up_to) refl refl
-      (ComesOf-change_key IsLaterEntry IsLaterEntry-refl f keeps later k m.cluster.entries) inv.none_live inv.clients
+      (ComesOf-change_found IsLaterEntry IsLaterEntry-refl f keeps k m.cluster.entries later) inv.none_live inv.clients
       (λ a z other at live. live) (λ a z other at. refl) (λ a z j e other at was by. there_still f keeps k j m.cluster.entries e was)

@@ -1,5 +1,5 @@
 -- After a step of the record that takes entries away, the other calls are where they were, and the checkpoints that are left are as they were.
-use Rattle.std.proofs.Common.{◌≡◌, ℕ, ◌≤◌, Option, Some, None, true, false, cond, not, ◌&&◌, ◌==◌, refl, sym, ap, subst, ◌∙◌}
+use Rattle.std.proofs.Common.{◌≡◌, ℕ, ◌≤◌, Option, Some, None, Bool, true, false, cond, not, ◌&&◌, ◌==◌, refl, sym, ap, subst, ◌∙◌}
 use Rattle.std.specs.Prelude.{is_some, IsSome, IsSomeAnd, IfSome, slice_index, nat_lt}
 use Rattle.std.proofs.lemmas.Option.{same_Some}
 use Rattle.ckpt_types.specs.declared.identities.ActorName.{ActorName}
@@ -11,15 +11,17 @@ use Rattle.cluster_record.specs.RecordState.{RecordState, entry_of, node_of_clie
 use Rattle.cluster_record.specs.StepDone.{has}
 use Rattle.ckpt_machine.specs.Entries.{WasMade}
 use Rattle.ckpt_types.specs.Asks.{asked}
-use Rattle.ckpt_machine.specs.InHand.{attributes_asked, IsMakingIn}
+use Rattle.ckpt_machine.specs.InHand.{attributes_asked, IsMakingIn, IsUpdateIn, IsInPlace}
 use Rattle.ckpt_machine.specs.Invariant.{IsGoodIn, InvariantIn}
-use Rattle.ckpt_machine.specs.Machine.{Machine, ReplicaState, CallState}
+use Rattle.ckpt_machine.specs.Machine.{Machine, CallState}
+use Rattle.ckpt_machine.specs.Options.{is_all}
 use Rattle.ckpt_machine.specs.Steps.{opened_state, with_record, replica_under, reservation_under}
-use Rattle.ckpt_machine.specs.Shape.{Shape, IsCompleteOn}
+use Rattle.ckpt_machine.specs.Shape.{Shape, IsCompleteOn, IsOwner}
 use Rattle.ckpt_machine.specs.Later.{IsLaterEntry, IsLaterRecord}
-use Rattle.ckpt_machine.proofs.OtherCalls.{LooksAlike, making_still, IsInHand-alike, IsGoodIn-alike}
+use Rattle.ckpt_machine.proofs.OtherCalls.{LooksAlike, making_still, IsInHand-alike, IsGoodIn-later}
+use Rattle.ckpt_machine.proofs.Joining.{all_apart}
 use Rattle.ckpt_machine.proofs.OptionLemmas.{IsSomeAnd-at, IsSomeAnd-from}
-use Rattle.ckpt_machine.proofs.ReservedUnder.{under_there}
+use Rattle.ckpt_machine.proofs.ReservedUnder.{was_reserved}
 use Rattle.ckpt_machine.proofs.NodeLists.{slice_index-replicate}
 
 module _ (m : Machine) (shapes : ℕ → Shape) (inv : InvariantIn shapes m) (R : RecordState) (hands : ActorName → Option CallState) (after_it : IsLaterRecord m R hands) where
@@ -28,14 +30,18 @@ module _ (m : Machine) (shapes : ℕ → Shape) (inv : InvariantIn shapes m) (R 
 
   -- ---- replicas and reservations
 
-  kept_under : (e f : Entry) (r : ℕ) (old : Option ReplicaState) → f.complete ≡ e.complete → IsCompleteOn e r → replica_under (Some f) (slice_index e.complete r) r old ≡ old
-  kept_under e f r old same there = (λ i. cond (slice_index (same i) r == 0) None (cond (slice_index e.complete r == 0) (Some (opened_state f)) old)) ∙ (λ i. cond (there i) None (cond (there i) (Some (opened_state f)) old))
-
-  replica_kept : (k r : ℕ) (e f : Entry) → entry_of k m.cluster.entries ≡ Some e → entry_of k R.entries ≡ Some f → f.complete ≡ e.complete → IsCompleteOn e r → then_machine.replicas k r ≡ m.replicas k r
-  replica_kept k r e f was is same there =
+  -- by whether its node was complete, the replica of one that is complete
+  replica_by : (k r : ℕ) (e f : Entry) (free : Bool) → entry_of k m.cluster.entries ≡ Some e → entry_of k R.entries ≡ Some f → IsCompleteOn f r → (slice_index e.complete r == 0) ≡ free → then_machine.replicas k r ≡ cond free (Some (opened_state f)) (m.replicas k r)
+  replica_by k r e f free was is there before =
       ap (λ o. replica_under o (slice_index (complete_of (entry_of k m.cluster.entries)) r) r (m.replicas k r)) is
       ∙ ap (λ o. replica_under (Some f) (slice_index (complete_of o) r) r (m.replicas k r)) was
-      ∙ kept_under e f r (m.replicas k r) same there
+      ∙ (λ i. cond (there i) None (cond (before i) (Some (opened_state f)) (m.replicas k r)))
+
+  -- an update that owns a slot is of a checkpoint whose nodes stay
+  owned_placed : (k : ℕ) (sh : Shape) (e f : Entry) → entry_of k m.cluster.entries ≡ Some e → IsLaterEntry e f → (d : CallId) → IsOwner m k sh d → f.complete ≡ e.complete
+  owned_placed k sh e f was later d own =
+      let at : IsUpdateIn m shapes own.state own.driver = subst (λ d. IsInPlace m shapes own.state d) own.driver_is (inv.hands d.actor own.state own.in_hand).here in
+      later.placed (all_apart e.attributes (subst (λ o. IfSome o (λ (x : Entry). is_all x.attributes ≡ true)) (ap (λ j. entry_of j m.cluster.entries) own.ckpt ∙ was) at.all))
 
   -- ---- what was made
 
@@ -53,8 +59,8 @@ module _ (m : Machine) (shapes : ℕ → Shape) (inv : InvariantIn shapes m) (R 
 
   -- ---- checkpoints
 
-  IsGoodIn-kept : (k : ℕ) (sh : Shape) (e f : Entry) (maker : Option CallId) → entry_of k m.cluster.entries ≡ Some e → entry_of k R.entries ≡ Some f → IsLaterEntry e f → IsGoodIn m k sh e maker → IsGoodIn then_machine k sh f maker
-  IsGoodIn-kept k sh e f maker was is later good = IsGoodIn-alike m then_machine k sh e f later (λ r there. replica_kept k r e f was is later.complete there) (after_it.owners k sh) (λ marks own. after_it.markers k marks (subst (λ o. IsSome o) (sym is) refl) own) (λ d own. after_it.makers k d (subst (λ o. IsSome o) (sym is) refl) own) maker good
+  IsGoodIn-kept : (k : ℕ) (sh : Shape) (e f : Entry) (maker : Option CallId) → entry_of k m.cluster.entries ≡ Some e → entry_of k R.entries ≡ Some f → IsLaterEntry e f → (IsSome maker → f.complete ≡ e.complete) → IsGoodIn m k sh e maker → IsGoodIn then_machine k sh f maker
+  IsGoodIn-kept k sh e f maker was is later unmade good = IsGoodIn-later m then_machine k sh e f later (λ r there. replica_by k r e f false was is (later.grows r there) there) (λ r none there. replica_by k r e f true was is there none) (owned_placed k sh e f was later) (after_it.owners k sh) (λ marks own. after_it.markers k marks (subst (λ o. IsSome o) (sym is) refl) own) (λ d own. after_it.makers k d (subst (λ o. IsSome o) (sym is) refl) own) maker unmade good
 
   -- ---- where a call is
 
@@ -74,7 +80,7 @@ module _ (m : Machine) (shapes : ℕ → Shape) (inv : InvariantIn shapes m) (R 
             let same : g ≡ e = same_Some g e (sym there ∙ was) in
             let made_by : f.making ≡ Some z.call = later.making ∙ ap (λ (x : Entry). x.making) same ∙ by in
             let good : IsGoodIn m making.ckpt (shapes making.ckpt) e (Some z.call) = subst (IsGoodIn m making.ckpt (shapes making.ckpt) e) by (inv.entries making.ckpt e was) in
-            let none : f.complete ≡ no_nodes = later.complete ∙ ap (λ (x : Entry). x.complete) same ∙ good.0.complete in
+            let none : f.complete ≡ no_nodes = later.unmade (ap (λ o. is_some o) (ap (λ (x : Entry). x.making) same ∙ by)) ∙ ap (λ (x : Entry). x.complete) same ∙ good.0.complete in
             record {
               there = IsSomeAnd-from (entry_of making.ckpt R.entries) (λ e. e.making ≡ Some z.call) f is made_by;
               declares = IsSomeAnd-from (entry_of making.ckpt R.entries) _ f is (declared_at e was at ∙ ap Some (sym (later.attributes ∙ ap (λ (x : Entry). x.attributes) same)));
@@ -99,12 +105,18 @@ module _ (m : Machine) (shapes : ℕ → Shape) (inv : InvariantIn shapes m) (R 
       tables = refl;
       making = λ o at. making_still m then_machine z o making_kept at;
       made = WasMade-kept;
-      later = λ k was f found. let (e, there, later) = after_it.later k f found in (e, there, later.complete, later.attributes, later.generation);
+      later = λ k was f found. let (e, there, later) = after_it.later k f found in (e, there, λ all. later.placed (all_apart e.attributes all), later.attributes, later.generation);
       owners = λ k was r. refl;
       marks = λ k was. refl;
     }
 
   -- ---- the whole
+
+  -- what is reserved was, for a checkpoint that is in the making still
+  reserves_kept : (j q n : ℕ) (f : Entry) → entry_of j R.entries ≡ Some f → m.reserved j q ≡ Some n → IsSome f.making
+  reserves_kept j q n f found was =
+      let (e, there, later) = after_it.later j f found in
+      ap (λ o. is_some o) later.making ∙ subst (λ o. IsSomeAnd o (λ (x : Entry). IsSome x.making)) there (inv.reserves j q n was)
 
   -- the invariant holds after the step
   pub record_keeps : InvariantIn shapes then_machine
@@ -116,8 +128,8 @@ module _ (m : Machine) (shapes : ℕ → Shape) (inv : InvariantIn shapes m) (R 
     swept = after_it.swept;
     entries = λ k f is. (
         let (e, was, later) = after_it.later k f is in
-        subst (IsGoodIn then_machine k (shapes k) f) (sym later.making) (IsGoodIn-kept k (shapes k) e f e.making was is later (inv.entries k e was)));
-    reserves = λ j q n reserved. under_there (entry_of j R.entries) q n (m.reserved j q) reserved;
+        subst (IsGoodIn then_machine k (shapes k) f) (sym later.making) (IsGoodIn-kept k (shapes k) e f e.making was is later later.unmade (inv.entries k e was)));
+    reserves = λ j q n reserved. was_reserved (entry_of j R.entries) q n (m.reserved j q) (λ f. IsSome f.making) (λ f found free was. reserves_kept j q n f found was) reserved;
     handles = λ b h among. WasMade-kept h.id (inv.handles b h among);
     rest = inv.rest;
     clients = after_it.clients;

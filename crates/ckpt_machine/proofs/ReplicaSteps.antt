@@ -17,7 +17,7 @@ use Rattle.weak_marks.specs.Marks.{Marked}
 use Rattle.ckpt_machine.specs.InHand.{is_marked_by, IsInHand}
 use Rattle.ckpt_machine.specs.Invariant.{IsMaker, IsGoodIn, InvariantIn}
 use Rattle.ckpt_machine.proofs.Actors.{same_actor-refl, same_actor-true}
-use Rattle.ckpt_machine.proofs.OtherCalls.{LooksAlike, making_still, IsInHand-alike, IsOwner-alike, IsMarker-alike, IsGoodIn-alike, IsLaterEntry-refl}
+use Rattle.ckpt_machine.proofs.OtherCalls.{LooksAlike, making_still, IsInHand-alike, IsOwner-alike, IsMarker-alike, IsGoodIn-alike}
 
 -- ---- calls
 
@@ -106,7 +106,7 @@ module _ (m : Machine) (shapes : ℕ → Shape) (inv : InvariantIn shapes m) (s 
           absurd (cc apart)
 
   IsGoodIn-other : (f : ℕ → ℕ → Option ReplicaState) (o : Option CallState) → StaysElsewhere f → (j : ℕ) (sh : Shape) (e : Entry) (maker : Option CallId) → (j == u.ckpt) ≡ false → IsGoodIn m j sh e maker → IsGoodIn (with_step f o) j sh e maker
-  IsGoodIn-other f o stays j sh e maker other good = IsGoodIn-alike m (with_step f o) j sh e e (IsLaterEntry-refl e) (λ q there. stays j q other)
+  IsGoodIn-other f o stays j sh e maker other good = IsGoodIn-alike m (with_step f o) j sh e (λ q there. stays j q other)
       (λ call own. put_actor-other m.in_hand s.call.actor o call.actor (other_owner j sh call other own)) (λ marks own. put_actor-other m.in_hand s.call.actor o marks.call.actor (marker_other j marks own)) (λ call own. put_actor-other m.in_hand s.call.actor o call.actor (maker_other j call own)) maker good
 
   -- ---- the other calls in hand
@@ -142,7 +142,7 @@ module _ (m : Machine) (shapes : ℕ → Shape) (inv : InvariantIn shapes m) (s 
     tables = refl;
     making = λ v at. making_still m (with_step f o) z v (λ w at. record { there = at.there; declares = at.declares; nodes = at.nodes; reserved = at.reserved; only = at.only; within = at.within }) at;
     made = λ k was. was;
-    later = λ k was e found. (e, found, refl, refl, refl);
+    later = λ k was e found. (e, found, λ all. refl, refl, refl);
     owners = λ k was q. owners_kept sh keeps z.call k q other;
     marks = λ k was. marks_kept sh keeps z.call k;
   }

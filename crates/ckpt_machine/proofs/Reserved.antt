@@ -1,7 +1,7 @@
 -- A step that changes the reservations of the checkpoint that a call is making, and how far this call is: what holds of every other call and of every checkpoint stays.
 use Rattle.std.proofs.Common.{◌≡◌, ◌≢◌, ℕ, inl, inr, Option, Some, None, Bool, true, false, ◌==◌, refl, sym, ap, subst, ◌∙◌}
 use Rattle.std.proofs.lemmas.Option.{same_Some}
-use Rattle.std.specs.Prelude.{is_some, IsSome}
+use Rattle.std.specs.Prelude.{is_some, IsSome, IsSomeAnd}
 use Rattle.std.proofs.lemmas.Bool.{eqb-true}
 use Rattle.ckpt_types.specs.declared.identities.CallId.{CallId}
 use Rattle.cluster_record.specs.declared.calls.Making.{Making}
@@ -19,7 +19,7 @@ use Rattle.ckpt_machine.specs.Invariant.{IsMaker, IsGoodIn, InvariantIn}
 use Rattle.ckpt_machine.proofs.Actors.{same_actor-true}
 use Rattle.ckpt_machine.proofs.OtherCalls.{making_still, LooksAlike, IsInHand-alike, IsOwner-alike, IsMarker-alike, IsMaker-alike}
 use Rattle.ckpt_machine.proofs.OwnMaking.{making_at, owner_apart, marker_apart, maker_same, not_own, actor_apart}
-use Rattle.ckpt_machine.proofs.OptionLemmas.{IsSomeAnd-at}
+use Rattle.ckpt_machine.proofs.OptionLemmas.{IsSomeAnd-at, IsSomeAnd-from}
 use Rattle.ckpt_machine.proofs.ReplicaSteps.{put_actor-cases, put_actor-here, put_actor-other}
 
 module _ (m : Machine) (shapes : ℕ → Shape) (inv : InvariantIn shapes m) (s : CallState) (o : OpenState) (making : Making) (held : m.in_hand s.call.actor ≡ Some s) (is : driver_of s ≡ drivers.Open o) (makes : o.making ≡ Some making)
@@ -89,22 +89,22 @@ module _ (m : Machine) (shapes : ℕ → Shape) (inv : InvariantIn shapes m) (s 
     tables = refl;
     making = λ o at. making_still m then_machine z o (making_then z other) at;
     made = λ k was. was;
-    later = λ k was e found. (e, found, refl, refl, refl);
+    later = λ k was e found. (e, found, λ all. refl, refl, refl);
     owners = λ k was r. refl;
     marks = λ k was. refl;
   }
 
   -- ---- the whole
 
-  -- what is reserved then is for a checkpoint that is there: this one, or one for which it was
-  there_then : (j q n : ℕ) → g j q ≡ Some n → IsSome (entry_of j m.cluster.entries)
+  -- what is reserved then is for a checkpoint that is in the making: this one, or one for which it was
+  there_then : (j q n : ℕ) → g j q ≡ Some n → IsSomeAnd (entry_of j m.cluster.entries) (λ e. IsSome e.making)
   there_then j q n reserved = by_test (j == making.ckpt) refl
     where
-      by_test : (b : Bool) → (j == making.ckpt) ≡ b → IsSome (entry_of j m.cluster.entries)
+      by_test : (b : Bool) → (j == making.ckpt) ≡ b → IsSomeAnd (entry_of j m.cluster.entries) (λ e. IsSome e.making)
       by_test false other = inv.reserves j q n (sym (elsewhere j q other) ∙ reserved)
       by_test true same =
           let (e, found, by) = IsSomeAnd-at (entry_of making.ckpt m.cluster.entries) (λ e. e.making ≡ Some s.call) (making_at m shapes inv s o making held is makes).there in
-          ap is_some (ap (λ k. entry_of k m.cluster.entries) (eqb-true j making.ckpt same) ∙ found)
+          IsSomeAnd-from (entry_of j m.cluster.entries) (λ e. IsSome e.making) e (ap (λ k. entry_of k m.cluster.entries) (eqb-true j making.ckpt same) ∙ found) (ap (λ o. is_some o) by)
 
   -- the invariant holds after it, where it holds of the call
   pub reserved_keeps : IsInHand then_machine shapes s.call.actor w → InvariantIn shapes then_machine

@@ -1,22 +1,27 @@
--- A step of the record that takes entries away, and changes in the others nothing but names, references, retentions and last closes.
-use Rattle.std.specs.Prelude.{◌≡◌, ℕ, [], length, Option, Some, IsSome, IfSome, true}
+-- A step of the record that takes entries away, and changes in the others nothing but names, references, retentions, last closes, and the nodes of collocated ones.
+use Rattle.std.specs.Prelude.{◌≡◌, ℕ, [], length, Option, Some, IsSome, IfSome, true, false}
 use Rattle.ckpt_types.specs.declared.identities.ActorName.{ActorName}
 use Rattle.ckpt_types.specs.declared.identities.CallId.{CallId}
 use Rattle.cluster_record.specs.declared.entries.Entry.{Entry}
 use Rattle.cluster_record.specs.Calls.{client_of}
 use Rattle.cluster_record.specs.Identities.{IdentitiesRise, AllUpTo}
+use Rattle.cluster_record.specs.Placement.{is_collocated}
 use Rattle.cluster_record.specs.Places.{find_key}
 use Rattle.cluster_record.specs.RecordState.{RecordState, entry_of, client_key, no_nodes, is_live}
 use Rattle.ckpt_machine.specs.Entries.{AllStay}
 use Rattle.ckpt_machine.specs.Invariant.{IsMaker, IsGoodClient}
 use Rattle.ckpt_machine.specs.Machine.{Machine, CallState}
-use Rattle.ckpt_machine.specs.Shape.{Shape, IsOwner, IsMarker}
+use Rattle.ckpt_machine.specs.Shape.{Shape, IsCompleteOn, IsOwner, IsMarker}
 use Rattle.weak_marks.specs.Marks.{Marked}
 
--- the same as far as the invariant looks
+-- the same as far as the invariant looks; one that is made and collocated may be complete on further nodes
 pub record IsLaterEntry (e f : Entry) : Type 0 where
   pub making : f.making ≡ e.making
-  pub complete : f.complete ≡ e.complete
+  -- one in the making, or not collocated, has the same nodes; any other has these at least
+  pub unmade : IsSome e.making → f.complete ≡ e.complete
+  pub placed : is_collocated e.attributes ≡ false → f.complete ≡ e.complete
+  pub nodes : length f.complete ≡ length e.complete
+  pub grows : (r : ℕ) → IsCompleteOn e r → IsCompleteOn f r
   pub active : f.active ≡ e.active
   pub attributes : f.attributes ≡ e.attributes
   pub generation : f.generation ≡ e.generation
