@@ -1,5 +1,5 @@
 -- What is asked of the active, by the kind of the call; and the active of a checkpoint that is made.
-use Rattle.std.proofs.Common.{◌≡◌, ◌⊎◌, ℕ, inl, inr, suc, ◌+◌, ◌<◌, List, [], ◌∷◌, length, Option, Some, None, Bool, true, false, cond, not, ◌&&◌, ◌==◌, refl, ap, subst, ◌∙◌, arith, ℤ}
+use Rattle.std.proofs.Common.{◌≡◌, ◌⊎◌, ℕ, inl, inr, suc, ◌+◌, ◌<◌, List, [], ◌∷◌, length, Option, Some, None, Bool, true, false, cond, not, ◌&&◌, ◌==◌, refl, sym, ap, subst, ◌∙◌, arith, ℤ}
 use Rattle.std.specs.Prelude.{is_some, IfSome, slice_index}
 use Rattle.std.proofs.lemmas.Option.{same_Some}
 use Rattle.ckpt_types.specs.declared.ais_error.AisError.TheVariants.{NoResources}
@@ -90,6 +90,20 @@ first_complete-node n (c ∷ cs) r is = elim (c == 0) as (λ b. (c == 0) ≡ b �
   | true ↦ λ none later. (let (d, at, there) = first_complete-node (n + 1) cs r later in (suc d, omega (arith, at), there))
   | false ↦ λ some here. (0, (let same : n ≡ r = same_Some n r here in omega (arith, same)), some)
 ] refl is
+
+-- the active is complete
+pub active_complete : (m : Machine) (shapes : ℕ → Shape) (k : ℕ) (e : Entry) (r : ℕ) → InvariantIn shapes m → entry_of k m.cluster.entries ≡ Some e → e.making ≡ None → e.active ≡ Some r → IsCompleteOn e r
+active_complete m shapes k e r inv found made active = by_kind (is_collocated e.attributes) (sym spread.active ∙ active)
+  where
+    spread : IsSpread m k (shapes k) e
+    spread = subst (IsGoodIn m k (shapes k) e) made (inv.entries k e found)
+
+    by_kind : (b : Bool) → cond b None (first_complete 0 e.complete) ≡ Some r → IsCompleteOn e r
+    by_kind true none = absurd (cc none)
+    by_kind false first =
+        let at_r = first_complete-node 0 e.complete r first in
+        let is : r ≡ 0 + at_r.0 = at_r.1 in
+        subst (λ (q : ℕ). (slice_index e.complete q == 0) ≡ false) (omega (arith, is)) at_r.2
 
 -- its entry, and its replica on its active, where these marks stand if updates go there alone
 pub record ActiveOf (m : Machine) (marks : Option Marked) (k : ℕ) : Type 0 where

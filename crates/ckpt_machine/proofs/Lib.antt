@@ -16,6 +16,7 @@ pub mod Owning
 pub mod RecordSteps
 pub mod Stage
 pub mod StagedMoment
+pub mod Joins
 pub mod StaysMade
 pub mod AtRest
 pub mod ClientTables
