@@ -1,5 +1,5 @@
 -- What an open leaves of an entry: where it adds a replica one node more is complete; but for its references all else stays.
-use Rattle.std.proofs.Common.{◌≡◌, ℕ, List, Option, Bool, true, false, cond, ◌&&◌, ◌==◌, ℤ, refl, sym, ap, subst, ◌∙◌}
+use Rattle.std.proofs.Common.{◌≡◌, ℕ, List, Option, true, false, cond, ◌&&◌, ◌==◌, ℤ, refl, sym, ap, subst, ◌∙◌}
 use Rattle.std.specs.Prelude.{slice_index, slice_set}
 use Rattle.std.proofs.lemmas.Bool.{eqb-true, ne_eqb, and_parts}
 use Rattle.ckpt_types.specs.Attributes.{has_flag}

@@ -16,7 +16,7 @@ use Rattle.cluster_record.specs.Identities.{IdentitiesRise, AllUpTo}
 use Rattle.cluster_record.specs.Places.{change_key}
 use Rattle.cluster_record.specs.RecordState.{RecordState, entry_of, identity_of, stays, swept, created_as, new_entry, home_of, made_with, opened_with, unreferred, released_all, retaining, is_call_of, departed, has_references}
 use Rattle.cluster_record.proofs.IdentityLaws.{KeepsIdentity, IdentitiesRise-change_key, IdentitiesRise-filter, IdentitiesRise-map, IdentitiesRise-push}
-use Rattle.ckpt_types.specs.Asks.{Ask, asked, update_of}
+use Rattle.ckpt_types.specs.Asks.{Ask}
 use Rattle.ckpt_types.specs.Asks as asks
 use Rattle.ckpt_machine.specs.Guards.{Row}
 use Rattle.ckpt_machine.specs.Invariant.{Invariant}
