@@ -25,7 +25,7 @@ use Rattle.cluster_record.specs.Calls.{client_of}
 use Rattle.cluster_record.specs.Makings.{making_of}
 use Rattle.cluster_record.specs.Identities.{IdentitiesRise, AllUpTo}
 use Rattle.cluster_record.specs.Places.{put2}
-use Rattle.cluster_record.specs.RecordState.{RecordState, entry_of, complete_of, stays, swept, moved, entered, finished, opened, closed, unlinked, referred, unreferred, unnamed, departed, undone}
+use Rattle.cluster_record.specs.RecordState.{RecordState, entry_of, complete_of, stays, swept, moved, entered, finished, home_of, opened_with, opened, closed, unlinked, unreferred, unnamed, departed, undone}
 use Rattle.cluster_record.proofs.IdentityLaws.{IdentitiesRise-filter}
 use Rattle.ckpt_machine.specs.Acknowledged.{IsUpdateWord, Acknowledges, ckpt_named, HasBegun, IsUpdateBy, HasUpdate, IsToHave, IsOnItsReplicas}
 use Rattle.ckpt_machine.specs.AllOrNone.{OneUpdate, IsOfOne}
@@ -41,12 +41,14 @@ use Rattle.ckpt_machine.specs.Runs.{last_from, last, IsRunFrom, IsRun}
 use Rattle.node_core.specs.Serving.{update_answer}
 use Rattle.ckpt_machine.specs.Shape.{IsCompleteOn}
 use Rattle.ckpt_machine.specs.Steps.{Told, IsDue, with_record, record_step, created_for, retained_for, change_replica, with_committed, committed_slot, with_applied, having_taken, with_marks, with_next_element, without_marks, marks_ended, with_slot, effect_of, changed, on_ok, on_look, without_making, at_some, replica_under, opened_state, stepped, step_of, staged_moment, after}
+use Rattle.ckpt_machine.proofs.ActiveNode.{active_complete}
 use Rattle.ckpt_machine.proofs.AllOrNone.{all_or_none}
 use Rattle.ckpt_machine.proofs.Entries.{ComesOf-filter}
 use Rattle.ckpt_machine.proofs.EachReplica.{made_where_complete}
 use Rattle.ckpt_machine.proofs.EntryLists.{entry_of-given}
 use Rattle.ckpt_machine.proofs.Follows.{IsBare, element_effects}
 use Rattle.ckpt_machine.proofs.Histories.{HasHistory, slot_owned, on_replica-there, on_active-there, keeps_history, run_history}
+use Rattle.ckpt_machine.proofs.Joins.{opened-identity}
 use Rattle.ckpt_machine.proofs.Lawful.{lawful}
 use Rattle.ckpt_machine.proofs.OptionLemmas.{IsSomeAnd-at}
 use Rattle.ckpt_machine.proofs.Actors.{same_call-true}
@@ -57,7 +59,7 @@ use Rattle.ckpt_machine.proofs.BegunBefore.{all_began}
 use Rattle.ckpt_machine.proofs.BegunOnce.{begins_once}
 use Rattle.ckpt_machine.proofs.UpdateAnswers.{begin_not_done, IsTakenOn, done_by_taking}
 use Rattle.ckpt_machine.proofs.ReplicaSteps.{put_actor-here}
-use Rattle.ckpt_machine.proofs.StaysMade.{IsMadeAs, StaysMade, StaysMade-same, StaysMade-kept, MadeOn, MadeOn-swept, released_made, same_on, changed_on, filter_on, departed_on, finished_on, created_for_on, retained_for_on, StepNeeds, row_needs}
+use Rattle.ckpt_machine.proofs.StaysMade.{IsMadeAs, StaysMade, StaysMade-same, StaysMade-kept, MadeOn, MadeOn-swept, released_made, opened_made, same_on, changed_on, filter_on, departed_on, finished_on, created_for_on, retained_for_on, StepNeeds, row_needs}
 use Rattle.ckpt_machine.proofs.Runs.{last_from-append, run_before, run_front, IsRunFrom-back}
 
 -- ---- effects
@@ -107,12 +109,18 @@ to_have_before : (e f : Entry) → IsMadeAs e f → (r : ℕ) → IsToHave (Some
 to_have_before e f same r (inl all) = inl (ap is_all (sym same.attributes) ∙ all)
 to_have_before e f same r (inr active) = inr (sym same.active ∙ active)
 
+-- and was complete: no node that is to have its updates is new
+complete_before : (e f : Entry) → IsMadeAs e f → (r : ℕ) → (e.active ≡ Some r → IsCompleteOn e r) → IsToHave (Some e) r → IsCompleteOn f r → IsCompleteOn e r
+complete_before e f still r led (inl all) complete = subst (λ (nodes : List ℕ). (slice_index nodes r == 0) ≡ false) (still.complete all) complete
+complete_before e f still r led (inr active) complete = led active
+
 -- ---- the update stays
 
--- the checkpoint was given and is made, if it is there, and each of its replicas that is to have the update has it
+-- the checkpoint was given and, if it is there, is made, and on its active, if it has one, complete; and each of its replicas that is to have the update has it
 record StaysIn (k : ℕ) (call : CallId) (update : Update) (R : RecordState) (replicas : ℕ → ℕ → Option ReplicaState) : Type 0 where
   given : k ≤ R.last_identity
   made : (e : Entry) → entry_of k R.entries ≡ Some e → e.making ≡ None
+  led : (e : Entry) → entry_of k R.entries ≡ Some e → (r : ℕ) → e.active ≡ Some r → IsCompleteOn e r
   its : (r : ℕ) (x : ReplicaState) → replicas k r ≡ Some x → IsToHave (entry_of k R.entries) r → HasUpdate call update x.effects
 
 abbrev Stays : ℕ → CallId → Update → Machine → Type 0
@@ -120,15 +128,17 @@ Stays k call update m = StaysIn k call update m.cluster m.replicas
 
 module _ (k : ℕ) (call : CallId) (update : Update) (m : Machine) (stay : Stays k call update m) where
   -- of a node that was complete the replica is as it was
-  kept : (b : Bool) (new : ReplicaState) (old : Option ReplicaState) (y : ReplicaState) → cond b None (cond b (Some new) old) ≡ Some y → old ≡ Some y
-  kept true new old y is = absurd (cc is)
-  kept false new old y is = is
+  kept : (gone new : Bool) (x : ReplicaState) (old : Option ReplicaState) (y : ReplicaState) → (gone ≡ false → new ≡ false) → cond gone None (cond new (Some x) old) ≡ Some y → old ≡ Some y
+  kept true new x old y was is = absurd (cc is)
+  kept false true x old y was is = absurd (let w : true ≡ false = was refl in cc w)
+  kept false false x old y was is = is
 
   -- a step of the record
   record_stays : (R : RecordState) → MadeOn k m.cluster R → Stays k call update (with_record m R)
   record_stays R on = record {
     given = (let a = on.last in let b = stay.given in omega (arith, a, b));
     made = λ f found. (let (e, was, keeps) = on.made f found in (keeps.made (stay.made e was)).made);
+    led = λ f found r active. (let (e, was, keeps) = on.made f found in let still = keeps.made (stay.made e was) in still.remains r (stay.led e was r (sym still.active ∙ active)));
     its = λ r y is to_have. had (entry_of k R.entries) refl r y is to_have;
   }
     where
@@ -137,14 +147,15 @@ module _ (k : ℕ) (call : CallId) (update : Update) (m : Machine) (stay : Stays
       had (Some f) found r y is to_have =
           let (e, was, keeps) = on.made f found in
           let still = keeps.made (stay.made e was) in
-          let same : complete_of (entry_of k m.cluster.entries) ≡ f.complete = ap complete_of was ∙ sym still.complete in
-          let came : m.replicas k r ≡ Some y = kept (slice_index f.complete r == 0) (opened_state f) (m.replicas k r) y (subst (λ (nodes : List ℕ). cond (slice_index f.complete r == 0) None (cond (slice_index nodes r == 0) (Some (opened_state f)) (m.replicas k r)) ≡ Some y) same is) in
-          stay.its r y came (subst (λ o. IsToHave o r) (sym was) (to_have_before e f still r to_have))
+          let before : IsToHave (Some e) r = to_have_before e f still r to_have in
+          let there : IsCompleteOn f r → (slice_index (complete_of (entry_of k m.cluster.entries)) r == 0) ≡ false = λ complete. subst (λ o. (slice_index (complete_of o) r == 0) ≡ false) (sym was) (complete_before e f still r (stay.led e was r) before complete) in
+          let came : m.replicas k r ≡ Some y = kept (slice_index f.complete r == 0) (slice_index (complete_of (entry_of k m.cluster.entries)) r == 0) (opened_state f) (m.replicas k r) y there is in
+          stay.its r y came (subst (λ o. IsToHave o r) (sym was) before)
 
   -- one replica changed, whose effects stay
   replica_stays : (j q : ℕ) (o : Option ReplicaState) → m.replicas j q ≡ o → (change : ReplicaState → ReplicaState) → ((x : ReplicaState) → HasUpdate call update x.effects → HasUpdate call update (change x).effects) → Stays k call update (change_replica m j q o change)
   replica_stays j q None there change more = stay
-  replica_stays j q (Some x) there change more = record { given = stay.given; made = stay.made; its = its }
+  replica_stays j q (Some x) there change more = record { given = stay.given; made = stay.made; led = stay.led; its = its }
     where
       its : (r : ℕ) (y : ReplicaState) → put2 m.replicas j q (Some (change x)) k r ≡ Some y → IsToHave (entry_of k m.cluster.entries) r → HasUpdate call update y.effects
       its r y is to_have = elim ((k == j) && (r == q)) as (λ b. ((k == j) && (r == q)) ≡ b → cond b (Some (change x)) (m.replicas k r) ≡ Some y → HasUpdate call update y.effects) [
@@ -192,9 +203,9 @@ module _ (k : ℕ) (call : CallId) (update : Update) (m : Machine) (stay : Stays
     -- any step
     changed_stays : (s : CallState) (verb : Verb) (j q : Option ℕ) (reply : StepReply) → StepNeeds m.cluster s.call verb j reply → Stays k call update (changed m s verb j q reply)
     changed_stays s verbs.Enter j q reply needs = ok_stays reply _ (one_stays q _ (λ q. step_stays (entered (client_of s.call) q s.call.number) (record { last = omega arith; rises = rises; made = (same_on k m.cluster stay.given rises up_to).made })))
-    changed_stays s verbs.Open j q reply needs = ok_stays reply _ (one_stays j _ (λ j. step_stays (opened j (client_of s.call)) (changed_on k m.cluster stay.given rises up_to j (referred (client_of s.call)) (λ e. refl) (λ e. StaysMade-kept e (referred (client_of s.call) e) refl refl refl refl refl))))
+    changed_stays s verbs.Open j q reply needs = ok_stays reply _ (one_stays j _ (λ j. step_stays (opened j (client_of s.call)) (changed_on k m.cluster stay.given rises up_to j (opened_with (home_of (client_of s.call) m.cluster) m.cluster.up (client_of s.call)) (opened-identity (home_of (client_of s.call) m.cluster) m.cluster.up (client_of s.call)) (opened_made (home_of (client_of s.call) m.cluster) m.cluster.up (client_of s.call)))))
     changed_stays s verbs.Create j q reply needs = ok_stays reply _ (step_stays (created_for s.call (asked s.op)) (created_for_on k m.cluster stay.given rises up_to s.call (asked s.op)))
-    changed_stays s verbs.Reserve j q reply needs = ok_stays reply _ (both_stay j q _ (λ j q. record { given = stay.given; made = stay.made; its = stay.its }))
+    changed_stays s verbs.Reserve j q reply needs = ok_stays reply _ (both_stay j q _ (λ j q. record { given = stay.given; made = stay.made; led = stay.led; its = stay.its }))
     changed_stays s verbs.Finish j q reply needs = finished_stays s j q reply needs
     changed_stays s verbs.Undo j q reply needs = ok_stays reply _ (one_stays j _ undone_stays)
     changed_stays s verbs.Stage j q reply needs = ok_stays reply _ (both_stay j q _ (λ j q. replica_stays j q (m.replicas j q) refl (with_slot s.call (update_of s.op) (staged_moment m j)) (λ x has. has)))
@@ -216,13 +227,13 @@ module _ (k : ℕ) (call : CallId) (update : Update) (m : Machine) (stay : Stays
 
   -- any label that is allowed
   after_stays : Invariant m → (l : Label) → Allowed m l → Stays k call update (after m l)
-  after_stays inv (labels.Began d op end) allowed = record { given = stay.given; made = stay.made; its = stay.its }
+  after_stays inv (labels.Began d op end) allowed = record { given = stay.given; made = stay.made; led = stay.led; its = stay.its }
   after_stays inv (labels.Stepped d op verb j q reply end details) allowed =
       let s = allowed.state in
       let then = changed_stays inv.holds.rises inv.holds.up_to s verb j q reply (row_needs m inv s verb j q reply end details allowed.row) in
-      subst (λ o. Stays k call update (step_of m o verb j q reply end)) (sym allowed.in_hand) (record { given = then.given; made = then.made; its = then.its })
+      subst (λ o. Stays k call update (step_of m o verb j q reply end)) (sym allowed.in_hand) (record { given = then.given; made = then.made; led = then.led; its = then.its })
   after_stays inv (labels.Word who line said) allowed = stay
-  after_stays inv (labels.Nodes n) allowed = record { given = stay.given; made = stay.made; its = stay.its }
+  after_stays inv (labels.Nodes n) allowed = record { given = stay.given; made = stay.made; led = stay.led; its = stay.its }
   after_stays inv (labels.Moved t) allowed = record_stays (moved t m.cluster) (record { last = omega arith; rises = IdentitiesRise-filter (stays t) m.cluster.entries inv.holds.rises; made = ComesOf-filter StaysMade StaysMade-same (stays t) m.cluster.entries inv.holds.rises k })
   after_stays inv (labels.Shown j replicas) allowed = stay
   after_stays inv l allowed = absurd allowed
@@ -331,9 +342,13 @@ module _ (m : Machine) (inv : Invariant m) (history : HasHistory m) (d : CallId)
   ended_stays : (s : CallState) (e : Entry) (x y : ReplicaState) → entry_of j m.cluster.entries ≡ Some e → m.replicas j r ≡ Some x → IsOnItsReplicas (ended s y) j s.call (update_of s.op) → Stays j s.call (update_of s.op) (ended s y)
   ended_stays s e x y found there its = record {
     given = entry_of-given m.cluster.last_identity j m.cluster.entries e inv.holds.up_to found;
-    made = λ f at. subst (λ (z : Entry). z.making ≡ None) (same_Some e f (sym found ∙ at)) (is_made m inv history.bare j r e x found there);
+    made = λ f at. subst (λ (z : Entry). z.making ≡ None) (same_Some e f (sym found ∙ at)) made;
+    led = λ f at q active. active_complete m inv.shapes j f q inv.holds at (subst (λ (z : Entry). z.making ≡ None) (same_Some e f (sym found ∙ at)) made) active;
     its = its;
   }
+    where
+      made : e.making ≡ None
+      made = is_made m inv history.bare j r e x found there
 
   -- after a commit every replica has it
   committed_stays : (allowed : Allowed m (label verbs.Commit)) → IsDue m (label verbs.Commit) → Stays j d (update_of allowed.state.op) (after m (label verbs.Commit))

@@ -1,5 +1,5 @@
 -- What is asked of the active, by the kind of the call; and the active of a checkpoint that is made.
-use Rattle.std.proofs.Common.{◌≡◌, ◌⊎◌, ℕ, inl, inr, suc, ◌+◌, ◌<◌, List, [], ◌∷◌, length, Option, Some, None, Bool, true, false, cond, not, ◌&&◌, ◌==◌, refl, ap, subst, ◌∙◌, arith, ℤ}
+use Rattle.std.proofs.Common.{◌≡◌, ◌⊎◌, ℕ, inl, inr, suc, ◌+◌, ◌<◌, List, [], ◌∷◌, length, Option, Some, None, Bool, true, false, cond, not, ◌&&◌, ◌==◌, refl, sym, ap, subst, ◌∙◌, arith, ℤ}
 use Rattle.std.specs.Prelude.{is_some, IfSome, slice_index}
 use Rattle.std.proofs.lemmas.Option.{same_Some}
 use Rattle.ckpt_types.specs.declared.ais_error.AisError.TheVariants.{NoResources}
@@ -16,10 +16,10 @@ use Rattle.cluster_record.specs.declared.calls.MarksMade.{MarksMade}
 use Rattle.weak_marks.specs.Marks.{Marked}
 use Rattle.cluster_record.specs.Placement.{is_collocated}
 use Rattle.cluster_record.specs.RecordState.{entry_of, first_complete}
-use Rattle.ckpt_types.specs.Asks.{Ask, asked, elements_asked, elements_of}
+use Rattle.ckpt_types.specs.Asks.{Ask}
 use Rattle.ckpt_types.specs.Asks as asks
 use Rattle.ckpt_machine.specs.Tables.{choice_of}
-use Rattle.ckpt_machine.specs.Drivers.{Driver, Rooms}
+use Rattle.ckpt_machine.specs.Drivers.{Rooms}
 use Rattle.ckpt_machine.specs.Drivers as drivers
 use Rattle.ckpt_machine.specs.Driving.{kind_of_change, driver_next}
 use Rattle.ckpt_machine.specs.Entries.{WasMade}
@@ -91,6 +91,23 @@ first_complete-node n (c ∷ cs) r is = elim (c == 0) as (λ b. (c == 0) ≡ b �
   | false ↦ λ some here. (0, (let same : n ≡ r = same_Some n r here in omega (arith, same)), some)
 ] refl is
 
+lowest_complete : (e : Entry) (r : ℕ) → first_complete 0 e.complete ≡ Some r → IsCompleteOn e r
+lowest_complete e r first =
+    let at_r = first_complete-node 0 e.complete r first in
+    let is : r ≡ 0 + at_r.0 = at_r.1 in
+    subst (λ (q : ℕ). (slice_index e.complete q == 0) ≡ false) (omega (arith, is)) at_r.2
+
+-- the active is complete
+pub active_complete : (m : Machine) (shapes : ℕ → Shape) (k : ℕ) (e : Entry) (r : ℕ) → InvariantIn shapes m → entry_of k m.cluster.entries ≡ Some e → e.making ≡ None → e.active ≡ Some r → IsCompleteOn e r
+active_complete m shapes k e r inv found made active = by_kind (is_collocated e.attributes) (sym spread.active ∙ active)
+  where
+    spread : IsSpread m k (shapes k) e
+    spread = subst (IsGoodIn m k (shapes k) e) made (inv.entries k e found)
+
+    by_kind : (b : Bool) → cond b None (first_complete 0 e.complete) ≡ Some r → IsCompleteOn e r
+    by_kind true none = absurd (cc none)
+    by_kind false first = lowest_complete e r first
+
 -- its entry, and its replica on its active, where these marks stand if updates go there alone
 pub record ActiveOf (m : Machine) (marks : Option Marked) (k : ℕ) : Type 0 where
   pub entry : Entry
@@ -117,9 +134,7 @@ active_of m shapes k e inv made found = by_kind (is_collocated e.attributes) spr
     by_node : e.active ≡ first_complete 0 e.complete → (o : Option ℕ) → first_complete 0 e.complete ≡ o → is_some o ≡ true → ActiveOf m (shapes k).marks k
     by_node active None none some = absurd (cc some)
     by_node active (Some r) first some =
-        let at_r = first_complete-node 0 e.complete r first in
-        let is : r ≡ 0 + at_r.0 = at_r.1 in
-        let there : IsCompleteOn e r = subst (λ (q : ℕ). (slice_index e.complete q == 0) ≡ false) (omega (arith, is)) at_r.2 in
+        let there : IsCompleteOn e r = lowest_complete e r first in
         let (x, here, shaped) = IsSomeAnd-at (m.replicas k r) (IsShapedBy (is_all e.attributes) (shapes k) e.active r) (spread.replicas r there) in
         record {
           entry = e;

@@ -20,7 +20,7 @@ use Rattle.cluster_record.specs.declared.entries.Entry.{Entry}
 use Rattle.cluster_record.specs.Calls.{client_of}
 use Rattle.cluster_record.specs.Makings.{making_of}
 use Rattle.cluster_record.specs.Places.{change_key}
-use Rattle.cluster_record.specs.RecordState.{RecordState, entry_of, identity_of, complete_of, stays, swept, moved, entered, finished, referred, unreferred, unnamed, departed, undone}
+use Rattle.cluster_record.specs.RecordState.{RecordState, entry_of, identity_of, complete_of, stays, swept, moved, entered, finished, home_of, opened_with, unreferred, unnamed, departed, undone}
 use Rattle.cluster_record.proofs.IdentityLaws.{IdentitiesRise-filter}
 use Rattle.ckpt_machine.specs.Beginning.{update_is_bad}
 use Rattle.ckpt_machine.specs.BeginRows.{has_bad_arguments}
@@ -36,11 +36,12 @@ use Rattle.ckpt_machine.proofs.EntryLists.{entry_of-given}
 use Rattle.ckpt_machine.proofs.Follows.{IsBare}
 use Rattle.ckpt_machine.proofs.GoodArguments.{HaveGoodArguments, good_arguments}
 use Rattle.ckpt_machine.proofs.Histories.{HasHistory, maker_incomplete, on_replica-there, run_history}
+use Rattle.ckpt_machine.proofs.Joins.{opened-identity}
 use Rattle.ckpt_machine.proofs.OptionLemmas.{IsSomeAnd-at}
 use Rattle.ckpt_machine.proofs.OwnMaking.{making_there}
 use Rattle.ckpt_machine.proofs.References.{released-identity}
 use Rattle.ckpt_machine.proofs.Runs.{last-push, IsRunFrom-front, IsRunFrom-back}
-use Rattle.ckpt_machine.proofs.StaysMade.{StaysMade, StaysMade-same, StaysMade-kept, released_made, MadeOn, MadeOn-swept, changed_on, filter_on, departed_on, created_for_on, retained_for_on, finished_on}
+use Rattle.ckpt_machine.proofs.StaysMade.{StaysMade, StaysMade-same, StaysMade-kept, released_made, opened_made, MadeOn, MadeOn-swept, changed_on, filter_on, departed_on, created_for_on, retained_for_on, finished_on}
 
 -- ---- a step on one replica
 
@@ -210,7 +211,7 @@ module _ (Q : Option Entry → ℕ → ReplicaState → Type 0) where
     -- any step
     changed_each : (s : CallState) (verb : Verb) (j q : Option ℕ) (reply : StepReply) → Needs s verb j q reply → Each (changed m s verb j q reply)
     changed_each s verbs.Enter j q reply needs = ok_each reply _ (one_each q _ (λ q. step_each (entered (client_of s.call) q s.call.number) (λ k given. record { last = omega arith; rises = inv.holds.rises; made = λ f found. (f, found, StaysMade-same f) })))
-    changed_each s verbs.Open j q reply needs = ok_each reply _ (one_each j _ (λ j. entry_each j (λ R. referred (client_of s.call)) (λ e. refl) (λ e. StaysMade-kept e (referred (client_of s.call) e) refl refl refl refl refl)))
+    changed_each s verbs.Open j q reply needs = ok_each reply _ (one_each j _ (λ j. entry_each j (λ R. opened_with (home_of (client_of s.call) R) R.up (client_of s.call)) (opened-identity (home_of (client_of s.call) m.cluster) m.cluster.up (client_of s.call)) (opened_made (home_of (client_of s.call) m.cluster) m.cluster.up (client_of s.call))))
     changed_each s verbs.Create j q reply needs = ok_each reply _ (step_each (created_for s.call (asked s.op)) (λ k given. created_for_on k m.cluster given inv.holds.rises inv.holds.up_to s.call (asked s.op)))
     changed_each s verbs.Reserve j q reply needs = ok_each reply _ (both_each j q _ (λ j q. each))
     changed_each s verbs.Finish j q reply needs = finished_each s j q reply needs

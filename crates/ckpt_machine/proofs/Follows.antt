@@ -17,7 +17,7 @@ use Rattle.cluster_record.specs.declared.entries.Entry.{Entry}
 use Rattle.cluster_record.specs.Calls.{client_of}
 use Rattle.cluster_record.specs.Makings.{making_of}
 use Rattle.cluster_record.specs.Places.{change_key, put2}
-use Rattle.cluster_record.specs.RecordState.{RecordState, entry_of, identity_of, complete_of, has_references, stays, swept, entered, created_as, new_entry, referred, home_of, made_with, unreferred, released_all, unnamed, retaining, is_call_of, departed, undone}
+use Rattle.cluster_record.specs.RecordState.{RecordState, entry_of, identity_of, complete_of, has_references, stays, swept, entered, created_as, new_entry, home_of, made_with, opened_with, unreferred, released_all, unnamed, retaining, is_call_of, departed, undone}
 use Rattle.cluster_record.proofs.KeptLaws.{All-change_key}
 use Rattle.ckpt_types.specs.Asks.{Ask, asked, update_of}
 use Rattle.ckpt_types.specs.Asks as asks
@@ -25,6 +25,7 @@ use Rattle.ckpt_machine.specs.Machine.{Machine, Effect, Applied, ReplicaState, S
 use Rattle.ckpt_machine.specs.Owned.{IsEffectOf, HasEffect}
 use Rattle.ckpt_machine.specs.Shape.{IsCompleteOn}
 use Rattle.ckpt_machine.specs.Steps.{with_record, record_step, created_for, retained_for, change_replica, with_slot, staged_moment, with_committed, committed_slot, with_applied, with_marks, with_next_element, next_element_written, without_marks, marks_ended, effect_of, changed, on_ok, on_look, without_making, at_some, replica_under, reservation_under, opened_state}
+use Rattle.ckpt_machine.proofs.Joins.{joined-hold}
 
 -- ---- what is so in every state of a run
 
@@ -314,7 +315,7 @@ module _ (m : Machine) (bare : IsBare m) (IsNew : ℕ → CallId → Type 0) whe
   -- any step
   pub changed_follows : (s : CallState) (verb : Verb) (k r : Option ℕ) (reply : StepReply) → StepNeeds s.call verb k r reply → ReplicasFollow m IsNew (changed m s verb k r reply)
   changed_follows s verbs.Enter k r reply new = ok_follows reply _ (one_follows r _ (λ r. step_follows (entered (client_of s.call) r s.call.number) bare.free))
-  changed_follows s verbs.Open k r reply new = ok_follows reply _ (one_follows k _ (λ k. entry_follows k (λ R. referred (client_of s.call)) (λ e. refl)))
+  changed_follows s verbs.Open k r reply new = ok_follows reply _ (one_follows k _ (λ k. entry_follows k (λ R. opened_with (home_of (client_of s.call) R) R.up (client_of s.call)) (joined-hold (home_of (client_of s.call) m.cluster) m.cluster.up)))
   changed_follows s verbs.Create k r reply new = ok_follows reply _ (step_follows (created_for s.call (asked s.op)) (created_for_free m.cluster bare.free s.call (asked s.op)))
   changed_follows s verbs.Reserve k r reply new = reserved_follows s.call k r reply new
   changed_follows s verbs.Finish k r reply new = ok_follows reply _ (one_follows k _ (λ k. entry_follows k (λ R. made_with (home_of (client_of s.call) R) R.up (client_of s.call)) (λ e. refl)))

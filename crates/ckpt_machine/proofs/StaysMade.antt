@@ -14,25 +14,28 @@ use Rattle.node_msgs.specs.declared.details.Details.{Details}
 use Rattle.cluster_record.specs.declared.entries.Entry.{Entry}
 use Rattle.cluster_record.specs.Identities.{IdentitiesRise, AllUpTo}
 use Rattle.cluster_record.specs.Places.{change_key}
-use Rattle.cluster_record.specs.RecordState.{RecordState, entry_of, identity_of, stays, swept, created_as, new_entry, home_of, made_with, unreferred, released_all, retaining, is_call_of, departed, has_references}
+use Rattle.cluster_record.specs.RecordState.{RecordState, entry_of, identity_of, stays, swept, created_as, new_entry, home_of, made_with, opened_with, unreferred, released_all, retaining, is_call_of, departed, has_references}
 use Rattle.cluster_record.proofs.IdentityLaws.{KeepsIdentity, IdentitiesRise-change_key, IdentitiesRise-filter, IdentitiesRise-map, IdentitiesRise-push}
-use Rattle.ckpt_types.specs.Asks.{Ask, asked, update_of}
+use Rattle.ckpt_types.specs.Asks.{Ask}
 use Rattle.ckpt_types.specs.Asks as asks
 use Rattle.ckpt_machine.specs.Guards.{Row}
 use Rattle.ckpt_machine.specs.Invariant.{Invariant}
 use Rattle.ckpt_machine.specs.Machine.{Machine, CallState}
+use Rattle.ckpt_machine.specs.Options.{is_all}
+use Rattle.ckpt_machine.specs.Shape.{IsCompleteOn}
 use Rattle.ckpt_machine.specs.Steps.{created_for, retained_for}
 use Rattle.ckpt_machine.proofs.OwnMaking.{making_there}
 use Rattle.ckpt_machine.proofs.Entries.{ComesOf-filter, ComesOf-change_key, ComesOf-map, ComesOf-then}
 use Rattle.ckpt_machine.proofs.EntryLists.{find_key-key, find_key-change_key}
 use Rattle.ckpt_machine.proofs.OptionLemmas.{IsSomeAnd-at}
-use Rattle.ckpt_machine.proofs.OwnMaking.{making_there}
+use Rattle.ckpt_machine.proofs.Joins.{joined-making, joined-active, joined-attributes, joined-made, joined-all, joined-complete}
 use Rattle.ckpt_machine.proofs.References.{released_all-identity}
 
--- it is made, on the same nodes with the same active, and declares the same
+-- it is made with the same active, and declares the same; it is on the same nodes where updates are on all replicas, and else on these and maybe more
 pub record IsMadeAs (e f : Entry) : Type 0 where
   pub made : f.making ≡ None
-  pub complete : f.complete ≡ e.complete
+  pub complete : is_all e.attributes ≡ true → f.complete ≡ e.complete
+  pub remains : (r : ℕ) → IsCompleteOn e r → IsCompleteOn f r
   pub active : f.active ≡ e.active
   pub attributes : f.attributes ≡ e.attributes
 
@@ -43,18 +46,34 @@ pub record StaysMade (e f : Entry) : Type 0 where
   pub since : f.made ≡ e.made
 
 pub StaysMade-same : (e : Entry) → StaysMade e e
-StaysMade-same e = record { made = λ made. record { made = made; complete = refl; active = refl; attributes = refl }; attributes = refl; since = refl }
+StaysMade-same e = record { made = λ made. record { made = made; complete = λ all. refl; remains = λ r there. there; active = refl; attributes = refl }; attributes = refl; since = refl }
 
 -- where none of that is changed
 pub StaysMade-kept : (e f : Entry) → f.making ≡ e.making → f.complete ≡ e.complete → f.active ≡ e.active → f.attributes ≡ e.attributes → f.made ≡ e.made → StaysMade e f
-StaysMade-kept e f making complete active attributes since = record { made = λ made. record { made = making ∙ made; complete = complete; active = active; attributes = attributes }; attributes = attributes; since = since }
+StaysMade-kept e f making complete active attributes since = record {
+  made = λ made. record {
+    made = making ∙ made;
+    complete = λ all. complete;
+    remains = λ r there. subst (λ (nodes : List ℕ). (slice_index nodes r == 0) ≡ false) (sym complete) there;
+    active = active;
+    attributes = attributes;
+  };
+  attributes = attributes;
+  since = since;
+}
 
 pub StaysMade-then : (e f g : Entry) → StaysMade e f → StaysMade f g → StaysMade e g
 StaysMade-then e f g first second = record {
   made = λ made.
       let between = first.made made in
       let later = second.made between.made in
-      record { made = later.made; complete = later.complete ∙ between.complete; active = later.active ∙ between.active; attributes = later.attributes ∙ between.attributes };
+      record {
+        made = later.made;
+        complete = λ all. later.complete (ap is_all between.attributes ∙ all) ∙ between.complete all;
+        remains = λ r there. later.remains r (between.remains r there);
+        active = later.active ∙ between.active;
+        attributes = later.attributes ∙ between.attributes;
+      };
   attributes = second.attributes ∙ first.attributes;
   since = second.since ∙ first.since;
 }
@@ -70,6 +89,20 @@ released_made c t e = left_made e t (slice_set e.references c (slice_index e.ref
 
 pub released_all_made : (c : ℕ) (t : ℤ) (e : Entry) → StaysMade e (released_all c t e)
 released_all_made c t e = left_made e t (slice_set e.references c 0) (slice_index e.references c == 0) (has_references (record e { references = slice_set e.references c 0 }))
+
+-- an open may add a node
+pub opened_made : (opener : ℕ) (up : List ℕ) (c : ℕ) (e : Entry) → StaysMade e (opened_with opener up c e)
+opened_made opener up c e = record {
+  made = λ made. record {
+    made = joined-making opener up e ∙ made;
+    complete = joined-all opener up e;
+    remains = joined-complete opener up e;
+    active = joined-active opener up e;
+    attributes = joined-attributes opener up e;
+  };
+  attributes = joined-attributes opener up e;
+  since = joined-made opener up e;
+}
 
 -- what a step makes of the record, of this checkpoint
 pub record MadeOn (k : ℕ) (R S : RecordState) : Type 0 where
