@@ -36,7 +36,7 @@ use Rattle.ckpt_machine.proofs.EntryLists.{entry_of-given}
 use Rattle.ckpt_machine.proofs.Follows.{IsBare}
 use Rattle.ckpt_machine.proofs.GoodArguments.{HaveGoodArguments, good_arguments}
 use Rattle.ckpt_machine.proofs.Histories.{HasHistory, maker_incomplete, on_replica-there, run_history}
-use Rattle.ckpt_machine.proofs.Joins.{opened-identity}
+use Rattle.ckpt_machine.proofs.Joining.{opened_with-identity}
 use Rattle.ckpt_machine.proofs.OptionLemmas.{IsSomeAnd-at}
 use Rattle.ckpt_machine.proofs.OwnMaking.{making_there}
 use Rattle.ckpt_machine.proofs.References.{released-identity}
@@ -211,7 +211,7 @@ module _ (Q : Option Entry → ℕ → ReplicaState → Type 0) where
     -- any step
     changed_each : (s : CallState) (verb : Verb) (j q : Option ℕ) (reply : StepReply) → Needs s verb j q reply → Each (changed m s verb j q reply)
     changed_each s verbs.Enter j q reply needs = ok_each reply _ (one_each q _ (λ q. step_each (entered (client_of s.call) q s.call.number) (λ k given. record { last = omega arith; rises = inv.holds.rises; made = λ f found. (f, found, StaysMade-same f) })))
-    changed_each s verbs.Open j q reply needs = ok_each reply _ (one_each j _ (λ j. entry_each j (λ R. opened_with (home_of (client_of s.call) R) R.up (client_of s.call)) (opened-identity (home_of (client_of s.call) m.cluster) m.cluster.up (client_of s.call)) (opened_made (home_of (client_of s.call) m.cluster) m.cluster.up (client_of s.call))))
+    changed_each s verbs.Open j q reply needs = ok_each reply _ (one_each j _ (λ j. entry_each j (λ R. opened_with (home_of (client_of s.call) R) R.up (client_of s.call)) (opened_with-identity (home_of (client_of s.call) m.cluster) m.cluster.up (client_of s.call)) (opened_made (home_of (client_of s.call) m.cluster) m.cluster.up (client_of s.call))))
     changed_each s verbs.Create j q reply needs = ok_each reply _ (step_each (created_for s.call (asked s.op)) (λ k given. created_for_on k m.cluster given inv.holds.rises inv.holds.up_to s.call (asked s.op)))
     changed_each s verbs.Reserve j q reply needs = ok_each reply _ (both_each j q _ (λ j q. each))
     changed_each s verbs.Finish j q reply needs = finished_each s j q reply needs

@@ -25,7 +25,7 @@ use Rattle.ckpt_machine.specs.Machine.{Machine, Effect, Applied, ReplicaState, S
 use Rattle.ckpt_machine.specs.Owned.{IsEffectOf, HasEffect}
 use Rattle.ckpt_machine.specs.Shape.{IsCompleteOn}
 use Rattle.ckpt_machine.specs.Steps.{with_record, record_step, created_for, retained_for, change_replica, with_slot, staged_moment, with_committed, committed_slot, with_applied, with_marks, with_next_element, next_element_written, without_marks, marks_ended, effect_of, changed, on_ok, on_look, without_making, at_some, replica_under, reservation_under, opened_state}
-use Rattle.ckpt_machine.proofs.Joins.{joined-hold}
+use Rattle.ckpt_machine.proofs.Joining.{joined-hold}
 
 -- ---- what is so in every state of a run
 

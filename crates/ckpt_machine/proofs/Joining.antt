@@ -1,13 +1,14 @@
--- What an open leaves of the entry that it opens: a collocated checkpoint may be complete on its client's node too.
-use Rattle.std.proofs.Common.{◌≡◌, ℕ, List, None, Bool, true, false, cond, ◌==◌, length, refl, sym, ap, subst, ◌∙◌}
+-- What an open leaves of the entry that it opens: a collocated checkpoint may be complete on its client's node too, and but for its references all else stays.
+use Rattle.std.proofs.Common.{◌≡◌, ℕ, List, Option, None, Bool, true, false, cond, ◌&&◌, ◌==◌, ℤ, length, refl, sym, ap, subst, ◌∙◌}
 use Rattle.std.specs.Prelude.{is_some, slice_index, slice_set}
-use Rattle.std.proofs.lemmas.Bool.{eqb-true, and_parts}
+use Rattle.std.proofs.lemmas.Bool.{eqb-true, ne_eqb, and_parts}
 use Rattle.ckpt_types.specs.declared.attributes.CreationAttributes.{CreationAttributes}
+use Rattle.ckpt_types.specs.declared.identities.CallId.{CallId}
 use Rattle.ckpt_types.specs.Attributes.{has_flag}
 use Rattle.ckpt_types.specs.Limits.{wr_all_replicas, checkpoint_collocated}
 use Rattle.cluster_record.specs.declared.entries.Entry.{Entry}
 use Rattle.cluster_record.specs.Placement.{is_collocated, adds}
-use Rattle.cluster_record.specs.RecordState.{referred, opened_with}
+use Rattle.cluster_record.specs.RecordState.{referred, joined, opened_with}
 use Rattle.cluster_record.proofs.IdentityLaws.{KeepsIdentity}
 use Rattle.ckpt_machine.specs.Later.{IsLaterEntry}
 use Rattle.ckpt_machine.specs.Options.{is_all}
@@ -27,6 +28,63 @@ collocated_apart a collocated = by_test (is_all a) refl
     by_test : (b : Bool) → is_all a ≡ b → is_all a ≡ false
     by_test false is = is
     by_test true is = absurd (let w : true ≡ false = sym collocated ∙ all_apart a is in cc w)
+
+-- ---- the entry opened from a node, where these nodes are up
+
+module _ (opener : ℕ) (up : List ℕ) (e : Entry) where
+  -- the nodes, with the opener's
+  abbrev with_opener : List ℕ
+  with_opener = slice_set e.complete opener (slice_index up opener)
+
+  -- what does not depend on the nodes stays
+  joined-same : {X : Type 0} (part : Entry → X) → part (record e { complete = with_opener }) ≡ part e → part (joined opener up e) ≡ part e
+  joined-same part same = elim (adds e.attributes opener e.complete) as (λ b. part (cond b (record e { complete = with_opener }) e) ≡ part e) [ true ↦ same | false ↦ refl ]
+
+  pub joined-making : (joined opener up e).making ≡ e.making
+  joined-making = joined-same {X = Option CallId} (λ e. e.making) refl
+
+  pub joined-active : (joined opener up e).active ≡ e.active
+  joined-active = joined-same {X = Option ℕ} (λ e. e.active) refl
+
+  pub joined-attributes : (joined opener up e).attributes ≡ e.attributes
+  joined-attributes = joined-same {X = CreationAttributes} (λ e. e.attributes) refl
+
+  pub joined-made : (joined opener up e).made ≡ e.made
+  joined-made = joined-same {X = ℤ} (λ e. e.made) refl
+
+  pub joined-hold : (joined opener up e).hold ≡ e.hold
+  joined-hold = joined-same (λ e. e.hold) refl
+
+  -- so do its nodes, where it is not collocated
+  pub joined-placed : is_collocated e.attributes ≡ false → (joined opener up e).complete ≡ e.complete
+  joined-placed placed = ap (λ b. (cond (b && (slice_index e.complete opener == 0)) (record e { complete = with_opener }) e).complete) placed
+
+  -- as where updates are on all replicas
+  pub joined-all : is_all e.attributes ≡ true → (joined opener up e).complete ≡ e.complete
+  joined-all all = joined-placed (all_apart e.attributes all)
+
+  -- a node that is complete stays so
+  pub joined-complete : (r : ℕ) → IsCompleteOn e r → IsCompleteOn (joined opener up e) r
+  joined-complete r there = elim (adds e.attributes opener e.complete) as (λ b. adds e.attributes opener e.complete ≡ b → IsCompleteOn (cond b (record e { complete = with_opener }) e) r) [
+    | true ↦ λ new. ap (λ n. n == 0) (index-other e.complete opener r (slice_index up opener) (ne_eqb r opener (apart new))) ∙ there
+    | false ↦ λ none. there
+  ] refl
+    where
+      apart : adds e.attributes opener e.complete ≡ true → r ≡ opener → ⊥
+      apart new same =
+          let was : (slice_index e.complete opener == 0) ≡ true = (and_parts (is_collocated e.attributes) (slice_index e.complete opener == 0) new).1 in
+          let w : true ≡ false = sym was ∙ subst (λ (q : ℕ). (slice_index e.complete q == 0) ≡ false) same there in
+          cc w
+
+  joined-nodes : length (joined opener up e).complete ≡ length e.complete
+  joined-nodes = joined-same {X = ℕ} (λ e. length e.complete) (length-slice_set e.complete opener (slice_index up opener))
+
+  joined-references : (joined opener up e).references ≡ e.references
+  joined-references = joined-same {X = List ℕ} (λ e. e.references) refl
+
+-- an open leaves the identity as it is
+pub opened_with-identity : (opener : ℕ) (up : List ℕ) (c : ℕ) → KeepsIdentity (opened_with opener up c)
+opened_with-identity opener up c e = joined-same opener up e {X = ℕ} (λ e. e.identity) refl
 
 -- ---- later entries
 
@@ -52,43 +110,16 @@ IsLaterEntry-refl e = same_nodes-later e e refl refl refl refl refl refl
 pub referred-later : (c : ℕ) (e : Entry) → IsLaterEntry e (referred c e)
 referred-later c e = same_nodes-later e (referred c e) refl refl refl refl refl (length-slice_set e.references c _)
 
-module _ (opener : ℕ) (up : List ℕ) (c : ℕ) where
-  -- the entry with the opener's node
-  abbrev with_opener : Entry → Entry
-  with_opener e = record e { complete = slice_set e.complete opener (slice_index up opener) }
-
-  -- an open leaves the identity as it is
-  pub opened_with-identity : KeepsIdentity (opened_with opener up c)
-  opened_with-identity e = elim (adds e.attributes opener e.complete) as (λ b. (referred c (cond b (with_opener e) e)).identity ≡ e.identity) [ true ↦ refl | false ↦ refl ]
-
-  module _ (e : Entry) (made : e.making ≡ None) where
-    -- where it adds a replica, the nodes that were complete are
-    added-later : adds e.attributes opener e.complete ≡ true → IsLaterEntry e (referred c (with_opener e))
-    added-later added = record {
-      making = refl;
-      unmade = λ some. absurd (let w : false ≡ true = sym (ap (λ o. is_some o) made) ∙ some in cc w);
-      placed = λ apart. absurd (let w : true ≡ false = sym parts.0 ∙ apart in cc w);
-      nodes = length-slice_set e.complete opener (slice_index up opener);
-      grows = λ r there. ap (λ (n : ℕ). n == 0) (index-other e.complete opener r (slice_index up opener) (another r there)) ∙ there;
-      active = refl;
-      attributes = refl;
-      generation = refl;
-      clients = length-slice_set e.references c _;
-    }
-      where
-        parts : (is_collocated e.attributes ≡ true) × ((slice_index e.complete opener == 0) ≡ true)
-        parts = and_parts (is_collocated e.attributes) (slice_index e.complete opener == 0) added
-
-        another : (r : ℕ) → IsCompleteOn e r → (r == opener) ≡ false
-        another r there = by_test (r == opener) refl
-          where
-            by_test : (b : Bool) → (r == opener) ≡ b → (r == opener) ≡ false
-            by_test false other = other
-            by_test true same = absurd (let w : true ≡ false = sym parts.1 ∙ ap (λ (q : ℕ). slice_index e.complete q == 0) (sym (eqb-true r opener same)) ∙ there in cc w)
-
-    -- what an open leaves of one that is made is later
-    pub opened_with-later : IsLaterEntry e (opened_with opener up c e)
-    opened_with-later = elim (adds e.attributes opener e.complete) as (λ b. adds e.attributes opener e.complete ≡ b → IsLaterEntry e (referred c (cond b (with_opener e) e))) [
-      | true ↦ λ added. added-later added
-      | false ↦ λ none. referred-later c e
-    ] refl
+-- what an open leaves of one that is made
+pub opened_with-later : (opener : ℕ) (up : List ℕ) (c : ℕ) (e : Entry) → e.making ≡ None → IsLaterEntry e (opened_with opener up c e)
+opened_with-later opener up c e made = record {
+  making = joined-making opener up e;
+  unmade = λ some. absurd (let w : false ≡ true = sym (ap (λ o. is_some o) made) ∙ some in cc w);
+  placed = joined-placed opener up e;
+  nodes = joined-nodes opener up e;
+  grows = joined-complete opener up e;
+  active = joined-active opener up e;
+  attributes = joined-attributes opener up e;
+  generation = joined-same opener up e {X = ℕ} (λ e. e.generation) refl;
+  clients = length-slice_set (joined opener up e).references c _ ∙ ap length (joined-references opener up e);
+}

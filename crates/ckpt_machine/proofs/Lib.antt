@@ -17,7 +17,6 @@ pub mod Joining
 pub mod RecordSteps
 pub mod Stage
 pub mod StagedMoment
-pub mod Joins
 pub mod StaysMade
 pub mod AtRest
 pub mod ClientTables

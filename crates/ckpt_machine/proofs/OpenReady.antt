@@ -33,10 +33,10 @@ use Rattle.cluster_record.proofs.IdentityLaws.{entry_of-find}
 use Rattle.cluster_record.proofs.MakingLaws.{making-own}
 use Rattle.ckpt_machine.specs.Drivers as drivers
 use Rattle.ckpt_machine.specs.Driving.{driver_next}
-use Rattle.ckpt_machine.specs.Facts.{IsServable, IsReservable, IsFinishable, IsAddable, IsOpenable, IsEventReady}
+use Rattle.ckpt_machine.specs.Facts.{IsServable, IsReservable, IsFinishable, IsAddable, FitsOpen, IsEventReady}
 use Rattle.ckpt_machine.specs.Entries.{IsMakingEntry}
 use Rattle.ckpt_machine.specs.InHand.{AreGoodAttributes, attributes_asked, is_enter, IsMakingIn, IsOpenIn}
-use Rattle.ckpt_machine.specs.Invariant.{IsGoodClient, InvariantIn}
+use Rattle.ckpt_machine.specs.Invariant.{IsGoodIn, IsGoodClient, InvariantIn}
 use Rattle.ckpt_machine.specs.Machine.{Machine, CallState}
 use Rattle.ckpt_machine.specs.Steps.{due, driver_of, rooms_of}
 use Rattle.ckpt_machine.specs.Shape.{Shape}
@@ -127,6 +127,7 @@ module _ (m : Machine) (shapes : ℕ → Shape) (inv : InvariantIn shapes m) (s 
   -- a replica of one that is made can be added: nothing is reserved for it
   addable : (e : Entry) → named o.ask.name m.cluster.entries ≡ Some e → e.making ≡ None → IsAddable m o.ask.client e
   addable e found made = record {
+    nodes = (subst (IsGoodIn m e.identity (shapes e.identity) e) made (inv.entries e.identity e there)).nodes;
     up = home_is_up m shapes inv o.ask.client (subst (λ (c : ℕ). is_live_client c m.cluster ≡ true) (sym at_open.client) own_live);
     unreserved = by_reserved (m.reserved e.identity (home_of o.ask.client m.cluster)) refl;
   }
@@ -142,7 +143,7 @@ module _ (m : Machine) (shapes : ℕ → Shape) (inv : InvariantIn shapes m) (s 
 
   -- the record is asked to open what has the attributes asked for, where it is made
   asked_ready : (e : Entry) → named o.ask.name m.cluster.entries ≡ Some e → (e.making ≡ None → accepts o.ask.attrs e ≡ true) → IsReadyOpen m s o (Event events.Open)
-  asked_ready e found takes = (IsSomeAnd-from (named o.ask.name m.cluster.entries) (IsOpenable m o.ask) e found (λ made. (takes made, addable e found made)), can_open, at_open.caller)
+  asked_ready e found takes = (IsSomeAnd-from (named o.ask.name m.cluster.entries) (FitsOpen m o.ask) e found (λ made. (takes made, addable e found made)), can_open, at_open.caller)
 
   -- one that is made is opened where it has the attributes asked for and there is room for the handle
   made_ready : (room accepted : Bool) (e : Entry) → accepts o.ask.attrs e ≡ accepted → named o.ask.name m.cluster.entries ≡ Some e → IsReadyOpen m s o (cond (not accepted) (End (Refused Exist Plain)) (cond (not room) (End (Refused NoResources (Count 32))) (Event events.Open)))

@@ -28,7 +28,7 @@ use Rattle.ckpt_machine.proofs.OwnMaking.{making_there}
 use Rattle.ckpt_machine.proofs.Entries.{ComesOf-filter, ComesOf-change_key, ComesOf-map, ComesOf-then}
 use Rattle.ckpt_machine.proofs.EntryLists.{find_key-key, find_key-change_key}
 use Rattle.ckpt_machine.proofs.OptionLemmas.{IsSomeAnd-at}
-use Rattle.ckpt_machine.proofs.Joins.{joined-making, joined-active, joined-attributes, joined-made, joined-all, joined-complete}
+use Rattle.ckpt_machine.proofs.Joining.{joined-making, joined-active, joined-attributes, joined-made, joined-all, joined-complete}
 use Rattle.ckpt_machine.proofs.References.{released_all-identity}
 
 -- it is made with the same active, and declares the same; it is on the same nodes where updates are on all replicas, and else on these and maybe more

@@ -70,9 +70,9 @@ pub record IsAddable (m : Machine) (c : ℕ) (e : Entry) : Type 0 where
   pub up : is_up (home_of c m.cluster) m.cluster ≡ true
   pub unreserved : m.reserved e.identity (home_of c m.cluster) ≡ None
 
--- a checkpoint can be opened by an ask: it is in the making, so that the record refuses it, or it has the attributes asked for, and a replica of it can be added
-abbrev pub IsOpenable : Machine → OpenAsk → Entry → Type 0
-IsOpenable m ask e = e.making ≡ None → (accepts ask.attrs e ≡ true) × IsAddable m ask.client e
+-- a checkpoint fits an open: it is in the making, and the record refuses it, or it has the attributes asked for, and a replica of it can be added
+abbrev pub FitsOpen : Machine → OpenAsk → Entry → Type 0
+FitsOpen m ask e = e.making ≡ None → (accepts ask.attrs e ≡ true) × IsAddable m ask.client e
 
 -- what a due step of the record asks of it
 abbrev pub IsEventReady : Machine → CallState → Driver → RecordStep → Type 0
@@ -82,7 +82,7 @@ IsEventReady m s (drivers.Once (once.Close k)) events.Close = Unit {0}
 IsEventReady m s (drivers.Once (once.Unlink name)) events.Unlink = IsSomeAnd (named name m.cluster.entries) (λ e. e.making ≡ None)
 IsEventReady m s (drivers.Once (once.Retain k duration)) events.Retain = IsSomeAnd (entry_of k m.cluster.entries) (λ e. IsSome e.name) × (pos 0 ≤ℤ duration)
 IsEventReady m s (drivers.Open o) events.Create = (length m.cluster.entries < checkpoints_max) × IsSomeAnd o.ask.attrs (λ a. Unit {0}) × (named o.ask.name m.cluster.entries ≡ None) × CanOpen o.ask m.cluster × IsClient s.call.actor
-IsEventReady m s (drivers.Open o) events.Open = IsSomeAnd (named o.ask.name m.cluster.entries) (IsOpenable m o.ask) × CanOpen o.ask m.cluster × IsClient s.call.actor
+IsEventReady m s (drivers.Open o) events.Open = IsSomeAnd (named o.ask.name m.cluster.entries) (FitsOpen m o.ask) × CanOpen o.ask m.cluster × IsClient s.call.actor
 IsEventReady m s (drivers.Open o) events.Finish = IsFinishable m o.ask.client o.making × IsMakingOf m.cluster o.ask.client (making_ckpt o.making)
 IsEventReady m s (drivers.Open o) events.Undo = IsSomeAnd o.making (λ making. Unit {0}) × IsMakingOf m.cluster o.ask.client (making_ckpt o.making)
 IsEventReady m s driver step = ⊥
