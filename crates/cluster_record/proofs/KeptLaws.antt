@@ -49,6 +49,18 @@ pub found-kept : (t : ℤ) (k : ℕ) (entries : List Entry) (r : Option (Bor Ent
 found-kept t k entries None all found = tt
 found-kept t k entries (Some e) all found = All-find_key (IsKeptEntry t) identity_of k entries e.now all found
 
+-- and is found by its own identity
+found-identity : (k : ℕ) (entries : List Entry) (e : Entry) → entry_of k entries ≡ Some e → e.identity ≡ k
+found-identity k [] e found = absurd cc
+found-identity k (x ∷ xs) e found = by (x.identity == k) refl found where
+  by : (b : Bool) → (x.identity == k) ≡ b → cond b (Some x) (entry_of k xs) ≡ Some e → e.identity ≡ k
+  by true t here = let same : x ≡ e = cc in ap (λ (e : Entry). e.identity) (sym same) ∙ eqb-true x.identity k t
+  by false t rest = found-identity k xs e rest
+
+pub found-own : (k : ℕ) (entries : List Entry) (r : Option (Bor Entry)) → MatchOption r (entry_of k entries ≡ None) (λ e. entry_of k entries ≡ Some e.now) → IfSome r (λ e. entry_of e.now.identity entries ≡ Some e.now)
+found-own k entries None found = tt
+found-own k entries (Some e) found = subst (λ j. entry_of j entries ≡ Some e.now) (sym (found-identity k entries e.now found)) found
+
 -- the maker of what is in the making can open it
 pub maker_refers : (t : ℤ) (k c : ℕ) (entries : List Entry) → All (IsKeptEntry t) entries → (call : CallId) → making_call (entry_of k entries) ≡ Some call → CanRefer c (entry_of k entries)
 maker_refers t k c entries all call is = by (entry_of k entries) refl is where

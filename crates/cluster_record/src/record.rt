@@ -188,6 +188,7 @@ impl Record {
     /// The checkpoint of a name.
     pub fn named(&self, name: &Bytes) -> Option<&Entry>
         ensures found { MatchOption result (named name.now self.now.entries ≡ None) (λ entry. named name.now self.now.entries ≡ Some entry.now) }
+        ensures own { IfSome result (λ entry. entry_of entry.now.identity self.now.entries ≡ Some entry.now) }
         ensures kept { IfSome result (λ entry. IsKeptEntry self.now.moment entry.now) }
     {
         match self.find(name) {

@@ -2,6 +2,7 @@
 use Rattle.std.proofs.Common.{◌≡◌, ◌⊎◌, inl, inr, ℕ, ◌<◌, ◌++◌, Bool, true, false, List, [], ◌∷◌, length, refl, sym, ap, subst, ◌∙◌, cond}
 use Rattle.std.specs.Prelude.{Option, Some, None, IfSome, ◌==◌, ◌&&◌, slice_get, slice_set, slice_index}
 use Rattle.cluster_record.specs.declared.entries.Entry.{Entry}
+use Rattle.cluster_record.specs.Placement.{adds}
 use Rattle.cluster_record.specs.Places.{list_or}
 use Rattle.cluster_record.specs.RecordState.{RecordState, entry_of, complete_of}
 use Rattle.cluster_record.proofs.IdentityLaws.{IsLeft}
@@ -9,9 +10,9 @@ use Rattle.ckpt_machine.specs.Steps.{with_record, replica_under, reservation_und
 use Rattle.node_core.specs.Nodes.{with_reserved}
 use Rattle.replica.specs.Replicas.{Replica, opened_replica}
 use Rattle.world_core.specs.declared.world.World.{World}
-use Rattle.world_core.specs.Nodes.{replica_in, with_added}
+use Rattle.world_core.specs.Nodes.{replica_in, with_added, with_opened}
 use Rattle.world_core.specs.Shows.{History, HistoryFits, FitsReplica, machine_of, shown_replica, shown_reservation, where_complete, where_not_complete, complete_replica, reserved_in}
-use Rattle.world_core.proofs.Reserve.{reserved_here}
+use Rattle.world_core.proofs.Reserve.{NoneButThis, reserved_here}
 
 -- ---- what is on the nodes
 
@@ -24,7 +25,14 @@ pub added_here : (nodes : List (List Replica)) (r : ℕ) (e : Entry) → r < len
     (j q : ℕ) → replica_in (with_added e r nodes) j q ≡ cond ((j == e.identity) && (q == r)) (Some (added_replica e)) (replica_in nodes j q)
 added_here nodes r e within none j q =
     ap (λ o. replica_in (slice_set nodes r (with_reserved o (added_replica e) (list_or (slice_get nodes r)))) j q) (sym none)
-    ∙ reserved_here nodes r (added_replica e) within (subst (λ o. IfSome o (λ x. x ≡ added_replica e)) (sym none) tt) j q
+    ∙ reserved_here nodes r (added_replica e) within (subst (NoneButThis (added_replica e)) (sym none) tt) j q
+
+-- an open of a checkpoint that is there adds one, or none
+pub opened_none : (o : Option Entry) (e : Entry) (r : ℕ) (nodes : List (List Replica)) → o ≡ Some e → adds e.attributes r e.complete ≡ false → nodes ≡ with_opened o r nodes
+opened_none o e r nodes there none = sym (ap (λ o. with_opened o r nodes) there ∙ ap (λ b. cond b (with_added e r nodes) nodes) none)
+
+pub opened_adds : (o : Option Entry) (e : Entry) (r : ℕ) (nodes : List (List Replica)) → o ≡ Some e → adds e.attributes r e.complete ≡ true → with_added e r nodes ≡ with_opened o r nodes
+opened_adds o e r nodes there new = sym (ap (λ o. with_opened o r nodes) there ∙ ap (λ b. cond b (with_added e r nodes) nodes) new)
 
 -- ---- what the machine shows
 

@@ -1,8 +1,9 @@
 -- What each step of the record makes of each entry.
-use Rattle.std.proofs.Common.{◌≡◌, inl, inr, ℕ, ◌+◌, ◌-◌, ℤ, Bool, true, false, List, [], ◌∷◌, ◌++◌, map, refl, sym, ap, subst, ◌∙◌, cond, arith}
-use Rattle.std.specs.Prelude.{Option, Some, None, IsSomeAnd, not, ◌==◌, slice_index, slice_set, filter}
+use Rattle.std.proofs.Common.{◌≡◌, inl, inr, ℕ, ◌+◌, ◌-◌, ◌<◌, length, ℤ, Bool, true, false, List, [], ◌∷◌, ◌++◌, map, refl, sym, ap, subst, ◌∙◌, cond, arith}
+use Rattle.std.specs.Prelude.{Option, Some, None, IfSome, IsSomeAnd, not, nat_lt, ◌==◌, ◌&&◌, slice_index, slice_set, filter}
 use Rattle.std.specs.Option.{option_map}
-use Rattle.std.proofs.lemmas.Bool.{eqb-true}
+use Rattle.std.proofs.lemmas.Bool.{eqb-true, eqb-false, eq-eqb, ltb-true, and_parts}
+use Rattle.std.proofs.lemmas.List.{get_or-set_same, get_or-set_other}
 use Rattle.ckpt_types.specs.declared.attributes.CreationAttributes.{CreationAttributes}
 use Rattle.ckpt_types.specs.declared.identities.CallId.{CallId}
 use Rattle.node_msgs.specs.declared.next.RecordStep.{RecordStep}
@@ -15,11 +16,13 @@ use Rattle.replica.specs.Replicas.{Replica}
 use Rattle.world_core.specs.declared.world.World.{World}
 use Rattle.cluster_record.specs.Places.{change_key}
 use Rattle.cluster_record.specs.Calls.{client_of}
-use Rattle.cluster_record.specs.Placement.{targets}
-use Rattle.cluster_record.specs.RecordState.{RecordState, identity_of, entry_of, named, stays, referred, home_of, made_with, new_entry, created_as, opened, finished, undone, has_references, idle_from, unreferred, released_all, unnamed, unlinked, retaining, is_call_of, departed, swept}
-use Rattle.world_core.specs.Nodes.{replica_in}
+use Rattle.ckpt_types.specs.declared.calls.OpenAsk.{OpenAsk}
+use Rattle.cluster_record.specs.Opening.{answer_named, open_answer}
+use Rattle.cluster_record.specs.Placement.{targets, is_collocated, adds}
+use Rattle.cluster_record.specs.RecordState.{RecordState, identity_of, entry_of, complete_of, named, stays, referred, opened_with, home_of, made_with, new_entry, created_as, opened, finished, undone, has_references, idle_from, unreferred, released_all, unnamed, unlinked, retaining, is_call_of, departed, swept}
+use Rattle.world_core.specs.Nodes.{replica_in, with_added, with_opened}
 use Rattle.replica.specs.Replicas.{opened_replica}
-use Rattle.world_core.specs.RecordAfter.{once_change, event_change, event_after}
+use Rattle.world_core.specs.RecordAfter.{once_change, event_change, event_after, nodes_behind}
 use Rattle.cluster_record.specs.DueOnce.{OneStep}
 use Rattle.cluster_record.specs.DueOnce as once
 use Rattle.cluster_record.specs.DueOpen.{making_ckpt}
@@ -27,11 +30,17 @@ use Rattle.cluster_record.specs.LookUps.{at_ckpt, identity_in}
 use Rattle.ckpt_machine.specs.Machine.{Machine, CallState}
 use Rattle.cluster_record.specs.Identities.{AllUpTo, IdentitiesRise}
 use Rattle.world_core.specs.Holding.{HoldsOnlyWhatStands}
-use Rattle.ckpt_machine.specs.Facts.{Facts, IsEventReady, AllReserved, NoneReservedElse, IsFinishable}
+use Rattle.ckpt_machine.specs.Facts.{Facts, FitsOpen, IsEventReady, AllReserved, NoneReservedElse, IsFinishable}
 use Rattle.world_core.specs.Shows.{History, machine_of, where_not_complete, shown_reservation}
 use Rattle.cluster_record.proofs.IdentityLaws.{IsLeft, KeepsIdentity, entry_of-beyond, IdentitiesRise-filter, IdentitiesRise-map, IdentitiesRise-change_key, IdentitiesRise-push, filter_leaves}
 use Rattle.cluster_record.proofs.Places.{find_changed, find_pushed, not_changed}
+use Rattle.ckpt_machine.specs.Driving.{event_refusal, refusal_in}
+use Rattle.ckpt_machine.proofs.Joining.{opened_with-identity}
+use Rattle.cluster_record.proofs.NameLaws.{named-entry}
+use Rattle.world_core.proofs.Adding.{AddedAt, added_left, added_replica, added_here, opened_none, opened_adds}
 use Rattle.world_core.proofs.HoldingLaws.{none_gone, opening_there}
+use Rattle.world_core.proofs.Maps.{both_true}
+use Rattle.world_core.proofs.Readiness.{made_as}
 use Rattle.ckpt_machine.proofs.Targets.{target-up}
 use Rattle.world_core.proofs.Recording.{StandsOn, GoesAt, NodeGoes, zero_there}
 
@@ -88,7 +97,7 @@ reserved_there k r u f e y is free reserved opening = at y has opening where
   at (Some x) has opening = ap Some (opening x refl)
 
 -- and one that has not has none
-unreserved_there : (r u : ℕ) (f : Option Entry) (e : Entry) (y : Option Replica) → f ≡ Some e → slice_index e.complete r ≡ 0 → where_not_complete f r (shown_reservation u y) ≡ None → y ≡ None
+pub unreserved_there : (r u : ℕ) (f : Option Entry) (e : Entry) (y : Option Replica) → f ≡ Some e → slice_index e.complete r ≡ 0 → where_not_complete f r (shown_reservation u y) ≡ None → y ≡ None
 unreserved_there r u f e y is free none = at y (sym (ap (λ f. where_not_complete f r (shown_reservation u y)) is ∙ ap (λ b. cond b (shown_reservation u y) None) (ap (λ n. n == 0) free)) ∙ none) where
   at : (y : Option Replica) → shown_reservation u y ≡ None → y ≡ None
   at None none = refl
@@ -142,6 +151,30 @@ module _ (up : List ℕ) where
     by_test : (b : Bool) → (slice_index (targets e.attributes opener up) r == 0) ≡ b → NodeGoes k e (made_with opener up c e) r y
     by_test true t = inl (eqb-true (slice_index (targets e.attributes opener up) r) 0 t ∙ sym zero)
     by_test false t = inr (zero, has t)
+
+  -- an open that adds no replica
+  opened_as : (opener c r : ℕ) (e : Entry) (y : Option Replica) → adds e.attributes opener e.complete ≡ false → GoesAt up e.identity (Some e) (Some (opened_with opener up c e)) r y
+  opened_as opener c r e y none =
+      subst (λ b. GoesAt up e.identity (Some e) (Some (referred c (cond b (record e { complete = slice_set e.complete opener (slice_index up opener) }) e))) r y) (sym none) (refl, refl, inl refl, inl (refl, refl))
+
+  -- and one that does, where the opener's node has it then
+  added_goes : (opener c r : ℕ) (e : Entry) (y : Option Replica) → adds e.attributes opener e.complete ≡ true → opener < length e.complete → slice_index e.complete opener ≡ 0 → (r ≡ opener → y ≡ Some (added_replica e)) → GoesAt up e.identity (Some e) (Some (opened_with opener up c e)) r y
+  added_goes opener c r e y new within free has =
+      subst (λ b. GoesAt up e.identity (Some e) (Some (referred c (cond b with_opener e))) r y) (sym new) (refl, refl, node (r == opener) refl, stands (r == opener) refl)
+    where
+      with_opener : Entry
+      with_opener = record e { complete = slice_set e.complete opener (slice_index up opener) }
+
+      other : (r == opener) ≡ false → slice_index with_opener.complete r ≡ slice_index e.complete r
+      other t = get_or-set_other e.complete opener r (slice_index up opener) 0 (eqb-false r opener t)
+
+      node : (b : Bool) → (r == opener) ≡ b → NodeGoes e.identity e (referred c with_opener) r y
+      node true t = let s : r ≡ opener = eqb-true r opener t in inr (ap (slice_index e.complete) s ∙ free, has s)
+      node false t = inl (other t)
+
+      stands : (b : Bool) → (r == opener) ≡ b → StandsOn up e (referred c with_opener) r y
+      stands true t = let s : r ≡ opener = eqb-true r opener t in inr (inl (ap (slice_index with_opener.complete) s ∙ get_or-set_same e.complete opener (slice_index up opener) 0 within ∙ ap (slice_index up) (sym s)))
+      stands false t = inl (refl, other t)
 
   -- a making that begins
   pushed_goes : (n : ℕ) (xs : List Entry) (new : Entry) (j r : ℕ) (y : ℕ → Option Replica) → AllUpTo n xs → new.identity ≡ n + 1 → slice_index new.complete r ≡ 0 → y (n + 1) ≡ None → GoesAt up j (entry_of j xs) (entry_of j (xs ++ new ∷ [])) r (y j)
@@ -218,10 +251,6 @@ module _ (w : World) (h : History) (facts : Facts (machine_of w h)) (holds : Hol
   one_goes : (f : Entry → Entry) → Quiet f → (k : ℕ) → Goes (record R { entries = change_key identity_of k f R.entries })
   one_goes f q k = (λ j r. quiet_goes R.up f q k j r R.entries (replica_in w.nodes j r), IdentitiesRise-change_key f (quiet_identity f q) k R.entries facts.rises)
 
-  opened_go : (c : ℕ) (k : Option ℕ) → Goes (at_ckpt k R (λ k. opened k c R))
-  opened_go c None = all_go
-  opened_go c (Some k) = one_goes (referred c) (λ e. refl) k
-
   unlinked_go : (k : Option ℕ) → Goes (at_ckpt k R (λ k. unlinked k R))
   unlinked_go None = all_go
   unlinked_go (Some k) = one_goes unnamed (λ e. refl) k
@@ -263,21 +292,112 @@ module _ (w : World) (h : History) (facts : Facts (machine_of w h)) (holds : Hol
   once_go call (once.Unlink name) = unlinked_go (identity_in (named name R.entries))
   once_go call (once.Retain k duration) = one_goes (retaining duration) (λ e. refl) k
 
-  change_go : (call : CallId) (s : CallState) (x : Driver) (step : RecordStep) → IsEventReady m s x step → Goes (event_change call x step R)
-  change_go call s (drivers.Once x) step ready = once_go call x
-  change_go call s (drivers.Open o) events.Create ready = created_go call o.ask.name o.ask.attrs
-  change_go call s (drivers.Open o) events.Open ready = opened_go o.ask.client (identity_in (named o.ask.name R.entries))
-  change_go call s (drivers.Open o) events.Finish ready = finished_go o.ask.client s o.making ready.0
-  change_go call s (drivers.Open o) events.Undo ready = undone_go (making_ckpt o.making)
-  change_go call s (drivers.Open o) step ready = absurd ready
-  change_go call s x step ready = absurd ready
+  -- what a step does that the record does not refuse, with what the nodes have behind it
+  record GoesOn (N : RecordState) (nodes : List (List Replica)) : Type 0 where
+    goes : (j r : ℕ) → GoesAt R.up j (entry_of j R.entries) (entry_of j N.entries) r (replica_in nodes j r)
+    adds : (j r : ℕ) → AddedAt (entry_of j R.entries) (entry_of j N.entries) r (replica_in w.nodes j r) (replica_in nodes j r)
+    rises : IdentitiesRise N.entries
+
+  -- most add nothing
+  on : (N : RecordState) → Goes N → GoesOn N w.nodes
+  on N go = record { goes = go.0; adds = λ j r. inl refl; rises = go.1 }
+
+  -- an open may
+  opened_go : (ask : OpenAsk) (o : Option Entry) → named ask.name R.entries ≡ o → length w.nodes ≡ 8 → refusal_in (open_answer R ask) ≡ None → IsSomeAnd o (FitsOpen m ask) →
+      GoesOn (at_ckpt (identity_in o) R (λ k. opened k ask.client R)) (with_opened o (home_of ask.client R) w.nodes)
+  opened_go ask None found eight granted fits = absurd fits
+  opened_go ask (Some e) found eight granted fits = by_test (adds e.attributes home e.complete) refl where
+    home : ℕ
+    home = home_of ask.client R
+
+    made : e.making ≡ None
+    made = made_as e ask.attrs home e.making refl (subst (λ o. refusal_in (answer_named R ask.attrs home o) ≡ None) found granted)
+
+    there : entry_of e.identity R.entries ≡ Some e
+    there = named-entry ask.name R.entries e.identity facts.rises (sym (ap identity_in found)) ∙ found
+
+    rises : IdentitiesRise (opened e.identity ask.client R).entries
+    rises = IdentitiesRise-change_key (opened_with home R.up ask.client) (opened_with-identity home R.up ask.client) e.identity R.entries facts.rises
+
+    goes_as : (nodes : List (List Replica)) → ((r : ℕ) → GoesAt R.up e.identity (Some e) (Some (opened_with home R.up ask.client e)) r (replica_in nodes e.identity r)) →
+        (j r : ℕ) → GoesAt R.up j (entry_of j R.entries) (entry_of j (opened e.identity ask.client R).entries) r (replica_in nodes j r)
+    goes_as nodes goes j r = changed_goes R.up (opened_with home R.up ask.client) (opened_with-identity home R.up ask.client) e.identity j r R.entries e (replica_in nodes j r) there
+        (λ same. subst (λ (j : ℕ). GoesAt R.up j (Some e) (Some (opened_with home R.up ask.client e)) r (replica_in nodes j r)) (sym same) (goes r))
+
+    not_true : (b : Bool) → not b ≡ true → b ≡ false
+    not_true true is = absurd cc
+    not_true false is = refl
+
+    opened_there : entry_of e.identity (opened e.identity ask.client R).entries ≡ Some (opened_with home R.up ask.client e)
+    opened_there =
+        find_changed identity_of e.identity (opened_with home R.up ask.client) (opened_with-identity home R.up ask.client) R.entries e e.identity there
+        ∙ ap (λ b. cond b (Some (opened_with home R.up ask.client e)) (entry_of e.identity R.entries)) (eq-eqb e.identity e.identity refl)
+
+    becomes_complete : adds e.attributes home e.complete ≡ true → home < length e.complete → (slice_index R.up home == 0) ≡ false → (slice_index (opened_with home R.up ask.client e).complete home == 0) ≡ false
+    becomes_complete new among up =
+        ap (λ b. slice_index (referred ask.client (cond b (record e { complete = slice_set e.complete home (slice_index R.up home) }) e)).complete home == 0) new
+        ∙ ap (λ n. n == 0) (get_or-set_same e.complete home (slice_index R.up home) 0 among)
+        ∙ up
+
+    -- by whether this is the replica that is added
+    added_at : (j r : ℕ) (b : Bool) → ((j == e.identity) && (r == home)) ≡ b → slice_index e.complete home ≡ 0 → (slice_index (opened_with home R.up ask.client e).complete home == 0) ≡ false →
+        replica_in (with_added e home w.nodes) j r ≡ cond ((j == e.identity) && (r == home)) (Some (added_replica e)) (replica_in w.nodes j r) →
+        AddedAt (entry_of j R.entries) (entry_of j (opened e.identity ask.client R).entries) r (replica_in w.nodes j r) (replica_in (with_added e home w.nodes) j r)
+    added_at j r false t free full at = inl (at ∙ ap (λ b. cond b (Some (added_replica e)) (replica_in w.nodes j r)) t)
+    added_at j r true t free full at =
+        let s = both_true j e.identity r home t in
+        inr (
+          (λ i. slice_index (complete_of (entry_of (s.0 i) R.entries)) (s.1 i)) ∙ ap (λ (o : Option Entry). slice_index (complete_of o) home) there ∙ free,
+          subst (λ (z : Option Entry × ℕ). IfSome z.0 (λ f. (slice_index f.complete z.1 == 0) ≡ false)) (λ i. (sym (ap (λ j. entry_of j (opened e.identity ask.client R).entries) s.0 ∙ opened_there) i, sym s.1 i)) full,
+        )
+
+    by_test : (b : Bool) → adds e.attributes home e.complete ≡ b → GoesOn (opened e.identity ask.client R) (with_opened (Some e) home w.nodes)
+    by_test false none = subst (GoesOn (opened e.identity ask.client R)) (opened_none (Some e) e home w.nodes refl none) (on (opened e.identity ask.client R) (
+      goes_as w.nodes (λ r. opened_as R.up home ask.client r e (replica_in w.nodes e.identity r) none),
+      rises,
+    ))
+    by_test true new =
+        let can = (fits made).1 in
+        let parts = and_parts (is_collocated e.attributes) (slice_index e.complete home == 0) new in
+        let free : slice_index e.complete home ≡ 0 = eqb-true (slice_index e.complete home) 0 parts.1 in
+        let up = and_parts (nat_lt home 8) (not (slice_index R.up home == 0)) can.up in
+        let on_node : home < 8 = ltb-true home 8 up.0 in
+        let within : home < length w.nodes = subst (λ n. home < n) (sym eight) on_node in
+        let among : home < length e.complete = subst (λ n. home < n) (sym can.nodes) on_node in
+        let none : replica_in w.nodes e.identity home ≡ None = unreserved_there home (slice_index R.up home) (entry_of e.identity R.entries) e (replica_in w.nodes e.identity home) there free can.unreserved in
+        let at = added_here w.nodes home e within none in
+        subst (GoesOn (opened e.identity ask.client R)) (opened_adds (Some e) e home w.nodes refl new) (record {
+          goes = goes_as (with_added e home w.nodes) (λ r. added_goes R.up home ask.client r e (replica_in (with_added e home w.nodes) e.identity r) new among free
+              (λ same. at e.identity r ∙ (λ i. cond (eq-eqb e.identity e.identity refl i && eq-eqb r home same i) (Some (added_replica e)) (replica_in w.nodes e.identity r))));
+          adds = λ j r. added_at j r ((j == e.identity) && (r == home)) refl free (becomes_complete new among (not_true (slice_index R.up home == 0) up.1)) (at j r);
+          rises = rises;
+        })
+
+  change_go : (call : CallId) (s : CallState) (x : Driver) (step : RecordStep) → length w.nodes ≡ 8 → event_refusal R step x ≡ None → IsEventReady m s x step → GoesOn (event_change call x step R) (nodes_behind x step R w.nodes)
+  change_go call s (drivers.Once x) step eight granted ready = on (once_change call x R) (once_go call x)
+  change_go call s (drivers.Open o) events.Create eight granted ready = on (created_as call o.ask.name o.ask.attrs R) (created_go call o.ask.name o.ask.attrs)
+  change_go call s (drivers.Open o) events.Open eight granted ready = opened_go o.ask (named o.ask.name R.entries) refl eight granted ready.0
+  change_go call s (drivers.Open o) events.Finish eight granted ready = on _ (finished_go o.ask.client s o.making ready.0)
+  change_go call s (drivers.Open o) events.Undo eight granted ready = on _ (undone_go (making_ckpt o.making))
+  change_go call s (drivers.Open o) step eight granted ready = absurd ready
+  change_go call s x step eight granted ready = absurd ready
 
   -- and after the sweep
-  pub event_goes : (call : CallId) (s : CallState) (x : Driver) (step : RecordStep) → IsEventReady m s x step → (j r : ℕ) → GoesAt R.up j (entry_of j R.entries) (entry_of j (event_after call x step R).entries) r (replica_in w.nodes j r)
-  event_goes call s x step ready j r =
-      let go = change_go call s x step ready in
-      let N : RecordState = event_change call x step R in
-      goes_left R.up j (entry_of j R.entries) (entry_of j N.entries) (entry_of j (filter (stays N.moment) N.entries)) r (replica_in w.nodes j r) (go.0 j r) (filter_leaves (stays N.moment) N.entries go.1 j)
+  module _ (call : CallId) (s : CallState) (x : Driver) (step : RecordStep) (eight : length w.nodes ≡ 8) (granted : event_refusal R step x ≡ None) (ready : IsEventReady m s x step) where
+    abbrev nodes : List (List Replica)
+    nodes = nodes_behind x step R w.nodes
+
+    abbrev between : RecordState
+    between = event_change call x step R
+
+    on_going : GoesOn between nodes
+    on_going = change_go call s x step eight granted ready
+
+    pub event_goes : (j r : ℕ) → GoesAt R.up j (entry_of j R.entries) (entry_of j (event_after call x step R).entries) r (replica_in nodes j r)
+    event_goes j r = goes_left R.up j (entry_of j R.entries) (entry_of j between.entries) (entry_of j (filter (stays between.moment) between.entries)) r (replica_in nodes j r) (on_going.goes j r) (filter_leaves (stays between.moment) between.entries on_going.rises j)
+
+    pub event_adds : (j r : ℕ) → AddedAt (entry_of j R.entries) (entry_of j (event_after call x step R).entries) r (replica_in w.nodes j r) (replica_in nodes j r)
+    event_adds j r = added_left (entry_of j R.entries) (entry_of j between.entries) (entry_of j (filter (stays between.moment) between.entries)) r (replica_in w.nodes j r) (replica_in nodes j r) (on_going.adds j r) (filter_leaves (stays between.moment) between.entries on_going.rises j)
 
   -- and where a making is undone in between
   pub unmade_goes : (k j r : ℕ) → GoesAt R.up j (entry_of j R.entries) (entry_of j (swept (undone k R)).entries) r (replica_in w.nodes j r)

@@ -1,7 +1,7 @@
 -- The nodes, each at the place of its number, as they are shown.
 use Rattle.std.proofs.Common.{◌≡◌, ℕ, zero, suc, ◌<◌, ◌+◌, Bool, true, false, List, [], ◌∷◌, ◌++◌, length, map, Option, Some, None, cond, refl, sym, ap, ◌∙◌, arith}
 use Rattle.std.specs.Option.{option_map}
-use Rattle.std.specs.Prelude.{filter, replicate, slice_get, slice_index_or, slice_set, ◌==◌}
+use Rattle.std.specs.Prelude.{Result, Ok, Err, OnOk, OnErr, filter, replicate, slice_get, slice_index_or, slice_set, ◌==◌}
 use Rattle.std.proofs.lemmas.Bool.{eqb-true}
 use Rattle.std.proofs.lemmas.List.{length-map, length-set, map-set}
 use Rattle.std.proofs.lemmas.Option.{same_Some, slice_get-get_or, slice_get-map}
@@ -16,6 +16,11 @@ use Rattle.world_core.specs.Nodes.{node_at, nodes_shown, StandByNumber}
 -- a node with other replicas
 abbrev pub holding : NodeState → List Replica → NodeState
 holding n xs = record n { replicas = xs }
+
+-- it has some, whether it was changed or is as it was
+pub set_or_same : {T E : Type 0} (r : Result T E) (old new : NodeState) (xs : List Replica) → OnOk r (new ≡ holding old xs) → OnErr r (new ≡ old) → (ys : List Replica) × (new ≡ holding old ys)
+set_or_same (Ok x) old new xs changed same = (xs, changed)
+set_or_same (Err e) old new xs changed same = (old.replicas, same)
 
 -- ---- the node of a number
 

@@ -17,7 +17,7 @@ use Rattle.cluster_record.specs.DueActive.{ActiveState, unless_changed, on_activ
 use Rattle.cluster_record.specs.declared.calls.MarksMade.{MarksMade}
 use Rattle.cluster_record.specs.DueOpen.{OpenState, accepts, create_next, entry_by, entry_next, on_named, reserve_or_finish, targets_of, on_making, by_making, open_next}
 use Rattle.cluster_record.specs.Opening.{answer_unless, answer_named, open_answer}
-use Rattle.cluster_record.specs.RecordState.{RecordState, entry_of, named}
+use Rattle.cluster_record.specs.RecordState.{RecordState, entry_of, named, home_of}
 use Rattle.cluster_record.specs.StepDone.{first_lacking}
 use Rattle.ckpt_machine.specs.Drivers.{Driver, Rooms}
 use Rattle.ckpt_machine.specs.Drivers as drivers
@@ -43,19 +43,19 @@ room_open refusal false true x y = λ granted. refl
 room_open refusal false false x y = tt
 
 -- what is in the making is refused
-room_entry : (room : Bool) (a : Option CreationAttributes) (e : Entry) (making : Option CallId) → HasRoomFor (refusal_in (answer_unless making a e)) room (entry_by making room a e)
-room_entry room a e (Some call) = λ granted. absurd (cc granted)
-room_entry room a e None = room_open (refusal_in (answer_unless None a e)) (not (accepts a e)) room _ _
+room_entry : (room : Bool) (a : Option CreationAttributes) (opener : ℕ) (e : Entry) (making : Option CallId) → HasRoomFor (refusal_in (answer_unless making a opener e)) room (entry_by making room a e)
+room_entry room a opener e (Some call) = λ granted. absurd (cc granted)
+room_entry room a opener e None = room_open (refusal_in (answer_unless None a opener e)) (not (accepts a e)) room _ _
 
-room_named : (R : RecordState) (room : Bool) (deadline : Option ℤ) (a : Option CreationAttributes) (e : Option Entry) → HasRoomFor (refusal_in (answer_named R a e)) room (on_named R room deadline a e)
-room_named R room deadline None None = tt
-room_named R room deadline (Some a) None =
-    let refusal = refusal_in (answer_named R (Some a) None) in
+room_named : (R : RecordState) (room : Bool) (deadline : Option ℤ) (a : Option CreationAttributes) (opener : ℕ) (e : Option Entry) → HasRoomFor (refusal_in (answer_named R a opener e)) room (on_named R room deadline a e)
+room_named R room deadline None opener None = tt
+room_named R room deadline (Some a) opener None =
+    let refusal = refusal_in (answer_named R (Some a) opener None) in
     in_time-either (HasRoomFor refusal room) deadline R.moment (create_next R room) (λ o. tt) (room_create refusal room (not room) (nat_le 16 (length R.entries)) _ _)
-room_named R room deadline a (Some e) = in_time-either (HasRoomFor (refusal_in (answer_named R a (Some e))) room) deadline R.moment (entry_next room a e) (λ o. tt) (room_entry room a e e.making)
+room_named R room deadline a opener (Some e) = in_time-either (HasRoomFor (refusal_in (answer_named R a opener (Some e))) room) deadline R.moment (entry_next room a e) (λ o. tt) (room_entry room a opener e e.making)
 
 room_making : (R : RecordState) (room : Bool) (o : OpenState) (m : Option Making) → HasRoomFor (refusal_in (open_answer R o.ask)) room (by_making R room o m)
-room_making R room o None = room_named R room o.deadline o.ask.attrs (named o.ask.name R.entries)
+room_making R room o None = room_named R room o.deadline o.ask.attrs (home_of o.ask.client R) (named o.ask.name R.entries)
 room_making R room o (Some m) = in_time-either (HasRoomFor (refusal_in (open_answer R o.ask)) room) o.deadline R.moment (on_making R o.ask m) (λ o. tt) (by_test m.refused (first_lacking 0 (targets_of o.ask R) m.reserved)) where
   by_test : (b : Bool) (r : Option ℕ) → HasRoomFor (refusal_in (open_answer R o.ask)) room (cond b (Event events.Undo) (reserve_or_finish m.ckpt r))
   by_test true r = tt

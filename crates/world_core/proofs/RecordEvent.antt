@@ -1,5 +1,5 @@
 -- A step of the record, whatever the step: done, or refused by the record or for the memory that it takes.
-use Rattle.std.proofs.Common.{◌≡◌, inl, inr, ℕ, true, false, refl, sym, ap, subst, ◌∙◌}
+use Rattle.std.proofs.Common.{◌≡◌, inl, inr, ℕ, List, length, true, false, refl, sym, ap, subst, ◌∙◌}
 use Rattle.std.specs.Prelude.{Option, Some, None, IsSome, IsSomeAnd, slice_get, slice_set}
 use Rattle.ckpt_types.specs.declared.answers.Outcome.{Outcome}
 use Rattle.ckpt_types.specs.declared.identities.ActorName.{ActorName}
@@ -31,6 +31,7 @@ use Rattle.ckpt_machine.specs.Driving.{driver_next, event_ckpt, event_node, even
 use Rattle.ckpt_machine.specs.Facts.{IsEventReady, IsFinishable}
 use Rattle.ckpt_machine.specs.Machine.{Machine, CallState, no_tables}
 use Rattle.ckpt_machine.specs.Steps.{Told, IsDone, IsRecordAnswer, at_some, changed, created_for, retained_for, driver_of, record_step, with_closed, with_given, with_record, with_tables}
+use Rattle.replica.specs.Replicas.{Replica}
 use Rattle.world_core.specs.Nodes.{replica_in}
 use Rattle.ckpt_machine.specs.Tables.{handle_given, closing}
 use Rattle.ckpt_machine.proofs.AskedFor.{DrivesFor, state_drives}
@@ -40,14 +41,15 @@ use Rattle.world_core.specs.Freeing.{freed}
 use Rattle.world_core.specs.Happenings.{rooms_at}
 use Rattle.world_core.specs.Holding.{HoldsOnlyWhatStands}
 use Rattle.world_core.specs.LiveRooms.{room_is_taken}
-use Rattle.world_core.specs.RecordAfter.{event_after}
+use Rattle.world_core.specs.RecordAfter.{event_after, nodes_behind}
 use Rattle.world_core.specs.RecordReady.{IsRefusedWith}
 use Rattle.world_core.specs.Settling.{tables_given, settled, CanSettle}
 use Rattle.world_core.specs.Shows.{Does, IsShown, History, machine_of, hand_at}
 use Rattle.world_core.specs.TableState.{with_client, at_client}
 use Rattle.world_core.proofs.CallSteps.{IsKnown, known, known_by, behind_step, IsShownBehind, step_before}
 use Rattle.world_core.proofs.Freeing.{freed_world, does_before, does_freed, holds_freed}
-use Rattle.world_core.proofs.Going.{event_goes, event_keeps}
+use Rattle.world_core.proofs.Adding.{AddedAt, added_record, added_fits}
+use Rattle.world_core.proofs.Going.{event_goes, event_adds, event_keeps}
 use Rattle.world_core.proofs.Held.{state_in, in_hand_is, driver_is, actor_is, due_is}
 use Rattle.world_core.proofs.LiveRooms.{EntersWithRoom, rooms_settled, rooms_after}
 use Rattle.world_core.proofs.Recording.{GoesAt, with_effects, record_is, record_fits}
@@ -161,9 +163,9 @@ record_after w hand step = event_after hand.call hand.driver step w.cluster
 abbrev ckpt_in : World → InHand → RecordStep → Option ℕ
 ckpt_in w hand step = event_ckpt w.cluster hand.driver step
 
--- the world with the record and the client's table after it
+-- the world with the record, the nodes and the client's table after it
 abbrev settled_world : World → ℕ → InHand → RecordStep → World
-settled_world w c hand step = let R = record_after w hand step in record w { cluster = R; tables = settled R c hand.op step (ckpt_in w hand step) w.tables }
+settled_world w c hand step = let R = record_after w hand step in record w { cluster = R; nodes = nodes_behind hand.driver step w.cluster w.nodes; tables = settled R c hand.op step (ckpt_in w hand step) w.tables }
 
 module _ (w : World) (c : ℕ) (step : RecordStep) (hand : InHand) (held : hand_at w.hands c ≡ Some hand) (next : driver_next w.cluster (rooms_at w c) hand.driver ≡ Event step) where
   abbrev verb : Verb
@@ -171,6 +173,9 @@ module _ (w : World) (c : ℕ) (step : RecordStep) (hand : InHand) (held : hand_
 
   abbrev R : RecordState
   R = record_after w hand step
+
+  abbrev nodes : List (List Replica)
+  nodes = nodes_behind hand.driver step w.cluster w.nodes
 
   abbrev k : Option ℕ
   k = ckpt_in w hand step
@@ -202,16 +207,20 @@ module _ (w : World) (c : ℕ) (step : RecordStep) (hand : InHand) (held : hand_
     ready : IsEventReady m s hand.driver step
     ready = subst (λ (x : Driver). IsEventReady m s x step) (sym driver) (is.facts.events (Client c) s step (in_hand_is w h c hand held) (due_is w h c hand held is.facts is.fits (Event step) next))
 
-    -- each entry goes on
-    goes : (j q : ℕ) → GoesAt w.cluster.up j (entry_of j w.cluster.entries) (entry_of j R.entries) q (replica_in w.nodes j q)
-    goes = event_goes w h is.facts is.holds hand.call s hand.driver step ready
-
     up : R.up ≡ w.cluster.up
     up = (event_keeps hand.call hand.driver step w.cluster).up
 
-    -- and the nodes that are freed of the others hold only what stands
-    holds_after : HoldsOnlyWhatStands R (freed R.entries w.nodes)
-    holds_after = holds_freed w.cluster R w.nodes is.holds up goes
+    module _ (eight : length w.nodes ≡ 8) (granted : event_refusal w.cluster step hand.driver ≡ None) where
+      -- each entry goes on
+      goes : (j q : ℕ) → GoesAt w.cluster.up j (entry_of j w.cluster.entries) (entry_of j R.entries) q (replica_in nodes j q)
+      goes = event_goes w h is.facts is.holds hand.call s hand.driver step eight granted ready
+
+      adds : (j q : ℕ) → AddedAt (entry_of j w.cluster.entries) (entry_of j R.entries) q (replica_in w.nodes j q) (replica_in nodes j q)
+      adds = event_adds w h is.facts is.holds hand.call s hand.driver step eight granted ready
+
+      -- and the nodes that are freed of the others hold only what stands
+      holds_after : HoldsOnlyWhatStands R (freed R.entries nodes)
+      holds_after = ?
 
     told_so : (reply : StepReply) (end : Option Outcome) → IsRecordAnswer (event_refusal w.cluster step hand.driver) step (parts reply end) → IsDone m s (Event step) (parts reply end)
     told_so reply end answer = record {
@@ -222,13 +231,13 @@ module _ (w : World) (c : ℕ) (step : RecordStep) (hand : InHand) (held : hand_
       answer = subst (λ o. IsRecordAnswer o step (parts reply end)) (ap (event_refusal w.cluster step) driver) answer;
     }
 
-    shown_done : event_refusal w.cluster step hand.driver ≡ None → CanSettle c hand.op step w.tables → IsShownBehind w c hand held (settled_world w c hand step) (with_effects w) verb k r words.Ok end beside.Nothing (Event step) h
-    shown_done granted can = record {
+    shown_done : length w.nodes ≡ 8 → event_refusal w.cluster step hand.driver ≡ None → CanSettle c hand.op step w.tables → IsShownBehind w c hand held (settled_world w c hand step) (with_effects w) verb k r words.Ok end beside.Nothing (Event step) h
+    shown_done eight granted can = record {
       done = told_so words.Ok end (subst (λ o. IsRecordAnswer o step (parts words.Ok end)) (sym granted) (inl (refl, refl)));
       change = change_done m s hand.driver step ready (subst (DrivesFor s.call (asked s.op)) (sym driver) (state_drives s (is.facts.driven (Client c) s (in_hand_is w h c hand held))))
-          ∙ ap (tables_after s step k) (record_is w h R goes up)
-          ∙ settles (record w { cluster = R }) (with_effects w h) c s (actor_is w h c hand held is.facts) step k can;
-      fits = let f = record_fits w h R goes up is.fits in record { replicas = f.replicas; hands = f.hands };
+          ∙ ap (tables_after s step k) (added_record w h R nodes (adds eight granted) ∙ record_is (record w { nodes = nodes }) h R (goes eight granted) up)
+          ∙ settles (record w { cluster = R; nodes = nodes }) (with_effects w h) c s (actor_is w h c hand held is.facts) step k can;
+      fits = let f = record_fits (record w { nodes = nodes }) h R (goes eight granted) up (added_fits w h R nodes (adds eight granted) is.fits) in record { replicas = f.replicas; hands = f.hands };
     }
 
     shown_refused : (reply : StepReply) (end : Outcome) → IsRefusedWith (event_refusal w.cluster step hand.driver) step reply end → IsShownBehind w c hand held w (λ h. h) verb k r reply (Some end) beside.Nothing (Event step) h
@@ -257,13 +266,13 @@ module _ (w : World) (c : ℕ) (step : RecordStep) (hand : InHand) (held : hand_
     by_driver step x _ roomy = tt
 
   -- the step is done, and the nodes are freed of what is gone
-  pub event_does : event_refusal w.cluster step hand.driver ≡ None → CanSettle c hand.op step w.tables → EntersWithRoom hand.call hand.driver w.tables →
+  pub event_does : length w.nodes ≡ 8 → event_refusal w.cluster step hand.driver ≡ None → CanSettle c hand.op step w.tables → EntersWithRoom hand.call hand.driver w.tables →
       Does w (freed_world (behind_step w c hand held (settled_world w c hand step) (with_effects w) verb k r words.Ok end beside.Nothing)) (told words.Ok end)
-  event_does granted can enters =
+  event_does eight granted can enters =
       let behind = settled_world w c hand step in
       does_freed w (behind_step w c hand held behind (with_effects w) verb k r words.Ok end beside.Nothing) (told words.Ok end)
-      (step_before w c hand held behind (with_effects w) verb k r words.Ok end beside.Nothing (Event step) next held (λ h. refl) (λ h is. shown_done h is granted can))
-      (λ m s f. holds_after s.history (known_by w m s f))
+      (step_before w c hand held behind (with_effects w) verb k r words.Ok end beside.Nothing (Event step) next held (λ h. refl) (λ h is. shown_done h is eight granted can))
+      (λ m s f. holds_after s.history (known_by w m s f) eight granted)
       (λ m s f. rooms_settled w R c R hand.op step k (rooms_after hand.call hand.driver step w.cluster w.tables enters s.rooms))
 
   -- it is refused, and the call ends

@@ -9,4 +9,4 @@ bind-requires-clause-opened c =
 
 pub returns-clause-kept : goal.returns-clause-kept
 returns-clause-kept c =
-    IsValid-taken_bound c.args.ckpt c.opened_for.result c.args.creation_flags c.args.client.now c.in-Ok.number c.take_handle.new.self c.requires.kept c.requires.room c.in-Ok.ensures.answer c.in-Ok.ensures.taken c.in-Open.place c.bind.new.self (subst IsBuilt c.in-Open.is c.requires.built).0 c.bind.ensures
+    IsValid-taken_bound c.args.ckpt c.opened_for.result c.args.creation_flags c.args.client.now c.in-Ok.number c.take_handle.new.self c.requires.kept c.requires.room c.in-Ok.ensures.answer c.in-Ok.ensures.taken c.in-Open.place c.bind.new.self (subst IsBuilt c.in-Open.is c.requires.built) c.bind.ensures

@@ -3,7 +3,7 @@ use Rattle.std.specs.Prelude.{Some, None, MatchOption}
 use Rattle.cluster_record.specs.Kept.{IsKeptEntry}
 use Rattle.cluster_record.specs.LookUps.{identity_in}
 use Rattle.cluster_record.specs.RecordState.{RecordState, entry_of, named}
-use Rattle.cluster_record.proofs.KeptLaws.{found-kept}
+use Rattle.cluster_record.proofs.KeptLaws.{found-kept, found-own}
 use Rattle.cluster_record.proofs.NameLaws.{named-entry}
 use Rattle.cluster_record.proofs.record.Record.named.Goals as goal
 
@@ -21,4 +21,10 @@ returns-in-Some-clause-kept c =
     let R = c.args.self.now in
     let all : All (IsKeptEntry R.moment) R.entries = subst (λ (R : RecordState). All (IsKeptEntry R.moment) R.entries) c.self.view_is c.self.invariant.entries.each in
     found-kept R.moment c.in-Some.identity R.entries c.find_entry.result all
+    (subst (λ entries. MatchOption c.find_entry.result (entry_of c.in-Some.identity entries ≡ None) (λ entry. entry_of c.in-Some.identity entries ≡ Some entry.now)) (c.as_slice.ensures.value ∙ ap (λ (R : RecordState). R.entries) c.self.view_is) c.find_entry.ensures)
+
+pub returns-in-Some-clause-own : goal.returns-in-Some-clause-own
+returns-in-Some-clause-own c =
+    let entries = c.args.self.now.entries in
+    found-own c.in-Some.identity entries c.find_entry.result
     (subst (λ entries. MatchOption c.find_entry.result (entry_of c.in-Some.identity entries ≡ None) (λ entry. entry_of c.in-Some.identity entries ≡ Some entry.now)) (c.as_slice.ensures.value ∙ ap (λ (R : RecordState). R.entries) c.self.view_is) c.find_entry.ensures)

@@ -8,5 +8,5 @@ returns c =
     record {
       label = _;
       labels = c.push.ensures.labels;
-      is = sets_moment c.args.self.now c.args.t _ c.set_moment.new.self c.free_gone.new.self (to_z-of_z w64 c.args.t c.ranges.t) c.requires.moment c.set_moment.ensures c.free_gone.ensures;
+      is = sets_moment c.args.self.now c.args.t _ c.set_moment.new.self c.free_gone.new.self (to_z-of_z w64 c.args.t c.ranges.t) c.requires.moment c.set_moment.ensures c.free_gone.ensures.new;
     }

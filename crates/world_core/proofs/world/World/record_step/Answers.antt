@@ -59,5 +59,5 @@ returns c =
       labels = c.push-2.ensures.labels;
       is = subst (λ (label : Label). IsStep c.args.c w (record w { cluster = c.apply.new.cluster; nodes = c.free_gone.new.self; tables = c.settle.new.tables; hands = slice_set w.hands c.args.c c.let_go.new.slot }) label) (sym c.stepped-2.ensures)
           (event_step w c.args.c c.args.step hand held next c.requires.shown c.apply.new.cluster c.free_gone.new.self c.settle.new.tables c.told.new.self c.let_go.new.slot c.word-op.result c.verb-verb.result c.event_ckpt-ckpt.result c.event_node-node.result c.event_end-end.result
-          (c.requires.granted hand held) c.requires.roomy c.requires.has_room record_is c.event_ckpt-ckpt.ensures c.event_node-node.ensures c.event_end-end.ensures c.settle.ensures c.told.ensures c.let_go.ensures c.free_gone.ensures c.word-op.ensures c.verb-verb.ensures);
+          (c.requires.granted hand held) c.requires.roomy c.requires.has_room record_is c.event_ckpt-ckpt.ensures c.event_node-node.ensures c.event_end-end.ensures c.settle.ensures c.told.ensures c.let_go.ensures c.free_gone.ensures.new c.word-op.ensures c.verb-verb.ensures);
     }

@@ -1,0 +1,38 @@
+use Rattle.std.proofs.Common.{◌≡◌, Some, None, true, false, sym, ap, subst, ◌∙◌}
+use Rattle.std.specs.Prelude.{Option}
+use Rattle.std.proofs.lemmas.Result.{on_ok_weaker}
+use Rattle.cluster_record.specs.declared.entries.Entry.{Entry}
+use Rattle.cluster_record.specs.LookUps.{adds_in}
+use Rattle.cluster_record.specs.Placement.{adds}
+use Rattle.cluster_record.specs.RecordState.{home_of, named}
+use Rattle.world_core.specs.Nodes.{replica_in, with_added}
+use Rattle.world_core.specs.RecordReady.{HasNoneOf}
+use Rattle.world_core.proofs.Adding.{opened_none, opened_adds}
+use Rattle.world_core.proofs.applying.add_replica.Goals as goal
+
+pub returns-then-not-adds_replica-clause-ok : goal.returns-then-not-adds_replica-clause-ok
+returns-then-not-adds_replica-clause-ok c =
+    let R = c.args.cluster.now in
+    let e = c.in-Some.entry.now in
+    let home = home_of c.args.ask.now.client R in
+    let none : adds e.attributes home e.complete ≡ false = ap (adds_in home) (sym c.in-Some.ensures.own) ∙ sym c.adds_replica.ensures ∙ ? in
+    opened_none (named c.args.ask.now.name R.entries) e home c.args.nodes.now c.in-Some.ensures.found none
+
+pub add-requires-clause-there : goal.add-requires-clause-there
+add-requires-clause-there c = c.in-Some.ensures.own
+
+pub add-requires-clause-free : goal.add-requires-clause-free
+add-requires-clause-free c =
+    let R = c.args.cluster.now in
+    let e = c.in-Some.entry.now in
+    let home = home_of c.args.ask.now.client R in
+    let new : adds e.attributes home e.complete ≡ true = ap (adds_in home) (sym c.in-Some.ensures.own) ∙ sym c.adds_replica.ensures ∙ ? in
+    ap (replica_in c.args.nodes.now e.identity) c.home_of.ensures.node ∙ subst (λ o. HasNoneOf o home c.args.nodes.now) c.in-Some.ensures.found c.requires new
+
+pub returns-clause-ok : goal.returns-clause-ok
+returns-clause-ok c =
+    let R = c.args.cluster.now in
+    let e = c.in-Some.entry.now in
+    let home = home_of c.args.ask.now.client R in
+    let new : adds e.attributes home e.complete ≡ true = ap (adds_in home) (sym c.in-Some.ensures.own) ∙ sym c.adds_replica.ensures ∙ ? in
+    on_ok_weaker c.add.result (λ added. added ∙ ap (λ r. with_added e r c.args.nodes.now) c.home_of.ensures.node ∙ opened_adds (named c.args.ask.now.name R.entries) e home c.args.nodes.now c.in-Some.ensures.found new) c.add.ensures.ok
