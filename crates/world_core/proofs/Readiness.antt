@@ -18,7 +18,7 @@ use Rattle.cluster_record.specs.declared.opening.OpenAnswer.TheVariants.{Opened,
 use Rattle.ckpt_machine.specs.Driving.{event_refusal, refusal_in}
 use Rattle.ckpt_machine.specs.Facts.{IsEventReady}
 use Rattle.ckpt_machine.specs.Machine.{Machine, CallState}
-use Rattle.cluster_record.specs.Opening.{answer_unless, answer_free, answer_named, open_answer}
+use Rattle.cluster_record.specs.Opening.{answer_by, answer_free, answer_named, open_answer}
 use Rattle.cluster_record.specs.Refusals.{plainly, all_taken}
 use Rattle.cluster_record.specs.Calls.{IsClient}
 use Rattle.cluster_record.specs.DueOnce as once
@@ -51,7 +51,7 @@ answer_made R ask few given free = ap (answer_named R ask.attrs) free ∙ by_att
   by_attributes (Some a) given = ap (λ b. cond b (Refused (all_taken checkpoints_max)) (Made (R.last_identity + 1))) (lt-leb checkpoints_max (length R.entries) few)
 
 -- what the record does not refuse is made
-made_as : (e : Entry) (a : Option CreationAttributes) (making : Option CallId) → e.making ≡ making → refusal_in (answer_unless making a e) ≡ None → e.making ≡ None
+made_as : (e : Entry) (a : Option CreationAttributes) (making : Option CallId) → e.making ≡ making → refusal_in (answer_by making a e) ≡ None → e.making ≡ None
 made_as e a None is granted = is
 made_as e a (Some call) is granted = absurd (cc granted)
 
@@ -62,7 +62,7 @@ answer_opened R ask (Some e) found granted there =
     let made : e.making ≡ None = made_as e ask.attrs e.making refl (subst (λ o. refusal_in (answer_named R ask.attrs o) ≡ None) found granted) in (
       e.identity,
       ap identity_in found,
-      ap (answer_named R ask.attrs) found ∙ ap (λ making. answer_unless making ask.attrs e) made ∙ ap (λ b. cond (not b) (Refused (plainly Exist)) (Opened e.identity false)) (there made),
+      ap (answer_named R ask.attrs) found ∙ ap (λ making. answer_by making ask.attrs e) made ∙ ap (λ b. cond (not b) (Refused (plainly Exist)) (Opened e.identity false)) (there made),
     )
 
 -- a step that is not refused is ready where its world has room for it
