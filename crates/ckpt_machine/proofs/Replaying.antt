@@ -26,9 +26,9 @@ use Rattle.ckpt_machine.specs.Runs.{last, IsRun}
 use Rattle.ckpt_machine.specs.Shape.{IsShapedBy}
 use Rattle.ckpt_machine.specs.Steps.{opened_state, having_taken, committed_slot, with_marks, next_element_written, marks_ended}
 use Rattle.ckpt_machine.proofs.EachReplica.{CanBeMarked, IsKept, run_each}
-use Rattle.ckpt_machine.proofs.Histories.{shaped_there}
 use Rattle.ckpt_machine.proofs.ElementsDone.{each_done-next, each_done-write}
 use Rattle.ckpt_machine.proofs.Follows.{IsBare}
+use Rattle.ckpt_machine.proofs.Histories.{shaped_there}
 use Rattle.ckpt_machine.proofs.StaysMade.{StaysMade}
 
 -- the last effect is done last
