@@ -25,15 +25,14 @@ use Rattle.cluster_record.proofs.IdentityLaws.{IdentitiesRise-filter}
 use Rattle.ckpt_machine.specs.Beginning.{update_is_bad}
 use Rattle.ckpt_machine.specs.BeginRows.{has_bad_arguments}
 use Rattle.ckpt_machine.specs.Guards.{CommitOk, ApplyOk, MarkOk, AreMarksOf, OnAll, OnActive, Row, Allowed}
-use Rattle.ckpt_machine.specs.Invariant.{IsGoodIn, Invariant}
+use Rattle.ckpt_machine.specs.Invariant.{Invariant}
 use Rattle.ckpt_machine.specs.Machine.{Machine, ReplicaState, CallState, empty_cluster}
 use Rattle.ckpt_machine.specs.Options.{is_all, is_weak, is_by_element}
 use Rattle.ckpt_machine.specs.Runs.{last, IsRun}
-use Rattle.ckpt_machine.specs.Shape.{IsCompleteOn, IsShapedBy}
+use Rattle.ckpt_machine.specs.Shape.{IsCompleteOn}
 use Rattle.ckpt_machine.specs.Steps.{Told, IsDone, IsDue, due, with_record, record_step, created_for, retained_for, change_replica, having_taken, committed_slot, with_committed, with_applied, with_slot, with_marks, next_element_written, with_next_element, marks_ended, without_marks, changed, on_ok, on_look, without_making, at_some, replica_under, opened_state, step_of, staged_moment, after}
 use Rattle.ckpt_machine.proofs.Entries.{ComesOf-filter}
 use Rattle.ckpt_machine.proofs.EntryLists.{entry_of-given}
-use Rattle.ckpt_machine.proofs.Follows.{IsBare}
 use Rattle.ckpt_machine.proofs.GoodArguments.{HaveGoodArguments, good_arguments}
 use Rattle.ckpt_machine.proofs.Histories.{HasHistory, maker_incomplete, on_replica-there, run_history}
 use Rattle.ckpt_machine.proofs.Joining.{opened_with-identity}
@@ -85,15 +84,6 @@ made_where_complete m inv k r e found complete = by_making e.making refl
     by_making : (o : Option CallId) → e.making ≡ o → e.making ≡ None
     by_making None is = is
     by_making (Some c) is = absurd (let w : true ≡ false = sym (maker_incomplete m inv c k r e found is) ∙ complete in cc w)
-
--- what is there of it is of its shape
-pub shaped_there : (m : Machine) (inv : Invariant m) → IsBare m → (k r : ℕ) (x : ReplicaState) (e : Entry) → m.replicas k r ≡ Some x → entry_of k m.cluster.entries ≡ Some e → IsShapedBy (is_all e.attributes) (inv.shapes k) e.active r x
-shaped_there m inv bare k r x e there found =
-    let (f, at, complete_f) = IsSomeAnd-at (entry_of k m.cluster.entries) (λ e. IsCompleteOn e r) (bare.complete k r x there) in
-    let complete : IsCompleteOn e r = subst (λ e. IsCompleteOn e r) (same_Some f e (sym at ∙ found)) complete_f in
-    let spread = subst (λ maker. IsGoodIn m k (inv.shapes k) e maker) (made_where_complete m inv k r e found complete) (inv.holds.entries k e found) in
-    let (y, is, shaped) = IsSomeAnd-at (m.replicas k r) (IsShapedBy (is_all e.attributes) (inv.shapes k) e.active r) (spread.replicas r complete) in
-    subst (IsShapedBy (is_all e.attributes) (inv.shapes k) e.active r) (same_Some y x (sym is ∙ there)) shaped
 
 -- ---- what is kept
 

@@ -22,9 +22,9 @@ use Rattle.ckpt_machine.specs.Replays.{call_of_effect, EachCallOnce}
 use Rattle.ckpt_machine.specs.Runs.{last, IsRun}
 use Rattle.ckpt_machine.specs.Shape.{IsShapedBy}
 use Rattle.ckpt_machine.specs.Steps.{Told, IsDone, due, driver_of, rooms_of, having_taken, committed_slot, marks_ended, effect_of, staged_moment}
-use Rattle.ckpt_machine.proofs.EachReplica.{StepsOn, shaped_there, IsKept, run_each}
+use Rattle.ckpt_machine.proofs.EachReplica.{StepsOn, IsKept, run_each}
 use Rattle.ckpt_machine.proofs.Follows.{IsBare, effect_more}
-use Rattle.ckpt_machine.proofs.Histories.{IsCommittingAt}
+use Rattle.ckpt_machine.proofs.Histories.{IsCommittingAt, shaped_there}
 
 -- ---- effects
 
@@ -101,7 +101,7 @@ none_yet m s verb k r x step no_commit no_look has =
 
 -- where updates are on the active alone, nothing is staged
 pub alone_free : (m : Machine) → Invariant m → IsBare m → (k r : ℕ) (x : ReplicaState) (e : Entry) → m.replicas k r ≡ Some x → entry_of k m.cluster.entries ≡ Some e → is_all e.attributes ≡ false → x.slot ≡ None
-alone_free m inv bare k r x e there found alone = (subst (λ all. IsShapedBy all (inv.shapes k) e.active r x) alone (shaped_there m inv bare k r x e there found)).free
+alone_free m inv bare k r x e there found alone = (subst (λ all. IsShapedBy all (inv.shapes k) e.active r x) alone (shaped_there m inv.shapes inv.holds bare k r x e there found).shaped).free
 
 -- ---- every step
 

@@ -70,28 +70,34 @@ history_empty = record {
 -- ---- whose a slot is, and whose marks are
 
 module _ (m : Machine) (shapes : ℕ → Shape) (inv : InvariantIn shapes m) (bare : IsBare m) where
-  -- a replica is of a checkpoint that is made, and as its shape says
-  record IsShapedAt (k r : ℕ) (x : ReplicaState) : Type 0 where
-    entry : Entry
-    spread : IsSpread m k (shapes k) entry
-    shaped : IsShapedBy (is_all entry.attributes) (shapes k) entry.active r x
+  -- a checkpoint that has a replica is there
+  entry_there : (k r : ℕ) (x : ReplicaState) → m.replicas k r ≡ Some x → (e : Entry) × (entry_of k m.cluster.entries ≡ Some e) × IsCompleteOn e r
+  entry_there k r x at = IsSomeAnd-at (entry_of k m.cluster.entries) (λ e. IsCompleteOn e r) (bare.complete k r x at)
 
-  shaped_at : (k r : ℕ) (x : ReplicaState) → m.replicas k r ≡ Some x → IsShapedAt k r x
-  shaped_at k r x at =
-      let (e, found, there) = IsSomeAnd-at (entry_of k m.cluster.entries) (λ e. IsCompleteOn e r) (bare.complete k r x at) in
-      by_maker e there e.making (inv.entries k e found)
+  -- a checkpoint that has a replica is made, and the replica is as its shape says
+  pub record IsShapedAt (k r : ℕ) (x : ReplicaState) (e : Entry) : Type 0 where
+    pub spread : IsSpread m k (shapes k) e
+    pub shaped : IsShapedBy (is_all e.attributes) (shapes k) e.active r x
+
+  pub shaped_there : (k r : ℕ) (x : ReplicaState) (e : Entry) → m.replicas k r ≡ Some x → entry_of k m.cluster.entries ≡ Some e → IsShapedAt k r x e
+  shaped_there k r x e at found =
+      let (f, is, complete) = entry_there k r x at in
+      by_maker (subst (λ e. IsCompleteOn e r) (same_Some f e (sym is ∙ found)) complete) e.making (inv.entries k e found)
     where
-      by_maker : (e : Entry) → IsCompleteOn e r → (maker : Option CallId) → IsGoodIn m k (shapes k) e maker → IsShapedAt k r x
-      by_maker e there (Some call) good =
+      by_maker : IsCompleteOn e r → (maker : Option CallId) → IsGoodIn m k (shapes k) e maker → IsShapedAt k r x e
+      by_maker there (Some call) good =
           let none : (slice_index e.complete r == 0) ≡ true = ap (λ nodes. slice_index nodes r == 0) good.0.complete ∙ ap (λ n. n == 0) (slice_index-replicate 8 r) in
           absurd (let w : true ≡ false = sym none ∙ there in cc w)
-      by_maker e there None good =
+      by_maker there None good =
           let (y, is, shaped) = IsSomeAnd-at (m.replicas k r) (IsShapedBy (is_all e.attributes) (shapes k) e.active r) (good.replicas r there) in
-          record { entry = e; spread = good; shaped = subst (IsShapedBy (is_all e.attributes) (shapes k) e.active r) (same_Some y x (sym is ∙ at)) shaped }
+          record { spread = good; shaped = subst (IsShapedBy (is_all e.attributes) (shapes k) e.active r) (same_Some y x (sym is ∙ at)) shaped }
 
   -- what is staged is of a call in hand, an update of this checkpoint, that owns it
   pub slot_owned : (k r : ℕ) (x : ReplicaState) (slot : Staged) → m.replicas k r ≡ Some x → x.slot ≡ Some slot → IsOwner m k (shapes k) slot.owner × (slot.origin ≡ slot.owner) × (slot.update ≡ (shapes k).update)
-  slot_owned k r x slot there staged = let at = shaped_at k r x there in by_shape (is_all at.entry.attributes) at.entry.active at.shaped (at.spread.owned r)
+  slot_owned k r x slot there staged =
+      let (e, found, complete) = entry_there k r x there in
+      let at = shaped_there k r x e there found in
+      by_shape (is_all e.attributes) e.active at.shaped (at.spread.owned r)
     where
       by_owner : (o : Option CallId) → (shapes k).owners r ≡ o → slot_by (shapes k) o ≡ Some slot → ((d : CallId) → (shapes k).owners r ≡ Some d → IsOwner m k (shapes k) d) → IsOwner m k (shapes k) slot.owner × (slot.origin ≡ slot.owner) × (slot.update ≡ (shapes k).update)
       by_owner None is none owned = absurd (cc none)
@@ -109,7 +115,10 @@ module _ (m : Machine) (shapes : ℕ → Shape) (inv : InvariantIn shapes m) (ba
 
   -- the marks that stand on a replica are of a call in hand, a weak write of this checkpoint
   pub marks_owned : (k r : ℕ) (x : ReplicaState) (marks : Marked) → m.replicas k r ≡ Some x → x.marks ≡ Some marks → IsMarker m k marks
-  marks_owned k r x marks there marked = let at = shaped_at k r x there in by_shape (is_all at.entry.attributes) at.entry.active at.shaped (at.spread.marked marks)
+  marks_owned k r x marks there marked =
+      let (e, found, complete) = entry_there k r x there in
+      let at = shaped_there k r x e there found in
+      by_shape (is_all e.attributes) e.active at.shaped (at.spread.marked marks)
     where
       -- they are those of the checkpoint
       on_active : (active : Option ℕ) → marks_at active (shapes k).marks r ≡ Some marks → (shapes k).marks ≡ Some marks

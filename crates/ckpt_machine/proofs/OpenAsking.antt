@@ -21,7 +21,7 @@ use Rattle.cluster_record.specs.declared.opening.OpenAnswer.TheVariants as openi
 use Rattle.cluster_record.specs.Calls.{client_of, put_actor}
 use Rattle.cluster_record.specs.DueOpen.{OpenState, IsBefore, accepts, create_next, entry_by, entry_next, on_named, on_free_name}
 use Rattle.cluster_record.specs.LookUps.{identity_in}
-use Rattle.cluster_record.specs.Opening.{answer_named, answer_unless}
+use Rattle.cluster_record.specs.Opening.{answer_named, answer_by}
 use Rattle.cluster_record.specs.RecordState.{RecordState, entry_of, home_of, named, no_nodes, is_live, new_entry, created_as, swept}
 use Rattle.cluster_record.specs.Placement.{adds}
 use Rattle.cluster_record.specs.Refusals.{plainly}
@@ -210,7 +210,7 @@ module _ (m : Machine) (shapes : ℕ → Shape) (inv : InvariantIn shapes m) (s 
     there = entry_of-find _ m.cluster.entries e inv.rises found
 
     -- what the record answers
-    answered : event_refusal m.cluster events.Open (driver_of s) ≡ refusal_in (answer_unless e.making ask.attrs (home_of ask.client m.cluster) e)
+    answered : event_refusal m.cluster events.Open (driver_of s) ≡ refusal_in (answer_by e.making ask.attrs (home_of ask.client m.cluster) e)
     answered = ap (event_refusal m.cluster events.Open) is ∙ ap (λ o. refusal_in (answer_named m.cluster ask.attrs (home_of ask.client m.cluster) o)) found
 
     -- another call, which is live, is making it
@@ -235,7 +235,7 @@ module _ (m : Machine) (shapes : ℕ → Shape) (inv : InvariantIn shapes m) (s 
       -- the label
       held_told : (t : Told) → IsEvent m s events.Open t → t ≡ record { verb = verbs.Open; ckpt = Some e.identity; node = None; reply = words.Refused; end = Some (Refused TryAgain (Holder by)); details = beside.Nothing }
       held_told t event =
-          let refusal : event_refusal m.cluster events.Open (driver_of s) ≡ Some (Refused TryAgain (Holder by)) = answered ∙ ap (λ c. refusal_in (answer_unless c ask.attrs (home_of ask.client m.cluster) e)) made_by in
+          let refusal : event_refusal m.cluster events.Open (driver_of s) ≡ Some (Refused TryAgain (Holder by)) = answered ∙ ap (λ c. refusal_in (answer_by c ask.attrs (home_of ask.client m.cluster) e)) made_by in
           let (reply, end) = subst (λ o. IsRecordAnswer o events.Open t) refusal event.answer in
           let ckpt : t.ckpt ≡ Some e.identity = event.ckpt ∙ ckpt_then is ∙ ap identity_in found in
           let node : t.node ≡ None = event.node ∙ node_then is in
@@ -269,7 +269,7 @@ module _ (m : Machine) (shapes : ℕ → Shape) (inv : InvariantIn shapes m) (s 
       granted : accepts ask.attrs e ≡ true → event_refusal m.cluster events.Open (drivers.Open asking) ≡ None
       granted accepted =
           ap (λ o. refusal_in (answer_named m.cluster ask.attrs (home_of ask.client m.cluster) o)) found
-          ∙ ap (λ c. refusal_in (answer_unless c ask.attrs (home_of ask.client m.cluster) e)) made
+          ∙ ap (λ c. refusal_in (answer_by c ask.attrs (home_of ask.client m.cluster) e)) made
           ∙ ap (λ b. refusal_in (cond (not b) (opening.Refused (plainly Exist)) (opening.Opened e.identity (adds e.attributes (home_of ask.client m.cluster) e.complete)))) accepted
 
       -- the opening

@@ -25,9 +25,10 @@ use Rattle.ckpt_machine.specs.Replays.{each_done, effect_done, effects_done, rep
 use Rattle.ckpt_machine.specs.Runs.{last, IsRun}
 use Rattle.ckpt_machine.specs.Shape.{IsShapedBy}
 use Rattle.ckpt_machine.specs.Steps.{opened_state, having_taken, committed_slot, with_marks, next_element_written, marks_ended}
-use Rattle.ckpt_machine.proofs.EachReplica.{CanBeMarked, shaped_there, IsKept, run_each}
+use Rattle.ckpt_machine.proofs.EachReplica.{CanBeMarked, IsKept, run_each}
 use Rattle.ckpt_machine.proofs.ElementsDone.{each_done-next, each_done-write}
 use Rattle.ckpt_machine.proofs.Follows.{IsBare}
+use Rattle.ckpt_machine.proofs.Histories.{shaped_there}
 use Rattle.ckpt_machine.proofs.StaysMade.{StaysMade}
 
 -- the last effect is done last
@@ -147,7 +148,7 @@ replay_kept e f keeps x was = record {
 
 -- where updates are on all replicas, no marks stand
 all_unmarked : (m : Machine) → Invariant m → IsBare m → (k r : ℕ) (x : ReplicaState) (e : Entry) → m.replicas k r ≡ Some x → entry_of k m.cluster.entries ≡ Some e → is_all e.attributes ≡ true → x.marks ≡ None
-all_unmarked m inv bare k r x e there found all = (subst (λ all. IsShapedBy all (inv.shapes k) e.active r x) all (shaped_there m inv bare k r x e there found)).unmarked
+all_unmarked m inv bare k r x e there found all = (subst (λ all. IsShapedBy all (inv.shapes k) e.active r x) all (shaped_there m inv.shapes inv.holds bare k r x e there found).shaped).unmarked
 
 -- it is replayed by the entry of its checkpoint, where this is there
 abbrev IsReplayedIn : Option Entry → ReplicaState → Type 0

@@ -12,7 +12,7 @@ use Rattle.cluster_record.specs.declared.entries.Entry.{Entry}
 use Rattle.cluster_record.specs.Calls.{IsClient}
 use Rattle.cluster_record.specs.Kept.{IsName, IsMakingBy, IsComplete, IsKeptEntry}
 use Rattle.cluster_record.specs.Placement.{alone_on, is_collocated, targets, adds}
-use Rattle.cluster_record.specs.RecordState.{RecordState, first_active, first_complete, has_references, referred, joined, opened_with, made_with, idle_from, unreferred, released_all, unnamed, retaining, new_entry}
+use Rattle.cluster_record.specs.RecordState.{RecordState, first_active, first_complete, has_references, referred, opened_with, made_with, idle_from, unreferred, released_all, unnamed, retaining, new_entry}
 
 -- ---- what is in the making, or not
 

@@ -10,7 +10,7 @@ use Rattle.cluster_record.specs.declared.opening.OpenAnswer.TheVariants.{Opened,
 use Rattle.cluster_record.specs.DueOpen.{accepts}
 use Rattle.cluster_record.specs.LookUps.{identity_in}
 use Rattle.cluster_record.specs.Makings.{making_call}
-use Rattle.cluster_record.specs.Opening.{answer_unless, answer_free, answer_named}
+use Rattle.cluster_record.specs.Opening.{answer_by, answer_free, answer_named}
 use Rattle.cluster_record.specs.Placement.{adds}
 use Rattle.cluster_record.specs.RecordState.{RecordState}
 use Rattle.cluster_record.specs.Refusals.{all_taken, plainly, unless_making, unlinkable}
@@ -34,12 +34,12 @@ unlinkable-made None k e = absurd cc
 unlinkable-made (Some x) k e = unless_making-made x.making x.identity k e
 
 -- nor is one that an open opens
-answer_unless-made : (call : Option CallId) (a : Option CreationAttributes) (opener : ℕ) (e : Entry) (k : ℕ) (added : Bool) → answer_unless call a opener e ≡ Opened k added → (call ≡ None) × (e.identity ≡ k)
-answer_unless-made None a opener e k added is = by (accepts a e) is where
+answer_by-made : (call : Option CallId) (a : Option CreationAttributes) (opener : ℕ) (e : Entry) (k : ℕ) (added : Bool) → answer_by call a opener e ≡ Opened k added → (call ≡ None) × (e.identity ≡ k)
+answer_by-made None a opener e k added is = by (accepts a e) is where
   by : (b : Bool) → cond (not b) (Refused (plainly Exist)) (Opened e.identity (adds e.attributes opener e.complete)) ≡ Opened k added → (◌≡◌ {A = Option CallId} None None) × (e.identity ≡ k)
   by true is = (refl, cc)
   by false is = absurd cc
-answer_unless-made (Some call) a opener e k added is = absurd cc
+answer_by-made (Some call) a opener e k added is = absurd cc
 
 answer_free-opens : (R : RecordState) (a : Option CreationAttributes) (k : ℕ) (added : Bool) → answer_free R a ≡ Opened k added → ⊥
 answer_free-opens R None k added is = cc
@@ -50,4 +50,4 @@ answer_free-opens R (Some a) k added is = by (nat_le checkpoints_max (length R.e
 
 pub open_answer-made : (R : RecordState) (a : Option CreationAttributes) (opener : ℕ) (o : Option Entry) (k : ℕ) (added : Bool) → answer_named R a opener o ≡ Opened k added → (making_call o ≡ None) × (identity_in o ≡ Some k)
 open_answer-made R a opener None k added is = absurd (answer_free-opens R a k added is)
-open_answer-made R a opener (Some e) k added is = let f = answer_unless-made e.making a opener e k added is in (f.0, ap Some f.1)
+open_answer-made R a opener (Some e) k added is = let f = answer_by-made e.making a opener e k added is in (f.0, ap Some f.1)

@@ -86,10 +86,15 @@ abbrev pub elements_of_kind : ActiveKind → ℕ
 elements_of_kind (kinds.Weak n) = n
 elements_of_kind kind = 0
 
+-- the marks behind an element: one less is left
+abbrev pub element_taken : Option MarksMade → Option MarksMade
+element_taken None = None
+element_taken (Some marks) = Some (record marks { left = marks.left - 1 })
+
 -- where marks are made, all elements are left; behind each element one less
 abbrev pub marks_taken : StepDone → ActiveKind → Verb → StepReply → Option MarksMade → Option MarksMade
 marks_taken d kind verbs.Mark words.Ok marks = Some (record { generation = d.generation; left = elements_of_kind kind })
-marks_taken d kind verbs.Element words.Ok (Some marks) = Some (record marks { left = marks.left - 1 })
+marks_taken d kind verbs.Element words.Ok marks = element_taken marks
 marks_taken d kind verb reply marks = marks
 
 -- what the call keeps behind a step

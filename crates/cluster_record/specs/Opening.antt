@@ -14,13 +14,13 @@ use Rattle.cluster_record.specs.Placement.{adds}
 use Rattle.cluster_record.specs.RecordState.{RecordState, home_of, named, created_by_ask, opened}
 
 -- what is in the making is not opened by another call, and what is there only with the attributes that it has
-abbrev pub answer_unless : Option CallId → Option CreationAttributes → ℕ → Entry → OpenAnswer
-answer_unless (Some call) a opener e = Refused (held_by call)
-answer_unless None a opener e = if not (accepts a e) then Refused (plainly Exist) else Opened e.identity (adds e.attributes opener e.complete)
+abbrev pub answer_by : Option CallId → Option CreationAttributes → ℕ → Entry → OpenAnswer
+answer_by (Some call) a opener e = Refused (held_by call)
+answer_by None a opener e = if not (accepts a e) then Refused (plainly Exist) else Opened e.identity (adds e.attributes opener e.complete)
 
 -- what an open from this node gets of the checkpoint that has its name
 abbrev pub answer_of : Option CreationAttributes → ℕ → Entry → OpenAnswer
-answer_of a opener e = answer_unless e.making a opener e
+answer_of a opener e = answer_by e.making a opener e
 
 -- of a name that no checkpoint has: one is made where attributes are given, and room is left
 abbrev pub answer_free : RecordState → Option CreationAttributes → OpenAnswer

@@ -2,10 +2,9 @@
 ghost use Rattle.std.specs.Prelude.{◌≡◌, Some};
 ghost use Rattle.node_msgs.specs.Requests.{ckpt_of};
 ghost use Rattle.node_msgs.specs.Steps.{verb_of};
-ghost use Rattle.cluster_record.specs.DueActive.{active_begun, on_active, active_next, active_request, starts_iteration, unless_changed, weak_request, elements_of_kind, active_taken};
+ghost use Rattle.cluster_record.specs.DueActive.{active_begun, on_active, active_next, active_request, starts_iteration, unless_changed, weak_request, elements_of_kind, element_taken, active_taken};
 ghost use Rattle.cluster_record.specs.RecordState.{entry_of};
 ghost use Rattle.cluster_record.specs.StepDone.{done_of, generation_in};
-ghost use Rattle.drive_active.specs.ActiveStates.{one_less};
 
 use ckpt_types::{AisError, CallId, Cause, CkptId, ITERATIONS_MAX, NodeId, Outcome};
 use cluster_record::{ActiveKind, MarksMade, Record};
@@ -122,7 +121,7 @@ impl ActiveCall {
                 let left = self.elements();
                 self.marks = Some(MarksMade { generation, left });
             }
-            Request::Element(_, _) => self.marks = one_less(&self.marks),
+            Request::Element(_, _) => self.marks = element_taken(&self.marks),
             _ => {}
         }
     }
@@ -168,8 +167,8 @@ fn generation_of(cluster: &Record, ckpt: CkptId) -> u64
 }
 
 // The marks behind an element that was done.
-fn one_less(marks: &Option<MarksMade>) -> Option<MarksMade>
-    ensures { result ≡ one_less marks.now }
+fn element_taken(marks: &Option<MarksMade>) -> Option<MarksMade>
+    ensures { result ≡ element_taken marks.now }
 {
     match marks {
         None => None,

@@ -16,7 +16,7 @@ use Rattle.cluster_record.specs.declared.entries.Entry.{Entry}
 use Rattle.cluster_record.specs.DueActive.{ActiveState, unless_changed, on_active, active_on, weak_request, request_by, starts_iteration}
 use Rattle.cluster_record.specs.declared.calls.MarksMade.{MarksMade}
 use Rattle.cluster_record.specs.DueOpen.{OpenState, accepts, create_next, entry_by, entry_next, on_named, reserve_or_finish, targets_of, on_making, by_making, open_next}
-use Rattle.cluster_record.specs.Opening.{answer_unless, answer_named, open_answer}
+use Rattle.cluster_record.specs.Opening.{answer_by, answer_named, open_answer}
 use Rattle.cluster_record.specs.RecordState.{RecordState, entry_of, named, home_of}
 use Rattle.cluster_record.specs.StepDone.{first_lacking}
 use Rattle.ckpt_machine.specs.Drivers.{Driver, Rooms}
@@ -43,9 +43,9 @@ room_open refusal false true x y = λ granted. refl
 room_open refusal false false x y = tt
 
 -- what is in the making is refused
-room_entry : (room : Bool) (a : Option CreationAttributes) (opener : ℕ) (e : Entry) (making : Option CallId) → HasRoomFor (refusal_in (answer_unless making a opener e)) room (entry_by making room a e)
+room_entry : (room : Bool) (a : Option CreationAttributes) (opener : ℕ) (e : Entry) (making : Option CallId) → HasRoomFor (refusal_in (answer_by making a opener e)) room (entry_by making room a e)
 room_entry room a opener e (Some call) = λ granted. absurd (cc granted)
-room_entry room a opener e None = room_open (refusal_in (answer_unless None a opener e)) (not (accepts a e)) room _ _
+room_entry room a opener e None = room_open (refusal_in (answer_by None a opener e)) (not (accepts a e)) room _ _
 
 room_named : (R : RecordState) (room : Bool) (deadline : Option ℤ) (a : Option CreationAttributes) (opener : ℕ) (e : Option Entry) → HasRoomFor (refusal_in (answer_named R a opener e)) room (on_named R room deadline a e)
 room_named R room deadline None opener None = tt

@@ -19,7 +19,7 @@ use Rattle.cluster_record.specs.declared.opening.OpenAnswer.TheVariants.{Opened,
 use Rattle.ckpt_machine.specs.Driving.{event_refusal, refusal_in}
 use Rattle.ckpt_machine.specs.Facts.{FitsOpen, IsEventReady}
 use Rattle.ckpt_machine.specs.Machine.{Machine, CallState}
-use Rattle.cluster_record.specs.Opening.{answer_unless, answer_free, answer_named, open_answer}
+use Rattle.cluster_record.specs.Opening.{answer_by, answer_free, answer_named, open_answer}
 use Rattle.cluster_record.specs.Refusals.{plainly, all_taken}
 use Rattle.cluster_record.specs.Calls.{IsClient}
 use Rattle.cluster_record.specs.DueOnce as once
@@ -52,7 +52,7 @@ answer_made R ask few given free = ap (answer_named R ask.attrs (home_of ask.cli
   by_attributes (Some a) given = ap (λ b. cond b (Refused (all_taken checkpoints_max)) (Made (R.last_identity + 1))) (lt-leb checkpoints_max (length R.entries) few)
 
 -- what the record does not refuse is made
-pub made_as : (e : Entry) (a : Option CreationAttributes) (opener : ℕ) (making : Option CallId) → e.making ≡ making → refusal_in (answer_unless making a opener e) ≡ None → e.making ≡ None
+pub made_as : (e : Entry) (a : Option CreationAttributes) (opener : ℕ) (making : Option CallId) → e.making ≡ making → refusal_in (answer_by making a opener e) ≡ None → e.making ≡ None
 made_as e a opener None is granted = is
 made_as e a opener (Some call) is granted = absurd (cc granted)
 
@@ -67,7 +67,7 @@ answer_opened m ask (Some e) found granted there =
       e.identity,
       added,
       ap identity_in found,
-      ap (answer_named R ask.attrs home) found ∙ ap (λ making. answer_unless making ask.attrs home e) made ∙ ap (λ b. cond (not b) (Refused (plainly Exist)) (Opened e.identity added)) (there made).0,
+      ap (answer_named R ask.attrs home) found ∙ ap (λ making. answer_by making ask.attrs home e) made ∙ ap (λ b. cond (not b) (Refused (plainly Exist)) (Opened e.identity added)) (there made).0,
     )
 
 -- a step that is not refused is ready where its world has room for it
