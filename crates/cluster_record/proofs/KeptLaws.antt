@@ -1,6 +1,7 @@
 -- A record stays as it is kept where its entries are changed, one comes, or some go.
-use Rattle.std.proofs.Common.{◌≡◌, ◌≢◌, eqb-true, ℕ, ◌+◌, ◌<◌, ◌≤◌, ◌-◌, List, [], ◌∷◌, ◌++◌, length, filter, map, All, Some, None, Bool, true, false, cond, ◌==◌, refl, sym, ap, subst, ◌∙◌, arith, length-append, Bor}
+use Rattle.std.proofs.Common.{◌≡◌, ◌≢◌, ℕ, ◌+◌, ◌<◌, ◌≤◌, ◌-◌, List, [], ◌∷◌, ◌++◌, length, filter, map, All, Some, None, Bool, true, false, cond, ◌==◌, refl, sym, ap, subst, ◌∙◌, arith, length-append, Bor}
 use Rattle.std.specs.Prelude.{Option, IfSome, MatchOption, ℤ, ◌≤ℤ◌, slice_set, slice_index, vec_capacity}
+use Rattle.std.proofs.lemmas.Bool.{eqb-true}
 use Rattle.std.proofs.lemmas.List.{length-map}
 use Rattle.std.proofs.lemmas.List.Elements.{All-cons, All-head, All-tail, All-filter, All-map, All-push, All-weaker}
 use Rattle.std.proofs.lemmas.List.Kept.{AllPairs-filter}
@@ -52,10 +53,10 @@ found-kept t k entries (Some e) all found = All-find_key (IsKeptEntry t) identit
 -- and is found by its own identity
 found-identity : (k : ℕ) (entries : List Entry) (e : Entry) → entry_of k entries ≡ Some e → e.identity ≡ k
 found-identity k [] e found = absurd cc
-found-identity k (x ∷ xs) e found = by (x.identity == k) refl found where
-  by : (b : Bool) → (x.identity == k) ≡ b → cond b (Some x) (entry_of k xs) ≡ Some e → e.identity ≡ k
-  by true t here = let same : x ≡ e = cc in ap (λ (e : Entry). e.identity) (sym same) ∙ eqb-true x.identity k t
-  by false t rest = found-identity k xs e rest
+found-identity k (x ∷ xs) e found = by (x.identity == k) refl (found-identity k xs e) found where
+  by : (b : Bool) → (x.identity == k) ≡ b → (entry_of k xs ≡ Some e → e.identity ≡ k) → cond b (Some x) (entry_of k xs) ≡ Some e → e.identity ≡ k
+  by true t rest here = let same : x ≡ e = cc in ap (λ (e : Entry). e.identity) (sym same) ∙ eqb-true x.identity k t
+  by false t rest there = rest there
 
 pub found-own : (k : ℕ) (entries : List Entry) (r : Option (Bor Entry)) → MatchOption r (entry_of k entries ≡ None) (λ e. entry_of k entries ≡ Some e.now) → IfSome r (λ e. entry_of e.now.identity entries ≡ Some e.now)
 found-own k entries None found = tt
