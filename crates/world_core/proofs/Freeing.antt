@@ -141,12 +141,12 @@ module _ (R N : RecordState) (nodes : List (List Replica)) (up : N.up ≡ R.up) 
   stays false o x e = absurd (cc e)
 
   -- after a step of the record, the nodes hold only what stands once they are freed, where what they have was held, or is then
-  pub holds_behind : ((k r : ℕ) (x : Replica) → replica_in nodes k r ≡ Some x → (x.ckpt ≡ k) × (IsHeld R r x ⊎ IsHeld N r x)) → ((r k : ℕ) → counted replica_key k (replicas_on nodes r) ≤ 1) → HoldsOnlyWhatStands N (freed N.entries nodes)
+  pub holds_behind : ((k r : ℕ) (x : Replica) → is_some (entry_of k N.entries) ≡ true → replica_in nodes k r ≡ Some x → (x.ckpt ≡ k) × (IsHeld R r x ⊎ IsHeld N r x)) → ((r k : ℕ) → counted replica_key k (replicas_on nodes r) ≤ 1) → HoldsOnlyWhatStands N (freed N.entries nodes)
   holds_behind had_or_new once = holds_by_key N (freed N.entries nodes) each (filtered_once (is_there N.entries) nodes once) where
     each : (k r : ℕ) (x : Replica) → replica_in (freed N.entries nodes) k r ≡ Some x → IsHeld N r x
     each k r x is =
         let (there, had) = stays (is_some (entry_of k N.entries)) (replica_in nodes k r) x (sym (replica_in-freed N.entries nodes k r) ∙ is) in
-        let (key, held) = had_or_new k r x had in
+        let (key, held) = had_or_new k r x there had in
         let here : GoesAt R.up x.ckpt (entry_of x.ckpt R.entries) (entry_of x.ckpt N.entries) r (Some x) = subst (λ (j : ℕ). GoesAt R.up j (entry_of j R.entries) (entry_of j N.entries) r (Some x)) (sym key) (subst (GoesAt R.up k (entry_of k R.entries) (entry_of k N.entries) r) had (goes k r)) in
         elim held [
           | inl before ↦ held_case R N r x (entry_of x.ckpt R.entries) (entry_of x.ckpt N.entries) up here refl refl (ap (λ j. is_some (entry_of j N.entries)) key ∙ there) before
@@ -155,7 +155,7 @@ module _ (R N : RecordState) (nodes : List (List Replica)) (up : N.up ≡ R.up) 
 
   -- as all was where no replica is added
   pub holds_freed : HoldsOnlyWhatStands R nodes → HoldsOnlyWhatStands N (freed N.entries nodes)
-  holds_freed holds = holds_behind (λ k r x is. let (held, key) = held_at R nodes holds k r x is in (key, inl held)) holds.once
+  holds_freed holds = holds_behind (λ k r x there is. let (held, key) = held_at R nodes holds k r x is in (key, inl held)) holds.once
 
 -- ---- a step behind which the nodes are freed
 

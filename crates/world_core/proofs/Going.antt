@@ -1,9 +1,9 @@
 -- What each step of the record makes of each entry.
-use Rattle.std.proofs.Common.{◌≡◌, inl, inr, ℕ, ◌+◌, ◌-◌, ◌<◌, length, ℤ, Bool, true, false, List, [], ◌∷◌, ◌++◌, map, refl, sym, ap, subst, ◌∙◌, cond, arith}
+use Rattle.std.proofs.Common.{◌≡◌, inl, inr, ℕ, ◌+◌, ◌-◌, ◌<◌, ◌≤◌, length, ℤ, Bool, true, false, List, [], ◌∷◌, ◌++◌, map, refl, sym, ap, subst, ◌∙◌, cond, arith}
 use Rattle.std.specs.Prelude.{Option, Some, None, IfSome, IsSomeAnd, not, nat_lt, ◌==◌, ◌&&◌, slice_index, slice_set, filter}
 use Rattle.std.specs.Option.{option_map}
 use Rattle.std.proofs.lemmas.Bool.{eqb-true, eqb-false, eq-eqb, ltb-true, and_parts}
-use Rattle.std.proofs.lemmas.List.{get_or-set_same, get_or-set_other}
+use Rattle.std.proofs.lemmas.List.{length-set, get_or-set_same, get_or-set_other}
 use Rattle.ckpt_types.specs.declared.attributes.CreationAttributes.{CreationAttributes}
 use Rattle.ckpt_types.specs.declared.identities.CallId.{CallId}
 use Rattle.node_msgs.specs.declared.next.RecordStep.{RecordStep}
@@ -29,15 +29,18 @@ use Rattle.cluster_record.specs.DueOpen.{making_ckpt}
 use Rattle.cluster_record.specs.LookUps.{at_ckpt, identity_in}
 use Rattle.ckpt_machine.specs.Machine.{Machine, CallState}
 use Rattle.cluster_record.specs.Identities.{AllUpTo, IdentitiesRise}
-use Rattle.world_core.specs.Holding.{HoldsOnlyWhatStands}
+use Rattle.world_core.specs.Holding.{replicas_on, HoldsOnlyWhatStands}
+use Rattle.world_core.specs.RecordReady.{CanAdd, HasNoneOf}
 use Rattle.ckpt_machine.specs.Facts.{Facts, FitsOpen, IsEventReady, AllReserved, NoneReservedElse, IsFinishable}
 use Rattle.world_core.specs.Shows.{History, machine_of, where_not_complete, shown_reservation}
 use Rattle.cluster_record.proofs.IdentityLaws.{IsLeft, KeepsIdentity, entry_of-beyond, IdentitiesRise-filter, IdentitiesRise-map, IdentitiesRise-change_key, IdentitiesRise-push, filter_leaves}
 use Rattle.cluster_record.proofs.Places.{find_changed, find_pushed, not_changed}
 use Rattle.ckpt_machine.specs.Driving.{event_refusal, refusal_in}
 use Rattle.ckpt_machine.proofs.Joining.{opened_with-identity}
+use Rattle.ckpt_machine.proofs.OnceByKey.{counted}
+use Rattle.node_core.specs.Nodes.{replica_key}
 use Rattle.cluster_record.proofs.NameLaws.{named-entry}
-use Rattle.world_core.proofs.Adding.{AddedAt, added_left, added_replica, added_here, opened_none, opened_adds}
+use Rattle.world_core.proofs.Adding.{AddedAt, added_left, added_replica, added_here, added_once, opened_none, opened_adds}
 use Rattle.world_core.proofs.HoldingLaws.{none_gone, opening_there}
 use Rattle.world_core.proofs.Maps.{both_true}
 use Rattle.world_core.proofs.Readiness.{made_as}
@@ -226,6 +229,16 @@ some_of : {X : Type 0} (o : Option X) (P : X → Type 0) → IsSomeAnd o P → (
 some_of None P h = absurd h
 some_of (Some x) P h = (x, refl, h)
 
+opened_length : (o : Option Entry) (r : ℕ) (nodes : List (List Replica)) → length (with_opened o r nodes) ≡ length nodes
+opened_length None r nodes = refl
+opened_length (Some e) r nodes = elim (adds e.attributes r e.complete) as (λ b. length (cond b (with_added e r nodes) nodes) ≡ length nodes) [ true ↦ length-set nodes r _ | false ↦ refl ]
+
+-- no step makes nodes more or fewer
+pub length-behind : (x : Driver) (step : RecordStep) (R : RecordState) (nodes : List (List Replica)) → length (nodes_behind x step R nodes) ≡ length nodes
+length-behind (drivers.Open o) events.Open R nodes = opened_length (named o.ask.name R.entries) (home_of o.ask.client R) nodes
+length-behind (drivers.Once x) step R nodes = refl
+length-behind x step R nodes = refl
+
 module _ (w : World) (h : History) (facts : Facts (machine_of w h)) (holds : HoldsOnlyWhatStands w.cluster w.nodes) where
   abbrev m : Machine
   m = machine_of w h
@@ -297,18 +310,22 @@ module _ (w : World) (h : History) (facts : Facts (machine_of w h)) (holds : Hol
     goes : (j r : ℕ) → GoesAt R.up j (entry_of j R.entries) (entry_of j N.entries) r (replica_in nodes j r)
     adds : (j r : ℕ) → AddedAt (entry_of j R.entries) (entry_of j N.entries) r (replica_in w.nodes j r) (replica_in nodes j r)
     rises : IdentitiesRise N.entries
+    once : (r k : ℕ) → counted replica_key k (replicas_on nodes r) ≤ 1
 
   -- most add nothing
   on : (N : RecordState) → Goes N → GoesOn N w.nodes
-  on N go = record { goes = go.0; adds = λ j r. inl refl; rises = go.1 }
+  on N go = record { goes = go.0; adds = λ j r. inl refl; rises = go.1; once = holds.once }
 
-  -- an open may
-  opened_go : (ask : OpenAsk) (o : Option Entry) → named ask.name R.entries ≡ o → length w.nodes ≡ 8 → refusal_in (open_answer R ask) ≡ None → IsSomeAnd o (FitsOpen m ask) →
-      GoesOn (at_ckpt (identity_in o) R (λ k. opened k ask.client R)) (with_opened o (home_of ask.client R) w.nodes)
-  opened_go ask None found eight granted fits = absurd fits
-  opened_go ask (Some e) found eight granted fits = by_test (adds e.attributes home e.complete) refl where
-    home : ℕ
+  -- an open of a checkpoint that is there may
+  module _ (ask : OpenAsk) (e : Entry) (found : named ask.name R.entries ≡ Some e) (granted : refusal_in (open_answer R ask) ≡ None) (fits : FitsOpen m ask e) where
+    abbrev home : ℕ
     home = home_of ask.client R
+
+    abbrev f : Entry
+    f = opened_with home R.up ask.client e
+
+    abbrev N : RecordState
+    N = opened e.identity ask.client R
 
     made : e.making ≡ None
     made = made_as e ask.attrs home e.making refl (subst (λ o. refusal_in (answer_named R ask.attrs home o) ≡ None) found granted)
@@ -316,62 +333,93 @@ module _ (w : World) (h : History) (facts : Facts (machine_of w h)) (holds : Hol
     there : entry_of e.identity R.entries ≡ Some e
     there = named-entry ask.name R.entries e.identity facts.rises (sym (ap identity_in found)) ∙ found
 
-    rises : IdentitiesRise (opened e.identity ask.client R).entries
+    rises : IdentitiesRise N.entries
     rises = IdentitiesRise-change_key (opened_with home R.up ask.client) (opened_with-identity home R.up ask.client) e.identity R.entries facts.rises
 
-    goes_as : (nodes : List (List Replica)) → ((r : ℕ) → GoesAt R.up e.identity (Some e) (Some (opened_with home R.up ask.client e)) r (replica_in nodes e.identity r)) →
-        (j r : ℕ) → GoesAt R.up j (entry_of j R.entries) (entry_of j (opened e.identity ask.client R).entries) r (replica_in nodes j r)
-    goes_as nodes goes j r = changed_goes R.up (opened_with home R.up ask.client) (opened_with-identity home R.up ask.client) e.identity j r R.entries e (replica_in nodes j r) there
-        (λ same. subst (λ (j : ℕ). GoesAt R.up j (Some e) (Some (opened_with home R.up ask.client e)) r (replica_in nodes j r)) (sym same) (goes r))
-
-    not_true : (b : Bool) → not b ≡ true → b ≡ false
-    not_true true is = absurd cc
-    not_true false is = refl
-
-    opened_there : entry_of e.identity (opened e.identity ask.client R).entries ≡ Some (opened_with home R.up ask.client e)
+    opened_there : entry_of e.identity N.entries ≡ Some f
     opened_there =
         find_changed identity_of e.identity (opened_with home R.up ask.client) (opened_with-identity home R.up ask.client) R.entries e e.identity there
-        ∙ ap (λ b. cond b (Some (opened_with home R.up ask.client e)) (entry_of e.identity R.entries)) (eq-eqb e.identity e.identity refl)
+        ∙ ap (λ b. cond b (Some f) (entry_of e.identity R.entries)) (eq-eqb e.identity e.identity refl)
 
-    becomes_complete : adds e.attributes home e.complete ≡ true → home < length e.complete → (slice_index R.up home == 0) ≡ false → (slice_index (opened_with home R.up ask.client e).complete home == 0) ≡ false
-    becomes_complete new among up =
-        ap (λ b. slice_index (referred ask.client (cond b (record e { complete = slice_set e.complete home (slice_index R.up home) }) e)).complete home == 0) new
-        ∙ ap (λ n. n == 0) (get_or-set_same e.complete home (slice_index R.up home) 0 among)
-        ∙ up
+    -- no other entry changes
+    goes_as : (nodes : List (List Replica)) → ((r : ℕ) → GoesAt R.up e.identity (Some e) (Some f) r (replica_in nodes e.identity r)) → (j r : ℕ) → GoesAt R.up j (entry_of j R.entries) (entry_of j N.entries) r (replica_in nodes j r)
+    goes_as nodes goes j r = changed_goes R.up (opened_with home R.up ask.client) (opened_with-identity home R.up ask.client) e.identity j r R.entries e (replica_in nodes j r) there
+        (λ same. subst (λ (j : ℕ). GoesAt R.up j (Some e) (Some f) r (replica_in nodes j r)) (sym same) (goes r))
 
-    -- by whether this is the replica that is added
-    added_at : (j r : ℕ) (b : Bool) → ((j == e.identity) && (r == home)) ≡ b → slice_index e.complete home ≡ 0 → (slice_index (opened_with home R.up ask.client e).complete home == 0) ≡ false →
-        replica_in (with_added e home w.nodes) j r ≡ cond ((j == e.identity) && (r == home)) (Some (added_replica e)) (replica_in w.nodes j r) →
-        AddedAt (entry_of j R.entries) (entry_of j (opened e.identity ask.client R).entries) r (replica_in w.nodes j r) (replica_in (with_added e home w.nodes) j r)
-    added_at j r false t free full at = inl (at ∙ ap (λ b. cond b (Some (added_replica e)) (replica_in w.nodes j r)) t)
-    added_at j r true t free full at =
-        let s = both_true j e.identity r home t in
-        inr (
-          (λ i. slice_index (complete_of (entry_of (s.0 i) R.entries)) (s.1 i)) ∙ ap (λ (o : Option Entry). slice_index (complete_of o) home) there ∙ free,
-          subst (λ (z : Option Entry × ℕ). IfSome z.0 (λ f. (slice_index f.complete z.1 == 0) ≡ false)) (λ i. (sym (ap (λ j. entry_of j (opened e.identity ask.client R).entries) s.0 ∙ opened_there) i, sym s.1 i)) full,
-        )
+    opened_without : adds e.attributes home e.complete ≡ false → GoesOn N w.nodes
+    opened_without none = on N (goes_as w.nodes (λ r. opened_as R.up home ask.client r e (replica_in w.nodes e.identity r) none), rises)
 
-    by_test : (b : Bool) → adds e.attributes home e.complete ≡ b → GoesOn (opened e.identity ask.client R) (with_opened (Some e) home w.nodes)
-    by_test false none = subst (GoesOn (opened e.identity ask.client R)) (opened_none (Some e) e home w.nodes refl none) (on (opened e.identity ask.client R) (
-      goes_as w.nodes (λ r. opened_as R.up home ask.client r e (replica_in w.nodes e.identity r) none),
-      rises,
-    ))
-    by_test true new =
-        let can = (fits made).1 in
-        let parts = and_parts (is_collocated e.attributes) (slice_index e.complete home == 0) new in
-        let free : slice_index e.complete home ≡ 0 = eqb-true (slice_index e.complete home) 0 parts.1 in
-        let up = and_parts (nat_lt home 8) (not (slice_index R.up home == 0)) can.up in
-        let on_node : home < 8 = ltb-true home 8 up.0 in
-        let within : home < length w.nodes = subst (λ n. home < n) (sym eight) on_node in
-        let among : home < length e.complete = subst (λ n. home < n) (sym can.nodes) on_node in
-        let none : replica_in w.nodes e.identity home ≡ None = unreserved_there home (slice_index R.up home) (entry_of e.identity R.entries) e (replica_in w.nodes e.identity home) there free can.unreserved in
-        let at = added_here w.nodes home e within none in
-        subst (GoesOn (opened e.identity ask.client R)) (opened_adds (Some e) e home w.nodes refl new) (record {
-          goes = goes_as (with_added e home w.nodes) (λ r. added_goes R.up home ask.client r e (replica_in (with_added e home w.nodes) e.identity r) new among free
-              (λ same. at e.identity r ∙ (λ i. cond (eq-eqb e.identity e.identity refl i && eq-eqb r home same i) (Some (added_replica e)) (replica_in w.nodes e.identity r))));
-          adds = λ j r. added_at j r ((j == e.identity) && (r == home)) refl free (becomes_complete new among (not_true (slice_index R.up home == 0) up.1)) (at j r);
-          rises = rises;
-        })
+    -- where it adds a replica
+    module _ (new : adds e.attributes home e.complete ≡ true) where
+      free : slice_index e.complete home ≡ 0
+      free = eqb-true (slice_index e.complete home) 0 (and_parts (is_collocated e.attributes) (slice_index e.complete home == 0) new).1
+
+      is_there : (nat_lt home 8 ≡ true) × (not (slice_index R.up home == 0) ≡ true)
+      is_there = and_parts (nat_lt home 8) (not (slice_index R.up home == 0)) (fits made).1.up
+
+      on_node : home < 8
+      on_node = ltb-true home 8 is_there.0
+
+      among : home < length e.complete
+      among = subst (λ n. home < n) (sym (fits made).1.nodes) on_node
+
+      -- the node has none yet
+      none_yet : replica_in w.nodes e.identity home ≡ None
+      none_yet = unreserved_there home (slice_index R.up home) (entry_of e.identity R.entries) e (replica_in w.nodes e.identity home) there free (fits made).1.unreserved
+
+      not_true : (b : Bool) → not b ≡ true → b ≡ false
+      not_true true is = absurd cc
+      not_true false is = refl
+
+      becomes_complete : (slice_index f.complete home == 0) ≡ false
+      becomes_complete =
+          ap (λ b. slice_index (referred ask.client (cond b (record e { complete = slice_set e.complete home (slice_index R.up home) }) e)).complete home == 0) new
+          ∙ ap (λ n. n == 0) (get_or-set_same e.complete home (slice_index R.up home) 0 among)
+          ∙ not_true (slice_index R.up home == 0) is_there.1
+
+      -- by whether this is the replica that is added
+      added_at : (j r : ℕ) (b : Bool) → ((j == e.identity) && (r == home)) ≡ b → replica_in (with_added e home w.nodes) j r ≡ cond ((j == e.identity) && (r == home)) (Some (added_replica e)) (replica_in w.nodes j r) →
+          AddedAt (entry_of j R.entries) (entry_of j N.entries) r (replica_in w.nodes j r) (replica_in (with_added e home w.nodes) j r)
+      added_at j r false t at = inl (at ∙ ap (λ b. cond b (Some (added_replica e)) (replica_in w.nodes j r)) t)
+      added_at j r true t at =
+          let s = both_true j e.identity r home t in
+          inr (
+            (λ i. slice_index (complete_of (entry_of (s.0 i) R.entries)) (s.1 i)) ∙ ap (λ (o : Option Entry). slice_index (complete_of o) home) there ∙ free,
+            subst (λ r. r < 8) (sym s.1) on_node,
+            subst (λ (z : Option Entry × ℕ). IfSome z.0 (λ f. (slice_index f.complete z.1 == 0) ≡ false)) (λ i. (sym (ap (λ j. entry_of j N.entries) s.0 ∙ opened_there) i, sym s.1 i)) becomes_complete,
+          )
+
+      opened_adding : length w.nodes ≡ 8 → GoesOn N (with_added e home w.nodes)
+      opened_adding eight =
+          let within : home < length w.nodes = subst (λ n. home < n) (sym eight) on_node in
+          let at = added_here w.nodes home e within none_yet in
+          record {
+            goes = goes_as (with_added e home w.nodes) (λ r. added_goes R.up home ask.client r e (replica_in (with_added e home w.nodes) e.identity r) new among free
+                (λ same. at e.identity r ∙ (λ i. cond (eq-eqb e.identity e.identity refl i && eq-eqb r home same i) (Some (added_replica e)) (replica_in w.nodes e.identity r))));
+            adds = λ j r. added_at j r ((j == e.identity) && (r == home)) refl (at j r);
+            rises = rises;
+            once = added_once w.nodes home e within none_yet holds.once;
+          }
+
+    opened_on : length w.nodes ≡ 8 → GoesOn N (with_opened (Some e) home w.nodes)
+    opened_on eight = by_test (adds e.attributes home e.complete) refl where
+      by_test : (b : Bool) → adds e.attributes home e.complete ≡ b → GoesOn N (with_opened (Some e) home w.nodes)
+      by_test false none = subst (GoesOn N) (opened_none (Some e) e home w.nodes refl none) (opened_without none)
+      by_test true new = subst (GoesOn N) (opened_adds (Some e) e home w.nodes refl new) (opened_adding new eight)
+
+  opened_go : (ask : OpenAsk) (o : Option Entry) → named ask.name R.entries ≡ o → length w.nodes ≡ 8 → refusal_in (open_answer R ask) ≡ None → IsSomeAnd o (FitsOpen m ask) → GoesOn (at_ckpt (identity_in o) R (λ k. opened k ask.client R)) (with_opened o (home_of ask.client R) w.nodes)
+  opened_go ask None found eight granted fits = absurd fits
+  opened_go ask (Some e) found eight granted fits = opened_on ask e found granted fits eight
+
+  -- what an open adds, the node does not have yet
+  opened_free : (ask : OpenAsk) (o : Option Entry) → named ask.name R.entries ≡ o → refusal_in (open_answer R ask) ≡ None → IsSomeAnd o (FitsOpen m ask) → HasNoneOf o (home_of ask.client R) w.nodes
+  opened_free ask None found granted fits = tt
+  opened_free ask (Some e) found granted fits = none_yet ask e found granted fits
+
+  pub event_free : (s : CallState) (x : Driver) (step : RecordStep) → event_refusal R step x ≡ None → IsEventReady m s x step → CanAdd x step R w.nodes
+  event_free s (drivers.Open o) events.Open granted ready = opened_free o.ask (named o.ask.name R.entries) refl granted ready.0
+  event_free s (drivers.Once x) step granted ready = tt
+  event_free s x step granted ready = tt
 
   change_go : (call : CallId) (s : CallState) (x : Driver) (step : RecordStep) → length w.nodes ≡ 8 → event_refusal R step x ≡ None → IsEventReady m s x step → GoesOn (event_change call x step R) (nodes_behind x step R w.nodes)
   change_go call s (drivers.Once x) step eight granted ready = on (once_change call x R) (once_go call x)
@@ -398,6 +446,9 @@ module _ (w : World) (h : History) (facts : Facts (machine_of w h)) (holds : Hol
 
     pub event_adds : (j r : ℕ) → AddedAt (entry_of j R.entries) (entry_of j (event_after call x step R).entries) r (replica_in w.nodes j r) (replica_in nodes j r)
     event_adds j r = added_left (entry_of j R.entries) (entry_of j between.entries) (entry_of j (filter (stays between.moment) between.entries)) r (replica_in w.nodes j r) (replica_in nodes j r) (on_going.adds j r) (filter_leaves (stays between.moment) between.entries on_going.rises j)
+
+    pub event_once : (r k : ℕ) → counted replica_key k (replicas_on nodes r) ≤ 1
+    event_once = on_going.once
 
   -- and where a making is undone in between
   pub unmade_goes : (k j r : ℕ) → GoesAt R.up j (entry_of j R.entries) (entry_of j (swept (undone k R)).entries) r (replica_in w.nodes j r)

@@ -47,9 +47,9 @@ use Rattle.world_core.specs.Settling.{tables_given, settled, CanSettle}
 use Rattle.world_core.specs.Shows.{Does, IsShown, History, machine_of, hand_at}
 use Rattle.world_core.specs.TableState.{with_client, at_client}
 use Rattle.world_core.proofs.CallSteps.{IsKnown, known, known_by, behind_step, IsShownBehind, step_before}
-use Rattle.world_core.proofs.Freeing.{freed_world, does_before, does_freed, holds_freed}
-use Rattle.world_core.proofs.Adding.{AddedAt, added_record, added_fits}
-use Rattle.world_core.proofs.Going.{event_goes, event_adds, event_keeps}
+use Rattle.world_core.proofs.Freeing.{freed_world, does_before, does_freed}
+use Rattle.world_core.proofs.Adding.{AddedAt, added_record, added_fits, holds_added}
+use Rattle.world_core.proofs.Going.{event_goes, event_adds, event_once, event_keeps}
 use Rattle.world_core.proofs.Held.{state_in, in_hand_is, driver_is, actor_is, due_is}
 use Rattle.world_core.proofs.LiveRooms.{EntersWithRoom, rooms_settled, rooms_after}
 use Rattle.world_core.proofs.Recording.{GoesAt, with_effects, record_is, record_fits}
@@ -220,7 +220,7 @@ module _ (w : World) (c : ℕ) (step : RecordStep) (hand : InHand) (held : hand_
 
       -- and the nodes that are freed of the others hold only what stands
       holds_after : HoldsOnlyWhatStands R (freed R.entries nodes)
-      holds_after = ?
+      holds_after = holds_added w.cluster R w.nodes nodes is.holds up goes adds (event_once w h is.facts is.holds hand.call s hand.driver step eight granted ready)
 
     told_so : (reply : StepReply) (end : Option Outcome) → IsRecordAnswer (event_refusal w.cluster step hand.driver) step (parts reply end) → IsDone m s (Event step) (parts reply end)
     told_so reply end answer = record {

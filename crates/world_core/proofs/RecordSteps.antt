@@ -1,5 +1,5 @@
 -- What a step of the record that is next for a call in hand asks of the world, and what it makes of it.
-use Rattle.std.proofs.Common.{◌≡◌, ℕ, true, false, List, refl, sym, ap, ◌∙◌}
+use Rattle.std.proofs.Common.{◌≡◌, ℕ, length, true, false, List, refl, sym, ap, ◌∙◌}
 use Rattle.std.specs.Prelude.{Option, Some, None, Result, Ok, Err, is_err, OnOk, OnErr, IsSome, slice_get, slice_set}
 use Rattle.ckpt_types.specs.declared.answers.Outcome.{Outcome}
 use Rattle.ckpt_types.specs.declared.identities.ActorName.{ActorName}
@@ -32,12 +32,13 @@ use Rattle.world_core.specs.Freeing.{freed}
 use Rattle.world_core.specs.HandSteps.{hand_taken}
 use Rattle.world_core.specs.Happenings.{IsStep, rooms_at}
 use Rattle.world_core.specs.LiveRooms.{room_is_taken}
-use Rattle.world_core.specs.RecordAfter.{event_after}
-use Rattle.world_core.specs.RecordReady.{IsRecordReady, IsRefusedWith}
+use Rattle.world_core.specs.RecordAfter.{event_after, nodes_behind}
+use Rattle.world_core.specs.RecordReady.{CanAdd, IsRecordReady, IsRefusedWith}
 use Rattle.world_core.specs.Settling.{settled, CanGive, CanSettle}
 use Rattle.world_core.specs.Shows.{IsShown, HasNumbersLeft, machine_of, tables_of, hand_at}
 use Rattle.world_core.specs.TableState.{TableState}
 use Rattle.world_core.proofs.CallSteps.{IsKnown, known}
+use Rattle.world_core.proofs.Going.{event_free}
 use Rattle.world_core.proofs.Held.{state_in, in_hand_is, driver_is, actor_is}
 use Rattle.world_core.proofs.OpenRoom.{open_room}
 use Rattle.world_core.proofs.Readiness.{record_ready}
@@ -90,14 +91,21 @@ module _ (w : World) (c : ℕ) (step : RecordStep) (hand : InHand) (held : hand_
   pub is_ready : event_refusal w.cluster step hand.driver ≡ None → HasNumbersLeft w → IsRecordReady hand.call w.cluster hand.driver step
   is_ready granted roomy = let h = shown.shows.history in record_ready (machine_of w h) (state_in h c hand) hand.driver step granted roomy.identity roomy.references (event_ready w c step hand held next shown)
 
+  -- what it adds, the node does not have yet
+  pub can_add : event_refusal w.cluster step hand.driver ≡ None → CanAdd hand.driver step w.cluster w.nodes
+  can_add granted =
+      let h = shown.shows.history in
+      let is : IsKnown w h = known w shown in
+      event_free w h is.facts is.holds (state_in h c hand) hand.driver step granted (event_ready w c step hand held next shown)
+
   -- ---- what it makes of the world, with the parts as the code names them
 
   -- it is done, and the nodes are freed of what is gone
-  pub event_step : (R : RecordState) (nodes : List (List Replica)) (tables : List TableState) (taken : InHand) (place : Option InHand) (word : OpWord) (verb : Verb) (k r : Option ℕ) (end : Option Outcome) → event_refusal w.cluster step hand.driver ≡ None → HasNumbersLeft w → (step ≡ events.Enter → room_is_taken (slice_get w.tables c) ≡ true) →
+  pub event_step : (R : RecordState) (nodes : List (List Replica)) (tables : List TableState) (taken : InHand) (place : Option InHand) (word : OpWord) (verb : Verb) (k r : Option ℕ) (end : Option Outcome) → event_refusal w.cluster step hand.driver ≡ None → HasNumbersLeft w → (step ≡ events.Enter → room_is_taken (slice_get w.tables c) ≡ true) → length w.nodes ≡ 8 →
       R ≡ event_after hand.call hand.driver step w.cluster → k ≡ event_ckpt w.cluster hand.driver step → r ≡ event_node hand.driver step → end ≡ event_end step k → tables ≡ settled R c hand.op step k w.tables →
-      taken ≡ hand_taken (done_of R (event_verb step) k r words.Ok) hand → place ≡ left end taken → nodes ≡ freed R.entries w.nodes → word ≡ word_of_op hand.op → verb ≡ event_verb step →
+      taken ≡ hand_taken (done_of R (event_verb step) k r words.Ok) hand → place ≡ left end taken → nodes ≡ freed R.entries (nodes_behind hand.driver step w.cluster w.nodes) → word ≡ word_of_op hand.op → verb ≡ event_verb step →
       IsStep c w (record w { cluster = R; nodes = nodes; tables = tables; hands = slice_set w.hands c place }) (Stepped hand.call word verb k r words.Ok end beside.Nothing)
-  event_step R nodes tables taken place word verb k r end granted roomy has_room R_is k_is r_is end_is tables_are taken_is place_is nodes_are word_is verb_is = record {
+  event_step R nodes tables taken place word verb k r end granted roomy has_room eight R_is k_is r_is end_is tables_are taken_is place_is nodes_are word_is verb_is = record {
     hand = hand;
     held = held;
     op = word;
@@ -112,7 +120,7 @@ module _ (w : World) (c : ℕ) (step : RecordStep) (hand : InHand) (held : hand_
     same_call = refl;
     same_op = refl;
     hands = ap (slice_set w.hands c) (place_is ∙ ap (left end) taken_is);
-    does = rw (place_is, taken_is, tables_are, nodes_are, end_is, R_is, k_is, r_is, word_is, verb_is) (event_does w c step hand held next granted (can_settle granted roomy) (enters w c step hand held next shown has_room));
+    does = rw (place_is, taken_is, tables_are, nodes_are, end_is, R_is, k_is, r_is, word_is, verb_is) (event_does w c step hand held next eight granted (can_settle granted roomy) (enters w c step hand held next shown has_room));
   }
 
   -- it is refused, by the record or for the memory that it takes, and the call ends

@@ -15,7 +15,7 @@ returns-then-not-adds_replica-clause-ok c =
     let R = c.args.cluster.now in
     let e = c.in-Some.entry.now in
     let home = home_of c.args.ask.now.client R in
-    let none : adds e.attributes home e.complete ≡ false = ap (adds_in home) (sym c.in-Some.ensures.own) ∙ sym c.adds_replica.ensures ∙ ? in
+    let none : adds e.attributes home e.complete ≡ false = ap (adds_in home) (sym c.in-Some.ensures.own) ∙ sym c.adds_replica.ensures ∙ c.if-not-adds_replica.true in
     opened_none (named c.args.ask.now.name R.entries) e home c.args.nodes.now c.in-Some.ensures.found none
 
 pub add-requires-clause-there : goal.add-requires-clause-there
@@ -26,7 +26,7 @@ add-requires-clause-free c =
     let R = c.args.cluster.now in
     let e = c.in-Some.entry.now in
     let home = home_of c.args.ask.now.client R in
-    let new : adds e.attributes home e.complete ≡ true = ap (adds_in home) (sym c.in-Some.ensures.own) ∙ sym c.adds_replica.ensures ∙ ? in
+    let new : adds e.attributes home e.complete ≡ true = ap (adds_in home) (sym c.in-Some.ensures.own) ∙ sym c.adds_replica.ensures ∙ c.if-not-adds_replica.false in
     ap (replica_in c.args.nodes.now e.identity) c.home_of.ensures.node ∙ subst (λ o. HasNoneOf o home c.args.nodes.now) c.in-Some.ensures.found c.requires new
 
 pub returns-clause-ok : goal.returns-clause-ok
@@ -34,5 +34,5 @@ returns-clause-ok c =
     let R = c.args.cluster.now in
     let e = c.in-Some.entry.now in
     let home = home_of c.args.ask.now.client R in
-    let new : adds e.attributes home e.complete ≡ true = ap (adds_in home) (sym c.in-Some.ensures.own) ∙ sym c.adds_replica.ensures ∙ ? in
+    let new : adds e.attributes home e.complete ≡ true = ap (adds_in home) (sym c.in-Some.ensures.own) ∙ sym c.adds_replica.ensures ∙ c.if-not-adds_replica.false in
     on_ok_weaker c.add.result (λ added. added ∙ ap (λ r. with_added e r c.args.nodes.now) c.home_of.ensures.node ∙ opened_adds (named c.args.ask.now.name R.entries) e home c.args.nodes.now c.in-Some.ensures.found new) c.add.ensures.ok
