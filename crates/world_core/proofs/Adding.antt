@@ -1,6 +1,6 @@
 -- A replica that an open adds on a node: what the machine shows of it before the record has it, and that the nodes hold it once the record has.
-use Rattle.std.proofs.Common.{◌≡◌, ◌⊎◌, inl, inr, ℕ, ◌<◌, ◌≤◌, ◌++◌, Bool, true, false, List, [], ◌∷◌, length, refl, sym, ap, subst, ◌∙◌, cond}
-use Rattle.std.specs.Prelude.{Option, Some, None, is_some, IfSome, IsSomeAnd, not, nat_lt, ◌==◌, ◌&&◌, slice_get, slice_set, slice_index}
+use Rattle.std.proofs.Common.{◌≡◌, ◌⊎◌, inl, inr, ℕ, ◌<◌, ◌≤◌, ◌++◌, true, false, List, [], ◌∷◌, length, refl, sym, ap, subst, ◌∙◌, cond}
+use Rattle.std.specs.Prelude.{Option, Some, None, is_some, IfSome, IsSomeAnd, not, ◌==◌, ◌&&◌, slice_get, slice_set, slice_index}
 use Rattle.cluster_record.specs.declared.entries.Entry.{Entry}
 use Rattle.cluster_record.specs.Placement.{adds}
 use Rattle.cluster_record.specs.Places.{find_key, list_or}
@@ -103,10 +103,13 @@ module _ (R N : RecordState) (nodes new : List (List Replica)) (holds : HoldsOnl
   newly : (k r : ℕ) (x : Replica) (old then : Option Entry) → entry_of k N.entries ≡ then → is_some then ≡ true → GoesAt R.up k old then r (Some x) → slice_index (complete_of old) r ≡ 0 → r < 8 → IfSome then (λ f. (slice_index f.complete r == 0) ≡ false) → (x.ckpt ≡ k) × IsHeld N r x
   newly k r x old None is there goes free within full = absurd (cc there)
   newly k r x None (Some f) is there goes free within full = absurd (cc goes.1)
-  newly k r x (Some e) (Some f) is there goes free within full = (key goes.2, record {
-    up = (λ i. lt-ltb r 8 within i && not (stands_up i));
-    stands = subst (λ (o : Option Entry). IsSomeAnd o (λ f. (slice_index f.complete r ≡ slice_index N.up r) ⊎ IsReservation f r x)) (sym (ap (λ j. entry_of j N.entries) (key goes.2) ∙ is)) (inl as_up);
-  })
+  newly k r x (Some e) (Some f) is there goes free within full = (
+    key goes.2,
+    record {
+      up = (λ i. lt-ltb r 8 within i && not (stands_up i));
+      stands = subst (λ (o : Option Entry). IsSomeAnd o (λ f. (slice_index f.complete r ≡ slice_index N.up r) ⊎ IsReservation f r x)) (sym (ap (λ j. entry_of j N.entries) (key goes.2) ∙ is)) (inl as_up);
+    },
+  )
     where
       not_before : slice_index f.complete r ≡ slice_index e.complete r → ⊥
       not_before same = let w : true ≡ false = sym (ap (λ n. n == 0) (same ∙ free)) ∙ full in cc w

@@ -1,5 +1,5 @@
 -- What a due step of the record asks, where the record has room for it, makes it ready.
-use Rattle.std.proofs.Common.{◌≡◌, ℕ, Bool, ◌+◌, ◌-◌, ◌^◌, ◌<◌, length, true, false, cond, not, refl, ap, subst, ◌∙◌}
+use Rattle.std.proofs.Common.{◌≡◌, ℕ, Bool, ◌+◌, ◌-◌, ◌^◌, ◌<◌, length, cond, not, refl, ap, subst, ◌∙◌}
 use Rattle.std.proofs.lemmas.Bool.{lt-leb}
 use Rattle.std.specs.Prelude.{Option, Some, None, IsSomeAnd, slice_index}
 use Rattle.ckpt_types.specs.declared.ais_error.AisError.TheVariants.{Exist}
@@ -24,7 +24,6 @@ use Rattle.cluster_record.specs.Refusals.{plainly, all_taken}
 use Rattle.cluster_record.specs.Calls.{IsClient}
 use Rattle.cluster_record.specs.DueOnce as once
 use Rattle.cluster_record.specs.RecordReady.{CanOpen, CanRefer, CanReferAt}
-use Rattle.cluster_record.specs.DueOpen.{accepts}
 use Rattle.cluster_record.specs.LookUps.{identity_in}
 
 -- no count of references is at its end
