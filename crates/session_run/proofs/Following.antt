@@ -21,7 +21,6 @@ use Rattle.world_core.specs.declared.hands.InHand.{InHand}
 use Rattle.world_core.specs.declared.world.World.{World}
 use Rattle.cluster_record.specs.RecordState.{is_up}
 use Rattle.ckpt_machine.specs.Machine.{Machine, CallState, empty_cluster}
-use Rattle.ckpt_machine.specs.Steps.{after}
 use Rattle.ckpt_machine.specs.Runs.{last, last_from, IsRun}
 use Rattle.ckpt_machine.proofs.Runs.{last_from-append, run_before}
 use Rattle.world_core.specs.Runs.{GoesOn, IsRunTo, SaysTrue, Answers, AnswersBegin, AnswersStep, IsIdleWord, IsShownOf, Happens, step_word}
