@@ -1,0 +1,132 @@
+//! Sections whose bytes stand one behind another in one buffer, with a head for each.
+ghost use Rattle.std.specs.Prelude.{◌≡◌, ◌+◌, ◌≤◌, ◌<◌, ◌^◌, ℕ, List, [], ◌∷◌, ◌++◌, length, vec_capacity};
+ghost use Rattle.ckpt_types.specs.Sections.{Rises, place_of, is_present, present, memory_used, section_of};
+ghost use Rattle.snap_copy.specs.Heads.{section_in, sections_in, IsWithin, AreWithin};
+
+use ckpt_types::{Moment, SectionId, SectionRef, SectionState, Sections, Totals};
+
+/// What is kept of a section beside its bytes, and where these stand.
+#[derive(Debug, Drop)]
+pub(crate) struct Head {
+    pub id: SectionId,
+    /// Where its bytes begin in the buffer.
+    pub start: usize,
+    /// Where they end.
+    pub end: usize,
+    pub expiration: Moment,
+    pub state: SectionState,
+    pub last_update: Moment,
+}
+
+/// The section of a head.
+pub(crate) fn section_in<'a>(bytes: &'a [u8], head: &'a Head) -> SectionRef<'a>
+    requires { IsWithin (length bytes.now) head.now }
+    ensures { section_of result ≡ section_in bytes.now head.now }
+{
+    SectionRef {
+        id: &head.id,
+        bytes: &bytes[head.start..head.end],
+        expiration: head.expiration,
+        state: head.state,
+        last_update: head.last_update,
+    }
+}
+
+/// Puts copies of all sections in the place of those that were kept. It takes no memory.
+pub(crate) fn copy_in<S: Sections>(bytes: &mut Vec<u8>, heads: &mut Vec<Head>, from: &S)
+    requires bytes_room { memory_used (S.sections from.now) ≤ vec_capacity bytes.old }
+    requires heads_room { length (S.sections from.now) ≤ vec_capacity heads.old }
+    ensures sections { sections_in bytes.new.items heads.new.items ≡ S.sections from.now }
+    ensures rises { Rises (S.sections from.now) }
+    ensures within { AreWithin (length bytes.new.items) heads.new.items }
+    ensures bytes_capacity { vec_capacity bytes.old ≤ vec_capacity bytes.new }
+    ensures heads_capacity { vec_capacity heads.old ≤ vec_capacity heads.new }
+{
+    bytes.clear();
+    heads.clear();
+    let count = from.len();
+    for place in 0..count {
+        let section = from.at(place);
+        add(bytes, heads, &section);
+    }
+}
+
+/// Puts a copy of a section behind the others.
+fn add(bytes: &mut Vec<u8>, heads: &mut Vec<Head>, section: &SectionRef<'_>)
+    requires bytes_room { length bytes.old.items + length section.now.bytes.now ≤ vec_capacity bytes.old }
+    requires heads_room { length heads.old.items < vec_capacity heads.old }
+    requires within { AreWithin (length bytes.old.items) heads.old.items }
+    ensures sections { sections_in bytes.new.items heads.new.items ≡ sections_in bytes.old.items heads.old.items ++ section_of section.now ∷ [] }
+    ensures within { AreWithin (length bytes.new.items) heads.new.items }
+    ensures bytes_len { length bytes.new.items ≡ length bytes.old.items + length section.now.bytes.now }
+    ensures heads_len { length heads.new.items ≡ length heads.old.items + 1 }
+    ensures bytes_capacity { vec_capacity bytes.old ≤ vec_capacity bytes.new }
+    ensures heads_capacity { vec_capacity heads.new ≡ vec_capacity heads.old }
+{
+    let start = bytes.len();
+    extend_reserved(bytes, section.bytes);
+    heads.push_reserved(head_of(section, start, bytes.len()));
+}
+
+/// The head of a section whose bytes stand from a place to another.
+fn head_of(section: &SectionRef<'_>, start: usize, end: usize) -> Head
+    ensures { result ≡ record { id = section.now.id.now; start = start; end = end; expiration = section.now.expiration; state = section.now.state; last_update = section.now.last_update } }
+{
+    Head {
+        id: *section.id,
+        start,
+        end,
+        expiration: section.expiration,
+        state: section.state,
+        last_update: section.last_update,
+    }
+}
+
+/// Adds bytes within the room that was taken.
+fn extend_reserved(bytes: &mut Vec<u8>, more: &[u8])
+    requires { length bytes.old.items + length more.now ≤ vec_capacity bytes.old }
+    ensures items { bytes.new.items ≡ bytes.old.items ++ more.now }
+    ensures capacity { vec_capacity bytes.old ≤ vec_capacity bytes.new }
+{
+    let Ok(()) = bytes.extend_from_slice(more) else {
+        unreachable!()
+    };
+}
+
+/// The place of the section of that identifier, whatever the bytes are.
+pub(crate) fn find(heads: &[Head], id: &[u8]) -> Option<usize>
+    ensures { (bytes : List ℕ) → result ≡ place_of id.now (sections_in bytes heads.now) }
+{
+    for place in 0..heads.len() {
+        if heads[place].id.as_slice() == id {
+            return Some(place);
+        }
+    }
+    None
+}
+
+/// How many sections are present, and how many bytes they have together.
+pub(crate) fn totals(bytes: &[u8], heads: &[Head], now: Moment) -> Totals
+    requires within { AreWithin (length bytes.now) heads.now }
+    requires small { memory_used (sections_in bytes.now heads.now) < 2 ^ 64 }
+    ensures count { result.count ≡ length (present now (sections_in bytes.now heads.now)) }
+    ensures bytes { result.bytes ≡ memory_used (present now (sections_in bytes.now heads.now)) }
+{
+    let mut count = 0;
+    let mut used: u128 = 0;
+    for head in heads {
+        let section = section_in(bytes, head);
+        if is_present(&section, now) {
+            count += 1;
+            used += section.bytes.len() as u128;
+        }
+    }
+    Totals { count, bytes: used }
+}
+
+/// Whether the section is present.
+fn is_present(section: &SectionRef<'_>, now: Moment) -> bool
+    ensures { result ≡ is_present now (section_of section.now) }
+{
+    now < section.expiration
+}
