@@ -1,6 +1,7 @@
 -- A replica as its node has it, complete or reserved, and what its calls make of it.
-use Rattle.std.specs.Prelude.{◌≡◌, ℕ, ◌+◌, ◌-◌, ◌<◌, ◌≤◌, ◌^◌, List, [], ◌∷◌, drop, length, Option, Some, None, Result, Ok, Err, IsOk, ℤ}
+use Rattle.std.specs.Prelude.{◌≡◌, ℕ, ◌+◌, ◌-◌, ◌<◌, ◌≤◌, ◌^◌, List, [], ◌∷◌, drop, length, Option, Some, None, Result, Ok, Err, IsOk, Bool, ◌&&◌, ◌||◌, ◌==◌, nat_lt, if◌then◌else◌, ℤ}
 use Rattle.ckpt_types.specs.declared.attributes.CreationAttributes.{CreationAttributes}
+use Rattle.ckpt_types.specs.declared.calls.Held.{Held}
 use Rattle.ckpt_types.specs.declared.identities.CallId.{CallId}
 use Rattle.ckpt_types.specs.declared.update.IoElement.{IoElement}
 use Rattle.ckpt_types.specs.declared.update.Update.{Update}
@@ -11,6 +12,8 @@ use Rattle.update_rules.specs.Told.{refused_of}
 use Rattle.section_store.specs.StoreState.{with_corrupted}
 use Rattle.stage_slot.specs.Slots.{Slot}
 use Rattle.weak_marks.specs.Marks.{Marked, elements_in, with_next_done}
+use Rattle.snap_copy.specs.Snapshots.{Snapshot}
+use Rattle.replica.specs.declared.replica.Older.{Older}
 use Rattle.replica.specs.declared.replica.StageRefused.{StageRefused}
 use Rattle.replica.specs.declared.replica.StageRefused.TheVariants as refusals
 
@@ -55,6 +58,38 @@ staged_by call update t x = record { owner = call; update = update; moment = t; 
 -- the replica after a stage: its slot alone changes
 abbrev pub staged : CallId → Update → ℤ → Replica → Replica
 staged call update t x = record x { slot = standing_or x.slot (outcome_on x update t) (staged_by call update t x) }
+
+-- ---- a snapshot
+
+-- the snapshot has what the replica has
+abbrev pub pulled_from : Replica → Snapshot → Snapshot
+pulled_from x s = record s { sections = x.sections; generation = x.generation; count = x.count }
+
+-- marks hold a pull off, with their call
+abbrev pub pull_result : Option CallId → Result (Unit {0}) Held
+pull_result (Some holder) = Err (record { by = holder })
+pull_result None = Ok tt
+
+-- and nothing is pulled through them
+abbrev pub pulled_unless : Option CallId → Replica → Snapshot → Snapshot
+pulled_unless (Some holder) x s = s
+pulled_unless None x s = pulled_from x s
+
+-- the replica is older than the snapshot: it has a lower generation, or the same and fewer updates
+abbrev pub is_older : Replica → Snapshot → Bool
+is_older x s = nat_lt x.generation s.generation || ((x.generation == s.generation) && nat_lt x.count s.count)
+
+-- only an older one takes it; another tells its own generation and count
+abbrev pub install_answer : Replica → Snapshot → Result (Unit {0}) Older
+install_answer x s = if is_older x s then Ok tt else Err (record { generation = x.generation; count = x.count })
+
+-- the replica has what the snapshot has
+abbrev pub taken_from : Snapshot → Replica → Replica
+taken_from s x = record x { sections = s.sections; generation = s.generation; count = s.count }
+
+-- the replica behind an installation
+abbrev pub installed : Snapshot → Replica → Replica
+installed s x = if is_older x s then taken_from s x else x
 
 -- ---- the ends of what is staged
 

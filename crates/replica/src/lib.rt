@@ -3,4 +3,4 @@
 
 mod replica;
 
-pub use replica::{Replica, StageRefused};
+pub use replica::{Older, Replica, StageRefused};

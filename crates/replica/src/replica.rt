@@ -1,15 +1,17 @@
 //! A replica: what may be done to it, and what becomes of it. It knows no message and no other replica.
 ghost use Rattle.std.specs.Prelude.{◌≡◌, ◌≢◌, ◌+◌, ◌-◌, ◌^◌, ◌<◌, false, true, None, IfOk};
 ghost use Rattle.ckpt_types.specs.Attributes.{is_malformed};
+ghost use Rattle.ckpt_types.specs.Sections.{Fits};
 ghost use Rattle.stage_slot.specs.Slots.{owner_of, IsOwnedBy, IsClaim};
 ghost use Rattle.update_rules.specs.Told.{check_answer};
 ghost use Rattle.weak_marks.specs.Marks.{call_of, is_left, is_left_of, IsMarkedBy};
-ghost use Rattle.replica.specs.Replicas.{opened_replica, outcome_on, answer_unless, staged, committed, withdrawn, applied, begun, element_done, elements_left, first_written, ended, abandoned, all_corrupted, IsWrite, CanGoOn};
+ghost use Rattle.replica.specs.Replicas.{opened_replica, outcome_on, answer_unless, staged, committed, withdrawn, applied, begun, element_done, elements_left, first_written, ended, abandoned, all_corrupted, IsWrite, CanGoOn, pull_result, pulled_unless, is_older, install_answer, taken_from, installed};
 
 use ckpt_types::{
     CallId, CkptId, CreationAttributes, Held, IoElement, Moment, SharedUpdate, Update,
 };
 use section_store::Store;
+use snap_copy::Snap;
 use stage_slot::{Claimed, Slot};
 use std::alloc::{AllocError, Global};
 use std::marker::Model;
@@ -23,6 +25,16 @@ pub enum StageRefused {
     Held(CallId),
     /// The sections do not admit the update.
     Rules(Refused),
+}
+
+/// A snapshot is not installed: the replica has this generation and so many updates, which are not below the
+/// snapshot's, the generation compared first.
+#[derive(Clone, Copy, Debug, PartialEq, Eq)]
+pub struct Older {
+    /// The replica's generation.
+    pub generation: u64,
+    /// How many updates the replica has taken.
+    pub count: u64,
 }
 
 /// One replica of a checkpoint.
@@ -220,6 +232,59 @@ impl Replica {
         ensures { result ≡ check_answer (outcome_on self.now update.now moment) }
     {
         update_rules::check(self.store.attributes(), &self.store, update, moment)
+    }
+
+    /// The snapshot has what the replica has: its sections, its generation and its count of updates. Where the marks
+    /// of a weak write stand, the snapshot stays as it was, and the answer is their call.
+    pub fn pull(&self, snap: &mut Snap) -> Result<(), Held>
+        requires { Fits snap.old.attributes self.now.sections }
+        ensures answer { result ≡ pull_result (call_of self.now.marks) }
+        ensures snap { snap.new ≡ pulled_unless (call_of self.now.marks) self.now snap.old }
+    {
+        if let Some(call) = self.marks.call() {
+            return Err(Held { by: call });
+        }
+        snap.pull(&self.store, self.generation, self.count);
+        Ok(())
+    }
+
+    /// A replica that is older than the snapshot has what the snapshot has from then on. Any other stays as it was, and
+    /// the answer tells its generation and its count.
+    pub fn install(&mut self, snap: &Snap) -> Result<(), Older>
+        requires free { self.old.slot ≡ None }
+        requires unmarked { self.old.marks ≡ None }
+        requires fits { Fits self.old.attributes snap.now.sections }
+        ensures answer { result ≡ install_answer self.old snap.now }
+        ensures new { self.new ≡ installed snap.now self.old }
+    {
+        if !self.is_older(snap) {
+            return Err(Older {
+                generation: self.generation,
+                count: self.count,
+            });
+        }
+        self.complete_from(snap, snap.generation());
+        Ok(())
+    }
+
+    /// The replica has the sections and the count of the snapshot from then on, with this generation.
+    pub fn complete_from(&mut self, snap: &Snap, generation: u64)
+        requires free { self.old.slot ≡ None }
+        requires unmarked { self.old.marks ≡ None }
+        requires fits { Fits self.old.attributes snap.now.sections }
+        ensures { self.new ≡ record (taken_from snap.now self.old) { generation = generation } }
+    {
+        self.store.copy_from(snap);
+        self.count = snap.count();
+        self.generation = generation;
+    }
+
+    // Whether its generation and count are below the snapshot's, the generation compared first.
+    fn is_older(&self, snap: &Snap) -> bool
+        ensures { result ≡ is_older self.now snap.now }
+    {
+        self.generation < snap.generation()
+            || (self.generation == snap.generation() && self.count < snap.count())
     }
 
     /// The replica has this generation from then on.
