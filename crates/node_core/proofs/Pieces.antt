@@ -25,15 +25,15 @@ by_section place e (Some s) = by_size place e (drop e.offset s.bytes) (nat_lt (s
 pub length-piece_read : (place : ℕ) (e : ReadElement) (sections : List Section) → IfOk (piece_read place e sections) (λ piece. length piece ≤ e.len)
 length-piece_read place e sections = by_section place e (section_at e.id sections)
 
-joined : (e : ReadElement) (elements : List ReadElement) (piece : Result (List ℕ) Refusal) (pieces : Result (List (List ℕ)) Refusal) → IfOk piece (λ piece. length piece ≤ e.len) → IfOk pieces (λ pieces. sum_by length pieces ≤ bytes_asked elements) →
+one_piece_more : (e : ReadElement) (elements : List ReadElement) (piece : Result (List ℕ) Refusal) (pieces : Result (List (List ℕ)) Refusal) → IfOk piece (λ piece. length piece ≤ e.len) → IfOk pieces (λ pieces. sum_by length pieces ≤ bytes_asked elements) →
     IfOk (and_then piece (λ piece. and_then pieces (λ pieces. Ok (piece ∷ pieces)))) (λ pieces. sum_by length pieces ≤ bytes_asked (e ∷ elements))
-joined e elements (Ok piece) (Ok pieces) one rest = omega (arith, sum_by-cons (length {A = ℕ}) piece pieces, sum_by-cons (λ (e : ReadElement). e.len) e elements, one, rest)
-joined e elements (Ok piece) (Err why) one rest = tt
-joined e elements (Err why) pieces one rest = tt
+one_piece_more e elements (Ok piece) (Ok pieces) one rest = omega (arith, sum_by-cons (length {A = ℕ}) piece pieces, sum_by-cons (λ (e : ReadElement). e.len) e elements, one, rest)
+one_piece_more e elements (Ok piece) (Err why) one rest = tt
+one_piece_more e elements (Err why) pieces one rest = tt
 
 pieces_within : (place : ℕ) (elements : List ReadElement) (sections : List Section) → IfOk (pieces_read place elements sections) (λ pieces. sum_by length pieces ≤ bytes_asked elements)
 pieces_within place [] sections = omega arith
-pieces_within place (e ∷ elements) sections = joined e elements (piece_read place e sections) (pieces_read (place + 1) elements sections) (length-piece_read place e sections) (pieces_within (place + 1) elements sections)
+pieces_within place (e ∷ elements) sections = one_piece_more e elements (piece_read place e sections) (pieces_read (place + 1) elements sections) (length-piece_read place e sections) (pieces_within (place + 1) elements sections)
 
 roomier : (o : Result (List (List ℕ)) Refusal) (n room : ℕ) → n ≤ room → IfOk o (λ pieces. sum_by length pieces ≤ n) → IfOk o (λ pieces. sum_by length pieces ≤ room)
 roomier (Ok pieces) n room h within = omega arith

@@ -1,6 +1,7 @@
 -- When a request may come to a node.
 use Rattle.std.specs.Prelude.{◌≡◌, ◌-◌, ◌^◌, ◌<◌, Option, None, IsSomeAnd, Bool, true, false}
 use Rattle.ckpt_types.specs.Attributes.{is_malformed}
+use Rattle.ckpt_types.specs.Sections.{Fits}
 use Rattle.node_msgs.specs.declared.requests.Request.{Request}
 use Rattle.node_msgs.specs.declared.requests.Request.TheVariants as requests
 use Rattle.node_msgs.specs.Requests.{ckpt_of}
@@ -9,6 +10,7 @@ use Rattle.weak_marks.specs.Marks.{IsMarkedBy, is_left_of}
 use Rattle.cluster_record.specs.Places.{find_key}
 use Rattle.cluster_record.specs.RecordState.{RecordState, entry_of}
 use Rattle.replica.specs.Replicas.{Replica}
+use Rattle.snap_copy.specs.Snapshots.{Snapshot}
 use Rattle.node_core.specs.declared.lent.Lent.{Lent}
 use Rattle.node_core.specs.Lending.{HasLent}
 use Rattle.node_core.specs.Nodes.{NodeState, replica_key, seen_from}
@@ -41,6 +43,12 @@ HasCountLeft request x = Unit {0}
 pub record TakesUpdate (x : Replica) : Type 0 where
   pub unmarked : x.marks ≡ None
   pub room : x.count < 2 ^ 64 - 1
+
+-- a replica can take over a snapshot: nothing is staged on it, no marks stand, and the sections keep to what it declares
+pub record TakesSnapshot (s : Snapshot) (x : Replica) : Type 0 where
+  pub free : x.slot ≡ None
+  pub unmarked : x.marks ≡ None
+  pub fits : Fits x.attributes s.sections
 
 -- a replica can serve a request, with what is lent
 pub record CanServe (request : Request) (lent : Lent) (x : Replica) : Type 0 where

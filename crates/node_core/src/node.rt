@@ -3,12 +3,12 @@ ghost use Rattle.std.specs.Prelude.{◌≡◌, [], IfOk, IfSome, IsSomeAnd, Matc
 ghost use Rattle.ckpt_types.specs.Attributes.{is_malformed};
 ghost use Rattle.node_msgs.specs.Requests.{ckpt_of};
 ghost use Rattle.stage_slot.specs.Slots.{owner_of, IsOwnedBy};
-ghost use Rattle.replica.specs.Replicas.{answer_unless, committed, outcome_on, staged};
+ghost use Rattle.replica.specs.Replicas.{answer_unless, committed, install_answer, installed, outcome_on, staged};
 ghost use Rattle.cluster_record.specs.Places.{find_key, change_key};
 ghost use Rattle.cluster_record.specs.RecordState.{entry_of};
 ghost use Rattle.node_core.specs.Changing.{added_for, changed_node, ChangeFits, IsAddition};
 ghost use Rattle.node_core.specs.Details.{details_told};
-ghost use Rattle.node_core.specs.Fitting.{RequestFits, TakesUpdate};
+ghost use Rattle.node_core.specs.Fitting.{RequestFits, TakesSnapshot, TakesUpdate};
 ghost use Rattle.node_core.specs.Nodes.{NodeState, replica_key, seen_from, replica_served, MayReply, node_after, freed_node};
 ghost use Rattle.node_core.specs.Payloads.{payload_of};
 ghost use Rattle.node_core.specs.Serving.{details_at, iteration_behind};
@@ -18,11 +18,12 @@ use crate::fitting::{change_fits_in, fits_in};
 use crate::lent::Lent;
 use crate::replicas::{find_at, keep_others, keep_there};
 use crate::reserving::{add_in, reserve_in};
-use crate::serving::{commit_in, serve_in, stage_in};
+use crate::serving::{commit_in, install_in, serve_in, stage_in};
 use ckpt_types::{CallId, CkptId, Moment, NodeId, SharedUpdate};
 use cluster_record::Record;
 use node_msgs::{NodeChange, Reply, Request};
-use replica::{Replica, StageRefused};
+use replica::{Older, Replica, StageRefused};
+use snap_copy::Snap;
 use std::alloc::{AllocError, Global};
 use std::marker::Model;
 
@@ -108,6 +109,16 @@ impl Node {
         ensures { self.new ≡ record self.old { replicas = change_key replica_key ckpt (λ x. committed x x.slot) self.old.replicas } }
     {
         commit_in(self.replicas.as_mut_slice(), call, ckpt);
+    }
+
+    /// The replica of a checkpoint has what a snapshot has from then on, where it is older. Any other stays as it was,
+    /// and the answer tells its generation and its count. It takes no memory.
+    pub fn install(&mut self, ckpt: CkptId, snap: &Snap) -> Result<(), Older>
+        requires there { IsSomeAnd (find_key replica_key ckpt self.old.replicas) (TakesSnapshot snap.now) }
+        ensures answer { IfSome (find_key replica_key ckpt self.old.replicas) (λ x. result ≡ install_answer x snap.now) }
+        ensures new { self.new ≡ record self.old { replicas = change_key replica_key ckpt (installed snap.now) self.old.replicas } }
+    {
+        install_in(self.replicas.as_mut_slice(), ckpt, snap)
     }
 
     /// Whether a request may come to the node, with what is lent.

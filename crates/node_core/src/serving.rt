@@ -3,9 +3,9 @@ ghost use Rattle.std.specs.Prelude.{◌≡◌, ◌<◌, None, Some, IfSome, IsSo
 ghost use Rattle.cluster_record.specs.Places.{find_key, change_key, place_key};
 ghost use Rattle.node_msgs.specs.Requests.{ckpt_of};
 ghost use Rattle.stage_slot.specs.Slots.{owner_of, IsOwnedBy};
-ghost use Rattle.replica.specs.Replicas.{answer_unless, committed, outcome_on, staged};
+ghost use Rattle.replica.specs.Replicas.{answer_unless, committed, install_answer, installed, outcome_on, staged};
 ghost use Rattle.node_core.specs.Details.{details_told};
-ghost use Rattle.node_core.specs.Fitting.{CanServe, ReplicaFits, TakesUpdate};
+ghost use Rattle.node_core.specs.Fitting.{CanServe, ReplicaFits, TakesSnapshot, TakesUpdate};
 ghost use Rattle.node_core.specs.Nodes.{replica_key, where_seen};
 ghost use Rattle.node_core.specs.Payloads.{payload_of};
 ghost use Rattle.node_core.specs.Seen.{record_seen, is_complete};
@@ -20,7 +20,8 @@ use crate::weak_writes::{element, mark_lent, unmark};
 use ckpt_types::{CallId, CkptId, Moment, NodeId, SharedUpdate};
 use cluster_record::Record;
 use node_msgs::{Reply, Request};
-use replica::{Replica, StageRefused};
+use replica::{Older, Replica, StageRefused};
+use snap_copy::Snap;
 
 // Where the replica stands with which the node serves a checkpoint.
 #[inline(always)]
@@ -86,6 +87,19 @@ pub(crate) fn commit_in(replicas: &mut [Replica], call: CallId, ckpt: CkptId)
     };
     let replica = &mut replicas[i];
     replica.commit(call);
+}
+
+/// The replica of a checkpoint takes over a snapshot, where it is older.
+pub(crate) fn install_in(replicas: &mut [Replica], ckpt: CkptId, snap: &Snap) -> Result<(), Older>
+    requires there { IsSomeAnd (find_key replica_key ckpt replicas.old) (TakesSnapshot snap.now) }
+    ensures answer { IfSome (find_key replica_key ckpt replicas.old) (λ x. result ≡ install_answer x snap.now) }
+    ensures new { replicas.new ≡ change_key replica_key ckpt (installed snap.now) replicas.old }
+{
+    let Some(i) = place_of(replicas, ckpt) else {
+        unreachable!()
+    };
+    let replica = &mut replicas[i];
+    replica.install(snap)
 }
 
 // The answer of a replica for which its node is complete.
