@@ -34,15 +34,18 @@ use Rattle.ckpt_machine.specs.Complete.{with_replica, replicas_from, complete_re
 use Rattle.ckpt_machine.specs.Guards.{OnEach, OnAll, CommitOk, ApplyOk, AreMarksOf, Allowed, ends_update}
 use Rattle.ckpt_machine.specs.Invariant.{Invariant}
 use Rattle.ckpt_machine.specs.Laws.{AcknowledgedStays}
-use Rattle.ckpt_machine.specs.Machine.{Machine, Applied, Effect, ReplicaState, Staged, CallState}
+use Rattle.ckpt_machine.specs.Listing.{is_active}
+use Rattle.ckpt_machine.specs.Machine.{Machine, Applied, Effect, ReplicaState, Snapshot, Staged, CallState}
 use Rattle.ckpt_machine.specs.Options.{is_all}
 use Rattle.ckpt_machine.specs.Owned.{OwnsNothing}
+use Rattle.ckpt_machine.specs.Propagation.{replica_from}
 use Rattle.ckpt_machine.specs.Runs.{last_from, last, IsRunFrom, IsRun}
 use Rattle.node_core.specs.Serving.{update_answer}
 use Rattle.ckpt_machine.specs.Shape.{IsCompleteOn}
 use Rattle.ckpt_machine.specs.Steps.{Told, IsDue, with_record, record_step, created_for, retained_for, change_replica, with_committed, committed_slot, with_applied, having_taken, with_marks, with_next_element, without_marks, marks_ended, with_slot, effect_of, changed, on_ok, on_look, without_making, at_some, replica_under, opened_state, stepped, step_of, staged_moment, after}
 use Rattle.ckpt_machine.proofs.ActiveNode.{active_complete}
 use Rattle.ckpt_machine.proofs.AllOrNone.{all_or_none}
+use Rattle.ckpt_machine.proofs.Copying.{IsPutOn, not_active, after_pull, after_put, put2-cases}
 use Rattle.ckpt_machine.proofs.Entries.{ComesOf-filter}
 use Rattle.ckpt_machine.proofs.EachReplica.{made_where_complete}
 use Rattle.ckpt_machine.proofs.EntryLists.{entry_of-given}
@@ -167,6 +170,22 @@ module _ (k : ℕ) (call : CallId) (update : Update) (m : Machine) (stay : Stays
         | false ↦ λ at other. stay.its r y other to_have
       ] refl is
 
+  -- a snapshot goes to no replica that is to have the update
+  put_stays : (j q : ℕ) (s : Snapshot) (x : ReplicaState) → IsPutOn m j q x → Stays k call update (record m { replicas = put2 m.replicas j q (Some (replica_from s x)) })
+  put_stays j q s x on = record {
+    given = stay.given;
+    made = stay.made;
+    led = stay.led;
+    its = λ r y is to_have. elim (put2-cases m.replicas j q (replica_from s x) k r y is) [
+      | inl here ↦ absurd (not_its r (subst (λ o. IsToHave o r) (ap (λ k. entry_of k m.cluster.entries) (sym here.0) ∙ on.found) to_have) (subst (λ r. is_active on.entry.active r ≡ false) here.1 on.other))
+      | inr was ↦ stay.its r y was.0 to_have
+    ];
+  }
+    where
+      not_its : (r : ℕ) → IsToHave (Some on.entry) r → is_active on.entry.active r ≡ false → ⊥
+      not_its r (inl all) other = let w : true ≡ false = sym all ∙ on.alone in cc w
+      not_its r (inr active) other = not_active on.entry.active r other active
+
   module _ (rises : IdentitiesRise m.cluster.entries) (up_to : AllUpTo m.cluster.last_identity m.cluster.entries) where
     step_stays : (step : RecordState → RecordState) → MadeOn k m.cluster (step m.cluster) → Stays k call update (record_step step m)
     step_stays step on = record_stays (swept (step m.cluster)) (MadeOn-swept k m.cluster (step m.cluster) on)
@@ -236,6 +255,8 @@ module _ (k : ℕ) (call : CallId) (update : Update) (m : Machine) (stay : Stays
   after_stays inv (labels.Nodes n) allowed = record { given = stay.given; made = stay.made; led = stay.led; its = stay.its }
   after_stays inv (labels.Moved t) allowed = record_stays (moved t m.cluster) (record { last = omega arith; rises = IdentitiesRise-filter (stays t) m.cluster.entries inv.holds.rises; made = ComesOf-filter StaysMade StaysMade-same (stays t) m.cluster.entries inv.holds.rises k })
   after_stays inv (labels.Shown j replicas) allowed = stay
+  after_stays inv (labels.Pulled j reply) allowed = after_pull (Stays k call update) m j reply allowed stay (λ x from none. stay)
+  after_stays inv (labels.Put j q reply) allowed = after_put (Stays k call update) m j q reply stay (λ s x copied on. put_stays j q s x on)
   after_stays inv l allowed = absurd allowed
 
 -- and at every time from then on

@@ -189,12 +189,12 @@ abbrev until_both_are_done : List Label
 until_both_are_done = until_one_element_is_done ++ write_step 3 opwords.Write verbs.Element (Some 1) (Some 0) ∷ []
 
 -- the bytes of each section on n0
-abbrev bytes_in : Option ReplicaState → List (List ℕ)
-bytes_in None = []
-bytes_in (Some x) = map (λ (s : Section). s.bytes) x.sections
+abbrev section_bytes : Option ReplicaState → List (List ℕ)
+section_bytes None = []
+section_bytes (Some x) = map (λ (s : Section). s.bytes) x.sections
 
-abbrev bytes_after : List Label → List (List ℕ)
-bytes_after log = bytes_in ((last log).replicas 1 0)
+abbrev section_bytes_after : List Label → List (List ℕ)
+section_bytes_after log = section_bytes ((last log).replicas 1 0)
 
 -- how many elements its marks count as done
 abbrev done_in : Option ReplicaState → Option ℕ
@@ -205,7 +205,7 @@ abbrev done_after : List Label → Option ℕ
 done_after log = done_in ((last log).replicas 1 0)
 
 -- between two elements the first stands there alone, and the active has no effect of it
-pub one_element_is_there : bytes_after until_one_element_is_done ≡ codes "abc" ∷ []
+pub one_element_is_there : section_bytes_after until_one_element_is_done ≡ codes "abc" ∷ []
 one_element_is_there = refl
 
 pub one_is_done : done_after until_one_element_is_done ≡ Some 1
@@ -214,7 +214,7 @@ one_is_done = refl
 pub no_effect_of_an_element : effects_on until_one_element_is_done 0 ≡ Some []
 no_effect_of_an_element = refl
 
-pub both_are_there : bytes_after until_both_are_done ≡ codes "abcde" ∷ []
+pub both_are_there : section_bytes_after until_both_are_done ≡ codes "abcde" ∷ []
 both_are_there = refl
 
 pub no_effect_before_its_end : effects_on until_both_are_done 0 ≡ Some []
@@ -227,7 +227,7 @@ then_the_active_has_the_write = refl
 pub and_no_marks : done_after (until_both_are_done ++ end_of_marks ∷ []) ≡ None
 and_no_marks = refl
 
-pub and_its_bytes : bytes_after (until_both_are_done ++ end_of_marks ∷ []) ≡ codes "abcde" ∷ []
+pub and_its_bytes : section_bytes_after (until_both_are_done ++ end_of_marks ∷ []) ≡ codes "abcde" ∷ []
 and_its_bytes = refl
 
 pub which_n1_has_not : effects_on (until_both_are_done ++ end_of_marks ∷ []) 1 ≡ Some []

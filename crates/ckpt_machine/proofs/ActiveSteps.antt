@@ -18,9 +18,12 @@ use Rattle.ckpt_machine.specs.InHand.{is_marked_by, IsInHand}
 use Rattle.ckpt_machine.specs.Invariant.{IsMaker, IsGoodIn, InvariantIn}
 use Rattle.ckpt_machine.specs.Machine.{Machine, ReplicaState, CallState}
 use Rattle.ckpt_machine.specs.Options.{is_all}
-use Rattle.ckpt_machine.specs.Shape.{Shape, IsApart, IsShapedBy, PhaseFits, is_owner, IsOwner, IsMarker, IsSpread}
+use Rattle.ckpt_machine.specs.Shape.{Shape, IsCompleteOn, IsApart, IsShapedBy, PhaseFits, is_owner, IsOwner, IsMarker, IsSpread}
 use Rattle.ckpt_machine.specs.Steps.{driver_of}
+use Rattle.ckpt_machine.proofs.ActiveNode.{active_complete}
 use Rattle.ckpt_machine.proofs.Actors.{same_actor-true}
+use Rattle.ckpt_machine.proofs.OnComplete.{put_complete}
+use Rattle.ckpt_machine.proofs.OptionLemmas.{IsSomeAnd-from}
 use Rattle.ckpt_machine.proofs.OtherCalls.{LooksAlike, making_still, IsInHand-alike, IsIn-apart, IsOwner-alike, IsGoodIn-alike}
 use Rattle.ckpt_machine.proofs.ReplicaSteps.{put_actor-cases, put_actor-other}
 
@@ -82,6 +85,7 @@ module _ (m : Machine) (shapes : ℕ → Shape) (inv : InvariantIn shapes m) (s 
     up_to = inv.up_to;
     swept = inv.swept;
     entries = λ j e found. IsGoodIn-other m.replicas None (λ j q other. refl) j (shapes j) e e.making (apart j e found (j == a.ckpt) refl) (inv.entries j e found);
+    replicas = inv.replicas;
     reserves = inv.reserves;
     handles = inv.handles;
     rest = inv.rest;
@@ -172,6 +176,7 @@ module _ (m : Machine) (shapes : ℕ → Shape) (inv : InvariantIn shapes m) (s 
       up_to = inv.up_to;
       swept = inv.swept;
       entries = λ j f there. by_test j f there (j == a.ckpt) refl;
+      replicas = put_complete m.cluster m.replicas a.ckpt r y (IsSomeAnd-from (entry_of a.ckpt m.cluster.entries) (λ e. IsCompleteOn e r) e found (active_complete m shapes a.ckpt e r inv found made active)) inv.replicas;
       reserves = inv.reserves;
       handles = inv.handles;
       rest = inv.rest;

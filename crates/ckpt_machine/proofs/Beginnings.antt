@@ -43,7 +43,7 @@ use Rattle.ckpt_machine.specs.InHand.{AreGoodAttributes, active_kind, is_enter, 
 use Rattle.weak_marks.specs.Marks.{Marked}
 use Rattle.ckpt_machine.specs.Invariant.{IsGoodClient, IsGoodIn, InvariantIn, Invariant}
 use Rattle.ckpt_machine.specs.Machine.{Machine, CallState}
-use Rattle.ckpt_machine.specs.Steps.{IsBegun, IsDriven, MayBegin, asked_handle, kept_at_beginning, room_in, begun, begun_call, call_begun, started_call, driver_of}
+use Rattle.ckpt_machine.specs.Steps.{IsBegun, IsDriven, MayBegin, asked_handle, kept_at_beginning, room_in, after_beginning, begun_call, call_begun, started_call, driver_of}
 use Rattle.ckpt_machine.specs.Tables.{handle_asked, ckpt_of_handle, choice_of, ended_at_once}
 use Rattle.ckpt_machine.specs.Shape.{Shape, IsSpread}
 use Rattle.ckpt_machine.proofs.Actors.{same_call-true}
@@ -298,10 +298,10 @@ module _ (m : Machine) (shapes : ℕ → Shape) (inv : InvariantIn shapes m) (ca
   -- ---- the state after a beginning
 
   -- a call that ends at once leaves the invariant
-  ended_keeps : (op : Op) (o : Outcome) → InvariantIn shapes (begun m call op (Some o))
+  ended_keeps : (op : Op) (o : Outcome) → InvariantIn shapes (after_beginning m call op (Some o))
   ended_keeps op o = ended_at_once_keeps (begun_call m call op (Some o)) shapes (begun_keeps m shapes inv call idle None client number (λ z some. absurd (cc some))) call.actor (put_actor-here m.in_hand call.actor None) (Some o) (asked op)
 
-  pub begin_keeps : (op : Op) (end : Option Outcome) → IsBegun m call op end → Invariant (begun m call op end)
+  pub begin_keeps : (op : Op) (end : Option Outcome) → IsBegun m call op end → Invariant (after_beginning m call op end)
   begin_keeps op (Some o) is = record { shapes = shapes; holds = ended_keeps op o }
   begin_keeps op None is =
       let h = asked_handle m call.actor op in

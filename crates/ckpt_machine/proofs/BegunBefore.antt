@@ -15,6 +15,7 @@ use Rattle.ckpt_machine.specs.Machine.{Machine, CallState}
 use Rattle.ckpt_machine.specs.Runs.{last, IsRunFrom, IsRun}
 use Rattle.cluster_record.specs.StepDone.{StepDone}
 use Rattle.ckpt_machine.specs.Steps.{IsDue, call_begun, kept_behind, changed, step_of, after}
+use Rattle.ckpt_machine.proofs.Copying.{after_pull, after_put}
 use Rattle.ckpt_machine.proofs.Histories.{HasHistory, follows, keeps_history, history_empty}
 use Rattle.ckpt_machine.proofs.Lawful.{lawful}
 use Rattle.ckpt_machine.proofs.ReplicaSteps.{put_actor-cases}
@@ -73,6 +74,8 @@ module _ (log : List Label) (inv : Invariant (last log)) (history : HasHistory (
   after_began (labels.Nodes n) allowed due s held = longer (labels.Nodes n) s held
   after_began (labels.Moved t) allowed due s held = longer (labels.Moved t) s held
   after_began (labels.Shown k replicas) allowed due s held = longer (labels.Shown k replicas) s held
+  after_began (labels.Pulled k reply) allowed due s held = after_pull (AllBegan (log ++ labels.Pulled k reply ∷ [])) (last log) k reply due (longer (labels.Pulled k reply)) (λ x from none s held. longer (labels.Pulled k reply) s held) s held
+  after_began (labels.Put k r reply) allowed due s held = after_put (AllBegan (log ++ labels.Put k r reply ∷ [])) (last log) k r reply (longer (labels.Put k r reply)) (λ z x is on s held. longer (labels.Put k r reply) s held) s held
   after_began l allowed due s held = absurd due
 
 began_from : (log more : List Label) → Invariant (last log) → HasHistory (last log) → AllBegan log (last log) → IsRunFrom (last log) more → AllBegan (log ++ more) (last (log ++ more))

@@ -16,6 +16,7 @@ use Rattle.ckpt_machine.specs.Runs.{last_from, last, IsRunFrom, IsRun}
 use Rattle.ckpt_machine.specs.Steps.{IsDue, asked_handle, step_of, after}
 use Rattle.ckpt_machine.specs.Tables.{ckpt_of_handle}
 use Rattle.ckpt_machine.proofs.Actors.{same_actor-true}
+use Rattle.ckpt_machine.proofs.Copying.{after_pull, after_put}
 use Rattle.ckpt_machine.proofs.Histories.{HasHistory, follows, keeps_history, run_history}
 use Rattle.ckpt_machine.proofs.Lawful.{lawful}
 use Rattle.ckpt_machine.proofs.ReplicaSteps.{put_actor-here}
@@ -45,6 +46,8 @@ next_after m (labels.Word who word said) inv history allowed due a = omega arith
 next_after m (labels.Nodes n) inv history allowed due a = omega arith
 next_after m (labels.Moved t) inv history allowed due a = omega arith
 next_after m (labels.Shown k replicas) inv history allowed due a = omega arith
+next_after m (labels.Pulled k reply) inv history allowed due a = after_pull (λ (n : Machine). m.next a ≤ n.next a) m k reply due (omega arith) (λ x from none. omega arith)
+next_after m (labels.Put k r reply) inv history allowed due a = after_put (λ (n : Machine). m.next a ≤ n.next a) m k r reply (omega arith) (λ s x is on. omega arith)
 next_after m l inv history allowed due a = absurd due
 
 next_from : (m : Machine) (log : List Label) → Invariant m → HasHistory m → IsRunFrom m log → (a : ActorName) → m.next a ≤ (last_from m log).next a

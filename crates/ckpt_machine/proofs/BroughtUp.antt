@@ -38,6 +38,7 @@ module _ (m : Machine) (shapes : ℕ → Shape) (inv : InvariantIn shapes m) (n 
     up_to = inv.up_to;
     swept = inv.swept;
     entries = λ k e found. IsGoodIn-alike m then_machine k (shapes k) e (λ r there. refl) (λ d own. refl) (λ marks own. refl) (λ d own. refl) e.making (inv.entries k e found);
+    replicas = inv.replicas;
     reserves = inv.reserves;
     handles = inv.handles;
     rest = inv.rest;

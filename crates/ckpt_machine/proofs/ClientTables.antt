@@ -42,6 +42,7 @@ module _ (m : Machine) (shapes : ℕ → Shape) (inv : InvariantIn shapes m) (a 
     up_to = inv.up_to;
     swept = inv.swept;
     entries = λ k e found. IsGoodIn-alike m then_machine k (shapes k) e (λ r there. refl) (λ d own. refl) (λ marks own. refl) (λ d own. refl) e.making (inv.entries k e found);
+    replicas = inv.replicas;
     reserves = inv.reserves;
     handles = λ b h. elim (same_actor b a) as (λ t. Contains (cond t (change (m.tables a)) (m.tables b)).handles h → WasMade m.cluster h.id) [ true ↦ λ among. good h among | false ↦ λ among. inv.handles b h among ];
     rest = λ b. elim (same_actor b a) as (λ t. NoneLent (cond t (change (m.tables a)) (m.tables b))) [ true ↦ at_rest | false ↦ inv.rest b ];

@@ -22,6 +22,10 @@ use Rattle.node_msgs.specs.declared.steps.Verb.TheVariants as verbs
 use Rattle.node_msgs.specs.declared.steps.StepReply.{StepReply}
 use Rattle.node_msgs.specs.declared.steps.StepReply.TheVariants as words
 use Rattle.run_labels.specs.declared.labels.Label.TheVariants as labels
+use Rattle.run_labels.specs.declared.labels.PullReply.{PullReply}
+use Rattle.run_labels.specs.declared.labels.PullReply.TheVariants as pulls
+use Rattle.run_labels.specs.declared.labels.PutReply.{PutReply}
+use Rattle.run_labels.specs.declared.labels.PutReply.TheVariants as puts
 use Rattle.cluster_record.specs.declared.entries.Entry.{Entry}
 use Rattle.cluster_record.specs.Calls.{same_actor, client_of}
 use Rattle.cluster_record.specs.Identities.{IdentitiesRise, AllUpTo}
@@ -33,17 +37,19 @@ use Rattle.cluster_record.specs.RecordState.{RecordState, entry_of, identity_of,
 use Rattle.cluster_record.proofs.IdentityLaws.{KeepsIdentity, IdentitiesRise-change_key, IdentitiesRise-filter, IdentitiesRise-map, IdentitiesRise-push}
 use Rattle.ckpt_types.specs.Asks.{Ask, asked, update_of}
 use Rattle.ckpt_types.specs.Asks as asks
-use Rattle.ckpt_machine.specs.Machine.{Machine, Applied, ReplicaState, Staged, CallState, empty_cluster}
+use Rattle.ckpt_machine.specs.Machine.{Machine, Applied, ReplicaState, Snapshot, Staged, CallState, empty_cluster}
 use Rattle.ckpt_machine.specs.Laws.{CountsUp}
+use Rattle.ckpt_machine.specs.Propagation.{source_at, copied, with_pulled, target_at, replica_from, with_put}
 use Rattle.ckpt_machine.specs.Runs.{Counts}
 use Rattle.ckpt_machine.specs.Steps.{given_at, chosen_at}
-use Rattle.ckpt_machine.specs.Steps.{with_record, record_step, with_tables, with_given, with_started, with_gone_on, ids_asked, seen_at, created_for, retained_for, change_replica, with_committed, committed_slot, with_applied, with_marks, without_marks, marks_ended, effect_of, begun, begun_call, changed, step_of, on_ok, on_look, without_making, at_some, replica_under, opened_state}
+use Rattle.ckpt_machine.specs.Steps.{with_record, record_step, with_tables, with_given, with_started, with_gone_on, ids_asked, seen_at, created_for, retained_for, change_replica, with_committed, committed_slot, with_applied, with_marks, without_marks, marks_ended, effect_of, after_beginning, begun_call, changed, step_of, on_ok, on_look, without_making, at_some, replica_under, snapshot_under, opened_state}
 use Rattle.ckpt_machine.specs.Tables.{handle_given, with_iteration, started, with_next, gone_on, closing, ended_at_once}
 use Rattle.ckpt_machine.proofs.References.{released-identity, released_all-identity}
 use Rattle.ckpt_machine.proofs.Joining.{opened_with-identity}
 use Rattle.ckpt_machine.proofs.Entries.{ComesOf, ComesOf-filter, ComesOf-change_key, ComesOf-map}
 use Rattle.ckpt_machine.proofs.Follows.{element_effects}
 use Rattle.ckpt_machine.proofs.NodeLists.{slice_index-replicate}
+use Rattle.ckpt_machine.proofs.Propagated.{source_there}
 
 -- ---- what counts up
 
@@ -67,6 +73,11 @@ replica_under-Some (Some f) before r old x e =
       ] some
     ] e
 
+-- a snapshot after it was there
+snapshot_under-Some : (o : Option Entry) (was : Option Snapshot) (s : Snapshot) → snapshot_under o was ≡ Some s → was ≡ Some s
+snapshot_under-Some None was s gone = absurd (cc gone)
+snapshot_under-Some (Some e) was s is = is
+
 -- after a step of the record
 pub Counts-record : (m : Machine) (R : RecordState) (n : ℕ) → Counts m n → R.last_identity ≤ n + 1 → ((k : ℕ) (e : Entry) (c : ℕ) → entry_of k R.entries ≡ Some e → slice_index e.references c ≤ n + 1) → Counts (with_record m R) (n + 1)
 Counts-record m R n counts identity references = record {
@@ -77,6 +88,7 @@ Counts-record m R n counts identity references = record {
     | inl was ↦ omega (arith, counts.effects k r x was)
     | inr none ↦ omega (arith, ap length none)
   ];
+  snapshots = λ k s is. omega (arith, counts.snapshots k s (snapshot_under-Some (entry_of k R.entries) (m.snapshots k) s is));
   identity = identity;
   references = references;
 }
@@ -91,6 +103,7 @@ Counts-replica m k r x n counts few = record {
     | true ↦ λ here. subst (λ (z : ReplicaState). length z.effects ≤ n + 1) (same_Some x y here) few
     | false ↦ λ there. omega (arith, counts.effects j q y there)
   ] is;
+  snapshots = λ j s is. omega (arith, counts.snapshots j s is);
   identity = omega arith;
   references = λ j e c is. omega (arith, counts.references j e c is);
 }
@@ -102,6 +115,7 @@ counts_empty = record {
   last_handles = λ c. omega arith;
   last_iterations = λ c. omega arith;
   effects = λ k r x is. absurd (cc is);
+  snapshots = λ k s is. absurd (cc is);
   identity = omega arith;
   references = λ k e c is. absurd (cc is);
 }
@@ -271,7 +285,7 @@ CountsOne-ended_at_once end ask t = record { handles = omega arith; iterations =
 
 -- other calls in hand
 Counts-in_hand : (m : Machine) (f : ActorName → Option CallState) (n : ℕ) → Counts m n → Counts (record m { in_hand = f }) n
-Counts-in_hand m f n counts = record { next = counts.next; last_handles = counts.last_handles; last_iterations = counts.last_iterations; effects = counts.effects; identity = counts.identity; references = counts.references }
+Counts-in_hand m f n counts = record { next = counts.next; last_handles = counts.last_handles; last_iterations = counts.last_iterations; effects = counts.effects; snapshots = counts.snapshots; identity = counts.identity; references = counts.references }
 
 module _ (m : Machine) (n : ℕ) (counts : Counts m n) where
   more : Counts m (n + 1)
@@ -280,6 +294,7 @@ module _ (m : Machine) (n : ℕ) (counts : Counts m n) where
     last_handles = λ c. omega (arith, counts.last_handles c);
     last_iterations = λ c. omega (arith, counts.last_iterations c);
     effects = λ k r x is. omega (arith, counts.effects k r x is);
+    snapshots = λ k s is. omega (arith, counts.snapshots k s is);
     identity = omega arith;
     references = λ k e c is. omega (arith, counts.references k e c is);
   }
@@ -297,6 +312,7 @@ module _ (m : Machine) (n : ℕ) (counts : Counts m n) where
     last_handles = λ b. elim (same_actor b a) as (λ t. (cond t (change (then_machine.tables a)) (then_machine.tables b)).last_number ≤ n + 1) [ true ↦ omega (arith, one.handles, counts.last_handles a) | false ↦ on.last_handles b ];
     last_iterations = λ b. elim (same_actor b a) as (λ t. (cond t (change (then_machine.tables a)) (then_machine.tables b)).last_iteration ≤ n + 1) [ true ↦ omega (arith, one.iterations, counts.last_iterations a) | false ↦ on.last_iterations b ];
     effects = on.effects;
+    snapshots = on.snapshots;
     identity = on.identity;
     references = on.references;
   }
@@ -305,6 +321,27 @@ module _ (m : Machine) (n : ℕ) (counts : Counts m n) where
   replica_on : (k r : ℕ) (o : Option ReplicaState) → m.replicas k r ≡ o → (change : ReplicaState → ReplicaState) → ((x : ReplicaState) → length (change x).effects ≤ length x.effects + 1) → Counts (change_replica m k r o change) (n + 1)
   replica_on k r None there change few = more
   replica_on k r (Some x) there change few = Counts-replica m k r (change x) n counts (let a = few x in let b = counts.effects k r x there in omega (arith, a, b))
+
+  -- a pull takes a copy of a replica
+  pulled_on : (k : ℕ) (reply : PullReply) (o : Option ReplicaState) → source_at m k ≡ o → Counts (with_pulled m k reply o) (n + 1)
+  pulled_on k (pulls.Ok count) (Some x) is = record {
+    next = more.next;
+    last_handles = more.last_handles;
+    last_iterations = more.last_iterations;
+    effects = more.effects;
+    snapshots = λ j s at. elim (j == k) as (λ b. cond b (Some (copied x)) (m.snapshots j) ≡ Some s → length s.effects ≤ n + 1) [
+      | true ↦ λ here. subst (λ (z : Snapshot). length z.effects ≤ n + 1) (same_Some (copied x) s here) (let (r, there) = source_there m k x is in more.effects k r x there)
+      | false ↦ λ there. more.snapshots j s there
+    ] at;
+    identity = more.identity;
+    references = more.references;
+  }
+  pulled_on k reply o is = more
+
+  -- and a put gives a replica what a snapshot has
+  put_on : (k r : ℕ) (reply : PutReply) (o : Option Snapshot) (x : Option ReplicaState) → m.snapshots k ≡ o → Counts (with_put m k r reply o x) (n + 1)
+  put_on k r (puts.Ok count) (Some s) (Some x) is = Counts-replica m k r (replica_from s x) n counts (more.snapshots k s is)
+  put_on k r reply o x is = more
 
   -- what is done on OK alone, and at a checkpoint and a node that are named
   ok_on : (reply : StepReply) (after_it : Machine) → Counts after_it (n + 1) → Counts (on_ok reply m after_it) (n + 1)
@@ -383,7 +420,7 @@ module _ (m : Machine) (n : ℕ) (rises : IdentitiesRise m.cluster.entries) (up_
   changed_counts verbs.Enter k r reply = ok_on m n counts reply _ (some_on m n counts r _ (λ r. on_step m n counts (entered (client_of s.call) r s.call.number) (record { rises = rises; last = omega arith; few = (same_on m.cluster rises up_to).few })))
   changed_counts verbs.Leave k r reply = ok_on m n counts reply _ (tables_on m n counts _ (on_step m n counts (departed (client_of s.call)) (departed_on m.cluster rises up_to (client_of s.call))) s.call.actor emptied (record { handles = omega arith; iterations = omega arith }))
   changed_counts verbs.Create k r reply = ok_on m n counts reply _ (on_step m n counts (created_for s.call (asked s.op)) (created_for_on m.cluster rises up_to s.call (asked s.op)))
-  changed_counts verbs.Reserve k r reply = ok_on m n counts reply _ (both_on m n counts k r _ (λ k r. let c = more m n counts in record { next = c.next; last_handles = c.last_handles; last_iterations = c.last_iterations; effects = c.effects; identity = c.identity; references = c.references }))
+  changed_counts verbs.Reserve k r reply = ok_on m n counts reply _ (both_on m n counts k r _ (λ k r. let c = more m n counts in record { next = c.next; last_handles = c.last_handles; last_iterations = c.last_iterations; effects = c.effects; snapshots = c.snapshots; identity = c.identity; references = c.references }))
   changed_counts verbs.Finish k r reply = ok_on m n counts reply _ (some_on m n counts k _ (λ k. entry_given k (made_with (home_of (client_of s.call) m.cluster) m.cluster.up (client_of s.call)) (λ e. refl) (OneMore-made (home_of (client_of s.call) m.cluster) m.cluster.up (client_of s.call))))
   changed_counts verbs.Undo k r reply = ok_on m n counts reply _ (some_on m n counts k _ (undone_on m n counts rises up_to))
   changed_counts verbs.Open k r reply = ok_on m n counts reply _ (some_on m n counts k _ (λ k. entry_given k (opened_with (home_of (client_of s.call) m.cluster) m.cluster.up (client_of s.call)) (opened_with-identity (home_of (client_of s.call) m.cluster) m.cluster.up (client_of s.call)) (OneMore-opened (home_of (client_of s.call) m.cluster) m.cluster.up (client_of s.call))))
@@ -403,12 +440,13 @@ module _ (m : Machine) (n : ℕ) (rises : IdentitiesRise m.cluster.entries) (up_
   changed_counts verb k r reply = more m n counts
 
 -- a beginning counts one number on
-begun_counts : (m : Machine) (call : CallId) (op : Op) (end : Option Outcome) (n : ℕ) → Counts m n → Counts (begun m call op end) (n + 1)
+begun_counts : (m : Machine) (call : CallId) (op : Op) (end : Option Outcome) (n : ℕ) → Counts m n → Counts (after_beginning m call op end) (n + 1)
 begun_counts m call op end n counts = tables_on m n counts (begun_call m call op end) (record {
   next = λ a. elim (same_actor a call.actor) as (λ b. cond b (m.next call.actor + 1) (m.next a) ≤ n + 1 + 1) [ true ↦ omega (arith, counts.next call.actor) | false ↦ omega (arith, counts.next a) ];
   last_handles = λ a. omega (arith, counts.last_handles a);
   last_iterations = λ a. omega (arith, counts.last_iterations a);
   effects = λ k r x is. omega (arith, counts.effects k r x is);
+  snapshots = λ k s is. omega (arith, counts.snapshots k s is);
   identity = omega arith;
   references = λ k e c is. omega (arith, counts.references k e c is);
 }) call.actor (ended_at_once end (asked op)) (CountsOne-ended_at_once end (asked op) (m.tables call.actor))
@@ -421,7 +459,9 @@ counts_up m (labels.Stepped call op verb k r reply end details) n inv is few =
     subst (λ o. Counts (step_of m o verb k r reply end) (n + 1)) (sym is.in_hand)
     (Counts-in_hand (changed m is.state verb k r reply) _ (n + 1) (changed_counts m n inv.holds.rises inv.holds.up_to few is.state verb k r reply))
 counts_up m (labels.Word who word said) n inv is few = more m n few
-counts_up m (labels.Nodes nodes) n inv is few = let c = more m n few in record { next = c.next; last_handles = c.last_handles; last_iterations = c.last_iterations; effects = c.effects; identity = c.identity; references = c.references }
+counts_up m (labels.Nodes nodes) n inv is few = let c = more m n few in record { next = c.next; last_handles = c.last_handles; last_iterations = c.last_iterations; effects = c.effects; snapshots = c.snapshots; identity = c.identity; references = c.references }
 counts_up m (labels.Moved t) n inv is few = on_record m n few (moved t m.cluster) (record { rises = IdentitiesRise-filter (stays t) m.cluster.entries inv.holds.rises; last = omega arith; few = λ n few k e c found. let a = Few-filter n (stays t) m.cluster.entries inv.holds.rises few k e c found in omega (arith, a) })
 counts_up m (labels.Shown k replicas) n inv is few = more m n few
+counts_up m (labels.Pulled k reply) n inv is few = pulled_on m n few k reply (source_at m k) refl
+counts_up m (labels.Put k r reply) n inv is few = put_on m n few k r reply (m.snapshots k) (target_at m k r) refl
 counts_up m l n inv is few = absurd is

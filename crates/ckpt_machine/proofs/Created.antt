@@ -26,6 +26,7 @@ use Rattle.ckpt_machine.proofs.EntryLists.{entry_of-given, find_key-push, AllSta
 use Rattle.ckpt_machine.proofs.OtherCalls.{LooksAlike, making_still, IsInHand-alike, IsGoodIn-alike}
 use Rattle.ckpt_machine.proofs.OptionLemmas.{IsSomeAnd-at, IsSomeAnd-from}
 use Rattle.ckpt_machine.proofs.ReplicaSteps.{put_actor-cases, put_actor-here, put_actor-other}
+use Rattle.ckpt_machine.proofs.OnComplete.{under_complete}
 use Rattle.ckpt_machine.proofs.ReservedUnder.{was_reserved}
 use Rattle.ckpt_machine.proofs.PlainCalls.{is_plain, owner_apart, marker_apart, maker_apart}
 
@@ -161,6 +162,7 @@ module _ (m : Machine) (shapes : ℕ → Shape) (inv : InvariantIn shapes m) (s 
     up_to = AllUpTo-push m.cluster.last_identity m.cluster.entries new inv.up_to refl;
     swept = AllStay-push m.cluster.moment m.cluster.entries new inv.swept refl;
     entries = λ j e found. by_test j e found (j == next) refl;
+    replicas = λ j q x is. under_complete (entry_of j R.entries) (slice_index (complete_of (entry_of j m.cluster.entries)) q) q (m.replicas j q) x is;
     reserves = λ j q n reserved. was_reserved (entry_of j R.entries) q n (m.reserved j q) (λ f. IsSome f.making) (λ f found free was. reserves_then j q n f found was (j == next) refl) reserved;
     handles = λ b h among. WasMade-then h.id (inv.handles b h among);
     rest = inv.rest;

@@ -1,7 +1,7 @@
--- What is said of a replica by its checkpoint's entry and its node, and what keeps it at each step: then it holds of each replica in every state of a run.
-use Rattle.std.proofs.Common.{◌≡◌, ℕ, ◌≤◌, List, [], ◌∷◌, ◌++◌, Option, Some, None, Bool, true, false, cond, not, ◌==◌, ◌&&◌, ℤ, refl, sym, ap, subst, ◌∙◌, append_assoc, arith}
-use Rattle.std.specs.Prelude.{IsSomeAnd, IsOk, slice_index}
-use Rattle.std.proofs.lemmas.Bool.{eqb-true, and_parts}
+-- What is said of a replica by its checkpoint's entry and its node, and of a snapshot by that entry, and what keeps it at each step: then it holds of each replica and each snapshot in every state of a run. And where updates go to the active alone, no other replica and no snapshot is ahead of it.
+use Rattle.std.proofs.Common.{◌≡◌, ◌⊎◌, inl, inr, ℕ, ◌≤◌, List, [], ◌∷◌, ◌++◌, Option, Some, None, Bool, true, false, cond, not, ◌==◌, ℤ, refl, sym, ap, subst, ◌∙◌, append_assoc, arith}
+use Rattle.std.specs.Prelude.{IsSome, IsSomeAnd, IsOk, slice_index}
+use Rattle.std.proofs.lemmas.Bool.{eqb-true}
 use Rattle.std.proofs.lemmas.List.{append-nil}
 use Rattle.std.proofs.lemmas.Option.{same_Some}
 use Rattle.ckpt_types.specs.declared.identities.CallId.{CallId}
@@ -19,28 +19,48 @@ use Rattle.run_labels.specs.declared.labels.Label.TheVariants as labels
 use Rattle.cluster_record.specs.declared.entries.Entry.{Entry}
 use Rattle.cluster_record.specs.Calls.{client_of}
 use Rattle.cluster_record.specs.Makings.{making_of}
-use Rattle.cluster_record.specs.Places.{change_key}
+use Rattle.cluster_record.specs.Places.{change_key, put, put2}
 use Rattle.cluster_record.specs.RecordState.{RecordState, entry_of, identity_of, complete_of, stays, swept, moved, entered, finished, home_of, opened_with, unreferred, unnamed, departed, undone}
 use Rattle.cluster_record.proofs.IdentityLaws.{IdentitiesRise-filter}
 use Rattle.ckpt_machine.specs.Beginning.{update_is_bad}
 use Rattle.ckpt_machine.specs.BeginRows.{has_bad_arguments}
 use Rattle.ckpt_machine.specs.Guards.{CommitOk, ApplyOk, MarkOk, AreMarksOf, OnAll, OnActive, Row, Allowed}
 use Rattle.ckpt_machine.specs.Invariant.{Invariant}
-use Rattle.ckpt_machine.specs.Machine.{Machine, ReplicaState, CallState, empty_cluster}
+use Rattle.ckpt_machine.specs.Machine.{Machine, Effect, Applied, Staged, ReplicaState, Snapshot, CallState, empty_cluster}
+use Rattle.ckpt_machine.specs.Listing.{is_active}
 use Rattle.ckpt_machine.specs.Options.{is_all, is_weak, is_by_element}
+use Rattle.ckpt_machine.specs.Propagation.{copied, replica_from}
+use Rattle.ckpt_machine.specs.Replays.{IsPrefix}
 use Rattle.ckpt_machine.specs.Runs.{last, IsRun}
-use Rattle.ckpt_machine.specs.Shape.{IsCompleteOn}
-use Rattle.ckpt_machine.specs.Steps.{Told, IsDone, IsDue, due, with_record, record_step, created_for, retained_for, change_replica, having_taken, committed_slot, with_committed, with_applied, with_slot, with_marks, next_element_written, with_next_element, marks_ended, without_marks, changed, on_ok, on_look, without_making, at_some, replica_under, opened_state, step_of, staged_moment, after}
+use Rattle.ckpt_machine.specs.Shape.{IsCompleteOn, IsApart, IsShapedBy, marks_at}
+use Rattle.ckpt_machine.specs.Steps.{Told, IsDone, IsDue, due, with_record, record_step, created_for, retained_for, change_replica, having_taken, committed_slot, with_committed, with_applied, with_slot, with_marks, next_element_written, with_next_element, marks_ended, without_marks, changed, on_ok, on_look, without_making, at_some, replica_under, snapshot_under, effect_of, opened_state, step_of, staged_moment, after}
+use Rattle.ckpt_machine.proofs.ActiveNode.{active_complete}
+use Rattle.ckpt_machine.proofs.Copying.{IsSource, IsPulledFrom, IsPutOn, not_active, after_pull, after_put, put-cases, put2-cases}
 use Rattle.ckpt_machine.proofs.Entries.{ComesOf-filter}
 use Rattle.ckpt_machine.proofs.EntryLists.{entry_of-given}
+use Rattle.ckpt_machine.proofs.Follows.{under, snapshot_was, element_effects}
 use Rattle.ckpt_machine.proofs.GoodArguments.{HaveGoodArguments, good_arguments}
-use Rattle.ckpt_machine.proofs.Histories.{HasHistory, maker_incomplete, on_replica-there, run_history}
+use Rattle.ckpt_machine.proofs.Histories.{HasHistory, shaped_there, maker_incomplete, on_replica-there, run_history}
 use Rattle.ckpt_machine.proofs.Joining.{opened_with-identity}
-use Rattle.ckpt_machine.proofs.OptionLemmas.{IsSomeAnd-at}
+use Rattle.ckpt_machine.proofs.OptionLemmas.{IsSomeAnd-at, IsSomeAnd-from}
 use Rattle.ckpt_machine.proofs.OwnMaking.{making_there}
 use Rattle.ckpt_machine.proofs.References.{released-identity}
 use Rattle.ckpt_machine.proofs.Runs.{last-push, IsRunFrom-front, IsRunFrom-back}
 use Rattle.ckpt_machine.proofs.StaysMade.{StaysMade, StaysMade-same, StaysMade-kept, released_made, opened_made, MadeOn, MadeOn-swept, changed_on, filter_on, departed_on, created_for_on, retained_for_on, finished_on}
+
+-- ---- what goes on from what
+
+prefix_same : (xs : List Effect) → IsPrefix xs xs
+prefix_same xs = ([], sym (append-nil xs))
+
+prefix_of_same : (xs ys : List Effect) → ys ≡ xs → IsPrefix xs ys
+prefix_of_same xs ys same = subst (IsPrefix xs) (sym same) (prefix_same xs)
+
+prefix_of_none : (xs ys : List Effect) → xs ≡ [] → IsPrefix xs ys
+prefix_of_none xs ys none = (ys, ap (λ (xs : List Effect). xs ++ ys) (sym none))
+
+prefix_then : (xs ys zs : List Effect) → IsPrefix xs ys → IsPrefix ys zs → IsPrefix xs zs
+prefix_then xs ys zs one two = (one.0 ++ two.0, two.1 ∙ ap (λ (ys : List Effect). ys ++ two.0) one.1 ∙ append_assoc xs one.0 two.0)
 
 -- ---- a step on one replica
 
@@ -77,6 +97,37 @@ pub record IsMarkedFor (call : CallId) (update : Update) (left : Bool) (x : Repl
   pub stand : x.marks ≡ Some marks
   pub are : AreMarksOf call update left marks
 
+-- what one replica becomes: it has its effects still, and where updates are on the active alone, more only if it is the active
+pub record Grows (m : Machine) (k r : ℕ) (x y : ReplicaState) : Type 0 where
+  pub more : IsPrefix x.effects y.effects
+  pub other : (e : Entry) → entry_of k m.cluster.entries ≡ Some e → is_all e.attributes ≡ false → (e.active ≡ Some r) ⊎ (y.effects ≡ x.effects)
+
+-- a commit takes no effect away
+committed_more : (o : Option Entry) (x : ReplicaState) → IsPrefix x.effects (with_committed o x).effects
+committed_more None x = prefix_same x.effects
+committed_more (Some e) x = by_slot x.slot
+  where
+    by_slot : (o : Option Staged) → IsPrefix x.effects (committed_slot e.attributes x o).effects
+    by_slot None = prefix_same x.effects
+    by_slot (Some slot) = (effect_of slot ∷ [], refl)
+
+-- no marks stand on a node that is not the active
+no_marks_at : (active : Option ℕ) (marks : Option Marked) (r : ℕ) → is_active active r ≡ false → marks_at active marks r ≡ None
+no_marks_at None marks r other = refl
+no_marks_at (Some active) marks r other = elim (r == active) as (λ b. (r == active) ≡ b → cond b marks None ≡ None) [
+  | true ↦ λ is. absurd (not_active (Some active) r other (ap Some (sym (eqb-true r active is))))
+  | false ↦ λ is. refl
+] refl
+
+-- where its effects stay
+grows_same : (m : Machine) (k r : ℕ) (x y : ReplicaState) → y.effects ≡ x.effects → Grows m k r x y
+grows_same m k r x y same = record { more = prefix_of_same x.effects y.effects same; other = λ e found alone. inr same }
+
+-- each replica of the checkpoint, and its snapshot, has only what this one has taken first
+pub record IsAhead (k : ℕ) (replicas : ℕ → ℕ → Option ReplicaState) (snapshots : ℕ → Option Snapshot) (y : ReplicaState) : Type 0 where
+  pub replica : (q : ℕ) (x : ReplicaState) → replicas k q ≡ Some x → IsPrefix x.effects y.effects
+  pub snapshot : (s : Snapshot) → snapshots k ≡ Some s → IsPrefix s.effects y.effects
+
 -- the checkpoint on which a node is complete is made
 pub made_where_complete : (m : Machine) → Invariant m → (k r : ℕ) (e : Entry) → entry_of k m.cluster.entries ≡ Some e → IsCompleteOn e r → e.making ≡ None
 made_where_complete m inv k r e found complete = by_making e.making refl
@@ -87,18 +138,23 @@ made_where_complete m inv k r e found complete = by_making e.making refl
 
 -- ---- what is kept
 
-module _ (Q : Option Entry → ℕ → ReplicaState → Type 0) where
-  -- it holds of each replica
-  abbrev pub EachIn : RecordState → (ℕ → ℕ → Option ReplicaState) → Type 0
-  EachIn R replicas = (k r : ℕ) (x : ReplicaState) → replicas k r ≡ Some x → Q (entry_of k R.entries) r x
+module _ (Q : Option Entry → ℕ → ReplicaState → Type 0) (S : Entry → Snapshot → Type 0) where
+  -- it holds of each replica and each snapshot; a snapshot is of a checkpoint that is made, and whose updates go to an active alone; and no replica and no snapshot is ahead of such an active
+  pub record EachIn (entries : List Entry) (replicas : ℕ → ℕ → Option ReplicaState) (snapshots : ℕ → Option Snapshot) : Type 0 where
+    pub replica : (k r : ℕ) (x : ReplicaState) → replicas k r ≡ Some x → Q (entry_of k entries) r x
+    pub snapshot : (k : ℕ) (s : Snapshot) → snapshots k ≡ Some s → IsSomeAnd (entry_of k entries) (λ e. IsSource e × S e s)
+    pub ahead : (k r : ℕ) (e : Entry) (y : ReplicaState) → entry_of k entries ≡ Some e → is_all e.attributes ≡ false → e.active ≡ Some r → replicas k r ≡ Some y → IsAhead k replicas snapshots y
 
   abbrev pub Each : Machine → Type 0
-  Each m = EachIn m.cluster m.replicas
+  Each m = EachIn m.cluster.entries m.replicas m.snapshots
 
-  -- it holds of what a checkpoint's opening makes, whatever becomes of its entry, and where it holds it does behind a stage, a commit, an update in one step, and what is done for a weak write: its marks, each element and its end
+  -- it holds of what a checkpoint's opening makes, whatever becomes of its entry, and where it holds it does behind a stage, a commit, an update in one step, and what is done for a weak write: its marks, each element and its end; and so it does of a snapshot of the active, and of a replica that takes it
   pub record IsKept : Type 0 where
     pub opened : (e : Entry) (r : ℕ) → Q (Some e) r (opened_state e)
     pub stays : (e f : Entry) (r : ℕ) (x : ReplicaState) → StaysMade e f → e.making ≡ None → Q (Some e) r x → Q (Some f) r x
+    pub stays_copied : (e f : Entry) (s : Snapshot) → StaysMade e f → S e s → S f s
+    pub pulled : (e : Entry) (r : ℕ) (x : ReplicaState) → IsSource e → e.active ≡ Some r → x.marks ≡ None → Q (Some e) r x → S e (copied x)
+    pub put : (e : Entry) (r : ℕ) (s : Snapshot) (x : ReplicaState) → x.slot ≡ None → x.marks ≡ None → S e s → Q (Some e) r x → Q (Some e) r (replica_from s x)
     pub staged : (m : Machine) (s : CallState) (k r : ℕ) (x : ReplicaState) → StepsOn m s verbs.Stage k r x → Q (entry_of k m.cluster.entries) r x → Q (entry_of k m.cluster.entries) r (with_slot s.call (update_of s.op) (staged_moment m k) x)
     pub committed : (m : Machine) (s : CallState) (k r : ℕ) (x : ReplicaState) (e : Entry) → StepsOn m s verbs.Commit k r x → DeclaresAll m k e → Q (Some e) r x → Q (Some e) r (committed_slot e.attributes x x.slot)
     pub applied : (m : Machine) (s : CallState) (k r : ℕ) (x : ReplicaState) (e : Entry) → StepsOn m s verbs.Apply k r x → IsActiveOf m k r e → x.marks ≡ None → Q (Some e) r x → Q (Some e) r (having_taken e.attributes s.call (update_of s.op) m.cluster.moment x)
@@ -106,27 +162,86 @@ module _ (Q : Option Entry → ℕ → ReplicaState → Type 0) where
     pub element : (m : Machine) (s : CallState) (k r : ℕ) (x : ReplicaState) (e : Entry) (marks : Marked) → StepsOn m s verbs.Element k r x → IsActiveOf m k r e → IsMarkedFor s.call (update_of s.op) true x marks → Q (Some e) r x → Q (Some e) r (next_element_written e.attributes x (Some marks))
     pub unmarked : (m : Machine) (s : CallState) (k r : ℕ) (x : ReplicaState) (e : Entry) (marks : Marked) → StepsOn m s verbs.Unmark k r x → IsActiveOf m k r e → IsMarkedFor s.call (update_of s.op) false x marks → Q (Some e) r x → Q (Some e) r (marks_ended x (Some marks))
 
+  -- a checkpoint of which snapshots are taken stays so
+  IsSource-stays : (e f : Entry) → StaysMade e f → IsSource e → IsSource f
+  IsSource-stays e f stays source =
+      let still = stays.made source.made in
+      record { made = still.made; alone = ap is_all still.attributes ∙ source.alone; led = subst IsSome (sym still.active) source.led }
+
+  -- the replica of a node that was complete was there
+  was_there : (o : Option Entry) (before r : ℕ) (old : Option ReplicaState) (y : ReplicaState) → (before == 0) ≡ false → replica_under o before r old ≡ Some y → old ≡ Some y
+  was_there None before r old y complete is = absurd (cc is)
+  was_there (Some e) before r old y complete is = elim (slice_index e.complete r == 0) as (λ b. cond b None (cond (before == 0) (Some (opened_state e)) old) ≡ Some y → old ≡ Some y) [
+    | true ↦ λ none. absurd (cc none)
+    | false ↦ λ some. subst (λ b. cond b (Some (opened_state e)) old ≡ Some y) complete some
+  ] is
+
   module _ (kept : IsKept) (m : Machine) (inv : Invariant m) (history : HasHistory m) (arguments : HaveGoodArguments m) (each : Each m) where
     -- a step of the record: a replica was there, of a checkpoint that is made, or is as its opening makes it
     record_each : (R : RecordState) → ((k : ℕ) → k ≤ m.cluster.last_identity → MadeOn k m.cluster R) → Each (with_record m R)
-    record_each R on k r x is = by_entry (entry_of k R.entries) refl is
+    record_each R on = record { replica = replica; snapshot = snapshot; ahead = ahead }
       where
-        stayed : (f : Entry) → entry_of k R.entries ≡ Some f → m.replicas k r ≡ Some x → Q (Some f) r x
-        stayed f found was =
-            let (e, there, complete) = IsSomeAnd-at (entry_of k m.cluster.entries) (λ e. IsCompleteOn e r) (history.bare.complete k r x was) in
-            let (g, before, stays) = (on k (entry_of-given m.cluster.last_identity k m.cluster.entries e inv.holds.up_to there)).made f found in
-            let same : e ≡ g = same_Some e g (sym there ∙ before) in
-            kept.stays e f r x (subst (λ e. StaysMade e f) (sym same) stays) (made_where_complete m inv k r e there complete) (subst (λ o. Q o r x) there (each k r x was))
+        -- what was made stays so
+        still_made : (k : ℕ) (e f : Entry) → entry_of k m.cluster.entries ≡ Some e → entry_of k R.entries ≡ Some f → StaysMade e f
+        still_made k e f there found =
+            let (g, before, made) = (on k (entry_of-given m.cluster.last_identity k m.cluster.entries e inv.holds.up_to there)).made f found in
+            subst (λ e. StaysMade e f) (same_Some g e (sym before ∙ there)) made
 
-        by_entry : (o : Option Entry) → entry_of k R.entries ≡ o → replica_under o (slice_index (complete_of (entry_of k m.cluster.entries)) r) r (m.replicas k r) ≡ Some x → Q o r x
-        by_entry None found none = absurd (cc none)
-        by_entry (Some f) found here = elim (slice_index f.complete r == 0) as (λ b. cond b None (cond (slice_index (complete_of (entry_of k m.cluster.entries)) r == 0) (Some (opened_state f)) (m.replicas k r)) ≡ Some x → Q (Some f) r x) [
-          | true ↦ λ none. absurd (cc none)
-          | false ↦ λ some. elim (slice_index (complete_of (entry_of k m.cluster.entries)) r == 0) as (λ b. cond b (Some (opened_state f)) (m.replicas k r) ≡ Some x → Q (Some f) r x) [
-            | true ↦ λ new. subst (Q (Some f) r) (same_Some (opened_state f) x new) (kept.opened f r)
-            | false ↦ λ old. stayed f found old
-          ] some
-        ] here
+        -- the entry of a replica that was there
+        entry_was : (k r : ℕ) (x : ReplicaState) → m.replicas k r ≡ Some x → (e : Entry) × (entry_of k m.cluster.entries ≡ Some e) × (e.making ≡ None)
+        entry_was k r x was =
+            let (e, there, complete) = IsSomeAnd-at (entry_of k m.cluster.entries) (λ e. IsCompleteOn e r) (history.bare.complete k r x was) in
+            (e, there, made_where_complete m inv k r e there complete)
+
+        stayed : (k r : ℕ) (x : ReplicaState) (f : Entry) → entry_of k R.entries ≡ Some f → m.replicas k r ≡ Some x → Q (Some f) r x
+        stayed k r x f found was =
+            let (e, there, made) = entry_was k r x was in
+            kept.stays e f r x (still_made k e f there found) made (subst (λ o. Q o r x) there (each.replica k r x was))
+
+        replica : (k r : ℕ) (x : ReplicaState) → replica_under (entry_of k R.entries) (slice_index (complete_of (entry_of k m.cluster.entries)) r) r (m.replicas k r) ≡ Some x → Q (entry_of k R.entries) r x
+        replica k r x is = by_entry (entry_of k R.entries) refl is
+          where
+            by_entry : (o : Option Entry) → entry_of k R.entries ≡ o → replica_under o (slice_index (complete_of (entry_of k m.cluster.entries)) r) r (m.replicas k r) ≡ Some x → Q o r x
+            by_entry None found none = absurd (cc none)
+            by_entry (Some f) found here = elim (slice_index f.complete r == 0) as (λ b. cond b None (cond (slice_index (complete_of (entry_of k m.cluster.entries)) r == 0) (Some (opened_state f)) (m.replicas k r)) ≡ Some x → Q (Some f) r x) [
+              | true ↦ λ none. absurd (cc none)
+              | false ↦ λ some. elim (slice_index (complete_of (entry_of k m.cluster.entries)) r == 0) as (λ b. cond b (Some (opened_state f)) (m.replicas k r) ≡ Some x → Q (Some f) r x) [
+                | true ↦ λ new. subst (Q (Some f) r) (same_Some (opened_state f) x new) (kept.opened f r)
+                | false ↦ λ old. stayed k r x f found old
+              ] some
+            ] here
+
+        -- the entry of a snapshot that was there
+        copied_was : (k : ℕ) (s : Snapshot) → m.snapshots k ≡ Some s → (e : Entry) × (entry_of k m.cluster.entries ≡ Some e) × (IsSource e × S e s)
+        copied_was k s was = IsSomeAnd-at (entry_of k m.cluster.entries) (λ e. IsSource e × S e s) (each.snapshot k s was)
+
+        snapshot : (k : ℕ) (s : Snapshot) → snapshot_under (entry_of k R.entries) (m.snapshots k) ≡ Some s → IsSomeAnd (entry_of k R.entries) (λ e. IsSource e × S e s)
+        snapshot k s is =
+            let (f, found, was) = IsSomeAnd-at (entry_of k R.entries) (λ e. m.snapshots k ≡ Some s) (snapshot_was (entry_of k R.entries) (m.snapshots k) s is) in
+            let (e, there, is_so) = copied_was k s was in
+            let made = still_made k e f there found in
+            IsSomeAnd-from (entry_of k R.entries) (λ e. IsSource e × S e s) f found (IsSource-stays e f made is_so.0, kept.stays_copied e f s made is_so.1)
+
+        -- where the checkpoint was made, its active is as it was
+        ahead_still : (k r : ℕ) (e f : Entry) (y : ReplicaState) → entry_of k m.cluster.entries ≡ Some e → e.making ≡ None → entry_of k R.entries ≡ Some f → is_all f.attributes ≡ false → f.active ≡ Some r
+            → replica_under (entry_of k R.entries) (slice_index (complete_of (entry_of k m.cluster.entries)) r) r (m.replicas k r) ≡ Some y → IsAhead k m.replicas m.snapshots y
+        ahead_still k r e f y there made found alone active is =
+            let still = (still_made k e f there found).made made in
+            let led : e.active ≡ Some r = sym still.active ∙ active in
+            let complete : (slice_index (complete_of (entry_of k m.cluster.entries)) r == 0) ≡ false = subst (λ o. (slice_index (complete_of o) r == 0) ≡ false) (sym there) (active_complete m inv.shapes k e r inv.holds there made led) in
+            each.ahead k r e y there (ap is_all (sym still.attributes) ∙ alone) led (was_there (entry_of k R.entries) (slice_index (complete_of (entry_of k m.cluster.entries)) r) r (m.replicas k r) y complete is)
+
+        ahead : (k r : ℕ) (f : Entry) (y : ReplicaState) → entry_of k R.entries ≡ Some f → is_all f.attributes ≡ false → f.active ≡ Some r → (with_record m R).replicas k r ≡ Some y → IsAhead k (with_record m R).replicas (with_record m R).snapshots y
+        ahead k r f y found alone active is = record {
+          replica = λ q x at. elim (under (entry_of k R.entries) (slice_index (complete_of (entry_of k m.cluster.entries)) q) q (m.replicas k q) x at).1 [
+            | inl was ↦ (let (e, there, made) = entry_was k q x was in (ahead_still k r e f y there made found alone active is).replica q x was)
+            | inr none ↦ prefix_of_none x.effects y.effects none
+          ];
+          snapshot = λ s at.
+              let was = (IsSomeAnd-at (entry_of k R.entries) (λ e. m.snapshots k ≡ Some s) (snapshot_was (entry_of k R.entries) (m.snapshots k) s at)).2 in
+              let (e, there, is_so) = copied_was k s was in
+              (ahead_still k r e f y there is_so.0.made found alone active is).snapshot s was;
+        }
 
     step_each : (step : RecordState → RecordState) → ((k : ℕ) → k ≤ m.cluster.last_identity → MadeOn k m.cluster (step m.cluster)) → Each (record_step step m)
     step_each step on = record_each (swept (step m.cluster)) (λ k given. MadeOn-swept k m.cluster (step m.cluster) (on k given))
@@ -138,17 +253,58 @@ module _ (Q : Option Entry → ℕ → ReplicaState → Type 0) where
     making_each None = each
     making_each (Some j) = undone_each j
 
+    -- what a replica becomes: what is said holds of it, and it has its effects still
+    record BecomesThere (k r : ℕ) (x y : ReplicaState) : Type 0 where
+      so : Q (entry_of k m.cluster.entries) r y
+      grows : Grows m k r x y
+
     -- one replica changed
-    replica_each : (k r : ℕ) (o : Option ReplicaState) → m.replicas k r ≡ o → (change : ReplicaState → ReplicaState) → ((x : ReplicaState) → m.replicas k r ≡ Some x → Q (entry_of k m.cluster.entries) r (change x)) → Each (change_replica m k r o change)
+    replica_each : (k r : ℕ) (o : Option ReplicaState) → m.replicas k r ≡ o → (change : ReplicaState → ReplicaState) → ((x : ReplicaState) → m.replicas k r ≡ Some x → BecomesThere k r x (change x)) → Each (change_replica m k r o change)
     replica_each k r None there change becomes = each
-    replica_each k r (Some x) there change becomes = λ j q z is. elim ((j == k) && (q == r)) as (λ b. ((j == k) && (q == r)) ≡ b → cond b (Some (change x)) (m.replicas j q) ≡ Some z → Q (entry_of j m.cluster.entries) q z) [
-      | true ↦ λ at some.
-          let (ckpt, node) = and_parts (j == k) (q == r) at in
-          let k_is : k ≡ j = sym (eqb-true j k ckpt) in
-          let r_is : r ≡ q = sym (eqb-true q r node) in
-          subst (λ q. Q (entry_of j m.cluster.entries) q z) r_is (subst (λ j. Q (entry_of j m.cluster.entries) r z) k_is (subst (Q (entry_of k m.cluster.entries) r) (same_Some (change x) z some) (becomes x there)))
-      | false ↦ λ at some. each j q z some
-    ] refl is
+    replica_each k r (Some x) there change becomes = record {
+      replica = λ j q z is. elim (put2-cases m.replicas k r (change x) j q z is) [
+        | inl here ↦ subst (Q (entry_of j m.cluster.entries) q) here.2 (subst (λ q. Q (entry_of j m.cluster.entries) q (change x)) here.1 (subst (λ j. Q (entry_of j m.cluster.entries) r (change x)) here.0 so))
+        | inr was ↦ each.replica j q z was.0
+      ];
+      snapshot = each.snapshot;
+      ahead = λ j q e y found alone active is. elim (put2-cases m.replicas k r (change x) j q y is) [
+        | inl here ↦ subst (IsAhead j (put2 m.replicas k r (Some (change x))) m.snapshots) here.2 (subst (λ j. IsAhead j (put2 m.replicas k r (Some (change x))) m.snapshots (change x)) here.0 (own e (ap (λ j. entry_of j m.cluster.entries) here.0 ∙ found) alone (active ∙ ap Some (sym here.1))))
+        | inr was ↦ others j q e y found alone active was.0 was.1
+      ];
+    }
+      where
+        so : Q (entry_of k m.cluster.entries) r (change x)
+        so = (becomes x there).so
+
+        grows : Grows m k r x (change x)
+        grows = (becomes x there).grows
+
+        -- the active itself
+        own : (e : Entry) → entry_of k m.cluster.entries ≡ Some e → is_all e.attributes ≡ false → e.active ≡ Some r → IsAhead k (put2 m.replicas k r (Some (change x))) m.snapshots (change x)
+        own e found alone active =
+            let before = each.ahead k r e x found alone active there in
+            record {
+              replica = λ q z at. elim (put2-cases m.replicas k r (change x) k q z at) [
+                | inl here ↦ prefix_of_same z.effects (change x).effects (ap (λ (z : ReplicaState). z.effects) here.2)
+                | inr was ↦ prefix_then z.effects x.effects (change x).effects (before.replica q z was.0) grows.more
+              ];
+              snapshot = λ s at. prefix_then s.effects x.effects (change x).effects (before.snapshot s at) grows.more;
+            }
+
+        -- another one is the active, or it is of another checkpoint
+        others : (j q : ℕ) (e : Entry) (y : ReplicaState) → entry_of j m.cluster.entries ≡ Some e → is_all e.attributes ≡ false → e.active ≡ Some q → m.replicas j q ≡ Some y → ((k ≡ j) → (r ≡ q) → ⊥) → IsAhead j (put2 m.replicas k r (Some (change x))) m.snapshots y
+        others j q e y found alone active at other =
+            let before = each.ahead j q e y found alone active at in
+            record {
+              replica = λ p z there_then. elim (put2-cases m.replicas k r (change x) j p z there_then) [
+                | inl here ↦ elim (grows.other e (ap (λ k. entry_of k m.cluster.entries) here.0 ∙ found) alone) [
+                  | inl led ↦ absurd (other here.0 (same_Some r q (sym led ∙ active)))
+                  | inr same ↦ subst (λ xs. IsPrefix xs y.effects) (sym same ∙ ap (λ (z : ReplicaState). z.effects) here.2) (before.replica r x (subst (λ j. m.replicas j r ≡ Some x) here.0 there))
+                ]
+                | inr was ↦ before.replica p z was.0
+              ];
+              snapshot = before.snapshot;
+            }
 
     -- what is done on OK alone, and at a checkpoint and a node that are named
     ok_each : (reply : StepReply) (n : Machine) → Each n → Each (on_ok reply m n)
@@ -173,7 +329,7 @@ module _ (Q : Option Entry → ℕ → ReplicaState → Type 0) where
 
     -- where a step is done on a replica, it leaves what is kept
     abbrev Becomes : Option ℕ → Option ℕ → StepReply → (ℕ → ReplicaState → ReplicaState) → Type 0
-    Becomes (Some k) (Some r) words.Ok change = (x : ReplicaState) → m.replicas k r ≡ Some x → Q (entry_of k m.cluster.entries) r (change k x)
+    Becomes (Some k) (Some r) words.Ok change = (x : ReplicaState) → m.replicas k r ≡ Some x → BecomesThere k r x (change k x)
     Becomes k r reply change = Unit {0}
 
     -- what a step of a call needs: what it finishes was in the making by it, and on the replica on which it is taken it leaves what is kept
@@ -237,24 +393,40 @@ module _ (Q : Option Entry → ℕ → ReplicaState → Type 0) where
 
       -- by the entry of its checkpoint
       there_by : (e : Entry) → entry_of k m.cluster.entries ≡ Some e → Q (Some e) r x
-      there_by e found = subst (λ o. Q o r x) found (each k r x there)
+      there_by e found = subst (λ o. Q o r x) found (each.replica k r x there)
 
-      committed_needs : (t : Told) → StepsOn m s verbs.Commit k r x → OnAll m k r (λ e x. CommitOk m s.call update k r t.end t.details x) → Q (entry_of k m.cluster.entries) r (with_committed (entry_of k m.cluster.entries) x)
+      -- it is the active, and has an effect more
+      grows_active : (e : Entry) (y : ReplicaState) (new : List Effect) → IsActiveOf m k r e → y.effects ≡ x.effects ++ new → Grows m k r x y
+      grows_active e y new active is = record { more = (new, is); other = λ f found alone. inl (ap (λ (e : Entry). e.active) (same_Some f e (sym found ∙ active.found)) ∙ active.active) }
+
+      committed_needs : (t : Told) → StepsOn m s verbs.Commit k r x → OnAll m k r (λ e x. CommitOk m s.call update k r t.end t.details x) → BecomesThere k r x (with_committed (entry_of k m.cluster.entries) x)
       committed_needs t step on =
           let (e, y, found, at, facts) = on_replica-there m k r (λ e x. (is_all e.attributes ≡ true) × CommitOk m s.call update k r t.end t.details x) on in
-          subst (λ o. Q o r (with_committed o x)) (sym found) (kept.committed m s k r x e step (record { found = found; all = facts.0 }) (there_by e found))
+          record {
+            so = subst (λ o. Q o r (with_committed o x)) (sym found) (kept.committed m s k r x e step (record { found = found; all = facts.0 }) (there_by e found));
+            grows = record {
+              more = committed_more (entry_of k m.cluster.entries) x;
+              other = λ f is alone. absurd (let w : true ≡ false = sym facts.0 ∙ ap (λ (e : Entry). is_all e.attributes) (same_Some e f (sym found ∙ is)) ∙ alone in cc w);
+            };
+          }
 
-      applied_needs : (t : Told) → StepsOn m s verbs.Apply k r x → OnActive m update false k r (ApplyOk m update t) → Q (entry_of k m.cluster.entries) r (with_applied s.call (update_of s.op) m.cluster.moment (entry_of k m.cluster.entries) x)
+      applied_needs : (t : Told) → StepsOn m s verbs.Apply k r x → OnActive m update false k r (ApplyOk m update t) → BecomesThere k r x (with_applied s.call (update_of s.op) m.cluster.moment (entry_of k m.cluster.entries) x)
       applied_needs t step on =
           let (e, active, at_once, ok) = on_active-there update false k r (ApplyOk m update t) on x there in
-          subst (λ o. Q o r (with_applied s.call (update_of s.op) m.cluster.moment o x)) (sym active.found) (kept.applied m s k r x e step active ok.unmarked (there_by e active.found))
+          record {
+            so = subst (λ o. Q o r (with_applied s.call (update_of s.op) m.cluster.moment o x)) (sym active.found) (kept.applied m s k r x e step active ok.unmarked (there_by e active.found));
+            grows = grows_active e _ (Applied s.call (update_of s.op) m.cluster.moment ∷ []) active (ap (λ o. (with_applied s.call (update_of s.op) m.cluster.moment o x).effects) active.found);
+          }
 
-      marked_needs : (t : Told) → StepsOn m s verbs.Mark k r x → OnActive m update true k r (MarkOk m update t) → Q (entry_of k m.cluster.entries) r (with_marks s.call (update_of s.op) m.cluster.moment x)
+      marked_needs : (t : Told) → StepsOn m s verbs.Mark k r x → OnActive m update true k r (MarkOk m update t) → BecomesThere k r x (with_marks s.call (update_of s.op) m.cluster.moment x)
       marked_needs t step on =
           let (e, active, by_element, ok) = on_active-there update true k r (MarkOk m update t) on x there in
           let good : update_is_bad update ≡ false = sym (ap has_bad_arguments asks_is) ∙ arguments s step.held in
           let can : CanBeMarked e update m.cluster.moment x = record { none = ok.unmarked; by_element = by_element; good = good; fits = ok.fits } in
-          subst (λ o. Q o r (with_marks s.call (update_of s.op) m.cluster.moment x)) (sym active.found) (kept.marked m s k r x e step active (subst (λ update. CanBeMarked e update m.cluster.moment x) own can) (there_by e active.found))
+          record {
+            so = subst (λ o. Q o r (with_marks s.call (update_of s.op) m.cluster.moment x)) (sym active.found) (kept.marked m s k r x e step active (subst (λ update. CanBeMarked e update m.cluster.moment x) own can) (there_by e active.found));
+            grows = grows_same m k r x _ refl;
+          }
 
       -- the marks that stand there
       marks_there : (left : Bool) → OnActive m update true k r (λ e x. IsSomeAnd x.marks (AreMarksOf s.call update left)) → (e : Entry) × (marks : Marked) × IsActiveOf m k r e × IsMarkedFor s.call (update_of s.op) left x marks
@@ -263,29 +435,94 @@ module _ (Q : Option Entry → ℕ → ReplicaState → Type 0) where
           let (marks, is, are) = IsSomeAnd-at x.marks (AreMarksOf s.call update left) stand in
           (e, marks, active, record { stand = is; are = subst (λ update. AreMarksOf s.call update left marks) own are })
 
-      element_needs : StepsOn m s verbs.Element k r x → OnActive m update true k r (λ e x. IsSomeAnd x.marks (AreMarksOf s.call update true)) → Q (entry_of k m.cluster.entries) r (with_next_element (entry_of k m.cluster.entries) x)
+      element_needs : StepsOn m s verbs.Element k r x → OnActive m update true k r (λ e x. IsSomeAnd x.marks (AreMarksOf s.call update true)) → BecomesThere k r x (with_next_element (entry_of k m.cluster.entries) x)
       element_needs step on =
           let (e, marks, active, stand) = marks_there true on in
           let then = kept.element m s k r x e marks step active stand (there_by e active.found) in
-          subst (λ o. Q o r (with_next_element o x)) (sym active.found) (subst (λ marks. Q (Some e) r (next_element_written e.attributes x marks)) (sym stand.stand) then)
+          record {
+            so = subst (λ o. Q o r (with_next_element o x)) (sym active.found) (subst (λ marks. Q (Some e) r (next_element_written e.attributes x marks)) (sym stand.stand) then);
+            grows = grows_same m k r x _ (element_effects (entry_of k m.cluster.entries) x);
+          }
 
-      unmarked_needs : StepsOn m s verbs.Unmark k r x → OnActive m update true k r (λ e x. IsSomeAnd x.marks (AreMarksOf s.call update false)) → Q (entry_of k m.cluster.entries) r (without_marks x)
+      unmarked_needs : StepsOn m s verbs.Unmark k r x → OnActive m update true k r (λ e x. IsSomeAnd x.marks (AreMarksOf s.call update false)) → BecomesThere k r x (without_marks x)
       unmarked_needs step on =
           let (e, marks, active, stand) = marks_there false on in
           let then = kept.unmarked m s k r x e marks step active stand (there_by e active.found) in
-          subst (λ o. Q o r (without_marks x)) (sym active.found) (subst (λ marks. Q (Some e) r (marks_ended x marks)) (sym stand.stand) then)
+          record {
+            so = subst (λ o. Q o r (without_marks x)) (sym active.found) (subst (λ marks. Q (Some e) r (marks_ended x marks)) (sym stand.stand) then);
+            grows = grows_active e _ (Applied marks.call marks.update marks.moment ∷ []) active (ap (λ marks. (marks_ended x marks).effects) stand.stand);
+          }
 
     -- what it needs is in its row
     row_needs : (s : CallState) → m.in_hand s.call.actor ≡ Some s → (t : Told) → IsDone m s (due m s) t → (verb : Verb) (k r : Option ℕ) (reply : StepReply) → t.verb ≡ verb → Row m s verb (record t { verb = verb; ckpt = k; node = r; reply = reply }) → Needs s verb k r reply
     row_needs s held t done verbs.Finish (Some j) None words.Ok verb row = making_there m.cluster inv.holds.rises s.call j row.0.3.0
     row_needs s held t done verbs.Finish (Some j) (Some q) words.Ok verb row = absurd row.0
-    row_needs s held t done verbs.Stage (Some k) (Some r) words.Ok verb row = λ x there. kept.staged m s k r x (steps_on s held t done verbs.Stage verb k r x there) (each k r x there)
+    row_needs s held t done verbs.Stage (Some k) (Some r) words.Ok verb row = λ x there. record { so = kept.staged m s k r x (steps_on s held t done verbs.Stage verb k r x there) (each.replica k r x there); grows = grows_same m k r x _ refl }
     row_needs s held t done verbs.Commit (Some k) (Some r) words.Ok verb row = λ x there. committed_needs s k r x there row.0 row.1 row.2 t (steps_on s held t done verbs.Commit verb k r x there) row.3
     row_needs s held t done verbs.Apply (Some k) (Some r) words.Ok verb row = λ x there. applied_needs s k r x there row.0 row.1 row.2 (record t { verb = verbs.Apply; ckpt = Some k; node = Some r; reply = words.Ok }) (steps_on s held t done verbs.Apply verb k r x there) row.3
     row_needs s held t done verbs.Mark (Some k) (Some r) words.Ok verb row = λ x there. marked_needs s k r x there row.0 row.1 row.2 (record t { verb = verbs.Mark; ckpt = Some k; node = Some r; reply = words.Ok }) (steps_on s held t done verbs.Mark verb k r x there) row.3
     row_needs s held t done verbs.Element (Some k) (Some r) words.Ok verb row = λ x there. element_needs s k r x there row.0 row.1 row.2 (steps_on s held t done verbs.Element verb k r x there) row.3.0
     row_needs s held t done verbs.Unmark (Some k) (Some r) words.Ok verb row = λ x there. unmarked_needs s k r x there row.0 row.1 row.2 (steps_on s held t done verbs.Unmark verb k r x there) row.3.0
     row_needs s held t done verb k r reply verb_is row = tt
+
+    -- a snapshot of the active
+    pulled_each : (k : ℕ) (x : ReplicaState) → IsPulledFrom m k x → x.marks ≡ None → Each (record m { snapshots = put m.snapshots k (Some (copied x)) })
+    pulled_each k x from none = record {
+      replica = each.replica;
+      snapshot = λ j s is. elim (put-cases m.snapshots k (copied x) j s is) [
+        | inl here ↦ subst (λ s. IsSomeAnd (entry_of j m.cluster.entries) (λ e. IsSource e × S e s)) here.1 (subst (λ j. IsSomeAnd (entry_of j m.cluster.entries) (λ e. IsSource e × S e (copied x))) here.0 own)
+        | inr was ↦ each.snapshot j s was
+      ];
+      ahead = λ j r e y found alone active at.
+          let before = each.ahead j r e y found alone active at in
+          record {
+            replica = before.replica;
+            snapshot = λ s is. elim (put-cases m.snapshots k (copied x) j s is) [
+              | inl here ↦ subst (λ (s : Snapshot). IsPrefix s.effects y.effects) here.1 (before.replica from.node x (subst (λ j. m.replicas j from.node ≡ Some x) here.0 from.there))
+              | inr was ↦ before.snapshot s was
+            ];
+          };
+    }
+      where
+        own : IsSomeAnd (entry_of k m.cluster.entries) (λ e. IsSource e × S e (copied x))
+        own = IsSomeAnd-from (entry_of k m.cluster.entries) (λ e. IsSource e × S e (copied x)) from.entry from.found
+            (from.source, kept.pulled from.entry from.node x from.source from.active none (subst (λ o. Q o from.node x) from.found (each.replica k from.node x from.there)))
+
+    -- on what a snapshot is put nothing is staged, and no marks stand
+    put_apart : (k r : ℕ) (x : ReplicaState) (on : IsPutOn m k r x) → IsApart None x
+    put_apart k r x on =
+        let shaped = (shaped_there m inv.shapes inv.holds history.bare k r x on.entry on.there on.found).shaped in
+        subst (λ marks. IsApart marks x) (no_marks_at on.entry.active (inv.shapes k).marks r on.other) (subst (λ all. IsShapedBy all (inv.shapes k) on.entry.active r x) on.alone shaped)
+
+    -- a replica that takes it
+    put_each : (k r : ℕ) (s : Snapshot) (x : ReplicaState) → m.snapshots k ≡ Some s → IsPutOn m k r x → Each (record m { replicas = put2 m.replicas k r (Some (replica_from s x)) })
+    put_each k r s x is on = record {
+      replica = λ j q z at. elim (put2-cases m.replicas k r (replica_from s x) j q z at) [
+        | inl here ↦ subst (Q (entry_of j m.cluster.entries) q) here.2 (subst (λ q. Q (entry_of j m.cluster.entries) q (replica_from s x)) here.1 (subst (λ j. Q (entry_of j m.cluster.entries) r (replica_from s x)) here.0 own))
+        | inr was ↦ each.replica j q z was.0
+      ];
+      snapshot = each.snapshot;
+      ahead = λ j q e y found alone active at. elim (put2-cases m.replicas k r (replica_from s x) j q y at) [
+        | inl here ↦ absurd (
+            let same : e ≡ on.entry = same_Some e on.entry (sym found ∙ ap (λ k. entry_of k m.cluster.entries) (sym here.0) ∙ on.found) in
+            not_active on.entry.active r on.other (ap (λ (e : Entry). e.active) (sym same) ∙ active ∙ ap Some (sym here.1)))
+        | inr was ↦ (
+            let before = each.ahead j q e y found alone active was.0 in
+            record {
+              replica = λ p z there. elim (put2-cases m.replicas k r (replica_from s x) j p z there) [
+                | inl here ↦ subst (λ (z : ReplicaState). IsPrefix z.effects y.effects) here.2 (before.snapshot s (subst (λ j. m.snapshots j ≡ Some s) here.0 is))
+                | inr was ↦ before.replica p z was.0
+              ];
+              snapshot = before.snapshot;
+            })
+      ];
+    }
+      where
+        own : Q (entry_of k m.cluster.entries) r (replica_from s x)
+        own =
+            let apart = put_apart k r x on in
+            let (e, there, is_so) = IsSomeAnd-at (entry_of k m.cluster.entries) (λ e. IsSource e × S e s) (each.snapshot k s is) in
+            subst (λ o. Q o r (replica_from s x)) (sym there) (kept.put e r s x apart.free apart.marks_are is_so.1 (subst (λ o. Q o r x) there (each.replica k r x on.there)))
 
     -- any label that is allowed and due
     after_each : (l : Label) → Allowed m l → IsDue m l → Each (after m l)
@@ -301,6 +538,8 @@ module _ (Q : Option Entry → ℕ → ReplicaState → Type 0) where
     after_each (labels.Nodes n) allowed is = each
     after_each (labels.Moved t) allowed is = record_each (moved t m.cluster) (λ k given. record { last = omega arith; rises = IdentitiesRise-filter (stays t) m.cluster.entries inv.holds.rises; made = ComesOf-filter StaysMade StaysMade-same (stays t) m.cluster.entries inv.holds.rises k })
     after_each (labels.Shown j replicas) allowed is = each
+    after_each (labels.Pulled k reply) allowed is = after_pull Each m k reply is each (pulled_each k)
+    after_each (labels.Put k r reply) allowed is = after_put Each m k r reply each (put_each k r)
     after_each l allowed is = absurd is
 
   -- so it holds in a run
@@ -315,4 +554,24 @@ module _ (Q : Option Entry → ℕ → ReplicaState → Type 0) where
       subst (λ (log : List Label). Each (last log)) longer (run_from kept (front ++ l ∷ []) more (subst IsRun (sym longer) run) (subst Each (sym (last-push front l)) then))
 
   pub run_each : IsKept → (log : List Label) → IsRun log → Each (last log)
-  run_each kept log run = run_from kept [] log run (λ k r x is. absurd (cc is))
+  run_each kept log run = run_from kept [] log run (record { replica = λ k r x is. absurd (cc is); snapshot = λ k s is. absurd (cc is); ahead = λ k r e y found. absurd (cc found) })
+
+-- where nothing is said
+kept_nothing : IsKept (λ o r x. Unit {0}) (λ e s. Unit {0})
+kept_nothing = record {
+  opened = λ e r. tt;
+  stays = λ e f r x stays made is. tt;
+  stays_copied = λ e f s stays is. tt;
+  pulled = λ e r x source active none is. tt;
+  put = λ e r s x free none copied is. tt;
+  staged = λ m s k r x step is. tt;
+  committed = λ m s k r x e step all is. tt;
+  applied = λ m s k r x e step active none is. tt;
+  marked = λ m s k r x e step active can is. tt;
+  element = λ m s k r x e marks step active stand is. tt;
+  unmarked = λ m s k r x e marks step active stand is. tt;
+}
+
+-- each snapshot is of a checkpoint that is made, and no replica and no snapshot is ahead of the active
+pub run_copies : (log : List Label) → IsRun log → Each (λ o r x. Unit {0}) (λ e s. Unit {0}) (last log)
+run_copies log run = run_each (λ o r x. Unit {0}) (λ e s. Unit {0}) kept_nothing log run

@@ -1,4 +1,4 @@
--- No replica has two effects of one call, and none has an effect of the call whose update is staged on it.
+-- No replica and no snapshot has two effects of one call, and none has an effect of the call whose update is staged on it.
 use Rattle.std.proofs.Common.{◌≡◌, ◌≢◌, ℕ, inl, inr, List, [], ◌∷◌, ◌++◌, Option, Some, None, false, refl, sym, ap, subst, ◌∙◌}
 use Rattle.std.proofs.lemmas.Option.{same_Some}
 use Rattle.ckpt_types.specs.declared.attributes.CreationAttributes.{CreationAttributes}
@@ -106,10 +106,13 @@ alone_free m inv bare k r x e there found alone = (subst (λ all. IsShapedBy all
 -- ---- every step
 
 -- it is so of each replica, whatever its checkpoint declares
-kept_once : IsKept (λ o r x. IsOnce x)
+kept_once : IsKept (λ o r x. IsOnce x) (λ e s. EachCallOnce s.effects)
 kept_once = record {
   opened = λ e r. record { each = tt; fresh = λ slot none. absurd (cc none) };
   stays = λ e f r x stays made once. once;
+  stays_copied = λ e f s stays once. once;
+  pulled = λ e r x source active none once. once.each;
+  put = λ e r s x free none copied once. record { each = copied; fresh = λ slot staged. absurd (let w : None ≡ Some slot = sym free ∙ staged in cc w) };
   staged = λ m s k r x step once. record {
     each = once.each;
     fresh = λ slot is has.
@@ -130,4 +133,4 @@ kept_once = record {
 
 -- THE LAW: no replica has two effects of one call
 pub run_once : (log : List Label) → IsRun log → (k r : ℕ) (x : ReplicaState) → (last log).replicas k r ≡ Some x → EachCallOnce x.effects
-run_once log run k r x there = (run_each (λ o r x. IsOnce x) kept_once log run k r x there).each
+run_once log run k r x there = ((run_each (λ o r x. IsOnce x) (λ e s. EachCallOnce s.effects) kept_once log run).replica k r x there).each

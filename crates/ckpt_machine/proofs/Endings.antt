@@ -84,10 +84,10 @@ not_amiss word (Some NoMemory) not_so = is_true (may_lack_memory word) not_so
 not_amiss word (Some outcome) not_so = absurd (not_so tt)
 
 -- a look answers OK or refuses
-look_ends : (m : Machine) (s : CallState) (word : OpWord) (reply : StepReply) (end : Option Outcome) → LookRow m s reply end → EndsAmiss word end → ⊥
-look_ends m s word words.Refused (Some (Refused error cause)) row amiss = amiss
-look_ends m s word words.Done (Some (Done answer)) row amiss = amiss
-look_ends m s word reply end row amiss = absurd row
+look_not_amiss : (m : Machine) (s : CallState) (word : OpWord) (reply : StepReply) (end : Option Outcome) → LookRow m s reply end → EndsAmiss word end → ⊥
+look_not_amiss m s word words.Refused (Some (Refused error cause)) row amiss = amiss
+look_not_amiss m s word words.Done (Some (Done answer)) row amiss = amiss
+look_not_amiss m s word reply end row amiss = absurd row
 
 -- ---- by the row of each verb
 
@@ -220,7 +220,7 @@ module _ (m : Machine) (s : CallState) (end : Option Outcome) (amiss : EndsAmiss
   row_ends verbs.Close k r reply details row = row_at_ckpt k r _ row.0 (λ k p. close_ends k reply p.2)
   row_ends verbs.Unlink k r reply details row = row_at_ckpt k r _ row.0 (λ k p. unlink_ends p.0 k reply p.2)
   row_ends verbs.Retain k r reply details row = row_at_ckpt k r _ row.0 (λ k p. retain_ends k reply p.3)
-  row_ends verbs.Look k r reply details row = look_ends m s (word_of_op s.op) reply end row.2 amiss
+  row_ends verbs.Look k r reply details row = look_not_amiss m s (word_of_op s.op) reply end row.2 amiss
   row_ends verb k r reply details row = absurd row
 
 -- ---- the law

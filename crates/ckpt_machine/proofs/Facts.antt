@@ -45,6 +45,7 @@ use Rattle.replica.specs.Replicas.{IsWrite}
 use Rattle.cluster_record.specs.declared.calls.MarksMade.{MarksMade}
 use Rattle.ckpt_machine.proofs.OpenReady.{IsReadyOpen, open_ready, open_fits}
 use Rattle.ckpt_machine.proofs.OwnMaking.{making_is}
+use Rattle.ckpt_machine.proofs.Propagated.{complete_there, target_there, target_free}
 use Rattle.ckpt_machine.proofs.UpdateReady.{HasMoment, HasOwn, IsReadyNext, update_ready}
 use Rattle.ckpt_machine.proofs.OptionLemmas.{IsSomeAnd-from}
 
@@ -244,6 +245,8 @@ facts m inv = record {
   events = λ a s step here is. ready_for m inv a s (Event step) here is;
   opens = λ a s o here is. open_fits m inv.shapes inv.holds s o (in_own m inv a s here) is;
   makes = λ a s here. making_is m inv.shapes inv.holds s (in_own m inv a s here);
+  complete = λ k r e found complete. complete_there m inv.shapes inv.holds k r e found complete;
+  puts = λ k r x is. target_free m inv.shapes inv.holds k r x (target_there m k r x is);
   starts = λ a s r call k choice here is. (ready_for m inv a s (Serve r (requests.Iterate call k choice)) here is).4;
   goes_on = λ a s r call k here is. (ready_for m inv a s (Serve r (requests.Next call k)) here is).4;
 }

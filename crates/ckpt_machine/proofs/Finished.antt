@@ -30,6 +30,7 @@ use Rattle.ckpt_machine.proofs.Targets.{targets-length}
 use Rattle.cluster_record.specs.Placement.{targets}
 use Rattle.ckpt_machine.proofs.Actors.{same_actor-refl, same_actor-true}
 use Rattle.ckpt_machine.proofs.EntryLists.{find_key-change_key}
+use Rattle.ckpt_machine.proofs.OnComplete.{under_complete}
 use Rattle.ckpt_machine.proofs.ReservedUnder.{was_reserved}
 use Rattle.ckpt_machine.proofs.NodeLists.{slice_index-replicate}
 use Rattle.ckpt_machine.specs.Options.{is_all}
@@ -229,6 +230,7 @@ module _ (m : Machine) (shapes : ℕ → Shape) (inv : InvariantIn shapes m) (s 
     up_to = AllUpTo-change_key (made_with (home_of c m.cluster) m.cluster.up c) (λ x. refl) m.cluster.last_identity making.ckpt m.cluster.entries inv.up_to;
     swept = stays;
     entries = λ j g there. by_test j g there (j == making.ckpt) refl;
+    replicas = λ j q x is. under_complete (entry_of j R.entries) (slice_index (complete_of (entry_of j m.cluster.entries)) q) q (m.replicas j q) x is;
     reserves = λ j q n reserved. was_reserved (entry_of j R.entries) q n (m.reserved j q) (λ g. IsSome g.making) (λ g found free was. reserves_then j q n g found free was (j == making.ckpt) refl) reserved;
     handles = λ b h among. WasMade-then h.id (inv.handles b h among);
     rest = inv.rest;

@@ -1,4 +1,4 @@
--- What a step leaves of replicas and their effects: a replica is where its node is complete, and no checkpoint is held; effects are those that were, or of the call that commits, applies, or ends its weak write.
+-- What a step leaves of replicas and their effects: a replica is where its node is complete, and no checkpoint is held; effects are those that were, or of the call that commits, applies, or ends its weak write; and a snapshot is one that was.
 use Rattle.std.proofs.Common.{◌≡◌, ◌⊎◌, ℕ, ◌-◌, inl, inr, List, [], ◌∷◌, ◌++◌, filter, All, Option, Some, None, Bool, true, false, cond, not, ◌==◌, ◌&&◌, ℤ, refl, sym, ap, subst, ◌∙◌}
 use Rattle.std.specs.Prelude.{IsSomeAnd, slice_index, slice_set}
 use Rattle.std.proofs.lemmas.Bool.{eqb-true, and_parts}
@@ -21,11 +21,12 @@ use Rattle.cluster_record.specs.RecordState.{RecordState, entry_of, identity_of,
 use Rattle.cluster_record.proofs.KeptLaws.{All-change_key}
 use Rattle.ckpt_types.specs.Asks.{Ask, asked, update_of}
 use Rattle.ckpt_types.specs.Asks as asks
-use Rattle.ckpt_machine.specs.Machine.{Machine, Effect, Applied, ReplicaState, Staged, CallState}
+use Rattle.ckpt_machine.specs.Machine.{Machine, Effect, Applied, ReplicaState, Snapshot, Staged, CallState}
 use Rattle.ckpt_machine.specs.Owned.{IsEffectOf, HasEffect}
 use Rattle.ckpt_machine.specs.Shape.{IsCompleteOn}
-use Rattle.ckpt_machine.specs.Steps.{with_record, record_step, created_for, retained_for, change_replica, with_slot, staged_moment, with_committed, committed_slot, with_applied, with_marks, with_next_element, next_element_written, without_marks, marks_ended, effect_of, changed, on_ok, on_look, without_making, at_some, replica_under, reservation_under, opened_state}
+use Rattle.ckpt_machine.specs.Steps.{with_record, record_step, created_for, retained_for, change_replica, with_slot, staged_moment, with_committed, committed_slot, with_applied, with_marks, with_next_element, next_element_written, without_marks, marks_ended, effect_of, changed, on_ok, on_look, without_making, at_some, replica_under, reservation_under, snapshot_under, opened_state}
 use Rattle.ckpt_machine.proofs.Joining.{joined-hold}
+use Rattle.ckpt_machine.proofs.OptionLemmas.{IsSomeAnd-at}
 
 -- ---- what is so in every state of a run
 
@@ -51,20 +52,27 @@ pub record Has (m : Machine) (k r : ℕ) (call : CallId) : Type 0 where
   pub there : m.replicas k r ≡ Some replica
   pub effect : HasEffect call replica.effects
 
--- what comes of m: bare, with the same calls, and with no effects but those that m has and those that are new
-pub record FollowsIn (m : Machine) (IsNew : ℕ → CallId → Type 0) (R : RecordState) (replicas : ℕ → ℕ → Option ReplicaState) (reserved : ℕ → ℕ → Option ℕ) (numbers : ActorName → ℕ) (hands : ActorName → Option CallState) : Type 0 where
+-- its snapshot has one
+pub record HasCopied (m : Machine) (k : ℕ) (call : CallId) : Type 0 where
+  pub snapshot : Snapshot
+  pub there : m.snapshots k ≡ Some snapshot
+  pub effect : HasEffect call snapshot.effects
+
+-- what comes of m: bare, with the same calls, with no effects but those that m has and those that are new, and with no snapshot but those that m has
+pub record FollowsIn (m : Machine) (IsNew : ℕ → CallId → Type 0) (R : RecordState) (replicas : ℕ → ℕ → Option ReplicaState) (reserved : ℕ → ℕ → Option ℕ) (snapshots : ℕ → Option Snapshot) (numbers : ActorName → ℕ) (hands : ActorName → Option CallState) : Type 0 where
   pub bare : IsBareIn R replicas reserved
   pub next : (a : ActorName) → numbers a ≡ m.next a
   pub in_hand : (a : ActorName) → hands a ≡ m.in_hand a
   pub effects : (k r : ℕ) (x : ReplicaState) (d : CallId) → replicas k r ≡ Some x → HasEffect d x.effects → Has m k r d ⊎ IsNew k d
+  pub copies : (k : ℕ) (s : Snapshot) → snapshots k ≡ Some s → m.snapshots k ≡ Some s
 
 abbrev pub ReplicasFollow : Machine → (ℕ → CallId → Type 0) → Machine → Type 0
-ReplicasFollow m IsNew n = FollowsIn m IsNew n.cluster n.replicas n.reserved n.next n.in_hand
+ReplicasFollow m IsNew n = FollowsIn m IsNew n.cluster n.replicas n.reserved n.snapshots n.next n.in_hand
 
 -- ---- one replica
 
 -- a replica after a step of the record is of a complete node, and was there or is new
-under : (o : Option Entry) (before r : ℕ) (old : Option ReplicaState) (x : ReplicaState) → replica_under o before r old ≡ Some x → IsSomeAnd o (λ e. IsCompleteOn e r) × ((old ≡ Some x) ⊎ (x.effects ≡ []))
+pub under : (o : Option Entry) (before r : ℕ) (old : Option ReplicaState) (x : ReplicaState) → replica_under o before r old ≡ Some x → IsSomeAnd o (λ e. IsCompleteOn e r) × ((old ≡ Some x) ⊎ (x.effects ≡ []))
 under None before r old x is = absurd (cc is)
 under (Some e) before r old x is =
     elim (slice_index e.complete r == 0) as (λ b. (slice_index e.complete r == 0) ≡ b → cond b None (cond (before == 0) (Some (opened_state e)) old) ≡ Some x → ((slice_index e.complete r == 0) ≡ false) × ((old ≡ Some x) ⊎ (x.effects ≡ []))) [
@@ -82,6 +90,11 @@ under (Some e) before r old x is =
 reserved_under : (o : Option Entry) (r : ℕ) (old : Option ℕ) (n : ℕ) → reservation_under o r old ≡ Some n → IsSomeAnd o (λ e. IsIncomplete e r)
 reserved_under None r old n is = absurd (cc is)
 reserved_under (Some e) r old n is = elim (slice_index e.complete r == 0) as (λ b. cond b old None ≡ Some n → b ≡ true) [ true ↦ λ is. refl | false ↦ λ none. absurd (cc none) ] is
+
+-- a snapshot after a step of the record is of a checkpoint that is there, and was there
+pub snapshot_was : (o : Option Entry) (old : Option Snapshot) (s : Snapshot) → snapshot_under o old ≡ Some s → IsSomeAnd o (λ e. old ≡ Some s)
+snapshot_was None old s is = absurd (cc is)
+snapshot_was (Some e) old s is = is
 
 -- one effect more is the new one, or was there
 pub effect_more : (d : CallId) (xs : List Effect) (new : Effect) → HasEffect d (xs ++ new ∷ []) → HasEffect d xs ⊎ IsEffectOf d new
@@ -165,7 +178,7 @@ module _ (R : RecordState) (free : All IsFree R.entries) where
 
 module _ (m : Machine) (bare : IsBare m) (IsNew : ℕ → CallId → Type 0) where
   same_follows : ReplicasFollow m IsNew m
-  same_follows = record { bare = bare; next = λ a. refl; in_hand = λ a. refl; effects = λ k r x d there has. inl (record { replica = x; there = there; effect = has }) }
+  same_follows = record { bare = bare; next = λ a. refl; in_hand = λ a. refl; effects = λ k r x d there has. inl (record { replica = x; there = there; effect = has }); copies = λ k s is. is }
 
   -- a step of the record
   pub record_follows : (R : RecordState) → All IsFree R.entries → ReplicasFollow m IsNew (with_record m R)
@@ -181,6 +194,7 @@ module _ (m : Machine) (bare : IsBare m) (IsNew : ℕ → CallId → Type 0) whe
       | inl was ↦ inl (record { replica = x; there = was; effect = has })
       | inr new ↦ absurd (subst (HasEffect d) new has)
     ];
+    copies = λ k s is. (IsSomeAnd-at (entry_of k R.entries) (λ e. m.snapshots k ≡ Some s) (snapshot_was (entry_of k R.entries) (m.snapshots k) s is)).2;
   }
     where
       came : (k r : ℕ) (x : ReplicaState) → (with_record m R).replicas k r ≡ Some x → IsSomeAnd (entry_of k R.entries) (λ e. IsCompleteOn e r) × ((m.replicas k r ≡ Some x) ⊎ (x.effects ≡ []))
@@ -213,6 +227,7 @@ module _ (m : Machine) (bare : IsBare m) (IsNew : ℕ → CallId → Type 0) whe
     effects = λ j q z d is. by_place j q z (λ j q z. HasEffect d z.effects → Has m j q d ⊎ IsNew j d)
         (λ has. elim (more d has) [ inl was ↦ inl (record { replica = x; there = there; effect = was }) | inr new ↦ inr new ])
         (λ was has. inl (record { replica = z; there = was; effect = has })) is;
+    copies = λ j z is. is;
   }
     where
       by_place : (j q : ℕ) (z : ReplicaState) (P : ℕ → ℕ → ReplicaState → Type 0) → P k r y → (m.replicas j q ≡ Some z → P j q z) → put2 m.replicas k r (Some y) j q ≡ Some z → P j q z
@@ -253,6 +268,7 @@ module _ (m : Machine) (bare : IsBare m) (IsNew : ℕ → CallId → Type 0) whe
     next = λ a. refl;
     in_hand = λ a. refl;
     effects = λ j q x d is has. inl (record { replica = x; there = is; effect = has });
+    copies = λ j z is. is;
   }
     where
       reserves : (j q i : ℕ) → put2 m.reserved k r (Some n) j q ≡ Some i → IsSomeAnd (entry_of j m.cluster.entries) (λ e. IsIncomplete e q)

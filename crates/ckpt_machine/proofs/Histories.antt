@@ -1,4 +1,4 @@
--- Which calls replicas have effects of: of calls that were begun; and one that is in hand commits its update there, since an update of the active alone has ended.
+-- Which calls replicas and snapshots have effects of: of calls that were begun; and one that is in hand commits its update there, since an update of the active alone has ended.
 use Rattle.std.proofs.Common.{◌≡◌, ◌⊎◌, ℕ, ◌+◌, ◌<◌, inl, inr, List, [], ◌∷◌, Option, Some, None, Bool, true, false, cond, ◌==◌, ℤ, refl, sym, ap, subst, ◌∙◌, arith}
 use Rattle.std.specs.Prelude.{IsSomeAnd, slice_index}
 use Rattle.std.proofs.lemmas.List.Elements.{All-nil, All-filter}
@@ -23,6 +23,7 @@ use Rattle.cluster_record.specs.declared.calls.UpdatePhase.TheVariants.{Committi
 use Rattle.cluster_record.specs.declared.entries.Entry.{Entry}
 use Rattle.cluster_record.specs.Calls.{same_actor, put_actor, left}
 use Rattle.cluster_record.specs.DueUpdate.{UpdateState, update_on, by_phase, commit_at, update_taken, update_taken_by, commit_taken}
+use Rattle.cluster_record.specs.Places.{put, put2}
 use Rattle.cluster_record.specs.RecordState.{entry_of, moved, stays}
 use Rattle.cluster_record.specs.StepDone.{StepDone, done_of, counting, first_lacking, last_having}
 use Rattle.ckpt_machine.specs.Drivers.{Driver}
@@ -31,12 +32,15 @@ use Rattle.ckpt_machine.specs.Driving.{driver_next, driver_taken}
 use Rattle.node_core.specs.Serving.{update_answer}
 use Rattle.ckpt_machine.specs.Guards.{IsMadeBy, OnReplica, OnAll, OnActive, CommitOk, ApplyOk, AreMarksOf, UnmarkRow, Row, Allowed}
 use Rattle.ckpt_machine.specs.Invariant.{IsGoodIn, InvariantIn, Invariant}
-use Rattle.ckpt_machine.specs.Machine.{Machine, Staged, ReplicaState, CallState, empty_cluster}
+use Rattle.ckpt_machine.specs.Machine.{Machine, Staged, ReplicaState, Snapshot, CallState, empty_cluster}
 use Rattle.ckpt_machine.specs.Options.{is_all, is_weak, is_by_element}
+use Rattle.ckpt_machine.specs.Owned.{HasEffect}
+use Rattle.ckpt_machine.specs.Propagation.{copied, replica_from}
 use Rattle.ckpt_machine.specs.Shape.{Shape, IsCompleteOn, IsShapedBy, IsOwner, IsMarker, IsSpread, slot_by, marks_at}
-use Rattle.ckpt_machine.specs.Steps.{Told, IsDone, IsDue, driver_of, due, rooms_of, begun, with_record, call_begun, changed, kept_behind, claimed_count, stepped, step_of, after}
+use Rattle.ckpt_machine.specs.Steps.{Told, IsDone, IsDue, driver_of, due, rooms_of, after_beginning, with_record, call_begun, changed, kept_behind, claimed_count, stepped, step_of, after}
+use Rattle.ckpt_machine.proofs.Copying.{IsPulledFrom, after_pull, after_put, put-cases}
 use Rattle.ckpt_machine.proofs.OwnMaking.{making_there}
-use Rattle.ckpt_machine.proofs.Follows.{IsFree, IsIncomplete, IsBare, Has, ReplicasFollow, record_follows, StepNeeds, changed_follows}
+use Rattle.ckpt_machine.proofs.Follows.{IsFree, IsIncomplete, IsBare, Has, HasCopied, ReplicasFollow, record_follows, replica_follows, StepNeeds, changed_follows}
 use Rattle.ckpt_machine.specs.Runs.{last_from, last, IsRunFrom, IsRun}
 use Rattle.ckpt_machine.proofs.Lawful.{lawful}
 use Rattle.ckpt_machine.proofs.ReplicaSteps.{put_actor-cases}
@@ -54,17 +58,21 @@ pub record IsCommittingAt (k : ℕ) (d : Driver) : Type 0 where
   pub ckpt : update.ckpt ≡ k
   pub phase : update.phase ≡ Committing
 
--- in every state of a run, by the guards: a call that a replica has an effect of was begun, and where it is in hand it commits there
+-- in every state of a run, by the guards: a call that a replica or a snapshot has an effect of was begun, and where it is in hand it commits there
 pub record HasHistory (m : Machine) : Type 0 where
   pub bare : IsBare m
   pub given : (k r : ℕ) (d : CallId) → Has m k r d → d.number < m.next d.actor
   pub commits : (k r : ℕ) (s : CallState) → m.in_hand s.call.actor ≡ Some s → Has m k r s.call → IsCommittingAt k (driver_of s)
+  pub given_copied : (k : ℕ) (d : CallId) → HasCopied m k d → d.number < m.next d.actor
+  pub commits_copied : (k : ℕ) (s : CallState) → m.in_hand s.call.actor ≡ Some s → HasCopied m k s.call → IsCommittingAt k (driver_of s)
 
 pub history_empty : HasHistory empty_cluster
 history_empty = record {
   bare = record { complete = λ k r x is. absurd (cc is); reserves = λ k r n is. absurd (cc is); free = All-nil IsFree };
   given = λ k r d has. absurd (let none = has.there in cc none);
   commits = λ k r s held has. absurd (cc held);
+  given_copied = λ k d has. absurd (let none = has.there in cc none);
+  commits_copied = λ k s held has. absurd (cc held);
 }
 
 -- ---- whose a slot is, and whose marks are
@@ -295,6 +303,10 @@ module _ (m : Machine) (inv : Invariant m) (history : HasHistory m) (s : CallSta
           | inr new ↦ absurd (let w : true ≡ false = sym (ap (λ (d : CallId). same_actor d.actor s.call.actor) new.own ∙ same_actor-refl s.call.actor) ∙ other in cc w)
         ]
 
+    -- what a snapshot has, it had
+    was_copied : (k : ℕ) (d : CallId) → HasCopied then_machine k d → HasCopied m k d
+    was_copied k d has = record { snapshot = has.snapshot; there = follows.copies k has.snapshot has.there; effect = has.effect }
+
     left_state : (o : Option Outcome) (z : CallState) → left o then_state ≡ Some z → (o ≡ None) × (then_state ≡ z)
     left_state None z is = (refl, same_Some then_state z is)
     left_state (Some e) z is = absurd (cc is)
@@ -313,11 +325,19 @@ module _ (m : Machine) (inv : Invariant m) (history : HasHistory m) (s : CallSta
             subst (λ z. IsCommittingAt k (driver_of z)) is (own_commits k r none (subst (Has then_machine k r) (sym call) has)))
         | inr other ↦ other_commits k r z other.0 other.1 has
       ];
+      given_copied = λ k d has. subst (λ next. d.number < next) (sym (follows.next d.actor)) (history.given_copied k d (was_copied k d has));
+      commits_copied = λ k z in_hand has. elim (put_actor-cases n.in_hand s.call.actor (left end then_state) z.call.actor z in_hand) [
+        | inl own ↦ (
+            let (none, is) = left_state end z own.1 in
+            let call : s.call ≡ z.call = ap (λ (z : CallState). z.call) is in
+            subst (λ z. IsCommittingAt k (driver_of z)) is (commits_still m s t told k refl done (ends ∙ none) (history.commits_copied k s held (subst (HasCopied m k) (sym call) (was_copied k z.call has)))))
+        | inr other ↦ history.commits_copied k z (sym (follows.in_hand z.call.actor) ∙ other.1) (was_copied k z.call has)
+      ];
     }
 
 -- ---- any label
 
-begun_history : (m : Machine) → HasHistory m → (call : CallId) (op : Op) (end : Option Outcome) → call.number ≡ m.next call.actor → HasHistory (begun m call op end)
+begun_history : (m : Machine) → HasHistory m → (call : CallId) (op : Op) (end : Option Outcome) → call.number ≡ m.next call.actor → HasHistory (after_beginning m call op end)
 begun_history m history call op end number = record {
   bare = history.bare;
   given = λ k r d has. number_later d (history.given k r d (record { replica = has.replica; there = has.there; effect = has.effect }));
@@ -327,6 +347,14 @@ begun_history m history call op end number = record {
         let below : call.number < m.next call.actor = history.given k r call (subst (Has m k r) (sym (begun_is z own.1)) was) in
         absurd (omega (arith, below, number)))
     | inr other ↦ history.commits k r z other.1 (record { replica = has.replica; there = has.there; effect = has.effect })
+  ];
+  given_copied = λ k d has. number_later d (history.given_copied k d (record { snapshot = has.snapshot; there = has.there; effect = has.effect }));
+  commits_copied = λ k z in_hand has. elim (put_actor-cases m.in_hand call.actor (call_begun end call op (first_kept m call op)) z.call.actor z in_hand) [
+    | inl own ↦ (
+        let was : HasCopied m k z.call = record { snapshot = has.snapshot; there = has.there; effect = has.effect } in
+        let below : call.number < m.next call.actor = history.given_copied k call (subst (HasCopied m k) (sym (begun_is z own.1)) was) in
+        absurd (omega (arith, below, number)))
+    | inr other ↦ history.commits_copied k z other.1 (record { snapshot = has.snapshot; there = has.there; effect = has.effect })
   ];
 }
   where
@@ -345,6 +373,8 @@ moved_history m history t = record {
   bare = follows.bare;
   given = λ k r d has. history.given k r d (before k r d has);
   commits = λ k r s held has. history.commits k r s held (before k r s.call has);
+  given_copied = λ k d has. history.given_copied k d (copied_before k d has);
+  commits_copied = λ k s held has. history.commits_copied k s held (copied_before k s.call has);
 }
   where
     follows : ReplicasFollow m (λ k d. ⊥) (with_record m (moved t m.cluster))
@@ -352,6 +382,41 @@ moved_history m history t = record {
 
     before : (k r : ℕ) (d : CallId) → Has (with_record m (moved t m.cluster)) k r d → Has m k r d
     before k r d has = elim (follows.effects k r has.replica d has.there has.effect) [ inl was ↦ was | inr none ↦ absurd none ]
+
+    copied_before : (k : ℕ) (d : CallId) → HasCopied (with_record m (moved t m.cluster)) k d → HasCopied m k d
+    copied_before k d has = record { snapshot = has.snapshot; there = follows.copies k has.snapshot has.there; effect = has.effect }
+
+-- a snapshot of the active has the effects of the active
+pulled_history : (m : Machine) → HasHistory m → (k : ℕ) (x : ReplicaState) → IsPulledFrom m k x → HasHistory (record m { snapshots = put m.snapshots k (Some (copied x)) })
+pulled_history m history k x from = record {
+  bare = history.bare;
+  given = λ j r d has. history.given j r d (record { replica = has.replica; there = has.there; effect = has.effect });
+  commits = λ j r s held has. history.commits j r s held (record { replica = has.replica; there = has.there; effect = has.effect });
+  given_copied = λ j d has. elim (before j d has) [ inl was ↦ history.given_copied j d was | inr new ↦ history.given j from.node d new ];
+  commits_copied = λ j s held has. elim (before j s.call has) [ inl was ↦ history.commits_copied j s held was | inr new ↦ history.commits j from.node s held new ];
+}
+  where
+    before : (j : ℕ) (d : CallId) → HasCopied (record m { snapshots = put m.snapshots k (Some (copied x)) }) j d → HasCopied m j d ⊎ Has m j from.node d
+    before j d has = elim (put-cases m.snapshots k (copied x) j has.snapshot has.there) [
+      | inl here ↦ inr (record { replica = x; there = subst (λ j. m.replicas j from.node ≡ Some x) here.0 from.there; effect = subst (λ (z : Snapshot). HasEffect d z.effects) (sym here.1) has.effect })
+      | inr was ↦ inl (record { snapshot = has.snapshot; there = was; effect = has.effect })
+    ]
+
+-- a replica that takes the snapshot has its effects
+put_history : (m : Machine) → HasHistory m → (k r : ℕ) (s : Snapshot) (x : ReplicaState) → m.snapshots k ≡ Some s → m.replicas k r ≡ Some x → HasHistory (record m { replicas = put2 m.replicas k r (Some (replica_from s x)) })
+put_history m history k r s x is there = record {
+  bare = follows.bare;
+  given = λ j q d has. elim (before j q d has) [ inl was ↦ history.given j q d was | inr copied ↦ history.given_copied j d copied ];
+  commits = λ j q z held has. elim (before j q z.call has) [ inl was ↦ history.commits j q z held was | inr copied ↦ history.commits_copied j z held copied ];
+  given_copied = λ j d has. history.given_copied j d (record { snapshot = has.snapshot; there = has.there; effect = has.effect });
+  commits_copied = λ j z held has. history.commits_copied j z held (record { snapshot = has.snapshot; there = has.there; effect = has.effect });
+}
+  where
+    follows : ReplicasFollow m (HasCopied m) (record m { replicas = put2 m.replicas k r (Some (replica_from s x)) })
+    follows = replica_follows m history.bare (HasCopied m) k r x (replica_from s x) there (λ d has. inr (record { snapshot = s; there = is; effect = has }))
+
+    before : (j q : ℕ) (d : CallId) → Has (record m { replicas = put2 m.replicas k r (Some (replica_from s x)) }) j q d → Has m j q d ⊎ HasCopied m j d
+    before j q d has = follows.effects j q has.replica d has.there has.effect
 
 -- what is allowed and due keeps it
 pub keeps_history : (m : Machine) (l : Label) → Invariant m → HasHistory m → Allowed m l → IsDue m l → HasHistory (after m l)
@@ -365,9 +430,13 @@ keeps_history m (labels.Nodes n) inv history allowed is = record {
   bare = record { complete = history.bare.complete; reserves = history.bare.reserves; free = history.bare.free };
   given = λ k r d has. history.given k r d (record { replica = has.replica; there = has.there; effect = has.effect });
   commits = λ k r s held has. history.commits k r s held (record { replica = has.replica; there = has.there; effect = has.effect });
+  given_copied = λ k d has. history.given_copied k d (record { snapshot = has.snapshot; there = has.there; effect = has.effect });
+  commits_copied = λ k s held has. history.commits_copied k s held (record { snapshot = has.snapshot; there = has.there; effect = has.effect });
 }
 keeps_history m (labels.Moved t) inv history allowed is = moved_history m history t
 keeps_history m (labels.Shown k replicas) inv history allowed is = history
+keeps_history m (labels.Pulled k reply) inv history allowed is = after_pull HasHistory m k reply is history (λ x from none. pulled_history m history k x from)
+keeps_history m (labels.Put k r reply) inv history allowed is = after_put HasHistory m k r reply history (λ s x copied on. put_history m history k r s x copied on.there)
 keeps_history m l inv history allowed is = absurd is
 
 -- so it holds in a run, with the invariant

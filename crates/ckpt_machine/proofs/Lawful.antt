@@ -6,6 +6,7 @@ use Rattle.ckpt_machine.specs.Drivers.{Driver}
 use Rattle.ckpt_machine.specs.Drivers as drivers
 use Rattle.ckpt_machine.specs.Driving.{driver_next}
 use Rattle.ckpt_machine.specs.Machine.{Machine, CallState}
+use Rattle.ckpt_machine.specs.Propagation.{source_at, target_at}
 use Rattle.ckpt_machine.specs.Steps.{Told, IsDone, driver_of, rooms_of, step_of}
 use Rattle.ckpt_machine.specs.Invariant.{Invariant}
 use Rattle.ckpt_machine.specs.Laws.{IsLawful}
@@ -15,6 +16,7 @@ use Rattle.ckpt_machine.proofs.BeginRows.{begin_row, word_row}
 use Rattle.ckpt_machine.proofs.BroughtUp.{nodes_keep}
 use Rattle.ckpt_machine.proofs.Moment.{moved_keeps}
 use Rattle.ckpt_machine.proofs.OneStepCalls.{once_goes}
+use Rattle.ckpt_machine.proofs.Propagated.{pull_keeps, put_keeps}
 use Rattle.ckpt_machine.proofs.Update.{update_goes}
 use Rattle.ckpt_machine.proofs.DueStep.{Goes}
 use Rattle.ckpt_machine.proofs.OwnCheckpoint.{own_step}
@@ -45,4 +47,6 @@ lawful m (labels.Word who word said) inv is = (word_row m who word said is, inv)
 lawful m (labels.Nodes n) inv is = ((is.0, is.1, λ r. is_up-none r m.cluster is.2), record { shapes = inv.shapes; holds = nodes_keep m inv.shapes inv.holds n is.2 })
 lawful m (labels.Moved t) inv is = (is, moved_keeps m t inv)
 lawful m (labels.Shown k replicas) inv is = (is, inv)
+lawful m (labels.Pulled k reply) inv is = (is, record { shapes = inv.shapes; holds = pull_keeps m inv.shapes inv.holds k reply (source_at m k) })
+lawful m (labels.Put k r reply) inv is = (is, record { shapes = inv.shapes; holds = put_keeps m inv.shapes inv.holds k r reply (m.snapshots k) (target_at m k r) refl })
 lawful m l inv is = absurd is

@@ -1,3 +1,5 @@
+pub mod OnComplete
+pub mod Propagated
 pub mod OnceByKey
 pub mod Deadlines
 pub mod NextOf
@@ -35,6 +37,7 @@ pub mod Enter
 pub mod Acknowledged
 pub mod AcknowledgedExamples
 pub mod BegunBefore
+pub mod Copying
 pub mod BegunOnce
 pub mod GoodArguments
 pub mod UpdateAnswers

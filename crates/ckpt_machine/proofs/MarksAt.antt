@@ -2,7 +2,9 @@
 use Rattle.std.proofs.Common.{◌≡◌, ℕ, Option, Some, None, true, false, cond, ◌==◌, refl, ap, ◌∙◌}
 use Rattle.std.proofs.lemmas.Bool.{eq-eqb}
 use Rattle.weak_marks.specs.Marks.{Marked}
+use Rattle.ckpt_machine.specs.Listing.{is_active}
 use Rattle.ckpt_machine.specs.Shape.{marks_at}
+use Rattle.ckpt_machine.proofs.EntryLists.{eqb-comm}
 
 -- the active has them
 pub marks_here : (active : Option ℕ) (marks : Option Marked) (r : ℕ) → active ≡ Some r → marks_at active marks r ≡ marks
@@ -12,3 +14,8 @@ marks_here active marks r is = ap (λ o. marks_at o marks r) is ∙ ap (λ b. co
 pub none_marked : (active : Option ℕ) (r : ℕ) → marks_at active None r ≡ None
 none_marked None r = refl
 none_marked (Some a) r = elim (r == a) as (λ b. cond {A = Option Marked} b None None ≡ None) [ true ↦ refl | false ↦ refl ]
+
+-- and no other node has them
+pub none_elsewhere : (active : Option ℕ) (marks : Option Marked) (r : ℕ) → is_active active r ≡ false → marks_at active marks r ≡ None
+none_elsewhere None marks r other = refl
+none_elsewhere (Some a) marks r other = ap (λ b. cond b marks None) (eqb-comm r a ∙ other)

@@ -129,7 +129,7 @@ module _ (m : Machine) (shapes : ℕ → Shape) (inv : InvariantIn shapes m) (s 
   pub ended_keeps : ((e : Entry) → entry_of u.ckpt m.cluster.entries ≡ Some e → OwnsNone) → Invariant (record m { in_hand = put_actor m.in_hand s.call.actor None })
   ended_keeps none = record {
     shapes = put shapes u.ckpt (shapes u.ckpt);
-    holds = step_keeps m shapes inv s u held is m.replicas None (shapes u.ckpt) (none_changed m shapes inv s u held is) (refl, λ call q other. refl) stays (λ z there. absurd (cc there)) made;
+    holds = step_keeps m shapes inv s u held is m.replicas None (shapes u.ckpt) (none_changed m shapes inv s u held is) (refl, λ call q other. refl) stays (λ z there. absurd (cc there)) made inv.replicas;
   }
     where
       stays : (e : Entry) → entry_of u.ckpt m.cluster.entries ≡ Some e → e.making ≡ None → IsSpread (record m { in_hand = put_actor m.in_hand s.call.actor None }) u.ckpt (shapes u.ckpt) e

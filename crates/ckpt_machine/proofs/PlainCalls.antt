@@ -128,6 +128,7 @@ module _ (m : Machine) (shapes : ℕ → Shape) (inv : InvariantIn shapes m) (s 
     up_to = inv.up_to;
     swept = inv.swept;
     entries = λ k e found. IsGoodIn-apart m shapes m.next others owner_stays marker_stays maker_stays k (shapes k) e e.making (inv.entries k e found);
+    replicas = inv.replicas;
     reserves = inv.reserves;
     handles = inv.handles;
     rest = inv.rest;

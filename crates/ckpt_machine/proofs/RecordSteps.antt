@@ -21,6 +21,7 @@ use Rattle.ckpt_machine.specs.Later.{IsLaterEntry, IsLaterRecord}
 use Rattle.ckpt_machine.proofs.OtherCalls.{LooksAlike, making_still, IsInHand-alike, IsGoodIn-later}
 use Rattle.ckpt_machine.proofs.Joining.{all_apart}
 use Rattle.ckpt_machine.proofs.OptionLemmas.{IsSomeAnd-at, IsSomeAnd-from}
+use Rattle.ckpt_machine.proofs.OnComplete.{under_complete}
 use Rattle.ckpt_machine.proofs.ReservedUnder.{was_reserved}
 use Rattle.ckpt_machine.proofs.NodeLists.{slice_index-replicate}
 
@@ -129,6 +130,7 @@ module _ (m : Machine) (shapes : ℕ → Shape) (inv : InvariantIn shapes m) (R 
     entries = λ k f is. (
         let (e, was, later) = after_it.later k f is in
         subst (IsGoodIn then_machine k (shapes k) f) (sym later.making) (IsGoodIn-kept k (shapes k) e f e.making was is later later.unmade (inv.entries k e was)));
+    replicas = λ j q x is. under_complete (entry_of j R.entries) (slice_index (complete_of (entry_of j m.cluster.entries)) q) q (m.replicas j q) x is;
     reserves = λ j q n reserved. was_reserved (entry_of j R.entries) q n (m.reserved j q) (λ f. IsSome f.making) (λ f found free was. reserves_kept j q n f found was) reserved;
     handles = λ b h among. WasMade-kept h.id (inv.handles b h among);
     rest = inv.rest;

@@ -19,12 +19,15 @@ use Rattle.std.proofs.lemmas.Bool.{eqb-true}
 use Rattle.cluster_record.proofs.KeptLaws.{All-find_key}
 use Rattle.ckpt_machine.specs.Guards.{IsMadeBy, CommitRow, Row, Allowed}
 use Rattle.ckpt_machine.specs.Invariant.{IsGoodIn, Invariant}
-use Rattle.ckpt_machine.specs.Machine.{Machine, ReplicaState, CallState}
+use Rattle.ckpt_machine.specs.Machine.{Machine, ReplicaState, Snapshot, CallState}
 use Rattle.ckpt_machine.specs.Owned.{OwnsNothing, HasNoEffect, HasNothing}
 use Rattle.ckpt_machine.specs.Refusals.{IsRefused, IsRefusal, LeavesAll, UndoesOwn, LeavesBy, unmade, unmade_swept, Refuses, call_told}
 use Rattle.ckpt_machine.specs.Runs.{last}
 use Rattle.ckpt_machine.specs.Shape.{IsCompleteOn}
-use Rattle.ckpt_machine.specs.Steps.{Told, IsDone, IsDue, due, begun, changed, step_of, after, replica_under, replicas_under, reservation_under, opened_state}
+use Rattle.ckpt_machine.specs.Steps.{Told, IsDone, IsDue, due, after_beginning, changed, step_of, after, replica_under, replicas_under, reservation_under, snapshot_under, opened_state}
+use Rattle.ckpt_machine.proofs.Copying.{IsSource}
+use Rattle.ckpt_machine.proofs.EachReplica.{run_copies}
+use Rattle.ckpt_machine.proofs.OwnMaking.{making_there}
 use Rattle.ckpt_machine.proofs.Follows.{IsFree, IsIncomplete, IsBare, Has}
 use Rattle.ckpt_machine.proofs.Histories.{HasHistory, commits_by, commit, gone, nothing_left, Commits, Applies, slot_owned, marks_owned, making_incomplete, had, keeps_history, run_history}
 use Rattle.ckpt_machine.proofs.Lawful.{lawful}
@@ -33,7 +36,7 @@ use Rattle.ckpt_machine.proofs.ReplicaSteps.{put_actor-here}
 use Rattle.ckpt_machine.proofs.Refusing.{at_node, commit_ends, left_none, none_begun, refusal_leaves}
 use Rattle.ckpt_machine.specs.Laws.{RefusedHasNothing}
 use Rattle.ckpt_machine.proofs.Runs.{last-push, run_before, run_front}
-use Rattle.ckpt_machine.proofs.OptionLemmas.{IsSomeAnd-at}
+use Rattle.ckpt_machine.proofs.OptionLemmas.{IsSomeAnd-at, IsSomeAnd-more}
 
 -- ---- who has no call in hand owns nothing
 
@@ -93,13 +96,13 @@ module _ (m : Machine) (inv : Invariant m) (history : HasHistory m) (s : CallSta
 
 -- ---- any label
 
-begun_none : (m : Machine) → HasHistory m → (call : CallId) (op : Op) (end : Option Outcome) → call.number ≡ m.next call.actor → HasNoEffect (begun m call op end) call
+begun_none : (m : Machine) → HasHistory m → (call : CallId) (op : Op) (end : Option Outcome) → call.number ≡ m.next call.actor → HasNoEffect (after_beginning m call op end) call
 begun_none m history call op end number k r x there has = let below = history.given k r call (record { replica = x; there = there; effect = has }) in omega (arith, below, number)
 
 -- what is refused has nothing
 pub refused_has_nothing : (m : Machine) (l : Label) → Invariant m → HasHistory m → Allowed m l → IsDue m l → IsRefusal l → IsSomeAnd (call_told l) (HasNothing (after m l))
 refused_has_nothing m (labels.Began call op end) inv history allowed is refused = record {
-  owns = owns_nothing (begun m call op end) (lawful m (labels.Began call op end) inv is).1 (keeps_history m (labels.Began call op end) inv history allowed is).bare call (put_actor-here m.in_hand call.actor _ ∙ none_begun end call op _ refused);
+  owns = owns_nothing (after_beginning m call op end) (lawful m (labels.Began call op end) inv is).1 (keeps_history m (labels.Began call op end) inv history allowed is).bare call (put_actor-here m.in_hand call.actor _ ∙ none_begun end call op _ refused);
   effects = begun_none m history call op end is.number;
 }
 refused_has_nothing m (labels.Stepped call op verb k r reply end details) inv history allowed step refused =
@@ -118,7 +121,11 @@ refused_has_nothing m l inv history allowed is refused = absurd refused
 
 -- ---- a making that is undone
 
-module _ (m : Machine) (inv : Invariant m) (bare : IsBare m) (call : CallId) (k : ℕ) (own : IsMadeBy m call k) where
+-- each snapshot is of a checkpoint that is made
+abbrev HaveSources : Machine → Type 0
+HaveSources m = (k : ℕ) (s : Snapshot) → m.snapshots k ≡ Some s → IsSomeAnd (entry_of k m.cluster.entries) IsSource
+
+module _ (m : Machine) (inv : Invariant m) (bare : IsBare m) (sources : HaveSources m) (call : CallId) (k : ℕ) (own : IsMadeBy m call k) where
   -- nothing is over
   same_record : swept (undone k m.cluster) ≡ undone k m.cluster
   same_record = swept-all (undone k m.cluster) (AllStay-filter m.cluster.moment (λ e. not (e.identity == k)) m.cluster.entries inv.holds.swept)
@@ -180,13 +187,40 @@ module _ (m : Machine) (inv : Invariant m) (bare : IsBare m) (call : CallId) (k 
         | false ↦ reservation_kept j r (entry_of j m.cluster.entries) refl
       ]
 
+  -- it has no snapshot, being in the making
+  no_snapshot : m.snapshots k ≡ None
+  no_snapshot = by_snapshot (m.snapshots k) refl
+    where
+      by_snapshot : (o : Option Snapshot) → m.snapshots k ≡ o → m.snapshots k ≡ None
+      by_snapshot None is = is
+      by_snapshot (Some s) is =
+          let (e, found, source) = IsSomeAnd-at (entry_of k m.cluster.entries) IsSource (sources k s is) in
+          let (f, there, making) = IsSomeAnd-at (entry_of k m.cluster.entries) (λ e. e.making ≡ Some call) (making_there m.cluster inv.holds.rises call k own) in
+          absurd (let w : None ≡ Some call = sym source.made ∙ ap (λ (e : Entry). e.making) (same_Some e f (sym found ∙ there)) ∙ making in cc w)
+
+  snapshot_kept : (j : ℕ) (o : Option Entry) → entry_of j m.cluster.entries ≡ o → snapshot_under o (m.snapshots j) ≡ m.snapshots j
+  snapshot_kept j (Some e) found = refl
+  snapshot_kept j None none = by_snapshot (m.snapshots j) refl
+    where
+      by_snapshot : (o : Option Snapshot) → m.snapshots j ≡ o → None ≡ m.snapshots j
+      by_snapshot None is = sym is
+      by_snapshot (Some s) is = absurd (subst (λ o. IsSomeAnd o IsSource) none (sources j s is))
+
+  same_snapshots : (j : ℕ) → snapshot_under (entry_of j (undone k m.cluster).entries) (m.snapshots j) ≡ m.snapshots j
+  same_snapshots j =
+      ap (λ o. snapshot_under o (m.snapshots j)) (left j)
+      ∙ elim (j == k) as (λ b. (j == k) ≡ b → snapshot_under (cond b None (entry_of j m.cluster.entries)) (m.snapshots j) ≡ m.snapshots j) [
+        | true ↦ λ is. sym (ap m.snapshots (eqb-true j k is) ∙ no_snapshot)
+        | false ↦ λ is. snapshot_kept j (entry_of j m.cluster.entries) refl
+      ] refl
+
   -- nothing else goes with it
   pub leaves_unmade : (n : Machine) → LeavesAll call.actor (unmade_swept k m) n → LeavesAll call.actor (unmade k m) n
   leaves_unmade n all = record {
     cluster = all.cluster ∙ same_record;
     replicas = λ j r. all.replicas j r ∙ ap (λ R. replicas_under m.cluster R m.replicas j r) same_record ∙ same_replicas j r;
     reserved = λ j r. all.reserved j r ∙ ap (λ (R : RecordState). reservation_under (entry_of j R.entries) r (m.reserved j r)) same_record ∙ same_reserved j r;
-    snapshots = all.snapshots;
+    snapshots = λ j. all.snapshots j ∙ ap (λ (R : RecordState). snapshot_under (entry_of j R.entries) (m.snapshots j)) same_record ∙ same_snapshots j;
     tables = all.tables;
     pending = all.pending;
     next = all.next;
@@ -195,16 +229,16 @@ module _ (m : Machine) (inv : Invariant m) (bare : IsBare m) (call : CallId) (k 
     ended = all.ended;
   }
 
-undoes_alone : (m : Machine) → Invariant m → IsBare m → (call : CallId) (n : Machine) → UndoesOwn unmade_swept call m n → UndoesOwn unmade call m n
-undoes_alone m inv bare call n own = record { ckpt = own.ckpt; own = own.own; rest = leaves_unmade m inv bare call own.ckpt own.own n own.rest }
+undoes_alone : (m : Machine) → Invariant m → IsBare m → HaveSources m → (call : CallId) (n : Machine) → UndoesOwn unmade_swept call m n → UndoesOwn unmade call m n
+undoes_alone m inv bare sources call n own = record { ckpt = own.ckpt; own = own.own; rest = leaves_unmade m inv bare sources call own.ckpt own.own n own.rest }
 
 -- where the invariant holds nothing else goes with a making
-leaves_alone : (m n : Machine) (l : Label) → Invariant m → IsBare m → LeavesBy unmade_swept l m n → LeavesBy unmade l m n
-leaves_alone m n (labels.Began call op end) inv bare leaves = leaves
-leaves_alone m n (labels.Stepped call op verbs.Look k r reply end details) inv bare leaves = elim leaves [ inl all ↦ inl all | inr own ↦ inr (undoes_alone m inv bare call n own) ]
-leaves_alone m n (labels.Stepped call op verbs.Undo k r reply end details) inv bare leaves = undoes_alone m inv bare call n leaves
-leaves_alone m n (labels.Stepped call op verb k r reply end details) inv bare leaves = leaves
-leaves_alone m n l inv bare leaves = absurd leaves
+leaves_alone : (m n : Machine) (l : Label) → Invariant m → IsBare m → HaveSources m → LeavesBy unmade_swept l m n → LeavesBy unmade l m n
+leaves_alone m n (labels.Began call op end) inv bare sources leaves = leaves
+leaves_alone m n (labels.Stepped call op verbs.Look k r reply end details) inv bare sources leaves = elim leaves [ inl all ↦ inl all | inr own ↦ inr (undoes_alone m inv bare sources call n own) ]
+leaves_alone m n (labels.Stepped call op verbs.Undo k r reply end details) inv bare sources leaves = undoes_alone m inv bare sources call n leaves
+leaves_alone m n (labels.Stepped call op verb k r reply end details) inv bare sources leaves = leaves
+leaves_alone m n l inv bare sources leaves = absurd leaves
 
 -- ---- in a run
 
@@ -217,7 +251,9 @@ pub run_leaves : RefusedHasNothing
 run_leaves log run front back l is refused =
     let (before, allowed, due) = run_before _ front l (run_front log (front ++ l ∷ []) back (front_with log front back l is) run) in
     let (inv, history) = run_history front before in
+    let copies = run_copies front before in
+    let sources : HaveSources (last front) = λ k s is. IsSomeAnd-more (entry_of k (last front).cluster.entries) _ IsSource (λ e is_so. is_so.0) (copies.snapshot k s is) in
     subst (Refuses l (last front)) (sym (last-push front l)) (record {
-      leaves = leaves_alone (last front) (after (last front) l) l inv history.bare (refusal_leaves (last front) l allowed refused);
+      leaves = leaves_alone (last front) (after (last front) l) l inv history.bare sources (refusal_leaves (last front) l allowed refused);
       nothing = refused_has_nothing (last front) l inv history allowed due refused;
     })

@@ -199,15 +199,15 @@ leaves_step m n s end same refused = record {
 }
 
 -- the state after a step of a call that is in hand
-abbrev behind : Machine → CallState → Verb → Option ℕ → Option ℕ → StepReply → Option Outcome → Machine
-behind m s verb k r reply end = step_of m (Some s) verb k r reply end
+abbrev stepped_behind : Machine → CallState → Verb → Option ℕ → Option ℕ → StepReply → Option Outcome → Machine
+stepped_behind m s verb k r reply end = step_of m (Some s) verb k r reply end
 
 -- the state after a look that undoes this making
 abbrev looked_behind : Machine → CallState → Option ℕ → Option ℕ → Option Outcome → Option ℕ → Machine
 looked_behind m s k r end making = let n = without_making making m in stepped n (kept_behind m s n.cluster verbs.Look k r words.Refused) end
 
 -- a look that refuses leaves all, or undoes what its call was making
-leaves_look : (m : Machine) (s : CallState) (k r : Option ℕ) (reply : StepReply) (end : Option Outcome) → LookRow m s reply end → IsRefused end → LeavesAll s.call.actor m (behind m s verbs.Look k r reply end) ⊎ UndoesOwn unmade_swept s.call m (behind m s verbs.Look k r reply end)
+leaves_look : (m : Machine) (s : CallState) (k r : Option ℕ) (reply : StepReply) (end : Option Outcome) → LookRow m s reply end → IsRefused end → LeavesAll s.call.actor m (stepped_behind m s verbs.Look k r reply end) ⊎ UndoesOwn unmade_swept s.call m (stepped_behind m s verbs.Look k r reply end)
 leaves_look m s k r words.Done end row refused = absurd (no_refusal_looked m s end row refused)
 leaves_look m s k r words.Refused end row refused = by_making (making_of s.call m.cluster) refl
   where
@@ -216,7 +216,7 @@ leaves_look m s k r words.Refused end row refused = by_making (making_of s.call 
     by_making (Some j) is = inr (record { ckpt = j; own = is; rest = leaves_step (unmade_swept j m) (unmade_swept j m) (kept_behind m s (unmade_swept j m).cluster verbs.Look k r words.Refused) end refl refused })
 leaves_look m s k r reply end row refused = absurd row
 
-leaves_undo : (m : Machine) (s : CallState) (k r : Option ℕ) (reply : StepReply) (end : Option Outcome) → AtCkpt k r (λ k. (name : List ℕ) × (a : Option CreationAttributes) × AsksToOpen s name a × UndoRow m s k reply end) → IsRefused end → UndoesOwn unmade_swept s.call m (behind m s verbs.Undo k r reply end)
+leaves_undo : (m : Machine) (s : CallState) (k r : Option ℕ) (reply : StepReply) (end : Option Outcome) → AtCkpt k r (λ k. (name : List ℕ) × (a : Option CreationAttributes) × AsksToOpen s name a × UndoRow m s k reply end) → IsRefused end → UndoesOwn unmade_swept s.call m (stepped_behind m s verbs.Undo k r reply end)
 leaves_undo m s (Some k) None words.Ok end row refused = record { ckpt = k; own = row.3.0; rest = leaves_step (unmade_swept k m) (unmade_swept k m) (kept_behind m s (unmade_swept k m).cluster verbs.Undo (Some k) None words.Ok) end refl refused }
 leaves_undo m s (Some k) None reply end row refused = absurd row.3
 leaves_undo m s (Some k) (Some r) reply end row refused = absurd row
@@ -237,8 +237,8 @@ put_same f a t same b = elim (same_actor b a) as (λ is. same_actor b a ≡ is �
 ] refl
 
 -- where the call that steps is the one in hand
-leaves_at : (m : Machine) (call : CallId) (verb : Verb) (k r : Option ℕ) (reply : StepReply) (end : Option Outcome) (P : CallId → Machine → Type 0) (s : CallState) → m.in_hand call.actor ≡ Some s → s.call ≡ call → P s.call (behind m s verb k r reply end) → P call (step_of m (m.in_hand call.actor) verb k r reply end)
-leaves_at m call verb k r reply end P s here is p = subst (λ (o : Option CallState). P call (step_of m o verb k r reply end)) (sym here) (subst (λ (d : CallId). P d (behind m s verb k r reply end)) is p)
+leaves_at : (m : Machine) (call : CallId) (verb : Verb) (k r : Option ℕ) (reply : StepReply) (end : Option Outcome) (P : CallId → Machine → Type 0) (s : CallState) → m.in_hand call.actor ≡ Some s → s.call ≡ call → P s.call (stepped_behind m s verb k r reply end) → P call (step_of m (m.in_hand call.actor) verb k r reply end)
+leaves_at m call verb k r reply end P s here is p = subst (λ (o : Option CallState). P call (step_of m o verb k r reply end)) (sym here) (subst (λ (d : CallId). P d (stepped_behind m s verb k r reply end)) is p)
 
 step_leaves : (m : Machine) (call : CallId) (op : OpWord) (verb : Verb) (k r : Option ℕ) (reply : StepReply) (end : Option Outcome) (details : Details)
     → Allowed m (labels.Stepped call op verb k r reply end details) → IsRefused end → LeavesBy unmade_swept (labels.Stepped call op verb k r reply end details) m (after m (labels.Stepped call op verb k r reply end details))

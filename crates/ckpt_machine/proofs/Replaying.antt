@@ -1,4 +1,4 @@
--- Each replica is the replay of its effects, in every state of a run, with the elements that are done of a weak write that is under way.
+-- Each replica is the replay of its effects, in every state of a run, with the elements that are done of a weak write that is under way; and so is each snapshot, without these.
 use Rattle.std.proofs.Common.{◌≡◌, List, [], ◌∷◌, ◌++◌, ◌∙◌, ℕ, ◌+◌, length, take, Option, Some, None, IfSome, Bool, true, false, cond, ℤ, refl, sym, ap, subst}
 use Rattle.std.specs.Prelude.{IsOk}
 use Rattle.std.proofs.lemmas.Bool.{ltb-false}
@@ -19,8 +19,9 @@ use Rattle.cluster_record.specs.declared.entries.Entry.{Entry}
 use Rattle.cluster_record.specs.RecordState.{entry_of}
 use Rattle.ckpt_machine.specs.Beginning.{update_is_bad}
 use Rattle.ckpt_machine.specs.Invariant.{Invariant}
-use Rattle.ckpt_machine.specs.Machine.{Machine, Effect, Applied, Staged, ReplicaState}
+use Rattle.ckpt_machine.specs.Machine.{Machine, Effect, Applied, Staged, ReplicaState, Snapshot}
 use Rattle.ckpt_machine.specs.Options.{is_all, is_by_element}
+use Rattle.ckpt_machine.specs.Propagation.{replica_from}
 use Rattle.ckpt_machine.specs.Replays.{each_done, effect_done, effects_done, replay, with_marked, IsReplay}
 use Rattle.ckpt_machine.specs.Runs.{last, IsRun}
 use Rattle.ckpt_machine.specs.Shape.{IsShapedBy}
@@ -154,10 +155,21 @@ all_unmarked m inv bare k r x e there found all = (subst (λ all. IsShapedBy all
 abbrev IsReplayedIn : Option Entry → ReplicaState → Type 0
 IsReplayedIn o x = (e : Entry) → o ≡ Some e → IsReplayed e x
 
-kept_replay : IsKept (λ o r x. IsReplayedIn o x)
+-- a snapshot is the replay of its effects
+abbrev IsReplayedCopy : Entry → Snapshot → Type 0
+IsReplayedCopy e s = s.sections ≡ replay e.attributes e.made s.effects
+
+-- by what declares the same, from the same moment
+copy_kept : (e f : Entry) (s : Snapshot) → StaysMade e f → IsReplayedCopy e s → IsReplayedCopy f s
+copy_kept e f s keeps was = was ∙ ap (λ a. replay a e.made s.effects) (sym keeps.attributes) ∙ ap (λ t. replay f.attributes t s.effects) (sym keeps.since)
+
+kept_replay : IsKept (λ o r x. IsReplayedIn o x) IsReplayedCopy
 kept_replay = record {
   opened = λ e r f found. subst (λ f. IsReplayed f (opened_state e)) (same_Some e f found) (record { replays = refl; marked = tt });
   stays = λ e f r x stays made was g found. subst (λ g. IsReplayed g x) (same_Some f g found) (replay_kept e f stays x (was e refl));
+  stays_copied = copy_kept;
+  pulled = λ e r x source active none was. replay_there e x none (was e refl);
+  put = λ e r s x free none copied was f found. subst (λ f. IsReplayed f (replica_from s x)) (same_Some e f found) (replayed e (replica_from s x) none copied);
   staged = λ m s k r x step was e found. (let it = was e found in record { replays = it.replays; marked = it.marked });
   committed = λ m s k r x e step all was f found. subst (λ f. IsReplayed f (committed_slot e.attributes x x.slot)) (same_Some e f found) (committed_replay e x x.slot (all_unmarked m step.inv step.history.bare k r x e step.there all.found all.all) (was e refl));
   applied = λ m s k r x e step active none was f found. subst (λ f. IsReplayed f (having_taken e.attributes s.call (update_of s.op) m.cluster.moment x)) (same_Some e f found) (taken_replay e s.call (update_of s.op) m.cluster.moment x none (was e refl));
@@ -168,4 +180,4 @@ kept_replay = record {
 
 -- THE LAW: each replica is the replay of its effects
 pub run_replays : (log : List Label) → IsRun log → (k r : ℕ) (e : Entry) (x : ReplicaState) → entry_of k (last log).cluster.entries ≡ Some e → (last log).replicas k r ≡ Some x → IsReplay e x
-run_replays log run k r e x found there = (run_each (λ o r x. IsReplayedIn o x) kept_replay log run k r x there e found).replays
+run_replays log run k r e x found there = ((run_each (λ o r x. IsReplayedIn o x) IsReplayedCopy kept_replay log run).replica k r x there e found).replays

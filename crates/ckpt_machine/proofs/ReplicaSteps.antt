@@ -15,7 +15,7 @@ use Rattle.ckpt_machine.specs.Steps.{driver_of}
 use Rattle.ckpt_machine.specs.Shape.{Shape, is_owner, IsOwner, IsMarker, IsSpread}
 use Rattle.weak_marks.specs.Marks.{Marked}
 use Rattle.ckpt_machine.specs.InHand.{is_marked_by, IsInHand}
-use Rattle.ckpt_machine.specs.Invariant.{IsMaker, IsGoodIn, InvariantIn}
+use Rattle.ckpt_machine.specs.Invariant.{IsMaker, IsGoodIn, IsCompleteAt, InvariantIn}
 use Rattle.ckpt_machine.proofs.Actors.{same_actor-refl, same_actor-true}
 use Rattle.ckpt_machine.proofs.OtherCalls.{LooksAlike, making_still, IsInHand-alike, IsOwner-alike, IsMarker-alike, IsGoodIn-alike}
 
@@ -161,14 +161,16 @@ module _ (m : Machine) (shapes : ℕ → Shape) (inv : InvariantIn shapes m) (s 
       → ((e : Entry) → entry_of u.ckpt m.cluster.entries ≡ Some e → e.making ≡ None → IsSpread (with_step f o) u.ckpt sh e)
       → ((z : CallState) → o ≡ Some z → IsInHand (with_step f o) (put shapes u.ckpt sh) s.call.actor z)
       → ((e : Entry) → entry_of u.ckpt m.cluster.entries ≡ Some e → e.making ≡ None)
+      → ((j q : ℕ) (x : ReplicaState) → f j q ≡ Some x → IsCompleteAt m.cluster j q)
       → InvariantIn (put shapes u.ckpt sh) (with_step f o)
-  step_keeps f o sh stays keeps spread own made = record {
+  step_keeps f o sh stays keeps spread own made complete = record {
     up = inv.up;
     none_live = inv.none_live;
     rises = inv.rises;
     up_to = inv.up_to;
     swept = inv.swept;
     entries = λ j e found. by_test j e found (j == u.ckpt) refl;
+    replicas = complete;
     reserves = inv.reserves;
     handles = inv.handles;
     rest = inv.rest;

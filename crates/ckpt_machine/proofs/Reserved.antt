@@ -115,6 +115,7 @@ module _ (m : Machine) (shapes : ℕ → Shape) (inv : InvariantIn shapes m) (s 
     up_to = inv.up_to;
     swept = inv.swept;
     entries = λ j e found. IsGoodIn-then j (shapes j) e e.making (inv.entries j e found);
+    replicas = inv.replicas;
     reserves = there_then;
     handles = inv.handles;
     rest = inv.rest;

@@ -20,6 +20,7 @@ invariant_empty = record {
     up_to = tt;
     swept = tt;
     entries = λ k e found. absurd (cc found);
+    replicas = λ k r x none. absurd (cc none);
     reserves = λ k r n none. absurd (cc none);
     handles = λ c h among. let (i, below, is) = among in absurd (omega (arith, below));
     rest = λ a. NoneLent-no_tables;

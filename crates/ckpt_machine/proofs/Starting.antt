@@ -16,7 +16,7 @@ use Rattle.ckpt_machine.specs.Beginning.{begin_end, if_live, on_handle, end_iter
 use Rattle.ckpt_machine.specs.Drivers.{Driver}
 use Rattle.ckpt_machine.specs.Driving.{Kept, on_kept, driver_start, change_start, kind_of_change}
 use Rattle.ckpt_machine.specs.Machine.{Machine, CallState}
-use Rattle.ckpt_machine.specs.Steps.{asked_handle, kept_at_beginning, IsBeginEnd, IsBegun, started_call, call_begun, begun}
+use Rattle.ckpt_machine.specs.Steps.{asked_handle, kept_at_beginning, IsBeginEnd, IsBegun, started_call, call_begun, after_beginning}
 use Rattle.ckpt_machine.specs.Tables.{ckpt_of_handle}
 use Rattle.ckpt_machine.proofs.ReplicaSteps.{put_actor-here}
 
@@ -91,7 +91,7 @@ begun_as None call op kept s is = by_driver (driver_start call (asked op) kept) 
 
 -- A CALL THAT GOES ON IS IN HAND, AND DRIVEN
 pub goes_on_in_hand : (m : Machine) (call : CallId) (op : Op) → IsBegun m call op None
-    → (d : Driver) × (driver_start call (asked op) (first_kept m call op) ≡ Some d) × ((begun m call op None).in_hand call.actor ≡ Some (started_call call op (first_kept m call op) d))
+    → (d : Driver) × (driver_start call (asked op) (first_kept m call op) ≡ Some d) × ((after_beginning m call op None).in_hand call.actor ≡ Some (started_call call op (first_kept m call op) d))
 goes_on_in_hand m call op is =
     let (d, driven) = goes_on_driven m.cluster (number_of call.actor) (is_live_client (number_of call.actor) m.cluster) call (asked_handle m call.actor op) (asked op) is.built (goes_on_begun (asked op) _ None is.answer refl) in
     (d, driven, put_actor-here m.in_hand call.actor (call_begun None call op (first_kept m call op)) ∙ driven_begun call op (first_kept m call op) d driven)

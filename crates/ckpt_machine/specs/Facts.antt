@@ -33,6 +33,7 @@ use Rattle.client_handles.specs.ClientState.{NoneLent}
 use Rattle.ckpt_types.specs.Asks as asks
 use Rattle.ckpt_machine.specs.Tables.{choice_of}
 use Rattle.ckpt_machine.specs.Machine.{Machine, ReplicaState, CallState}
+use Rattle.ckpt_machine.specs.Propagation.{target_at}
 use Rattle.ckpt_machine.specs.Steps.{due, driver_of, IsDriven, rooms_of, room_at, seen_at, staged_moment, asked_handle}
 
 -- a replica can be reserved: the node is up, the checkpoint is in the making, the node is not complete, and the attributes passed their check
@@ -134,5 +135,9 @@ pub record Facts (m : Machine) : Type 0 where
   pub opens : (a : ActorName) (s : CallState) (o : OpenState) → m.in_hand a ≡ Some s → driver_of s ≡ drivers.Open o → (IsSome o.making → (rooms_of m s).handles ≡ true) × (is_live_client (client_of s.call) m.cluster ≡ true)
   -- what a call is making by its own steps is what is in the making by it
   pub makes : (a : ActorName) (s : CallState) → m.in_hand a ≡ Some s → making_of s.call m.cluster ≡ making_in (driver_of s)
+  -- a complete node has its replica
+  pub complete : (k r : ℕ) (e : Entry) → entry_of k m.cluster.entries ≡ Some e → (slice_index e.complete r == 0) ≡ false → IsSome (m.replicas k r)
+  -- a put meets no slot and no marks
+  pub puts : (k r : ℕ) (x : ReplicaState) → target_at m k r ≡ Some x → (x.slot ≡ None) × (x.marks ≡ None)
   pub starts : (a : ActorName) (s : CallState) (r : ℕ) (call : CallId) (k : ℕ) (choice : Choice) → m.in_hand a ≡ Some s → due m s ≡ Serve r (requests.Iterate call k choice) → IsStarting m s k choice
   pub goes_on : (a : ActorName) (s : CallState) (r : ℕ) (call : CallId) (k : ℕ) → m.in_hand a ≡ Some s → due m s ≡ Serve r (requests.Next call k) → IsGoingOn m s

@@ -41,6 +41,7 @@ use Rattle.ckpt_types.specs.Asks as asks
 use Rattle.ckpt_machine.specs.Driving.{deadline_from, refused_cause}
 use Rattle.node_core.specs.Serving.{update_answer, told_id}
 use Rattle.ckpt_machine.specs.Machine.{Machine, Staged, ReplicaState, CallState}
+use Rattle.ckpt_machine.specs.Propagation.{pull_answer, put_answer}
 use Rattle.ckpt_machine.specs.Listing.{listing_at}
 use Rattle.ckpt_machine.specs.Options.{is_all, is_weak, is_by_element}
 use Rattle.weak_marks.specs.Marks.{Marked, is_left}
@@ -551,4 +552,6 @@ Allowed m (labels.Word who word said) = IsAllowedWord m who word said
 Allowed m (labels.Nodes n) = (0 < n) × (n ≤ nodes_max) × ((r : ℕ) → is_up r m.cluster ≡ false)
 Allowed m (labels.Moved t) = IsMomentFrom m.cluster.moment t
 Allowed m (labels.Shown k replicas) = replicas ≡ listing_at m k
+Allowed m (labels.Pulled k reply) = reply ≡ pull_answer m k
+Allowed m (labels.Put k r reply) = reply ≡ put_answer m k r
 Allowed m label = ⊥

@@ -9,12 +9,12 @@ use Rattle.cluster_record.specs.DueOpen.{OpenState}
 use Rattle.cluster_record.specs.declared.clients.LiveClient.{LiveClient}
 use Rattle.cluster_record.specs.declared.entries.Entry.{Entry}
 use Rattle.cluster_record.specs.RecordState.{RecordState, entry_of, first_nodes, no_nodes, is_up, client_key}
-use Rattle.ckpt_machine.specs.Machine.{Machine, CallState}
+use Rattle.ckpt_machine.specs.Machine.{Machine, ReplicaState, CallState}
 use Rattle.ckpt_machine.specs.Steps.{driver_of}
 use Rattle.cluster_record.specs.Identities.{IdentitiesRise, AllUpTo}
 use Rattle.ckpt_types.specs.declared.identities.ActorName.TheVariants.{Client}
 use Rattle.cluster_record.specs.Places.{find_key}
-use Rattle.ckpt_machine.specs.Shape.{Shape, held, IsSpread}
+use Rattle.ckpt_machine.specs.Shape.{Shape, IsCompleteOn, held, IsSpread}
 use Rattle.ckpt_machine.specs.Drivers as drivers
 use Rattle.ckpt_machine.specs.Entries.{AllStay, WasMade, IsMakingEntry}
 use Rattle.ckpt_machine.specs.InHand.{IsInHand}
@@ -39,6 +39,10 @@ IsGoodIn m k sh e (Some call) = IsMakingEntry e × IsMaker m k call
 abbrev pub IsGoodClient : (ActorName → ℕ) → RecordState → ℕ → LiveClient → Type 0
 IsGoodClient next R c live = (live.initialize < next (Client c)) × (is_up live.node R ≡ true)
 
+-- the checkpoint is there, and complete on the node
+abbrev pub IsCompleteAt : RecordState → ℕ → ℕ → Type 0
+IsCompleteAt R k r = IsSomeAnd (entry_of k R.entries) (λ e. IsCompleteOn e r)
+
 -- what holds in every state of a run, where the checkpoints have these shapes
 pub record InvariantIn (shapes : ℕ → Shape) (m : Machine) : Type 0 where
   -- the nodes that are up came up at once, with the first incarnation
@@ -48,6 +52,8 @@ pub record InvariantIn (shapes : ℕ → Shape) (m : Machine) : Type 0 where
   pub up_to : AllUpTo m.cluster.last_identity m.cluster.entries
   pub swept : AllStay m.cluster.moment m.cluster.entries
   pub entries : (k : ℕ) (e : Entry) → entry_of k m.cluster.entries ≡ Some e → IsGoodIn m k (shapes k) e e.making
+  -- a replica is on a complete node of a checkpoint that is there
+  pub replicas : (k r : ℕ) (x : ReplicaState) → m.replicas k r ≡ Some x → IsCompleteAt m.cluster k r
   -- what is reserved is for a checkpoint that is in the making
   pub reserves : (k r n : ℕ) → m.reserved k r ≡ Some n → IsSomeAnd (entry_of k m.cluster.entries) (λ e. IsSome e.making)
   pub handles : (a : ActorName) (h : HandleView) → Contains (m.tables a).handles h → WasMade m.cluster h.id

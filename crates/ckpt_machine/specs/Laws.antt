@@ -38,7 +38,7 @@ EachRunHas = (log : List Label) → IsRun log → Invariant (last log) × Counts
 abbrev pub GivesFacts : Type 0
 GivesFacts = (m : Machine) → Invariant m → Facts m
 
--- each label counts up by at most one
+-- where no count is above n, none is above n + 1 behind a due label
 abbrev pub CountsUp : Type 0
 CountsUp = (m : Machine) (l : Label) (n : ℕ) → Invariant m → IsDue m l → Counts m n → Counts (after m l) (n + 1)
 

@@ -6,6 +6,7 @@ pub mod Machine
 pub mod Options
 pub mod Complete
 pub mod Listing
+pub mod Propagation
 pub mod Steps
 pub mod BeginRows
 pub mod Guards

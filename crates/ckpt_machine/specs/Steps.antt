@@ -61,7 +61,8 @@ use Rattle.node_msgs.specs.Steps.{word_of, verb_of, event_verb}
 use Rattle.ckpt_machine.specs.Driving.{Kept, driver_start, driver_state, driver_next, driver_taken, driver_end, event_ckpt, event_node, event_end, event_refusal, takes_memory}
 use Rattle.ckpt_machine.specs.Listing.{listing_at}
 use Rattle.ckpt_machine.specs.Options.{is_all, is_weak, if_declared}
-use Rattle.ckpt_machine.specs.Machine.{Machine, Effect, Applied, Staged, ReplicaState, CallState}
+use Rattle.ckpt_machine.specs.Machine.{Machine, Effect, Applied, Staged, ReplicaState, Snapshot, CallState}
+use Rattle.ckpt_machine.specs.Propagation.{source_at, target_at, pull_answer, put_answer, with_pulled, with_put}
 use Rattle.client_handles.specs.ClientState.{ClientState, emptied}
 use Rattle.cluster_record.specs.Makings.{making_of}
 use Rattle.cluster_record.specs.StepDone.{done_of, counting}
@@ -258,6 +259,8 @@ IsDue m (labels.Word who word said) = IsWord m who word said
 IsDue m (labels.Nodes n) = (0 < n) × (n ≤ nodes_max) × (m.cluster.up ≡ no_nodes)
 IsDue m (labels.Moved t) = IsMomentFrom m.cluster.moment t
 IsDue m (labels.Shown k replicas) = replicas ≡ listing_at m k
+IsDue m (labels.Pulled k reply) = reply ≡ pull_answer m k
+IsDue m (labels.Put k r reply) = reply ≡ put_answer m k r
 IsDue m label = ⊥
 
 -- ---- the state after a label
@@ -280,12 +283,18 @@ abbrev pub reservation_under : Option Entry → ℕ → Option ℕ → Option �
 reservation_under None r old = None
 reservation_under (Some e) r old = if slice_index e.complete r == 0 then old else None
 
--- the record is this, with the replicas and reservations under it
+-- a snapshot goes with its entry
+abbrev pub snapshot_under : Option Entry → Option Snapshot → Option Snapshot
+snapshot_under None old = None
+snapshot_under (Some e) old = old
+
+-- the record is this, with the replicas, reservations and snapshots under it
 abbrev pub with_record : Machine → RecordState → Machine
 with_record m R = record m {
   cluster = R;
   replicas = replicas_under m.cluster R m.replicas;
   reserved = λ k r. reservation_under (entry_of k R.entries) r (m.reserved k r);
+  snapshots = λ k. snapshot_under (entry_of k R.entries) (m.snapshots k);
 }
 
 -- the moment of the first slot on a complete node, or the record's
@@ -520,13 +529,15 @@ begun_call m call op end = record m {
 }
 
 -- a call has begun, and has ended an iteration where it ends one
-abbrev pub begun : Machine → CallId → Op → Option Outcome → Machine
-begun m call op end = with_tables call.actor (ended_at_once end (asked op)) (begun_call m call op end)
+abbrev pub after_beginning : Machine → CallId → Op → Option Outcome → Machine
+after_beginning m call op end = with_tables call.actor (ended_at_once end (asked op)) (begun_call m call op end)
 
 -- THE STATE AFTER A LABEL
 abbrev pub after : Machine → Label → Machine
-after m (labels.Began call op end) = begun m call op end
+after m (labels.Began call op end) = after_beginning m call op end
 after m (labels.Stepped call op verb k r reply end details) = step_of m (m.in_hand call.actor) verb k r reply end
 after m (labels.Nodes n) = record m { cluster = brought_up n m.cluster }
 after m (labels.Moved t) = with_record m (moved t m.cluster)
+after m (labels.Pulled k reply) = with_pulled m k reply (source_at m k)
+after m (labels.Put k r reply) = with_put m k r reply (m.snapshots k) (target_at m k r)
 after m label = m
