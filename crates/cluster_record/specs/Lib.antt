@@ -8,6 +8,7 @@ pub mod RecordReady
 pub mod LookUps
 pub mod StepDone
 pub mod DueOpen
+pub mod DueSync
 pub mod DueUpdate
 pub mod DueActive
 pub mod DueOnce

@@ -1,5 +1,5 @@
 //! How far a call is that takes several steps, as its driver keeps it.
-use ckpt_types::{Choice, CkptId, NODES_MAX};
+use ckpt_types::{Choice, CkptId, Moment, NODES_MAX, NodeId};
 
 /// How far an all-replicas update is.
 #[derive(Clone, Copy, Debug, PartialEq, Eq)]
@@ -45,4 +45,22 @@ pub enum ActiveKind {
     Iterate(Choice),
     /// The next section of an iteration.
     Next,
+}
+
+/// What a synchronisation has pulled of the active.
+#[derive(Clone, Copy, Debug, PartialEq, Eq)]
+pub struct PulledAt {
+    /// The generation of its checkpoint then.
+    pub generation: u64,
+    /// How many updates the active had.
+    pub count: u64,
+}
+
+/// What a call brings to other replicas.
+#[derive(Clone, Copy, Debug, PartialEq, Eq)]
+pub enum SyncKind {
+    /// What the active has, to all of them; it is too late from this moment on, where there is a timeout.
+    Synchronize(Option<Moment>),
+    /// What the active has, to the replica on this node, which is to be the active.
+    ActiveSet(NodeId),
 }

@@ -4,14 +4,16 @@
 mod by_node;
 mod calls;
 mod clients;
+mod deadlines;
 mod entries;
 mod opening;
 mod placement;
 mod record;
 
 pub use by_node::{first_lacking, has_any, last_having};
-pub use calls::{ActiveKind, Making, MarksMade, UpdatePhase};
+pub use calls::{ActiveKind, Making, MarksMade, PulledAt, SyncKind, UpdatePhase};
 pub use clients::{LiveClient, number_of};
+pub use deadlines::in_time;
 pub use entries::{Entry, KeptName};
 pub use opening::{OpenAnswer, accepts};
 pub use placement::is_collocated;

@@ -1,5 +1,5 @@
 //! The driver of the calls to the active replica alone.
-ghost use Rattle.std.specs.Prelude.{◌≡◌, Some};
+ghost use Rattle.std.specs.Prelude.{◌≡◌, ℕ, Some};
 ghost use Rattle.node_msgs.specs.Requests.{ckpt_of};
 ghost use Rattle.node_msgs.specs.Steps.{verb_of};
 ghost use Rattle.cluster_record.specs.DueActive.{active_begun, on_active, active_next, active_request, starts_iteration, unless_changed, weak_request, elements_of_kind, element_taken, active_taken};
@@ -109,8 +109,8 @@ impl ActiveCall {
 
     /// It takes a node's answer: where its marks are made, it keeps them, and of them one element less is left
     /// behind each that is done.
-    pub fn take(&mut self, cluster: &Record, r: NodeId, request: &Request, word: StepReply)
-        ensures { self.new ≡ active_taken (done_of cluster.now (verb_of request.now) (Some (ckpt_of request.now)) (Some r) word) self.old }
+    pub fn take(&mut self, cluster: &Record, request: &Request, word: StepReply)
+        ensures { (r : ℕ) → self.new ≡ active_taken (done_of cluster.now (verb_of request.now) (Some (ckpt_of request.now)) (Some r) word) self.old }
     {
         let StepReply::Ok = word else {
             return;

@@ -12,8 +12,7 @@ use ckpt_types::{
     AisError, Bytes, CHECKPOINTS_MAX, CallId, Cause, CkptId, CreationAttributes, HANDLES_MAX,
     Moment, NODES_MAX, NodeId, OpenAsk, Outcome, SharedAttributes, SharedName,
 };
-use cluster_record::{Entry, Making, OpenAnswer, Record, accepts, first_lacking};
-use moment_rules::reached;
+use cluster_record::{Entry, Making, OpenAnswer, Record, accepts, first_lacking, in_time};
 use node_msgs::{Next, RecordStep, Request, StepReply};
 use std::alloc::AllocError;
 use std::marker::Model;
@@ -223,22 +222,6 @@ fn made_of(ckpt: Option<CkptId>) -> Option<Making>
             reserved: [0; NODES_MAX],
             refused: false,
         }),
-    }
-}
-
-// What is next before the deadline; where it is reached, the call ends with TIMEOUT.
-fn in_time(deadline: Option<Moment>, moment: Moment, next: Next) -> Next
-    ensures { result ≡ in_time deadline moment next }
-{
-    match deadline {
-        None => next,
-        Some(deadline) => {
-            if reached(deadline, moment) {
-                Next::End(Outcome::Refused(AisError::Timeout, Cause::Deadline(deadline, moment)))
-            } else {
-                next
-            }
-        }
     }
 }
 

@@ -1,0 +1,23 @@
+//! What a call does whose deadline may be reached.
+ghost use Rattle.std.specs.Prelude.{◌≡◌};
+ghost use Rattle.cluster_record.specs.DueOpen.{in_time};
+
+use ckpt_types::{AisError, Cause, Moment, Outcome};
+use moment_rules::reached;
+use node_msgs::Next;
+
+/// What is next where the deadline, if there is one, is not reached at the moment; where it is, TIMEOUT with both.
+pub fn in_time(deadline: Option<Moment>, moment: Moment, next: Next) -> Next
+    ensures { result ≡ in_time deadline moment next }
+{
+    match deadline {
+        None => next,
+        Some(deadline) => {
+            if reached(deadline, moment) {
+                Next::End(Outcome::Refused(AisError::Timeout, Cause::Deadline(deadline, moment)))
+            } else {
+                next
+            }
+        }
+    }
+}
