@@ -89,13 +89,16 @@ IsBuiltCall client op = (client < client_numbers) × IsBuilt op × HasValuesInRa
 abbrev pub IsStepped : Who → Type 0
 IsStepped who = IsWho who
 
--- at this moment, a call of a client, stepped to its end or only begun; steps of a call, so many or to its end; a moment that is no earlier, before the end of time; or the replicas of a checkpoint
+-- at this moment, a call of a client, stepped to its end or only begun; steps of a call, so many or to its end; a moment that is no earlier, before the end of time; a snapshot pulled, put at one of the nodes, or propagated to all; or the replicas of a checkpoint
 abbrev pub IsBuiltLine : ℤ → Line → Type 0
 IsBuiltLine t (lines.Call client op) = IsBuiltCall client op
 IsBuiltLine t (lines.Begin (actor.Client client) op) = IsBuiltCall client op
 IsBuiltLine t (lines.Step who steps) = IsStepped who × (0 < steps) × (steps ≤ line_steps_max)
 IsBuiltLine t (lines.Finish who) = IsStepped who
 IsBuiltLine t (lines.At u) = (t ≤ℤ u) × (u ≤ℤ pos (nat_abs end_of_time - 1))
+IsBuiltLine t (lines.Pull k) = ⊤
+IsBuiltLine t (lines.Put k r) = r < nodes_max
+IsBuiltLine t (lines.Propagate k) = ⊤
 IsBuiltLine t (lines.Show k) = ⊤
 IsBuiltLine t _ = ⊥
 

@@ -153,9 +153,6 @@ abbrev pub is_later : FirstWord → Bool
 is_later (words.Op call) = is_later_call call
 is_later words.Fail = true
 is_later words.Join = true
-is_later words.Pull = true
-is_later words.Put = true
-is_later words.Propagate = true
 is_later words.Race = true
 is_later words.End = true
 is_later _ = false

@@ -124,13 +124,7 @@ pub fn is_later(word: FirstWord) -> bool
         FirstWord::Op(call) => is_later_call(call),
         _ => matches!(
             word,
-            FirstWord::Fail
-                | FirstWord::Join
-                | FirstWord::Pull
-                | FirstWord::Put
-                | FirstWord::Propagate
-                | FirstWord::Race
-                | FirstWord::End
+            FirstWord::Fail | FirstWord::Join | FirstWord::Race | FirstWord::End
         ),
     }
 }
