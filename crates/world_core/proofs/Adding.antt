@@ -1,4 +1,4 @@
--- A replica that an open adds on a node: what the machine shows of it before the record has it, and that the nodes hold it once the record has.
+-- A replica that an open adds on a node, and the room for a snapshot that a creation adds: what the machine shows of them before the record has them, and that the nodes hold the replica once the record has.
 use Rattle.std.proofs.Common.{◌≡◌, ◌⊎◌, inl, inr, ℕ, ◌<◌, ◌≤◌, ◌++◌, true, false, List, [], ◌∷◌, length, refl, sym, ap, subst, ◌∙◌, cond}
 use Rattle.std.specs.Prelude.{Option, Some, None, is_some, IfSome, IsSomeAnd, not, ◌==◌, ◌&&◌, slice_get, slice_set, slice_index}
 use Rattle.cluster_record.specs.declared.entries.Entry.{Entry}
@@ -6,12 +6,14 @@ use Rattle.cluster_record.specs.Placement.{adds}
 use Rattle.cluster_record.specs.Places.{find_key, list_or}
 use Rattle.cluster_record.specs.RecordState.{RecordState, entry_of, complete_of}
 use Rattle.cluster_record.proofs.IdentityLaws.{IsLeft}
-use Rattle.ckpt_machine.specs.Steps.{with_record, replica_under, reservation_under}
+use Rattle.ckpt_machine.specs.Steps.{with_record, replica_under, reservation_under, snapshot_under}
 use Rattle.node_core.specs.Nodes.{replica_key, with_reserved}
 use Rattle.replica.specs.Replicas.{Replica, opened_replica}
 use Rattle.world_core.specs.declared.world.World.{World}
 use Rattle.world_core.specs.Nodes.{replica_in, with_added, with_opened}
-use Rattle.world_core.specs.Shows.{History, HistoryFits, FitsReplica, machine_of, shown_replica, shown_reservation, where_complete, where_not_complete, complete_replica, reserved_in}
+use Rattle.world_core.specs.declared.snapshots.Background.{Background}
+use Rattle.world_core.specs.Backgrounds.{pulled_in}
+use Rattle.world_core.specs.Shows.{History, HistoryFits, FitsReplica, FitsSnapshot, machine_of, shown_replica, shown_snapshot, shown_reservation, where_complete, where_not_complete, complete_replica, reserved_in}
 use Rattle.cluster_record.proofs.Places.{there_is}
 use Rattle.std.proofs.lemmas.Bool.{lt-ltb}
 use Rattle.std.proofs.lemmas.Option.{same_Some}
@@ -68,7 +70,7 @@ none_reserved : (o : Option Entry) (r : ℕ) → IfSome o (λ f. (slice_index f.
 none_reserved None r full x y = refl
 none_reserved (Some f) r full x y = ap (λ b. cond b x None) full ∙ sym (ap (λ b. cond b y None) full)
 
-module _ (w : World) (h : History) (R : RecordState) (nodes : List (List Replica)) (added : (k r : ℕ) → AddedAt (entry_of k w.cluster.entries) (entry_of k R.entries) r (replica_in w.nodes k r) (replica_in nodes k r)) where
+module _ (w : World) (h : History) (R : RecordState) (nodes : List (List Replica)) (added : (k r : ℕ) → AddedAt (entry_of k w.cluster.entries) (entry_of k R.entries) r (replica_in w.nodes k r) (replica_in nodes k r)) (backgrounds : List Background) (pulled : (k : ℕ) → pulled_in backgrounds k ≡ pulled_in w.snapshots k) where
   complete_same : (k r : ℕ) → complete_replica w.cluster nodes k r ≡ complete_replica w.cluster w.nodes k r
   complete_same k r = elim (added k r) [
     | inl same ↦ ap (where_complete (slice_index (complete_of (entry_of k w.cluster.entries)) r)) same
@@ -81,17 +83,19 @@ module _ (w : World) (h : History) (R : RecordState) (nodes : List (List Replica
     | inr now ↦ none_reserved (entry_of k R.entries) r now.2 (reserved_in w.cluster nodes k r) (reserved_in w.cluster w.nodes k r)
   ]
 
-  -- with the record behind it, the machine is the same with the replica and without
-  pub added_record : with_record (machine_of w h) R ≡ with_record (machine_of (record w { nodes = nodes }) h) R
+  -- with the record behind it, the machine is the same with the replica and without, and with room for a snapshot more
+  pub added_record : with_record (machine_of w h) R ≡ with_record (machine_of (record w { nodes = nodes; snapshots = backgrounds }) h) R
   added_record = λ i. record (with_record (machine_of w h) R) {
     replicas = λ k r. replica_under (entry_of k R.entries) (slice_index (complete_of (entry_of k w.cluster.entries)) r) r (shown_replica (h.effects k r) (h.origins k r) (sym (complete_same k r) i));
     reserved = λ k r. sym (reserved_same k r) i;
+    snapshots = λ k. snapshot_under (entry_of k R.entries) (snapshot_under (entry_of k w.cluster.entries) (shown_snapshot (h.copied k) (sym (pulled k) i)));
   }
 
   -- and so are the histories that fit
-  pub added_fits : HistoryFits w h → HistoryFits (record w { nodes = nodes }) h
+  pub added_fits : HistoryFits w h → HistoryFits (record w { nodes = nodes; snapshots = backgrounds }) h
   added_fits fits = record {
     replicas = λ k r. subst (FitsReplica k (entry_of k w.cluster.entries) (h.effects k r)) (sym (complete_same k r)) (fits.replicas k r);
+    copies = λ k. subst (FitsSnapshot (h.copied k)) (sym (pulled k)) (fits.copies k);
     hands = fits.hands;
   }
 

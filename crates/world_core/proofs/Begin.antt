@@ -96,6 +96,7 @@ module _ (w : World) (c : ℕ) (op : Op) (t : TableState) (q : Option InHand) (e
   fits_later : (h : History) → HistoryFits w h → HistoryFits w' (later h)
   fits_later h fits = record {
     replicas = fits.replicas;
+    copies = fits.copies;
     hands = λ d. subst (λ o. FitsHand (put_actor h.beginnings (Client c) began (Client d)) (put_actor h.steps (Client c) [] (Client d)) (or_none o)) (sym (get_set w.hands c (left end hand) q d there))
         (begun_fits_case (d == c) began (h.beginnings (Client d)) (h.steps (Client d)) (left end hand) (slice_get w.hands d) (one_fits end took) (fits.hands d));
   }
@@ -113,7 +114,7 @@ module _ (w : World) (c : ℕ) (op : Op) (t : TableState) (q : Option InHand) (e
   begin_does : Does w w' label
   begin_does = record {
     due_is = λ m s f. subst (λ m. IsDue m label) (sym s.same) (begin_due s.history);
-    shows = λ m s f. record { history = later s.history; same = ap (λ m. after m label) s.same ∙ after_is s.history; fits = fits_later s.history s.fits; holds = s.holds; rooms = rooms_set w w.cluster c t t' table refl s.rooms };
+    shows = λ m s f. record { history = later s.history; same = ap (λ m. after m label) s.same ∙ after_is s.history; fits = fits_later s.history s.fits; holds = s.holds; keeps = s.keeps; rooms = rooms_set w w.cluster c t t' table refl s.rooms };
   }
 
 -- a call of client c begins, with the parts as the code names them

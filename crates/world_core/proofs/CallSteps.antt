@@ -17,6 +17,7 @@ use Rattle.ckpt_machine.specs.Steps.{IsDue, IsDone, after, changed, claimed_coun
 use Rattle.world_core.specs.declared.hands.InHand.{InHand}
 use Rattle.world_core.specs.declared.world.World.{World}
 use Rattle.world_core.specs.Happenings.{rooms_at}
+use Rattle.world_core.specs.Backgrounds.{HaveRooms}
 use Rattle.world_core.specs.Holding.{HoldsOnlyWhatStands}
 use Rattle.world_core.specs.Shows.{Shows, IsShown, HistoryFits, History, machine_of, hand_at}
 use Rattle.world_core.proofs.Freeing.{DoesBefore}
@@ -28,9 +29,10 @@ pub record IsKnown (w : World) (h : History) : Type 0 where
   pub facts : Facts (machine_of w h)
   pub fits : HistoryFits w h
   pub holds : HoldsOnlyWhatStands w.cluster w.nodes
+  pub keeps : HaveRooms w.cluster.entries w.snapshots
 
 pub known_by : (w : World) (m : Machine) (s : Shows w m) → Facts m → IsKnown w s.history
-known_by w m s facts = record { facts = subst Facts s.same facts; fits = s.fits; holds = s.holds }
+known_by w m s facts = record { facts = subst Facts s.same facts; fits = s.fits; holds = s.holds; keeps = s.keeps }
 
 pub known : (w : World) (shown : IsShown w) → IsKnown w shown.shows.history
 known w shown = known_by w shown.state shown.shows shown.facts

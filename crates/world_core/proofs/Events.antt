@@ -100,6 +100,8 @@ does_label (happenings.Step (whos.Actor (Node r)) finish) old new label is = is.
 does_label (happenings.Step (whos.Call call) finish) old new label is = is.does
 does_label (happenings.At t) old new label is = is.does
 does_label (happenings.Show k) old new label is = is.does
+does_label (happenings.Pull k) old new label is = is.does
+does_label (happenings.Put k r) old new label is = is.does
 
 answers_label : (event : Event) (old new : World) (label : Label) → IsAnswered event old new label → Answers event old new label
 answers_label (happenings.Nodes n) old new label is = (is.label_is, is.hands)
@@ -111,6 +113,8 @@ answers_label (happenings.Step (whos.Actor (Node r)) finish) old new label is = 
 answers_label (happenings.Step (whos.Call call) finish) old new label is = is.word
 answers_label (happenings.At t) old new label is = (is.label_is, is.hands)
 answers_label (happenings.Show k) old new label is = (is.label_is, ap (λ (w : World). w.hands) is.same)
+answers_label (happenings.Pull k) old new label is = (is.label_is, is.hands)
+answers_label (happenings.Put k r) old new label is = (is.label_is, is.hands)
 
 keeps_others : (event : Event) (old new : World) (label : Label) → IsAnswered event old new label → KeepsOthers event old new
 keeps_others (happenings.Nodes n) old new label is = tt
@@ -122,6 +126,8 @@ keeps_others (happenings.Step (whos.Actor (Node r)) finish) old new label is = t
 keeps_others (happenings.Step (whos.Call call) finish) old new label is = tt
 keeps_others (happenings.At t) old new label is = tt
 keeps_others (happenings.Show k) old new label is = tt
+keeps_others (happenings.Pull k) old new label is = tt
+keeps_others (happenings.Put k r) old new label is = tt
 
 -- a step of the call in hand brings it nearer to its end
 comes_nearer : (log : List Label) (c : ℕ) (old new : World) (label : Label) → IsRunTo old log → IsStep c old new label → IfSome (hand_at old.hands c) (λ h. left_of new (Client c) < left_of old (Client c))
@@ -139,6 +145,8 @@ nearer_with (happenings.Step (whos.Actor (Node r)) finish) log old new label run
 nearer_with (happenings.Step (whos.Call call) finish) log old new label run is = tt
 nearer_with (happenings.At t) log old new label run is = tt
 nearer_with (happenings.Show k) log old new label run is = tt
+nearer_with (happenings.Pull k) log old new label run is = tt
+nearer_with (happenings.Put k r) log old new label run is = tt
 
 -- the run goes on by the label that answers the event
 pub run_with : (event : Event) (old new : World) (log longer : List Label) (label : Label) → MayHappen old log event → IsAnswered event old new label → longer ≡ log ++ label ∷ [] → IsRunTo new longer

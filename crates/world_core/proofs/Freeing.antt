@@ -1,4 +1,4 @@
--- What the world shows when the replicas of checkpoints that are gone are freed: the same.
+-- What the world shows when the replicas and the snapshots of checkpoints that are gone are freed: the same.
 use Rattle.std.proofs.Common.{◌≡◌, ◌⊎◌, inl, inr, ℕ, ◌≤◌, ◌==◌, Bool, true, false, cond, List, [], ◌∷◌, filter, map, refl, sym, ap, subst, ◌∙◌, arith}
 use Rattle.std.specs.Prelude.{Option, Some, None, is_some, IsSomeAnd, not, ◌&&◌, nat_lt, slice_get, slice_index}
 use Rattle.std.specs.Option.{option_map}
@@ -11,16 +11,18 @@ use Rattle.run_labels.specs.declared.labels.Label.{Label}
 use Rattle.replica.specs.Replicas.{Replica}
 use Rattle.world_core.specs.declared.world.World.{World}
 use Rattle.node_core.specs.Nodes.{is_there}
-use Rattle.world_core.specs.Freeing.{freed}
-use Rattle.ckpt_machine.specs.Machine.{Machine}
+use Rattle.world_core.specs.Freeing.{freed, freed_world}
+use Rattle.ckpt_machine.specs.Machine.{Machine, Effect}
+use Rattle.world_core.specs.declared.snapshots.Background.{Background}
+use Rattle.world_core.specs.Backgrounds.{background_key, background_in, where_pulled, pulled_in, backgrounds_left, HasRoom, HasRoomWhere, HaveRooms}
 use Rattle.world_core.specs.LiveRooms.{LiveHaveRoom}
 use Rattle.world_core.specs.Holding.{replicas_on, IsReservation, IsHeld, HoldsOnlyWhatStands}
 use Rattle.node_core.specs.Nodes.{replica_key}
 use Rattle.world_core.specs.Nodes.{replica_in}
 use Rattle.replica.specs.Replicas.{opened_replica}
 use Rattle.ckpt_machine.specs.Facts.{Facts}
-use Rattle.world_core.specs.Shows.{History, shown_replica, shown_reservation, where_complete, where_not_complete, complete_replica, reserved_in, machine_of, FitsReplica, HistoryFits, Shows, Does}
-use Rattle.ckpt_machine.specs.Steps.{IsDue, after}
+use Rattle.world_core.specs.Shows.{History, shown_replica, shown_reservation, where_complete, where_not_complete, complete_replica, reserved_in, machine_of, shown_snapshot, snapshot_shown, FitsReplica, FitsSnapshot, HistoryFits, Shows, Does}
+use Rattle.ckpt_machine.specs.Steps.{IsDue, after, snapshot_under}
 use Rattle.world_core.proofs.HoldingLaws.{held_at, holds_by_key}
 use Rattle.ckpt_machine.proofs.OnceByKey.{counted, counted-filter}
 use Rattle.world_core.proofs.Recording.{GoesAt, StandsOn, zero_there}
@@ -81,22 +83,54 @@ reserved_in-freed R nodes k r =
     ap (λ x. where_not_complete (entry_of k R.entries) r (shown_reservation (slice_index R.up r) x)) (replica_in-freed R.entries nodes k r)
     ∙ freed_reserved_case r (slice_index R.up r) (entry_of k R.entries) (replica_in nodes k r)
 
--- ---- the world
+-- ---- the background snapshots
 
-abbrev pub freed_world : World → World
-freed_world w = record w { nodes = freed w.cluster.entries w.nodes }
+-- what is kept of a checkpoint that is there is the same, and nothing is kept of one that is gone
+pub background_in-left : (entries : List Entry) (backgrounds : List Background) (k : ℕ) → background_in (backgrounds_left entries backgrounds) k ≡ cond (is_some (entry_of k entries)) (background_in backgrounds k) None
+background_in-left entries backgrounds k = find_key-filter background_key (λ k. is_some (entry_of k entries)) k backgrounds
+
+left_shown_case : (o : Option Entry) (E : List Effect) (s : Option Background) → snapshot_under o (shown_snapshot E (where_pulled (cond (is_some o) s None))) ≡ snapshot_under o (shown_snapshot E (where_pulled s))
+left_shown_case None E s = refl
+left_shown_case (Some e) E s = refl
+
+-- the same are shown
+pub snapshot_shown-left : (R : RecordState) (backgrounds : List Background) (k : ℕ) (E : List Effect) → snapshot_shown R (backgrounds_left R.entries backgrounds) k E ≡ snapshot_shown R backgrounds k E
+snapshot_shown-left R backgrounds k E =
+    ap (λ s. snapshot_under (entry_of k R.entries) (shown_snapshot E (where_pulled s))) (background_in-left R.entries backgrounds k)
+    ∙ left_shown_case (entry_of k R.entries) E (background_in backgrounds k)
+
+fits_left_case : (b : Bool) (E : List Effect) (s : Option Background) → FitsSnapshot E (where_pulled s) → FitsSnapshot E (where_pulled (cond b s None))
+fits_left_case true E s fits = fits
+fits_left_case false E s fits = tt
+
+-- and they count the same effects
+fits_left : (entries : List Entry) (backgrounds : List Background) (k : ℕ) (E : List Effect) → FitsSnapshot E (pulled_in backgrounds k) → FitsSnapshot E (pulled_in (backgrounds_left entries backgrounds) k)
+fits_left entries backgrounds k E fits =
+    subst (λ s. FitsSnapshot E (where_pulled s)) (sym (background_in-left entries backgrounds k)) (fits_left_case (is_some (entry_of k entries)) E (background_in backgrounds k) fits)
+
+left_room_case : (o : Option Entry) (s : Option Background) → HasRoomWhere o s → HasRoom o (cond (is_some o) s None)
+left_room_case None s has = refl
+left_room_case (Some e) s has = has
+
+-- where each checkpoint that is there has its room, no other is kept once they are freed
+pub rooms_left : (entries : List Entry) (backgrounds : List Background) → ((k : ℕ) → HasRoomWhere (entry_of k entries) (background_in backgrounds k)) → HaveRooms entries (backgrounds_left entries backgrounds)
+rooms_left entries backgrounds has k = subst (HasRoom (entry_of k entries)) (sym (background_in-left entries backgrounds k)) (left_room_case (entry_of k entries) (background_in backgrounds k) (has k))
+
+-- ---- the world
 
 -- it shows the same
 pub machine_of-freed : (w : World) (h : History) → machine_of (freed_world w) h ≡ machine_of w h
 machine_of-freed w h = λ i. record (machine_of w h) {
   replicas = λ k r. shown_replica (h.effects k r) (h.origins k r) (complete_replica-freed w.cluster w.nodes k r i);
   reserved = λ k r. reserved_in-freed w.cluster w.nodes k r i;
+  snapshots = λ k. snapshot_shown-left w.cluster w.snapshots k (h.copied k) i;
 }
 
 -- with the same histories
 pub Fits-freed : (w : World) (h : History) → HistoryFits w h → HistoryFits (freed_world w) h
 Fits-freed w h fits = record {
   replicas = λ k r. subst (FitsReplica k (entry_of k w.cluster.entries) (h.effects k r)) (sym (complete_replica-freed w.cluster w.nodes k r)) (fits.replicas k r);
+  copies = λ k. fits_left w.cluster.entries w.snapshots k (h.copied k) (fits.copies k);
   hands = fits.hands;
 }
 
@@ -166,18 +200,20 @@ pub record DoesBefore (old new : World) (label : Label) : Type 0 where
   pub same : (m : Machine) (s : Shows old m) (f : Facts m) → after m label ≡ machine_of new (history m s f)
   pub fits : (m : Machine) (s : Shows old m) (f : Facts m) → HistoryFits new (history m s f)
 
--- and where the nodes hold only what stands, and the live clients have their room
-pub does_before : (old new : World) (label : Label) → DoesBefore old new label → ((m : Machine) → Shows old m → Facts m → HoldsOnlyWhatStands new.cluster new.nodes) → ((m : Machine) → Shows old m → Facts m → LiveHaveRoom new.cluster new.tables) → Does old new label
-does_before old new label does holds rooms = record {
+-- and where the nodes hold only what stands, the checkpoints have the room for their snapshots, and the live clients theirs
+pub does_before : (old new : World) (label : Label) → DoesBefore old new label → ((m : Machine) → Shows old m → Facts m → HoldsOnlyWhatStands new.cluster new.nodes) → ((m : Machine) → Shows old m → Facts m → HaveRooms new.cluster.entries new.snapshots) → ((m : Machine) → Shows old m → Facts m → LiveHaveRoom new.cluster new.tables) → Does old new label
+does_before old new label does holds keeps rooms = record {
   due_is = does.due_is;
-  shows = λ m s f. record { history = does.history m s f; same = does.same m s f; fits = does.fits m s f; holds = holds m s f; rooms = rooms m s f };
+  shows = λ m s f. record { history = does.history m s f; same = does.same m s f; fits = does.fits m s f; holds = holds m s f; keeps = keeps m s f; rooms = rooms m s f };
 }
 
 -- as they do once they are freed
-pub does_freed : (old new : World) (label : Label) → DoesBefore old new label → ((m : Machine) → Shows old m → Facts m → HoldsOnlyWhatStands new.cluster (freed new.cluster.entries new.nodes)) → ((m : Machine) → Shows old m → Facts m → LiveHaveRoom new.cluster new.tables) → Does old (freed_world new) label
-does_freed old new label does = does_before old (freed_world new) label (record {
-  due_is = does.due_is;
-  history = does.history;
-  same = λ m s f. does.same m s f ∙ sym (machine_of-freed new (does.history m s f));
-  fits = λ m s f. Fits-freed new (does.history m s f) (does.fits m s f);
-})
+pub does_freed : (old new : World) (label : Label) → DoesBefore old new label → ((m : Machine) → Shows old m → Facts m → HoldsOnlyWhatStands new.cluster (freed new.cluster.entries new.nodes)) → ((m : Machine) → Shows old m → Facts m → (k : ℕ) → HasRoomWhere (entry_of k new.cluster.entries) (background_in new.snapshots k)) → ((m : Machine) → Shows old m → Facts m → LiveHaveRoom new.cluster new.tables) → Does old (freed_world new) label
+does_freed old new label does holds has rooms = does_before old (freed_world new) label
+    (record {
+      due_is = does.due_is;
+      history = does.history;
+      same = λ m s f. does.same m s f ∙ sym (machine_of-freed new (does.history m s f));
+      fits = λ m s f. Fits-freed new (does.history m s f) (does.fits m s f);
+    })
+    holds (λ m s f. rooms_left new.cluster.entries new.snapshots (has m s f)) rooms

@@ -50,13 +50,13 @@ use Rattle.world_core.proofs.Recording.{StandsOn, GoesAt, NodeGoes, zero_there}
 -- ---- changes of an entry of which a node sees nothing
 
 -- what a node sees of an entry: its identity, where it is complete, its attributes, when it was made, and in which making it is
-abbrev Sight : Type 0
+abbrev pub Sight : Type 0
 Sight = ℕ × List ℕ × CreationAttributes × ℤ × Option CallId
 
-abbrev sight : Entry → Sight
+abbrev pub sight : Entry → Sight
 sight e = (e.identity, e.complete, e.attributes, e.made, e.making)
 
-abbrev Quiet : (Entry → Entry) → Type 0
+abbrev pub Quiet : (Entry → Entry) → Type 0
 Quiet f = (e : Entry) → sight (f e) ≡ sight e
 
 -- where references were taken from it
@@ -64,14 +64,14 @@ without_references : (t : ℤ) (left : List ℕ) (e : Entry) (none : Bool) → s
 without_references t left e true = refl
 without_references t left e false = elim (has_references (record e { references = left })) as (λ b. sight (cond b (record e { references = left }) (record e { references = left; idle = t })) ≡ sight e) [ true ↦ refl | false ↦ refl ]
 
-quiet_unreferred : (c : ℕ) (t : ℤ) → Quiet (unreferred c t)
+pub quiet_unreferred : (c : ℕ) (t : ℤ) → Quiet (unreferred c t)
 quiet_unreferred c t e = without_references t (slice_set e.references c (slice_index e.references c - 1)) e (slice_index e.references c == 0)
 
-quiet_released_all : (c : ℕ) (t : ℤ) → Quiet (released_all c t)
+pub quiet_released_all : (c : ℕ) (t : ℤ) → Quiet (released_all c t)
 quiet_released_all c t e = without_references t (slice_set e.references c 0) e (slice_index e.references c == 0)
 
 -- of an entry that is changed so, a node sees what it was
-quiet_identity : (f : Entry → Entry) → Quiet f → KeepsIdentity f
+pub quiet_identity : (f : Entry → Entry) → Quiet f → KeepsIdentity f
 quiet_identity f q e = ap (λ (s : Sight). s.0) (q e)
 
 -- ---- each entry changed
@@ -80,7 +80,7 @@ found_goes_case : (f : Entry → Entry) (b : Bool) (x : Entry) (o : Option Entry
 found_goes_case f true x o = refl
 found_goes_case f false x o = refl
 
-found_each : (f : Entry → Entry) → KeepsIdentity f → (j : ℕ) (xs : List Entry) → entry_of j (map f xs) ≡ option_map f (entry_of j xs)
+pub found_each : (f : Entry → Entry) → KeepsIdentity f → (j : ℕ) (xs : List Entry) → entry_of j (map f xs) ≡ option_map f (entry_of j xs)
 found_each f same j [] = refl
 found_each f same j (x ∷ xs) =
     ap (λ n. cond (n == j) (Some (f x)) (entry_of j (map f xs))) (same x)

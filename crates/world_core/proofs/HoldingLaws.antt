@@ -141,7 +141,7 @@ module _ (R : RecordState) (nodes : List (List Replica)) (holds : HoldsOnlyWhatS
   holds_as_it_was = holds_set xs (λ j y found. (found_held j y found).0) found_once_there
 
   -- with one of them changed, of a checkpoint for which the node is complete
-  holds_changed : (k : ℕ) (e : Entry) (f : Replica → Replica) → ((x : Replica) → replica_key (f x) ≡ replica_key x) → entry_of k R.entries ≡ Some e → (slice_index e.complete r == 0) ≡ false → HoldsOnlyWhatStands R (slice_set nodes r (change_key replica_key k f xs))
+  pub holds_changed : (k : ℕ) (e : Entry) (f : Replica → Replica) → ((x : Replica) → replica_key (f x) ≡ replica_key x) → entry_of k R.entries ≡ Some e → (slice_index e.complete r == 0) ≡ false → HoldsOnlyWhatStands R (slice_set nodes r (change_key replica_key k f xs))
   holds_changed k e f same there complete = by_found (find_key replica_key k xs) refl where
     held_after : (x : Replica) → find_key replica_key k xs ≡ Some x → IsHeld R r (f x)
     held_after x is =

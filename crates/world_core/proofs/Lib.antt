@@ -21,6 +21,8 @@ pub mod New
 pub mod Numbered
 pub mod OpenRoom
 pub mod Openings
+pub mod Pulling
+pub mod Putting
 pub mod Readiness
 pub mod RecordEvent
 pub mod RecordSteps
@@ -31,6 +33,8 @@ pub mod Rows
 pub mod Running
 pub mod Serve
 pub mod ServedSteps
+pub mod SnapshotPlaces
+pub mod SnapshotRooms
 pub mod Stepping
 pub mod TableFields
 pub mod Taken

@@ -32,18 +32,20 @@ use Rattle.ckpt_machine.proofs.Deadlines.{in_time-cases}
 use Rattle.ckpt_machine.proofs.OwnMaking.{making_there}
 use Rattle.world_core.specs.declared.hands.InHand.{InHand}
 use Rattle.world_core.specs.declared.world.World.{World}
-use Rattle.world_core.specs.Freeing.{freed}
+use Rattle.world_core.specs.Backgrounds.{background_in, pulled_in}
+use Rattle.world_core.specs.Freeing.{freed_world}
 use Rattle.world_core.specs.Happenings.{rooms_at}
 use Rattle.world_core.specs.Settling.{looked, without_making_of}
 use Rattle.world_core.specs.Shows.{IsShown, Does, History, machine_of, hand_at}
 use Rattle.world_core.specs.TableState.{TableState}
 use Rattle.world_core.proofs.CallSteps.{IsKnown, known, known_by, behind_step, step_before}
-use Rattle.world_core.proofs.Freeing.{freed_world, does_before, does_freed, holds_freed}
+use Rattle.world_core.proofs.Freeing.{does_before, does_freed, holds_freed}
 use Rattle.world_core.proofs.Going.{unmade_goes}
 use Rattle.world_core.proofs.Held.{state_in, in_hand_is, driver_is, actor_is}
 use Rattle.world_core.proofs.LiveRooms.{rooms_looked}
 use Rattle.world_core.proofs.RecordEvent.{closing-none, table_changes}
-use Rattle.world_core.proofs.Recording.{GoesAt, with_effects, record_is, record_fits}
+use Rattle.world_core.proofs.Recording.{GoesAt, none_pulled, with_effects, record_is, record_fits}
+use Rattle.world_core.proofs.SnapshotRooms.{unmade_has}
 
 -- ---- what a call is making is undone by the look that ends it
 
@@ -91,8 +93,8 @@ module _ (w : World) (c : ℕ) (o : Outcome) (hand : InHand) (held : hand_at w.h
   look_does none =
       does_before w (behind_step w c hand held (looked_world o) (λ h. h) verbs.Look None None (look_word o) (Some o) beside.Nothing) label
       (step_before w c hand held (looked_world o) (λ h. h) verbs.Look None None (look_word o) (Some o) beside.Nothing (End o) next held (λ h. refl)
-      (λ h is. record { done = refl; change = look_changes h is none o; fits = let f = is.fits in record { replicas = f.replicas; hands = f.hands } }))
-      (λ m s f. s.holds) (λ m s f. rooms_looked w w.cluster c o hand.op s.rooms)
+      (λ h is. record { done = refl; change = look_changes h is none o; fits = let f = is.fits in record { replicas = f.replicas; copies = f.copies; hands = f.hands } }))
+      (λ m s f. s.holds) (λ m s f. s.keeps) (λ m s f. rooms_looked w w.cluster c o hand.op s.rooms)
 
   -- ---- where it is making a checkpoint
 
@@ -107,9 +109,12 @@ module _ (w : World) (c : ℕ) (o : Outcome) (hand : InHand) (held : hand_at w.h
     goes : (h : History) → IsKnown w h → (j q : ℕ) → GoesAt w.cluster.up j (entry_of j w.cluster.entries) (entry_of j R.entries) q (replica_in w.nodes j q)
     goes h is = unmade_goes w h is.facts is.holds k
 
+    none_new : (h : History) → IsKnown w h → (j : ℕ) → entry_of j w.cluster.entries ≡ None → pulled_in w.snapshots j ≡ None
+    none_new h is j = none_pulled (entry_of j w.cluster.entries) (background_in w.snapshots j) (is.keeps j)
+
     late_changes : (h : History) → IsKnown w h → (end : Outcome) → IsNoDone (End end) → changed (machine_of w h) (state_in h c hand) verbs.Look None None (look_word end) ≡ machine_of (left_world end) (with_effects w h)
     late_changes h is (Done answer) refused = absurd refused
-    late_changes h is end refused = ap (λ (making : Option ℕ). without_making making (machine_of w h)) (makes h is ∙ making) ∙ record_is w h R (goes h is) refl
+    late_changes h is end refused = ap (λ (making : Option ℕ). without_making making (machine_of w h)) (makes h is ∙ making) ∙ record_is w h R (goes h is) refl (none_new h is)
 
     late_does : Does w (freed_world (behind_step w c hand held (left_world o) (with_effects w) verbs.Look None None (look_word o) (Some o) beside.Nothing)) label
     late_does =
@@ -118,9 +123,10 @@ module _ (w : World) (c : ℕ) (o : Outcome) (hand : InHand) (held : hand_at w.h
         (λ h is. record {
           done = refl;
           change = late_changes h is o (subst IsNoDone next (late_next w.cluster (rooms_at w c) hand.driver k making));
-          fits = let f = record_fits w h R (goes h is) refl is.fits in record { replicas = f.replicas; hands = f.hands };
+          fits = let f = record_fits w h R (goes h is) refl (none_new h is) is.fits in record { replicas = f.replicas; copies = f.copies; hands = f.hands };
         }))
         (λ m s f. holds_freed w.cluster R w.nodes refl (goes s.history (known_by w m s f)) s.holds)
+        (λ m s f. let is = known_by w m s f in unmade_has w.cluster w.snapshots is.keeps is.facts.rises is.facts.up_to k)
         (λ m s f. rooms_looked w R c o hand.op (λ d live. s.rooms d live))
 
     -- it is in the making by the call
@@ -135,7 +141,7 @@ module _ (w : World) (c : ℕ) (o : Outcome) (hand : InHand) (held : hand_at w.h
   look_ends : (making : Option ℕ) → making_in hand.driver ≡ making → IsShown w → Does w (without_making_of making (record w { tables = looked o c hand.op w.tables; hands = slice_set w.hands c None })) label
   look_ends None none shown = look_does none
   look_ends (Some k) making shown =
-      subst (λ (U : RecordState). Does w (record w { cluster = swept U; nodes = freed (swept U).entries w.nodes; tables = looked o c hand.op w.tables; hands = slice_set w.hands c None }) label) (sym (own_making k making shown)) (late_does k making)
+      subst (λ (U : RecordState). Does w (freed_world (record w { cluster = swept U; tables = looked o c hand.op w.tables; hands = slice_set w.hands c None })) label) (sym (own_making k making shown)) (late_does k making)
 
   -- the call ends by a look at the record, and what it is making is undone, with the parts as the code names them
   pub look_done : (making : Option ℕ) (tables : List TableState) (hands : List (Option InHand)) (op : OpWord) (reply : StepReply) → IsShown w → making ≡ making_in hand.driver → tables ≡ looked o c hand.op w.tables → hands ≡ slice_set w.hands c None → op ≡ word_of_op hand.op → reply ≡ look_word o →

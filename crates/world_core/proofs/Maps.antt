@@ -11,13 +11,14 @@ use Rattle.world_core.specs.declared.hands.InHand.{InHand}
 use Rattle.cluster_record.specs.declared.entries.Entry.{Entry}
 use Rattle.replica.specs.Replicas.{Replica}
 use Rattle.cluster_record.specs.Calls.{put_actor}
-use Rattle.cluster_record.specs.Places.{list_or, or_none, put2}
+use Rattle.cluster_record.specs.Places.{find_key, change_key, list_or, or_none, put2}
 use Rattle.cluster_record.specs.RecordState.{RecordState, entry_of, complete_of}
-use Rattle.world_core.specs.Nodes.{replica_in}
+use Rattle.node_core.specs.Nodes.{replica_key}
+use Rattle.world_core.specs.Nodes.{replica_in, with_changed}
 use Rattle.cluster_record.specs.StepDone.{StepDone}
 use Rattle.ckpt_machine.specs.Machine.{Effect}
 use Rattle.world_core.specs.Shows.{Beginning, History, shown_replica, shown_reservation, shown_hand, where_complete, where_not_complete, complete_replica, reserved_in, hand_at, hand_of, FitsReplica, FitsHand}
-use Rattle.cluster_record.proofs.Places.{get_set}
+use Rattle.cluster_record.proofs.Places.{find_changed, get_set}
 
 -- ---- tests of places
 
@@ -54,6 +55,18 @@ node_case true true y f xs new o s e = e
 node_case false true y f xs new o s e = e ∙ ap f (sym (s refl))
 node_case true false y f xs new o s e = refl
 node_case false false y f xs new o s e = refl
+
+-- with one replica changed, the replica of each checkpoint on each node
+pub changed_here : (nodes : List (List Replica)) (k r : ℕ) (f : Replica → Replica) → ((x : Replica) → replica_key (f x) ≡ replica_key x) → (x : Replica) → replica_in nodes k r ≡ Some x →
+    (j q : ℕ) → replica_in (with_changed k r f nodes) j q ≡ cond ((j == k) && (q == r)) (Some (f x)) (replica_in nodes j q)
+changed_here nodes k r f same x is j q =
+    let (xs, there) = slice_there (slice_get nodes r) (find_key replica_key k) x refl is in
+    let at : find_key replica_key k xs ≡ Some x = ap (λ o. find_key replica_key k (list_or o)) (sym there) ∙ is in
+    ap (λ o. replica_in (slice_set nodes r (change_key replica_key k f (list_or o))) j q) there
+    ∙ ap (λ o. find_key replica_key j (list_or o)) (get_set nodes r (change_key replica_key k f xs) xs q there)
+    ∙ node_case (j == k) (q == r) (Some (f x)) (find_key replica_key j) xs (change_key replica_key k f xs) (slice_get nodes q)
+    (λ e. ap (λ q. list_or (slice_get nodes q)) (eqb-true q r e) ∙ ap list_or there)
+    (find_changed replica_key k f same xs x j at)
 
 -- ---- the replicas, changed at one place where the node is complete
 

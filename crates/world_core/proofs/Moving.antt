@@ -1,5 +1,5 @@
 -- The moment: how the world shows that it is set, and that nothing else changes it.
-use Rattle.std.proofs.Common.{◌≡◌, ℕ, List, Option, Some, None, Bool, ℤ, refl, sym, ap, subst, ◌∙◌}
+use Rattle.std.proofs.Common.{◌≡◌, ℕ, Option, Some, None, Bool, ℤ, refl, sym, ap, subst, ◌∙◌}
 use Rattle.std.specs.Prelude.{filter}
 use Rattle.ckpt_types.specs.declared.answers.Outcome.{Outcome}
 use Rattle.ckpt_types.specs.declared.identities.ActorName.{ActorName}
@@ -13,27 +13,33 @@ use Rattle.node_msgs.specs.declared.steps.StepReply.{StepReply}
 use Rattle.node_msgs.specs.declared.steps.StepReply.TheVariants as words
 use Rattle.run_labels.specs.declared.labels.Label.{Label}
 use Rattle.run_labels.specs.declared.labels.Label.TheVariants as labels
+use Rattle.run_labels.specs.declared.labels.PullReply.{PullReply}
+use Rattle.run_labels.specs.declared.labels.PullReply.TheVariants as pulls
+use Rattle.run_labels.specs.declared.labels.PutReply.{PutReply}
+use Rattle.run_labels.specs.declared.labels.PutReply.TheVariants as puts
 use Rattle.cluster_record.specs.Makings.{making_of}
 use Rattle.cluster_record.specs.RecordState.{RecordState, entry_of, stays, IsMomentFrom, moved}
 use Rattle.cluster_record.proofs.IdentityLaws.{filter_leaves}
 use Rattle.ckpt_types.specs.Asks.{Ask, asked}
 use Rattle.ckpt_types.specs.Asks as asks
 use Rattle.ckpt_machine.specs.Facts.{Facts}
-use Rattle.ckpt_machine.specs.Machine.{Machine, ReplicaState, CallState}
-use Rattle.replica.specs.Replicas.{Replica}
+use Rattle.ckpt_machine.specs.Machine.{Machine, ReplicaState, Snapshot, CallState}
+use Rattle.ckpt_machine.specs.Propagation.{source_at, target_at, with_pulled, with_put}
 use Rattle.world_core.specs.Nodes.{replica_in}
 use Rattle.ckpt_machine.specs.Steps.{on_ok, on_look, without_making, at_some, change_replica, created_for, retained_for, changed, step_of, after}
 use Rattle.world_core.specs.declared.hands.InHand.{InHand}
 use Rattle.world_core.specs.declared.world.Event.{Event}
 use Rattle.world_core.specs.declared.world.Event.TheVariants as happenings
 use Rattle.world_core.specs.declared.world.World.{World}
-use Rattle.world_core.specs.Freeing.{freed}
+use Rattle.world_core.specs.Backgrounds.{background_in, pulled_in, HaveRooms}
+use Rattle.world_core.specs.Freeing.{freed_world}
 use Rattle.world_core.specs.Happenings.{SetsMoment}
-use Rattle.world_core.specs.Runs.{Answers, AnswersBegin, AnswersStep, IsIdleWord, IsShownOf, hand_of_actor, moment_of}
+use Rattle.world_core.specs.Runs.{Answers, AnswersBegin, AnswersStep, IsIdleWord, IsShownOf, IsPulledOf, IsPutOf, hand_of_actor, moment_of}
 use Rattle.world_core.specs.Shows.{Does, Shows, History, machine_of}
 use Rattle.world_core.proofs.Freeing.{DoesBefore, does_freed, holds_freed}
 use Rattle.world_core.proofs.Going.{goes_same, goes_left}
-use Rattle.world_core.proofs.Recording.{GoesAt, with_effects, record_is, record_fits}
+use Rattle.world_core.proofs.Recording.{GoesAt, none_pulled, with_effects, record_is, record_fits}
+use Rattle.world_core.proofs.SnapshotRooms.{moved_has}
 
 -- ---- the moment is set
 
@@ -43,28 +49,32 @@ moved_goes w h t facts k r =
     let entries = w.cluster.entries in
     goes_left w.cluster.up k (entry_of k entries) (entry_of k entries) (entry_of k (filter (stays t) entries)) r (replica_in w.nodes k r) (goes_same w.cluster.up k (entry_of k entries) r (replica_in w.nodes k r)) (filter_leaves (stays t) entries facts.rises k)
 
+none_new : (w : World) → HaveRooms w.cluster.entries w.snapshots → (k : ℕ) → entry_of k w.cluster.entries ≡ None → pulled_in w.snapshots k ≡ None
+none_new w keeps k = none_pulled (entry_of k w.cluster.entries) (background_in w.snapshots k) (keeps k)
+
 -- a world whose record is at another moment, and swept, before the nodes are freed
 moved_before : (w : World) (t : ℤ) → IsMomentFrom w.cluster.moment t → DoesBefore w (record w { cluster = moved t w.cluster }) (labels.Moved t)
 moved_before w t may = record {
   due_is = λ m s f. subst (λ (m : Machine). IsMomentFrom m.cluster.moment t) (sym s.same) may;
   history = λ m s f. with_effects w s.history;
-  same = λ m s f. ap (λ m. after m (labels.Moved t)) s.same ∙ record_is w s.history (moved t w.cluster) (moved_goes w s.history t (subst Facts s.same f)) refl;
-  fits = λ m s f. record_fits w s.history (moved t w.cluster) (moved_goes w s.history t (subst Facts s.same f)) refl s.fits;
+  same = λ m s f. ap (λ m. after m (labels.Moved t)) s.same ∙ record_is w s.history (moved t w.cluster) (moved_goes w s.history t (subst Facts s.same f)) refl (none_new w s.keeps);
+  fits = λ m s f. record_fits w s.history (moved t w.cluster) (moved_goes w s.history t (subst Facts s.same f)) refl (none_new w s.keeps) s.fits;
 }
 
 -- and behind that
-moved_done : (w : World) (t : ℤ) (R : RecordState) → IsMomentFrom w.cluster.moment t → R ≡ moved t w.cluster → Does w (record w { cluster = R; nodes = freed R.entries w.nodes }) (labels.Moved t)
-moved_done w t R may R_is = subst (λ (R : RecordState). Does w (record w { cluster = R; nodes = freed R.entries w.nodes }) (labels.Moved t)) (sym R_is)
+moved_done : (w : World) (t : ℤ) (R : RecordState) → IsMomentFrom w.cluster.moment t → R ≡ moved t w.cluster → Does w (freed_world (record w { cluster = R })) (labels.Moved t)
+moved_done w t R may R_is = subst (λ (R : RecordState). Does w (freed_world (record w { cluster = R })) (labels.Moved t)) (sym R_is)
     (does_freed w (record w { cluster = moved t w.cluster }) (labels.Moved t) (moved_before w t may)
     (λ m s f. holds_freed w.cluster (moved t w.cluster) w.nodes refl (moved_goes w s.history t (subst Facts s.same f)) s.holds)
+    (λ m s f. let facts = subst Facts s.same f in moved_has w.cluster w.snapshots s.keeps facts.rises facts.up_to t)
     (λ m s f. s.rooms))
 
 -- the moment is set, and the nodes are freed of what is gone, with the label as the code names it
-pub sets_moment : (w : World) (t u : ℤ) (R : RecordState) (nodes : List (List Replica)) → u ≡ t → IsMomentFrom w.cluster.moment t → R ≡ moved u w.cluster → nodes ≡ freed R.entries w.nodes → SetsMoment t w (record w { cluster = R; nodes = nodes }) (labels.Moved u)
-sets_moment w t u R nodes same may R_is nodes_are = record {
+pub sets_moment : (w : World) (t u : ℤ) (R : RecordState) (freed_of : World) → u ≡ t → IsMomentFrom w.cluster.moment t → R ≡ moved u w.cluster → freed_of ≡ freed_world (record w { cluster = R }) → SetsMoment t w freed_of (labels.Moved u)
+sets_moment w t u R freed_of same may R_is freed_is = record {
   label_is = ap labels.Moved same;
-  hands = refl;
-  does = subst (λ (nodes : List (List Replica)). Does w (record w { cluster = R; nodes = nodes }) (labels.Moved u)) (sym nodes_are)
+  hands = ap (λ (v : World). v.hands) freed_is;
+  does = subst (λ (v : World). Does w v (labels.Moved u)) (sym freed_is)
       (moved_done w u R (subst (IsMomentFrom w.cluster.moment) (sym same) may) R_is);
 }
 
@@ -135,10 +145,24 @@ step_of-moment : (m : Machine) (o : Option CallState) (verb : Verb) (k r : Optio
 step_of-moment m None verb k r reply end = refl
 step_of-moment m (Some s) verb k r reply end = changed-moment m s verb k r reply
 
+-- a snapshot that is taken or put sets none
+pulled-moment : (m : Machine) (k : ℕ) (reply : PullReply) (x : Option ReplicaState) → (with_pulled m k reply x).cluster.moment ≡ m.cluster.moment
+pulled-moment m k (pulls.Ok count) (Some x) = refl
+pulled-moment m k (pulls.Ok count) None = refl
+pulled-moment m k reply x = refl
+
+put-moment : (m : Machine) (k r : ℕ) (reply : PutReply) (s : Option Snapshot) (x : Option ReplicaState) → (with_put m k r reply s x).cluster.moment ≡ m.cluster.moment
+put-moment m k r (puts.Ok count) (Some s) (Some x) = refl
+put-moment m k r (puts.Ok count) (Some s) None = refl
+put-moment m k r (puts.Ok count) None x = refl
+put-moment m k r reply s x = refl
+
 -- THE LAW: in the state after a label the moment is the one that the label set, or the one before it
 pub after-moment : (m : Machine) (l : Label) → (after m l).cluster.moment ≡ moment_after l m.cluster.moment
 after-moment m (labels.Stepped call op verb k r reply end details) = step_of-moment m (m.in_hand call.actor) verb k r reply end
 after-moment m (labels.Moved t) = refl
+after-moment m (labels.Pulled k reply) = pulled-moment m k reply (source_at m k)
+after-moment m (labels.Put k r reply) = put-moment m k r reply (m.snapshots k) (target_at m k r)
 after-moment m l = refl
 
 -- ---- the moment after an event
@@ -161,6 +185,14 @@ listed-moment : (k : ℕ) (label : Label) (before : ℤ) → IsShownOf k label �
 listed-moment k (labels.Moved t) before is = absurd is
 listed-moment k label before is = refl
 
+pull-moment : (k : ℕ) (label : Label) (before : ℤ) → IsPulledOf k label → moment_after label before ≡ before
+pull-moment k (labels.Moved t) before is = absurd is
+pull-moment k label before is = refl
+
+put_of-moment : (k r : ℕ) (label : Label) (before : ℤ) → IsPutOf k r label → moment_after label before ≡ before
+put_of-moment k r (labels.Moved t) before is = absurd is
+put_of-moment k r label before is = refl
+
 -- a label that answers an event sets the moment as the event does
 pub answers-moment : (event : Event) (old new : World) (label : Label) (before : ℤ) → Answers event old new label → moment_after label before ≡ moment_of event before
 answers-moment (happenings.Nodes n) old new label before answers = ap (λ l. moment_after l before) answers.0
@@ -169,6 +201,8 @@ answers-moment (happenings.Step (whos.Actor a) finish) old new label before answ
 answers-moment (happenings.Step (whos.Call call) finish) old new label before answers = idle-moment (whos.Call call) finish old new label before answers
 answers-moment (happenings.At t) old new label before answers = ap (λ l. moment_after l before) answers.0
 answers-moment (happenings.Show k) old new label before answers = listed-moment k label before answers.0
+answers-moment (happenings.Pull k) old new label before answers = pull-moment k label before answers.0
+answers-moment (happenings.Put k r) old new label before answers = put_of-moment k r label before answers.0
 
 -- and so the world shows it
 pub shown-moment : (event : Event) (old new : World) (label : Label) (m : Machine) → Shows old m → Facts m → Does old new label → Answers event old new label → new.cluster.moment ≡ moment_of event old.cluster.moment

@@ -1,17 +1,19 @@
 -- A new world shows the empty cluster.
-use Rattle.std.proofs.Common.{◌≡◌, ℕ, true, false, [], refl, sym, ap, subst, ◌∙◌}
+use Rattle.std.proofs.Common.{◌≡◌, ℕ, true, false, List, [], refl, sym, ap, subst, ◌∙◌}
 use Rattle.std.specs.Prelude.{None, pos}
 use Rattle.ckpt_types.specs.declared.identities.ActorName.{ActorName}
 use Rattle.ckpt_types.specs.declared.identities.ActorName.TheVariants.{Client, Node}
 use Rattle.ckpt_types.specs.declared.identities.CallId.{CallId}
 use Rattle.world_core.specs.declared.world.World.{World}
-use Rattle.cluster_record.specs.RecordState.{entry_of, is_live_client}
+use Rattle.cluster_record.specs.RecordState.{RecordState, entry_of, is_live_client}
 use Rattle.cluster_record.specs.DueOnce.{Leave}
 use Rattle.ckpt_machine.specs.Drivers.{Once}
 use Rattle.world_core.specs.Nodes.{replica_in}
 use Rattle.ckpt_machine.specs.Machine.{empty_cluster, no_tables}
 use Rattle.ckpt_machine.specs.Steps.{room_in}
-use Rattle.world_core.specs.Shows.{Beginning, History, Shows, HistoryFits, FitsReplica, FitsHand, machine_of, complete_replica, hand_of, next_of, reserved_in, shown_hand, shown_replica, tables_of, where_complete}
+use Rattle.world_core.specs.declared.snapshots.Background.{Background}
+use Rattle.world_core.specs.Backgrounds.{background_in, pulled_in, HasRoom}
+use Rattle.world_core.specs.Shows.{Beginning, History, Shows, HistoryFits, FitsReplica, FitsSnapshot, snapshot_shown, FitsHand, machine_of, complete_replica, hand_of, next_of, reserved_in, shown_hand, shown_replica, tables_of, where_complete}
 use Rattle.world_core.specs.Runs.{IsNew, IsRunTo}
 use Rattle.world_core.proofs.HoldingLaws.{nothing_held}
 use Rattle.world_core.proofs.Recording.{zero_there}
@@ -24,7 +26,7 @@ abbrev none_has_begun : Beginning
 none_has_begun = record { kept = record { ckpt = None; room = room_in None; all = false; weak = false; node = 0; moment = pos 0 }; driver = Once Leave }
 
 abbrev nothing : History
-nothing = record { effects = λ k r. []; origins = λ k r. no_call; beginnings = λ a. none_has_begun; steps = λ a. []; created = λ a. None }
+nothing = record { effects = λ k r. []; origins = λ k r. no_call; copied = λ k. []; beginnings = λ a. none_has_begun; steps = λ a. []; created = λ a. None }
 
 module _ (w : World) (new : IsNew w) where
   no_replica : (k r : ℕ) → complete_replica w.cluster w.nodes k r ≡ None
@@ -46,11 +48,12 @@ module _ (w : World) (new : IsNew w) where
   shows_nothing =
       let replicas = λ (k r : ℕ). sym (ap (shown_replica [] no_call) (no_replica k r)) in
       let reserved = λ (k r : ℕ). sym (ap (λ R. reserved_in R w.nodes k r) new.cluster) in
+      let copies : (k : ℕ) → None ≡ snapshot_shown w.cluster w.snapshots k [] = λ k. sym (λ i. snapshot_shown (new.cluster i) (new.snapshots i) k []) in
       λ i. record {
         cluster = sym new.cluster i;
         replicas = λ k r. replicas k r i;
         reserved = λ k r. reserved k r i;
-        snapshots = λ k. None;
+        snapshots = λ k. copies k i;
         tables = λ a. keeps a i;
         pending = λ a. [];
         next = λ a. nexts a i;
@@ -61,6 +64,7 @@ module _ (w : World) (new : IsNew w) where
   fits_nothing : HistoryFits w nothing
   fits_nothing = record {
     replicas = λ k r. subst (FitsReplica k (entry_of k w.cluster.entries) []) (sym (no_replica k r)) tt;
+    copies = λ k. subst (λ (backgrounds : List Background). FitsSnapshot [] (pulled_in backgrounds k)) (sym new.snapshots) tt;
     hands = λ c. subst (FitsHand none_has_begun []) (sym (new.hands c)) tt;
   }
 
@@ -69,7 +73,7 @@ module _ (w : World) (new : IsNew w) where
 
   -- a new world shows the empty cluster
   pub new_shows : Shows w empty_cluster
-  new_shows = record { history = nothing; same = shows_nothing; fits = fits_nothing; holds = nothing_held w.cluster w.nodes new.nodes; rooms = λ c live. absurd (none_live c live) }
+  new_shows = record { history = nothing; same = shows_nothing; fits = fits_nothing; holds = nothing_held w.cluster w.nodes new.nodes; keeps = λ k. subst (λ (z : RecordState × List Background). HasRoom (entry_of k z.0.entries) (background_in z.1 k)) (λ i. (sym new.cluster i, sym new.snapshots i)) refl; rooms = λ c live. absurd (none_live c live) }
 
 -- no label yet is a run to it
 pub new_run : (w : World) → IsNew w → IsRunTo w []

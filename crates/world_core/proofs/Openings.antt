@@ -17,10 +17,11 @@ slice_get-replicate P x none some (suc n) zero = some
 slice_get-replicate P x none some (suc n) (suc i) = slice_get-replicate P x none some n i
 
 -- a world whose parts are new is new
-pub is_new : (w : World) → w.cluster ≡ empty_record → w.nodes ≡ replicate 8 [] → w.tables ≡ replicate 100 new_table → w.hands ≡ replicate 100 None → IsNew w
-is_new w cluster nodes tables hands = record {
+pub is_new : (w : World) → w.cluster ≡ empty_record → w.nodes ≡ replicate 8 [] → w.snapshots ≡ [] → w.tables ≡ replicate 100 new_table → w.hands ≡ replicate 100 None → IsNew w
+is_new w cluster nodes snapshots tables hands = record {
   cluster = cluster;
   nodes = nodes;
+  snapshots = snapshots;
   next = λ c. ap (λ (ts : List TableState). next_in (slice_get ts c)) tables ∙ slice_get-replicate (λ o. next_in o ≡ 1) new_table refl refl 100 c;
   tables = λ c. ap (λ (ts : List TableState). kept_in (slice_get ts c)) tables ∙ slice_get-replicate (λ o. kept_in o ≡ no_tables) new_table refl refl 100 c;
   hands = λ c. ap (λ (hs : List (Option InHand)). or_none (slice_get hs c)) hands ∙ slice_get-replicate (λ (o : Option (Option InHand)). or_none o ≡ None) None refl refl 100 c;

@@ -37,22 +37,25 @@ use Rattle.ckpt_machine.specs.Tables.{handle_given, closing}
 use Rattle.ckpt_machine.proofs.AskedFor.{DrivesFor, state_drives}
 use Rattle.world_core.specs.declared.hands.InHand.{InHand}
 use Rattle.world_core.specs.declared.world.World.{World}
-use Rattle.world_core.specs.Freeing.{freed}
+use Rattle.world_core.specs.Freeing.{freed, freed_world}
 use Rattle.world_core.specs.Happenings.{rooms_at}
 use Rattle.world_core.specs.Holding.{HoldsOnlyWhatStands}
 use Rattle.world_core.specs.LiveRooms.{room_is_taken}
-use Rattle.world_core.specs.RecordAfter.{event_after, nodes_behind}
+use Rattle.world_core.specs.declared.snapshots.Background.{Background}
+use Rattle.world_core.specs.Backgrounds.{background_in, pulled_in}
+use Rattle.world_core.specs.RecordAfter.{event_after, nodes_behind, snapshots_behind}
 use Rattle.world_core.specs.RecordReady.{IsRefusedWith}
 use Rattle.world_core.specs.Settling.{tables_given, settled, CanSettle}
 use Rattle.world_core.specs.Shows.{Does, IsShown, History, machine_of, hand_at}
 use Rattle.world_core.specs.TableState.{with_client, at_client}
 use Rattle.world_core.proofs.CallSteps.{IsKnown, known, known_by, behind_step, IsShownBehind, step_before}
-use Rattle.world_core.proofs.Freeing.{freed_world, does_before, does_freed}
+use Rattle.world_core.proofs.Freeing.{does_before, does_freed}
 use Rattle.world_core.proofs.Adding.{AddedAt, added_record, added_fits, holds_added}
 use Rattle.world_core.proofs.Going.{event_goes, event_adds, event_once, event_keeps}
 use Rattle.world_core.proofs.Held.{state_in, in_hand_is, driver_is, actor_is, due_is}
 use Rattle.world_core.proofs.LiveRooms.{EntersWithRoom, rooms_settled, rooms_after}
-use Rattle.world_core.proofs.Recording.{GoesAt, with_effects, record_is, record_fits}
+use Rattle.world_core.proofs.Recording.{GoesAt, none_pulled, with_effects, record_is, record_fits}
+use Rattle.world_core.proofs.SnapshotRooms.{behind-pulled, event_has}
 use Rattle.world_core.proofs.TableFields.{change_is}
 
 -- ---- what is there of what a step is about
@@ -163,9 +166,9 @@ record_after w hand step = event_after hand.call hand.driver step w.cluster
 abbrev ckpt_in : World → InHand → RecordStep → Option ℕ
 ckpt_in w hand step = event_ckpt w.cluster hand.driver step
 
--- the world with the record, the nodes and the client's table after it
+-- the world with the record, the nodes, the snapshots and the client's table after it
 abbrev settled_world : World → ℕ → InHand → RecordStep → World
-settled_world w c hand step = let R = record_after w hand step in record w { cluster = R; nodes = nodes_behind hand.driver step w.cluster w.nodes; tables = settled R c hand.op step (ckpt_in w hand step) w.tables }
+settled_world w c hand step = let R = record_after w hand step in record w { cluster = R; nodes = nodes_behind hand.driver step w.cluster w.nodes; snapshots = snapshots_behind hand.driver step w.cluster w.snapshots; tables = settled R c hand.op step (ckpt_in w hand step) w.tables }
 
 module _ (w : World) (c : ℕ) (step : RecordStep) (hand : InHand) (held : hand_at w.hands c ≡ Some hand) (next : driver_next w.cluster (rooms_at w c) hand.driver ≡ Event step) where
   abbrev verb : Verb
@@ -176,6 +179,9 @@ module _ (w : World) (c : ℕ) (step : RecordStep) (hand : InHand) (held : hand_
 
   abbrev nodes : List (List Replica)
   nodes = nodes_behind hand.driver step w.cluster w.nodes
+
+  abbrev backgrounds : List Background
+  backgrounds = snapshots_behind hand.driver step w.cluster w.snapshots
 
   abbrev k : Option ℕ
   k = ckpt_in w hand step
@@ -210,6 +216,13 @@ module _ (w : World) (c : ℕ) (step : RecordStep) (hand : InHand) (held : hand_
     up : R.up ≡ w.cluster.up
     up = (event_keeps hand.call hand.driver step w.cluster).up
 
+    -- what was pulled is the same, and nothing was of what is new
+    pulled : (j : ℕ) → pulled_in backgrounds j ≡ pulled_in w.snapshots j
+    pulled = behind-pulled hand.driver step w.cluster w.snapshots
+
+    none_new : (j : ℕ) → entry_of j w.cluster.entries ≡ None → pulled_in backgrounds j ≡ None
+    none_new j gone = pulled j ∙ none_pulled (entry_of j w.cluster.entries) (background_in w.snapshots j) (is.keeps j) gone
+
     module _ (eight : length w.nodes ≡ 8) (granted : event_refusal w.cluster step hand.driver ≡ None) where
       -- each entry goes on
       goes : (j q : ℕ) → GoesAt w.cluster.up j (entry_of j w.cluster.entries) (entry_of j R.entries) q (replica_in nodes j q)
@@ -235,9 +248,9 @@ module _ (w : World) (c : ℕ) (step : RecordStep) (hand : InHand) (held : hand_
     shown_done eight granted can = record {
       done = told_so words.Ok end (subst (λ o. IsRecordAnswer o step (parts words.Ok end)) (sym granted) (inl (refl, refl)));
       change = change_done m s hand.driver step ready (subst (DrivesFor s.call (asked s.op)) (sym driver) (state_drives s (is.facts.driven (Client c) s (in_hand_is w h c hand held))))
-          ∙ ap (tables_after s step k) (added_record w h R nodes (adds eight granted) ∙ record_is (record w { nodes = nodes }) h R (goes eight granted) up)
-          ∙ settles (record w { cluster = R; nodes = nodes }) (with_effects w h) c s (actor_is w h c hand held is.facts) step k can;
-      fits = let f = record_fits (record w { nodes = nodes }) h R (goes eight granted) up (added_fits w h R nodes (adds eight granted) is.fits) in record { replicas = f.replicas; hands = f.hands };
+          ∙ ap (tables_after s step k) (added_record w h R nodes (adds eight granted) backgrounds pulled ∙ record_is (record w { nodes = nodes; snapshots = backgrounds }) h R (goes eight granted) up none_new)
+          ∙ settles (record w { cluster = R; nodes = nodes; snapshots = backgrounds }) (with_effects w h) c s (actor_is w h c hand held is.facts) step k can;
+      fits = let f = record_fits (record w { nodes = nodes; snapshots = backgrounds }) h R (goes eight granted) up none_new (added_fits w h R nodes (adds eight granted) backgrounds pulled is.fits) in record { replicas = f.replicas; copies = f.copies; hands = f.hands };
     }
 
     shown_refused : (reply : StepReply) (end : Outcome) → IsRefusedWith (event_refusal w.cluster step hand.driver) step reply end → IsShownBehind w c hand held w (λ h. h) verb k r reply (Some end) beside.Nothing (Event step) h
@@ -273,6 +286,7 @@ module _ (w : World) (c : ℕ) (step : RecordStep) (hand : InHand) (held : hand_
       does_freed w (behind_step w c hand held behind (with_effects w) verb k r words.Ok end beside.Nothing) (told words.Ok end)
       (step_before w c hand held behind (with_effects w) verb k r words.Ok end beside.Nothing (Event step) next held (λ h. refl) (λ h is. shown_done h is eight granted can))
       (λ m s f. holds_after s.history (known_by w m s f) eight granted)
+      (λ m s f. let is = known_by w m s f in event_has w.cluster w.snapshots is.keeps is.facts.rises is.facts.up_to hand.call hand.driver step)
       (λ m s f. rooms_settled w R c R hand.op step k (rooms_after hand.call hand.driver step w.cluster w.tables enters s.rooms))
 
   -- it is refused, and the call ends
@@ -280,4 +294,4 @@ module _ (w : World) (c : ℕ) (step : RecordStep) (hand : InHand) (held : hand_
   refused_does reply end refused =
       does_before w (record w { hands = slice_set w.hands c None }) (told reply (Some end))
       (step_before w c hand held w (λ h. h) verb k r reply (Some end) beside.Nothing (Event step) next held (λ h. refl) (λ h is. shown_refused h is reply end refused))
-      (λ m s f. s.holds) (λ m s f. s.rooms)
+      (λ m s f. s.holds) (λ m s f. s.keeps) (λ m s f. s.rooms)

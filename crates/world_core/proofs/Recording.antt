@@ -9,8 +9,11 @@ use Rattle.cluster_record.specs.RecordState.{RecordState, entry_of, complete_of,
 use Rattle.world_core.specs.Nodes.{replica_in}
 use Rattle.replica.specs.Replicas.{opened_replica}
 use Rattle.ckpt_machine.specs.Machine.{Effect}
-use Rattle.ckpt_machine.specs.Steps.{opened_state, replica_under, reservation_under, with_record}
-use Rattle.world_core.specs.Shows.{History, HistoryFits, FitsReplica, machine_of, shown_replica, shown_reservation, where_complete, where_not_complete}
+use Rattle.ckpt_machine.specs.Steps.{opened_state, replica_under, reservation_under, snapshot_under, with_record}
+use Rattle.snap_copy.specs.Snapshots.{Snapshot}
+use Rattle.world_core.specs.declared.snapshots.Background.{Background}
+use Rattle.world_core.specs.Backgrounds.{where_pulled, pulled_in, HasRoom}
+use Rattle.world_core.specs.Shows.{History, HistoryFits, FitsReplica, machine_of, shown_replica, shown_reservation, shown_snapshot, where_complete, where_not_complete}
 
 -- the node is complete as before, or newly with a replica as its checkpoint was made, of this generation
 abbrev pub NodeGoes : ℕ → Entry → Entry → ℕ → Option Replica → Type 0
@@ -107,23 +110,36 @@ reserved_case up k (Some e) (Some f) r u y goes = by_node goes.2 where
   by_node (inl same) = by_tests (slice_index f.complete r == 0) (slice_index e.complete r == 0) (λ t. sym (ap (λ n. n == 0) same) ∙ t)
   by_node (inr new) = by_tests (slice_index f.complete r == 0) (slice_index e.complete r == 0) (λ t. test_zero (slice_index e.complete r) new.0)
 
+-- ---- the snapshots
+
+-- of a checkpoint that is new nothing was pulled
+copied_case : (old new : Option Entry) (E : List Effect) (s : Option Snapshot) → (old ≡ None → s ≡ None) → snapshot_under new (snapshot_under old (shown_snapshot E s)) ≡ snapshot_under new (shown_snapshot E s)
+copied_case (Some e) new E s none = refl
+copied_case None new E s none = sym (ap (λ s. snapshot_under new (shown_snapshot E s)) (none refl))
+
+-- and of one that is gone nothing is kept
+pub none_pulled : (o : Option Entry) (s : Option Background) → HasRoom o s → o ≡ None → where_pulled s ≡ None
+none_pulled None s room gone = ap where_pulled room
+none_pulled (Some e) s room gone = absurd (cc gone)
+
 -- ---- the world with another record
 
 abbrev pub with_effects : World → History → History
 with_effects w h = record h { effects = λ k r. effects_under (slice_index (complete_of (entry_of k w.cluster.entries)) r) (h.effects k r) }
 
-module _ (w : World) (h : History) (R : RecordState) (goes : (k r : ℕ) → GoesAt w.cluster.up k (entry_of k w.cluster.entries) (entry_of k R.entries) r (replica_in w.nodes k r)) (up : R.up ≡ w.cluster.up) where
+module _ (w : World) (h : History) (R : RecordState) (goes : (k r : ℕ) → GoesAt w.cluster.up k (entry_of k w.cluster.entries) (entry_of k R.entries) r (replica_in w.nodes k r)) (up : R.up ≡ w.cluster.up) (none : (k : ℕ) → entry_of k w.cluster.entries ≡ None → pulled_in w.snapshots k ≡ None) where
   -- the machine with the record after a step is the one that the nodes show with it
   pub record_is : with_record (machine_of w h) R ≡ machine_of (record w { cluster = R }) (with_effects w h)
   record_is =
       let replicas = λ (k r : ℕ). record_shown_case w.cluster.up k (entry_of k w.cluster.entries) (entry_of k R.entries) r (h.effects k r) (h.origins k r) (replica_in w.nodes k r) (goes k r) in
       let reserved = λ (k r : ℕ). reserved_case w.cluster.up k (entry_of k w.cluster.entries) (entry_of k R.entries) r (slice_index w.cluster.up r) (replica_in w.nodes k r) (goes k r)
       ∙ ap (λ (us : List ℕ). where_not_complete (entry_of k R.entries) r (shown_reservation (slice_index us r) (replica_in w.nodes k r))) (sym up) in
-      λ i. record (machine_of (record w { cluster = R }) (with_effects w h)) { replicas = λ k r. replicas k r i; reserved = λ k r. reserved k r i }
+      λ i. record (machine_of (record w { cluster = R }) (with_effects w h)) { replicas = λ k r. replicas k r i; reserved = λ k r. reserved k r i; snapshots = λ k. copied_case (entry_of k w.cluster.entries) (entry_of k R.entries) (h.copied k) (pulled_in w.snapshots k) (none k) i }
 
   -- and they fit
   pub record_fits : HistoryFits w h → HistoryFits (record w { cluster = R }) (with_effects w h)
   record_fits fits = record {
     replicas = λ k r. record_fits_case w.cluster.up k (entry_of k w.cluster.entries) (entry_of k R.entries) r (h.effects k r) (replica_in w.nodes k r) (goes k r) (fits.replicas k r);
+    copies = fits.copies;
     hands = fits.hands;
   }

@@ -132,7 +132,7 @@ module _ (w : World) (c r k : ℕ) (hand : InHand) (p : Payload) (reply : Reply)
       let reserved = reserved_more w.cluster w.nodes nodes k r new e at there can.not_complete in
       record {
         change = λ i. record (machine_of (record w { nodes = nodes }) h) { replicas = λ j q. shown_replica (h.effects j q) (h.origins j q) (sym (same j q) i); reserved = λ j q. reserved j q i };
-        fits = record { replicas = λ j q. subst (FitsReplica j (entry_of j w.cluster.entries) (h.effects j q)) (sym (same j q)) (known.fits.replicas j q); hands = known.fits.hands };
+        fits = record { replicas = λ j q. subst (FitsReplica j (entry_of j w.cluster.entries) (h.effects j q)) (sym (same j q)) (known.fits.replicas j q); copies = known.fits.copies; hands = known.fits.hands };
       }
 
   -- the node reserves, or is refused the memory
@@ -166,4 +166,5 @@ module _ (w : World) (c r k : ℕ) (hand : InHand) (p : Payload) (reply : Reply)
         fits = (reserves h known).fits;
       }))
       (λ m s f. let is = known_by w m s f in holds_served w.cluster w.nodes r (Reserve k) p reply is.holds within (λ j e. subst (IsServable (machine_of w s.history) r) e (finding.ready w s.history c r (Reserve k) hand is.facts is.fits held next).1))
+      (λ m s f. s.keeps)
       (λ m s f. s.rooms)

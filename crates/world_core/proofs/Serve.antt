@@ -1,7 +1,6 @@
 -- A step of a call that a node serves, for a request that goes to a replica.
 use Rattle.std.proofs.Common.{◌≡◌, ℕ, ◌<◌, ℤ, true, List, length, refl, sym, ap, subst, ◌∙◌, cond}
 use Rattle.std.specs.Prelude.{Option, Some, None, ◌==◌, ◌&&◌, IsSomeAnd, slice_get, slice_index, slice_set}
-use Rattle.std.proofs.lemmas.Bool.{eqb-true}
 use Rattle.std.proofs.lemmas.Option.{slice_get_within}
 use Rattle.ckpt_types.specs.declared.answers.Outcome.{Outcome}
 use Rattle.ckpt_types.specs.declared.identities.ActorName.TheVariants.{Client}
@@ -42,14 +41,13 @@ use Rattle.ckpt_machine.specs.Tables.{ids_of, kept_asked}
 use Rattle.ckpt_machine.specs.Facts.{HasNoSlot, IsServable}
 use Rattle.world_core.specs.Shows.{Does, HistoryFits, History, machine_of, tables_of, shown_replica, shown_slot, complete_replica, hand_at}
 use Rattle.ckpt_machine.proofs.Calls.{IsOwn, own_request}
-use Rattle.cluster_record.proofs.Places.{find_changed, get_set}
 use Rattle.world_core.proofs.Carrying.{GoesToReplica, reserves_none, Carries, payload_with, reply_carried, details_carried, replica_carried}
 use Rattle.world_core.proofs.Finding.{There}
 use Rattle.world_core.proofs.Finding as finding
 use Rattle.world_core.proofs.Held.{state_in, in_hand_is, actor_is, driver_is}
 use Rattle.world_core.proofs.IterationSteps.{tables_move, rooms_moved}
 use Rattle.world_core.proofs.HoldingLaws.{after_key, replicas_served, holds_served}
-use Rattle.world_core.proofs.Maps.{slice_there, node_case, complete_at_node, put_replica, fits_replica, reserved_same}
+use Rattle.world_core.proofs.Maps.{changed_here, slice_there, complete_at_node, put_replica, fits_replica, reserved_same}
 use Rattle.world_core.proofs.RequestRows.{effects_after, effects_carried, origin_after, row_moves, row_fits, tables_moved}
 use Rattle.world_core.proofs.Told.{told_world}
 use Rattle.world_core.proofs.CallSteps.{IsKnown, known_by, IsShownBehind, step_before}
@@ -61,17 +59,11 @@ use Rattle.world_core.proofs.Freeing.{does_before}
 served_there : (R : RecordState) (nodes : List (List Replica)) (r : ℕ) (request : Request) (p : Payload) (reply : Reply) (x : Replica) → GoesToReplica request → is_complete (record_seen R (ckpt_of request) r) ≡ true → replica_in nodes (ckpt_of request) r ≡ Some x →
     (j q : ℕ) → replica_in (nodes_after R nodes r request p reply) j q ≡ cond ((j == ckpt_of request) && (q == r)) (Some (replica_after request p (record_seen R (ckpt_of request) r) x)) (replica_in nodes j q)
 served_there R nodes r request p reply x goes complete is j q =
-    let (xs, there) = slice_there (slice_get nodes r) (find_key replica_key (ckpt_of request)) x refl is in
     let after = replica_after request p (record_seen R (ckpt_of request) r) in
     let new = change_key replica_key (ckpt_of request) after in
-    let at : find_key replica_key (ckpt_of request) xs ≡ Some x = ap (λ o. find_key replica_key (ckpt_of request) (list_or o)) (sym there) ∙ is in
-    let set : nodes_after R nodes r request p reply ≡ slice_set nodes r (new xs) =
-    ap (slice_set nodes r) (replicas_served R (node_at nodes r) request p reply (reserves_none request goes)
-    ∙ ap (λ b. cond b (new (list_or (slice_get nodes r))) (list_or (slice_get nodes r))) complete ∙ ap (λ o. new (list_or o)) there) in
-    ap (λ ns. replica_in ns j q) set ∙ ap (λ o. find_key replica_key j (list_or o)) (get_set nodes r (new xs) xs q there)
-    ∙ node_case (j == ckpt_of request) (q == r) (Some (after x)) (find_key replica_key j) xs (new xs) (slice_get nodes q)
-    (λ e. ap (λ q. list_or (slice_get nodes q)) (eqb-true q r e) ∙ ap list_or there)
-    (find_changed replica_key (ckpt_of request) after (after_key request p (record_seen R (ckpt_of request) r)) xs x j at)
+    ap (λ (ys : List Replica). replica_in (slice_set nodes r ys) j q)
+    (replicas_served R (node_at nodes r) request p reply (reserves_none request goes) ∙ ap (λ b. cond b (new (list_or (slice_get nodes r))) (list_or (slice_get nodes r))) complete)
+    ∙ changed_here nodes (ckpt_of request) r after (after_key request p (record_seen R (ckpt_of request) r)) x is j q
 
 -- the node is there
 pub node_within : (nodes : List (List Replica)) (k r : ℕ) (x : Replica) → replica_in nodes k r ≡ Some x → r < length nodes
@@ -230,6 +222,7 @@ module _ (w : World) (c r : ℕ) (request : Request) (hand : InHand) (p : Payloa
     fits_behind : HistoryFits new (later y h)
     fits_behind = subst (λ (y : Option Replica). HistoryFits new (later y h)) (sym found.is) (record {
       replicas = fits_replica w.cluster h.effects (complete_replica w.cluster w.nodes) (complete_replica w.cluster new.nodes) k r E' x' complete_each (row_fits k (entry_of k w.cluster.entries) E o x hand.call request p seen goes found.holds found.fits) known.fits.replicas;
+      copies = known.fits.copies;
       hands = known.fits.hands;
     })
 
@@ -258,4 +251,5 @@ module _ (w : World) (c r : ℕ) (request : Request) (hand : InHand) (p : Payloa
   serve_does = does_before w (served_world w c r request hand p reply) (served_label w c r request hand p reply)
       (step_before w c hand held new (later y) (verb_of request) (Some k) (Some r) (word_of reply) end (ended_details end (its_details w c r request hand p reply)) (Serve r request) next held (λ h. refl) is_served)
       (λ m s f. holds_behind s.history (known_by w m s f))
+      (λ m s f. s.keeps)
       (λ m s f. rooms_moved w w.cluster c hand.op request reply (its_iteration w c r request hand p reply) s.rooms)

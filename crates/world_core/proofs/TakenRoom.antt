@@ -19,7 +19,7 @@ use Rattle.world_core.specs.TableState.{TableState, next_in, kept_in, with_room}
 use Rattle.world_core.proofs.TableFields.{field_same, nexts_same, table_at}
 
 -- what is known of the world is known of it with the room, and a step of it then is a step of the world
-pub record KeepsAll (w : World) (c : ℕ) (taken : World) : Type 0 where
+pub record KeepsWithRoom (w : World) (c : ℕ) (taken : World) : Type 0 where
   pub shown : IsShown w → IsShown taken
   pub next : (n : Next) → IsNext w c n → IsNext taken c n
   pub roomy : HasNumbersLeft w → HasNumbersLeft taken
@@ -53,15 +53,16 @@ module _ (w : World) (c : ℕ) (t : TableState) (table : slice_get w.tables c �
   shows_it m s = record {
     history = s.history;
     same = s.same ∙ machine_is s.history;
-    fits = record { replicas = s.fits.replicas; hands = s.fits.hands };
+    fits = record { replicas = s.fits.replicas; copies = s.fits.copies; hands = s.fits.hands };
     holds = s.holds;
+    keeps = s.keeps;
     rooms = λ d live. roomy_there d (s.rooms d live);
   }
 
   has_it : room_is_taken (slice_get with_it.tables c) ≡ true
   has_it = subst (λ (o : Option TableState). room_is_taken o ≡ true) (table_at w c t (with_room t) table c) (ap (λ b. room_is_taken (cond b (Some (with_room t)) (slice_get w.tables c))) (eq-eqb c c refl))
 
-  keeps : KeepsAll w c with_it
+  keeps : KeepsWithRoom w c with_it
   keeps = record {
     shown = λ shown. record { state = shown.state; shows = shows_it shown.state shown.shows; facts = shown.facts };
     next = λ n next. record { hand = next.hand; held = next.held; next_is = ap (λ (kept : ClientState). driver_next w.cluster (rooms_in kept) next.hand.driver) (sym (same kept_in refl c)) ∙ next.next_is };
@@ -94,7 +95,7 @@ module _ (w : World) (c : ℕ) (t : TableState) (table : slice_get w.tables c �
   }
 
 -- with the tables as the code names them
-pub keeps_taken : (w : World) (c : ℕ) (tables : List TableState) → IsSomeAnd (slice_get w.tables c) (λ t. tables ≡ slice_set w.tables c (with_room t)) → KeepsAll w c (record w { tables = tables })
+pub keeps_taken : (w : World) (c : ℕ) (tables : List TableState) → IsSomeAnd (slice_get w.tables c) (λ t. tables ≡ slice_set w.tables c (with_room t)) → KeepsWithRoom w c (record w { tables = tables })
 keeps_taken w c tables taken =
     let (t, table, tables_are) = IsSomeAnd-at (slice_get w.tables c) _ taken in
-    subst (λ (ts : List TableState). KeepsAll w c (record w { tables = ts })) (sym tables_are) (keeps w c t table)
+    subst (λ (ts : List TableState). KeepsWithRoom w c (record w { tables = ts })) (sym tables_are) (keeps w c t table)

@@ -34,5 +34,6 @@ module _ (w : World) (h : History) (c : ℕ) (hand : InHand) (done : StepDone) (
   pub told_fits : HistoryFits (told_world w c hand done end) (with_step h c (counting n done) made)
   told_fits = record {
     replicas = fits.replicas;
+    copies = fits.copies;
     hands = fits_hand h w.hands c hand (left end (hand_taken done hand)) (counting n done ∷ h.steps (Client c)) held (left_fits h c hand done n end (hand_fits w h c hand held fits)) fits.hands;
   }

@@ -61,8 +61,9 @@ nodes_done w n R some few empty R_is = subst (λ (R : RecordState). Does w (reco
   shows = λ m s f. record {
     history = s.history;
     same = ap (λ m. after m (Nodes n)) s.same ∙ (λ i. record (machine_of (record w { cluster = brought_up n w.cluster }) s.history) { reserved = λ k r. same k r i });
-    fits = record { replicas = s.fits.replicas; hands = s.fits.hands };
+    fits = record { replicas = s.fits.replicas; copies = s.fits.copies; hands = s.fits.hands };
     holds = held_by_none w.cluster (brought_up n w.cluster) w.nodes (ap (λ (R : RecordState). R.entries) empty) s.holds;
+    keeps = s.keeps;
     rooms = s.rooms;
   };
 }) where

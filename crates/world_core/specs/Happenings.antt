@@ -27,7 +27,7 @@ use Rattle.ckpt_machine.specs.Driving.{driver_next}
 use Rattle.ckpt_types.specs.Asks.{IsBuilt}
 use Rattle.ckpt_machine.specs.Tables.{rooms_in}
 use Rattle.world_core.specs.Shows.{Does, hand_at}
-use Rattle.world_core.specs.Runs.{AnswersBegin, MayBeStepped, HasNothingToStep, IsIdleWord, IsShownOf}
+use Rattle.world_core.specs.Runs.{AnswersBegin, MayBeStepped, HasNothingToStep, IsIdleWord, IsShownOf, IsPulledOf, IsPutOf}
 
 -- the log has one label more, of which this holds
 pub record Adds (old new : KeptLabels) (holds : Label → Type 0) : Type 0 where
@@ -106,6 +106,13 @@ pub record TellsReplicas (k : ℕ) (old new : World) (label : Label) : Type 0 wh
   pub same : new ≡ old
   pub does : Does old new label
 
+-- a snapshot is taken or put, as this label tells, and nothing that a call or a client keeps changes
+pub record Propagates (tells : Label → Type 0) (old new : World) (label : Label) : Type 0 where
+  pub label_is : tells label
+  pub hands : new.hands ≡ old.hands
+  pub moment : new.cluster.moment ≡ old.cluster.moment
+  pub does : Does old new label
+
 -- the moment is set, and the calls in hand are as they were
 pub record SetsMoment (t : ℤ) (old new : World) (label : Label) : Type 0 where
   pub label_is : label ≡ labels.Moved t
@@ -119,6 +126,8 @@ ComesNow w (happenings.Begin (Client c) op) = (c < client_numbers) × IsBuilt op
 ComesNow w (happenings.Step who finish) = MayBeStepped who
 ComesNow w (happenings.Show k) = Unit {0}
 ComesNow w (happenings.At t) = IsMomentFrom w.cluster.moment t
+ComesNow w (happenings.Pull k) = Unit {0}
+ComesNow w (happenings.Put k r) = r < nodes_max
 ComesNow w event = ⊥
 
 -- what the event does, with the label that answers it
@@ -129,4 +138,6 @@ IsAnswered (happenings.Step (whos.Actor (Client c)) finish) old new label = IsSt
 IsAnswered (happenings.Step who finish) old new label = IsIdle who finish old new label
 IsAnswered (happenings.Show k) old new label = TellsReplicas k old new label
 IsAnswered (happenings.At t) old new label = SetsMoment t old new label
+IsAnswered (happenings.Pull k) old new label = Propagates (IsPulledOf k) old new label
+IsAnswered (happenings.Put k r) old new label = Propagates (IsPutOf k r) old new label
 IsAnswered event old new label = ⊥

@@ -1,3 +1,4 @@
+pub mod Backgrounds
 pub mod RecordReady
 pub mod RecordAfter
 pub mod TableState
@@ -15,6 +16,7 @@ pub mod HandsView
 pub mod HandLending
 pub mod HandSteps
 pub mod Shows
+pub mod Propagating
 pub mod Parts
 pub mod Settling
 pub mod Runs

@@ -38,6 +38,7 @@ pub record IsRunTo (w : World) (log : List Label) : Type 0 where
 pub record IsNew (w : World) : Type 0 where
   pub cluster : w.cluster ≡ empty_record
   pub nodes : w.nodes ≡ replicate nodes_max []
+  pub snapshots : w.snapshots ≡ []
   pub next : (c : ℕ) → next_in (slice_get w.tables c) ≡ 1
   pub tables : (c : ℕ) → kept_by w.tables c ≡ no_tables
   pub hands : (c : ℕ) → hand_at w.hands c ≡ None
@@ -54,13 +55,15 @@ abbrev pub MayBeStepped : Who → Type 0
 MayBeStepped (whos.Actor (Client c)) = c < client_numbers
 MayBeStepped who = Unit {0}
 
--- the events that may come: up to eight nodes first, then calls of clients that begin and are stepped in any order, moments, and shows
+-- the events that may come: up to eight nodes first, then calls of clients that begin and are stepped in any order, moments, shows, and pulls and puts
 abbrev pub Comes : World → List Label → Event → Type 0
 Comes w log (happenings.Nodes n) = (0 < n) × (n ≤ nodes_max) × (log ≡ [])
 Comes w log (happenings.Begin a op) = IsScriptClient a × IsBuilt op
 Comes w log (happenings.Step who finish) = MayBeStepped who
 Comes w log (happenings.At t) = IsMomentFrom w.cluster.moment t
 Comes w log (happenings.Show k) = Unit {0}
+Comes w log (happenings.Pull k) = Unit {0}
+Comes w log (happenings.Put k r) = r < nodes_max
 
 -- a call is in hand after a label just where the label did not end it
 abbrev pub GoesOn : CallId → Op → Option Outcome → Option InHand → Type 0
@@ -121,6 +124,16 @@ abbrev pub IsShownOf : ℕ → Label → Type 0
 IsShownOf k (labels.Shown other replicas) = other ≡ k
 IsShownOf k label = ⊥
 
+-- the label tells a pull of this checkpoint
+abbrev pub IsPulledOf : ℕ → Label → Type 0
+IsPulledOf k (labels.Pulled other reply) = other ≡ k
+IsPulledOf k label = ⊥
+
+-- the label tells a put of this checkpoint at this node
+abbrev pub IsPutOf : ℕ → ℕ → Label → Type 0
+IsPutOf k r (labels.Put other node reply) = (other ≡ k) × (node ≡ r)
+IsPutOf k r label = ⊥
+
 -- a label answers an event
 abbrev pub Answers : Event → World → World → Label → Type 0
 Answers (happenings.Nodes n) old new label = (label ≡ labels.Nodes n) × (new.hands ≡ old.hands)
@@ -129,6 +142,8 @@ Answers (happenings.Step (whos.Actor a) finish) old new label = AnswersStep a fi
 Answers (happenings.Step (whos.Call call) finish) old new label = IsIdleWord (whos.Call call) finish old new label
 Answers (happenings.At t) old new label = (label ≡ labels.Moved t) × (new.hands ≡ old.hands)
 Answers (happenings.Show k) old new label = IsShownOf k label × (new.hands ≡ old.hands)
+Answers (happenings.Pull k) old new label = IsPulledOf k label × (new.hands ≡ old.hands)
+Answers (happenings.Put k r) old new label = IsPutOf k r label × (new.hands ≡ old.hands)
 
 -- the calls of other clients are as they were
 abbrev pub KeepsOthers : Event → World → World → Type 0

@@ -12,7 +12,7 @@ use Rattle.cluster_record.specs.RecordState.{RecordState, entry_of, swept}
 use Rattle.ckpt_types.specs.Asks.{asked, IsBuilt}
 use Rattle.ckpt_machine.specs.Tables.{handle_given, closing}
 use Rattle.world_core.specs.declared.world.World.{World}
-use Rattle.world_core.specs.Freeing.{freed}
+use Rattle.world_core.specs.Freeing.{freed_world}
 use Rattle.world_core.specs.LiveRooms.{room_is_taken}
 use Rattle.world_core.specs.TableState.{TableState, kept_by, with_client, at_client}
 
@@ -38,10 +38,10 @@ abbrev pub looked : Outcome → ℕ → Op → List TableState → List TableSta
 looked (Done answer) c op tables = tables_closed c op tables
 looked end c op tables = tables
 
--- what a call is making is undone, where it is making something; what is over goes with it, and the replicas of what is gone
+-- what a call is making is undone, where it is making something; what is over goes with it, and the replicas and the snapshots of what is gone
 abbrev pub without_making_of : Option ℕ → World → World
 without_making_of None w = w
-without_making_of (Some k) w = let R = swept (making_undone k w.cluster) in record w { cluster = R; nodes = freed R.entries w.nodes }
+without_making_of (Some k) w = freed_world (record w { cluster = swept (making_undone k w.cluster) })
 
 -- ---- what it asks
 

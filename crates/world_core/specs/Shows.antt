@@ -11,12 +11,15 @@ use Rattle.world_core.specs.declared.hands.InHand.{InHand}
 use Rattle.cluster_record.specs.declared.entries.Entry.{Entry}
 use Rattle.ckpt_machine.specs.Drivers.{Driver}
 use Rattle.replica.specs.Replicas.{Replica}
+use Rattle.snap_copy.specs.Snapshots.{Snapshot}
 use Rattle.stage_slot.specs.Slots.{Slot}
 use Rattle.weak_marks.specs.Marks.{Marked}
 use Rattle.world_core.specs.declared.world.World.{World}
 use Rattle.cluster_record.specs.Places.{or_none}
 use Rattle.cluster_record.specs.RecordState.{RecordState, entry_of, complete_of}
 use Rattle.world_core.specs.TableState.{TableState, next_in, kept_by}
+use Rattle.world_core.specs.declared.snapshots.Background.{Background}
+use Rattle.world_core.specs.Backgrounds.{pulled_in, HaveRooms}
 use Rattle.world_core.specs.Nodes.{replica_in}
 use Rattle.world_core.specs.Holding.{HoldsOnlyWhatStands}
 use Rattle.world_core.specs.LiveRooms.{LiveHaveRoom}
@@ -26,7 +29,8 @@ use Rattle.ckpt_machine.specs.Facts.{Facts}
 use Rattle.ckpt_types.specs.Asks.{Ask, asked}
 use Rattle.ckpt_types.specs.Asks as asks
 use Rattle.ckpt_machine.specs.Machine.{Machine, Effect, Staged, ReplicaState, CallState, no_tables}
-use Rattle.ckpt_machine.specs.Steps.{IsDue, after}
+use Rattle.ckpt_machine.specs.Machine as snapshots
+use Rattle.ckpt_machine.specs.Steps.{IsDue, after, snapshot_under}
 
 -- ---- what the machine keeps and the code does not
 
@@ -35,11 +39,13 @@ pub record Beginning : Type 0 where
   pub kept : Kept
   pub driver : Driver
 
--- the effects and the origins of replicas, and the beginning and the steps of each call in hand, with the identifier that its commits have made
+-- the effects and the origins of replicas, the effects of snapshots, and the beginning and the steps of each call in hand, with the identifier that its commits have made
 pub record History : Type 0 where
   -- by checkpoint and node
   pub effects : ℕ → ℕ → List Effect
   pub origins : ℕ → ℕ → CallId
+  -- by checkpoint, for its snapshot
+  pub copied : ℕ → List Effect
   -- by actor, for its call in hand
   pub beginnings : ActorName → Beginning
   pub steps : ActorName → List StepDone
@@ -79,6 +85,17 @@ where_not_complete (Some e) r reservation = if slice_index e.complete r == 0 the
 abbrev pub reserved_in : RecordState → List (List Replica) → ℕ → ℕ → Option ℕ
 reserved_in R nodes k r = where_not_complete (entry_of k R.entries) r (shown_reservation (slice_index R.up r) (replica_in nodes k r))
 
+-- ---- the background snapshots
+
+-- the code keeps a count in place of the effects
+abbrev pub shown_snapshot : List Effect → Option Snapshot → Option snapshots.Snapshot
+shown_snapshot effects None = None
+shown_snapshot effects (Some s) = Some (record { sections = s.sections; effects = effects; generation = s.generation })
+
+-- what was pulled last of a checkpoint that is there
+abbrev pub snapshot_shown : RecordState → List Background → ℕ → List Effect → Option snapshots.Snapshot
+snapshot_shown R backgrounds k effects = snapshot_under (entry_of k R.entries) (shown_snapshot effects (pulled_in backgrounds k))
+
 -- ---- the clients
 
 -- what an actor keeps; a node keeps nothing
@@ -115,7 +132,7 @@ machine_of w h = record {
   cluster = w.cluster;
   replicas = λ k r. shown_replica (h.effects k r) (h.origins k r) (complete_replica w.cluster w.nodes k r);
   reserved = reserved_in w.cluster w.nodes;
-  snapshots = λ k. None;
+  snapshots = λ k. snapshot_shown w.cluster w.snapshots k (h.copied k);
   tables = tables_of w.tables;
   pending = λ a. [];
   next = next_of w.tables;
@@ -138,6 +155,11 @@ abbrev pub FitsReplica : ℕ → Option Entry → List Effect → Option Replica
 FitsReplica k e effects None = Unit {0}
 FitsReplica k e effects (Some x) = (x.ckpt ≡ k) × HasAttributes e x × (length effects ≡ x.count) × FitsSlot x.count x.marks x.slot
 
+-- a snapshot counts its effects
+abbrev pub FitsSnapshot : List Effect → Option Snapshot → Type 0
+FitsSnapshot effects None = Unit {0}
+FitsSnapshot effects (Some s) = length effects ≡ s.count
+
 -- the room that a call has in hand for an iteration
 abbrev pub room_for : Ask → Room → Option KeptIds
 room_for (asks.Iterate iteration place chosen time) room = Some (record { ids = []; room = room })
@@ -148,17 +170,19 @@ abbrev pub FitsHand : Beginning → List StepDone → Option InHand → Type 0
 FitsHand began steps None = Unit {0}
 FitsHand began steps (Some h) = (h.driver ≡ driver_state began.driver steps) × (h.iteration ≡ room_for (asked h.op) began.kept.room)
 
--- the history fits the world: replicas have as many effects as they count, and calls are where their steps have led them
+-- the history fits the world: replicas and snapshots have as many effects as they count, and calls are where their steps have led them
 pub record HistoryFits (w : World) (h : History) : Type 0 where
   pub replicas : (k r : ℕ) → FitsReplica k (entry_of k w.cluster.entries) (h.effects k r) (complete_replica w.cluster w.nodes k r)
+  pub copies : (k : ℕ) → FitsSnapshot (h.copied k) (pulled_in w.snapshots k)
   pub hands : (c : ℕ) → FitsHand (h.beginnings (Client c)) (h.steps (Client c)) (hand_at w.hands c)
 
--- the machine's state is the world's, with some history that fits; the nodes have no other replicas, and the clients that are live have their room
+-- the machine's state is the world's, with some history that fits; the nodes have no other replicas, and the checkpoints have the room for their snapshots, and the live clients theirs
 pub record Shows (w : World) (m : Machine) : Type 0 where
   pub history : History
   pub same : m ≡ machine_of w history
   pub fits : HistoryFits w history
   pub holds : HoldsOnlyWhatStands w.cluster w.nodes
+  pub keeps : HaveRooms w.cluster.entries w.snapshots
   pub rooms : LiveHaveRoom w.cluster w.tables
 
 -- the world shows a state that has the facts

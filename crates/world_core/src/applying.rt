@@ -1,10 +1,11 @@
 //! What a step of a call does to the record, and to the nodes by it.
-ghost use Rattle.std.specs.Prelude.{◌≡◌, OnOk, OnErr, IsTrue};
+ghost use Rattle.std.specs.Prelude.{◌≡◌, ◌+◌, IfSome, OnOk, OnErr, IsTrue};
+ghost use Rattle.ckpt_types.specs.Attributes.{IsWellFormed};
 ghost use Rattle.cluster_record.specs.Opening.{open_answer, after_open};
 ghost use Rattle.cluster_record.specs.RecordState.{named, home_of};
 ghost use Rattle.world_core.specs.CallStates.{step_in};
 ghost use Rattle.world_core.specs.Nodes.{with_opened};
-ghost use Rattle.world_core.specs.RecordAfter.{once_change, event_change, event_after, nodes_behind};
+ghost use Rattle.world_core.specs.RecordAfter.{once_change, event_change, event_after, nodes_behind, snapshots_behind, with_room_asked};
 ghost use Rattle.world_core.specs.RecordReady.{CanAsk, CanAdd, HasNoneOf, IsGranted, IsOnceReady, IsOpenReady, IsRecordReady};
 ghost use Rattle.ckpt_machine.specs.Driving.{takes_memory};
 ghost use Rattle.ckpt_machine.specs.Drivers.{Open};
@@ -12,17 +13,20 @@ ghost use Rattle.ckpt_machine.specs.Drivers.{Open};
 use crate::drivers::{Driver, DriverKind};
 use crate::nodes::Nodes;
 use crate::one_step::OneStep;
-use ckpt_types::{CallId, OpenAsk};
+use crate::snapshots::Snapshots;
+use ckpt_types::{CallId, CkptId, CreationAttributes, OpenAsk};
 use cluster_record::{OpenAnswer, Record, number_of};
 use drive_open::{OpenCall, SharedAsk};
 use node_msgs::RecordStep;
 use std::alloc::{AllocError, Global};
 
-/// A step of a call that drives so, and the sweep behind it. An open may add a replica on its client's node.
+/// A step of a call that drives so, and the sweep behind it. A creation takes the room for the snapshot of its
+/// checkpoint, and an open may add a replica on its client's node.
 pub fn apply(
     alloc: Global,
     cluster: &mut Record,
     nodes: &mut Nodes,
+    snapshots: &mut Snapshots,
     call: CallId,
     driver: &Driver,
     step: RecordStep,
@@ -31,10 +35,11 @@ pub fn apply(
     requires free { CanAdd driver.now step cluster.old nodes.old }
     ensures ok { OnOk result (cluster.new ≡ event_after call driver.now step cluster.old) }
     ensures nodes { OnOk result (nodes.new ≡ nodes_behind driver.now step cluster.old nodes.old) }
-    ensures err { OnErr result ((cluster.new ≡ cluster.old) × (nodes.new ≡ nodes.old)) }
+    ensures snapshots { OnOk result (snapshots.new ≡ snapshots_behind driver.now step cluster.old snapshots.old) }
+    ensures err { OnErr result ((cluster.new ≡ cluster.old) × (nodes.new ≡ nodes.old) × (snapshots.new ≡ snapshots.old)) }
     ensures memory { OnErr result (IsTrue (takes_memory step)) }
 {
-    change(alloc, cluster, nodes, call, driver, step)?;
+    change(alloc, cluster, nodes, snapshots, call, driver, step)?;
     cluster.sweep();
     Ok(())
 }
@@ -43,6 +48,7 @@ fn change(
     alloc: Global,
     cluster: &mut Record,
     nodes: &mut Nodes,
+    snapshots: &mut Snapshots,
     call: CallId,
     driver: &Driver,
     step: RecordStep,
@@ -51,7 +57,8 @@ fn change(
     requires free { CanAdd driver.now step cluster.old nodes.old }
     ensures ok { OnOk result (cluster.new ≡ event_change call driver.now step cluster.old) }
     ensures nodes { OnOk result (nodes.new ≡ nodes_behind driver.now step cluster.old nodes.old) }
-    ensures err { OnErr result ((cluster.new ≡ cluster.old) × (nodes.new ≡ nodes.old)) }
+    ensures snapshots { OnOk result (snapshots.new ≡ snapshots_behind driver.now step cluster.old snapshots.old) }
+    ensures err { OnErr result ((cluster.new ≡ cluster.old) × (nodes.new ≡ nodes.old) × (snapshots.new ≡ snapshots.old)) }
     ensures memory { OnErr result (IsTrue (takes_memory step)) }
 {
     match &driver.kind {
@@ -60,7 +67,7 @@ fn change(
             Ok(())
         }
         DriverKind::Open(open_call) => {
-            change_by_open(alloc, cluster, nodes, call, open_call, step)
+            change_by_open(alloc, cluster, nodes, snapshots, call, open_call, step)
         }
         DriverKind::Update(_) | DriverKind::Active(_) => Ok(()),
     }
@@ -95,6 +102,7 @@ fn change_by_open(
     alloc: Global,
     cluster: &mut Record,
     nodes: &mut Nodes,
+    snapshots: &mut Snapshots,
     call: CallId,
     open_call: &OpenCall,
     step: RecordStep,
@@ -103,11 +111,12 @@ fn change_by_open(
     requires free { CanAdd (Open open_call.now) step cluster.old nodes.old }
     ensures ok { OnOk result (cluster.new ≡ event_change call (Open open_call.now) step cluster.old) }
     ensures nodes { OnOk result (nodes.new ≡ nodes_behind (Open open_call.now) step cluster.old nodes.old) }
-    ensures err { OnErr result ((cluster.new ≡ cluster.old) × (nodes.new ≡ nodes.old)) }
+    ensures snapshots { OnOk result (snapshots.new ≡ snapshots_behind (Open open_call.now) step cluster.old snapshots.old) }
+    ensures err { OnErr result ((cluster.new ≡ cluster.old) × (nodes.new ≡ nodes.old) × (snapshots.new ≡ snapshots.old)) }
     ensures memory { OnErr result (IsTrue (takes_memory step)) }
 {
     match step {
-        RecordStep::Create => create(cluster, call, open_call.ask()),
+        RecordStep::Create => create(alloc, cluster, snapshots, call, open_call.ask()),
         RecordStep::Open => open(alloc, cluster, nodes, call, open_call.ask()),
         RecordStep::Finish => {
             if let Some(ckpt) = open_call.making() {
@@ -125,15 +134,41 @@ fn change_by_open(
     }
 }
 
-// The record puts the checkpoint of the ask into the making.
-fn create(cluster: &mut Record, call: CallId, ask: &SharedAsk) -> Result<(), AllocError>
+// The record puts the checkpoint of the ask into the making, and there is room for its snapshot.
+fn create(
+    alloc: Global,
+    cluster: &mut Record,
+    snapshots: &mut Snapshots,
+    call: CallId,
+    ask: &SharedAsk,
+) -> Result<(), AllocError>
     requires can { CanAsk call cluster.old ask.now }
     requires granted { IsGranted (open_answer cluster.old ask.now) }
     ensures ok { OnOk result (cluster.new ≡ after_open call ask.now cluster.old) }
-    ensures err { OnErr result (cluster.new ≡ cluster.old) }
+    ensures snapshots { OnOk result (snapshots.new ≡ with_room_asked (cluster.old.last_identity + 1) ask.now.attrs snapshots.old) }
+    ensures err { OnErr result ((cluster.new ≡ cluster.old) × (snapshots.new ≡ snapshots.old)) }
 {
-    put(cluster, call, ask.to_ask()?);
+    let ask = ask.to_ask()?;
+    make_room(alloc, snapshots, cluster.last_identity() + 1, &ask.attrs)?;
+    put(cluster, call, ask);
     Ok(())
+}
+
+// Room for the snapshot of a checkpoint that is to be made with these attributes.
+fn make_room(
+    alloc: Global,
+    snapshots: &mut Snapshots,
+    ckpt: CkptId,
+    attributes: &Option<CreationAttributes>,
+) -> Result<(), AllocError>
+    requires { IfSome attributes.now IsWellFormed }
+    ensures ok { OnOk result (snapshots.new ≡ with_room_asked ckpt attributes.now snapshots.old) }
+    ensures err { OnErr result (snapshots.new ≡ snapshots.old) }
+{
+    match attributes {
+        None => Ok(()),
+        Some(attributes) => snapshots.make_room(alloc, ckpt, attributes),
+    }
 }
 
 // The record opens the checkpoint of the ask, and where that adds a replica, the client's node has it.

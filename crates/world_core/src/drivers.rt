@@ -1,5 +1,5 @@
 //! What drives a call: what it does next, and how it ends.
-ghost use Rattle.std.specs.Prelude.{◌≡◌, ◌-◌, ◌^◌, ◌<◌, Some, IfOk, IsSome};
+ghost use Rattle.std.specs.Prelude.{◌≡◌, ℕ, ◌-◌, ◌^◌, ◌<◌, Some, IfOk, IsSome};
 ghost use Rattle.ckpt_types.specs.Limits.{client_numbers, nodes_max};
 ghost use Rattle.node_msgs.specs.Requests.{ckpt_of};
 ghost use Rattle.node_msgs.specs.Steps.{verb_of, word_of, event_verb};
@@ -25,10 +25,11 @@ ghost use Rattle.cluster_record.specs.DueOnce.{Close, Retain};
 
 use crate::beginning::{choice_of, ckpt_of_handle};
 use crate::one_step::OneStep;
+use crate::options::{is_all, is_weak};
 use crate::tables::Tables;
 use ckpt_types::{
-    AisError, Answer, CHECKPOINT_COLLOCATED, CallId, Cause, CkptId, NodeId, Op, Outcome,
-    SharedAttributes, SharedName, Update, WR_ACTIVE_REPLICA_WEAK, WR_ALL_REPLICAS,
+    AisError, Answer, CallId, Cause, CkptId, NodeId, Op, Outcome, SharedAttributes, SharedName,
+    Update,
 };
 use client_handles::HandleView;
 use cluster_record::{ActiveKind, OpenAnswer, Record, number_of};
@@ -161,7 +162,7 @@ impl Driver {
     {
         match &mut self.kind {
             DriverKind::Update(update) => take_update(update, op, cluster, r, request, reply),
-            DriverKind::Active(active) => take_active(active, op, cluster, r, request, reply),
+            DriverKind::Active(active) => take_active(active, op, cluster, request, reply),
             DriverKind::Open(open_call) => {
                 open_call.take(cluster, r, request, reply.word());
                 end_of_refused(op, cluster, reply)
@@ -260,14 +261,13 @@ fn take_active(
     active: &mut ActiveCall,
     op: &Op,
     cluster: &Record,
-    r: NodeId,
     request: &Request,
     reply: &Reply,
 ) -> Option<Outcome>
-    ensures new { active.new ≡ active_taken (done_of cluster.now (verb_of request.now) (Some (ckpt_of request.now)) (Some r) (word_of reply.now)) active.old }
-    ensures end { result ≡ driver_end op.now (done_of cluster.now (verb_of request.now) (Some (ckpt_of request.now)) (Some r) (word_of reply.now)) reply.now (kinds.Active active.new) }
+    ensures new { (r : ℕ) → active.new ≡ active_taken (done_of cluster.now (verb_of request.now) (Some (ckpt_of request.now)) (Some r) (word_of reply.now)) active.old }
+    ensures end { (r : ℕ) → result ≡ driver_end op.now (done_of cluster.now (verb_of request.now) (Some (ckpt_of request.now)) (Some r) (word_of reply.now)) reply.now (kinds.Active active.new) }
 {
-    active.take(cluster, r, request, reply.word());
+    active.take(cluster, request, reply.word());
     match reply {
         Reply::Done(answer) => end_of_done(request, *answer),
         _ => end_of_refused(op, cluster, reply),
@@ -328,35 +328,31 @@ fn change_start(call: CallId, update: &Update, cluster: &Record, ckpt: Option<Ck
     ensures { change_start call (declares_at is_all cluster.now ckpt) (kind_of_change (declares_at is_weak cluster.now ckpt) update.now) ckpt ≡ Some result }
 {
     let Some(ckpt) = ckpt else { unreachable!() };
-    if is_all(cluster, ckpt) {
+    if is_all_at(cluster, ckpt) {
         Driver::by(DriverKind::Update(UpdateCall::begin(call, ckpt)))
     } else {
-        let kind = kind_of_change(is_weak(cluster, ckpt), update);
+        let kind = kind_of_change(is_weak_at(cluster, ckpt), update);
         Driver::by(DriverKind::Active(ActiveCall::begin(call, ckpt, kind)))
     }
 }
 
 // Whether updates of a checkpoint are on all its replicas.
-fn is_all(cluster: &Record, ckpt: CkptId) -> bool
+fn is_all_at(cluster: &Record, ckpt: CkptId) -> bool
     ensures { result ≡ declares_at is_all cluster.now (Some ckpt) }
 {
     match cluster.declared(ckpt) {
         None => false,
-        Some(attributes) => attributes.creation_flags == WR_ALL_REPLICAS,
+        Some(attributes) => is_all(&attributes),
     }
 }
 
 // Whether writes of a checkpoint are weak.
-fn is_weak(cluster: &Record, ckpt: CkptId) -> bool
+fn is_weak_at(cluster: &Record, ckpt: CkptId) -> bool
     ensures { result ≡ declares_at is_weak cluster.now (Some ckpt) }
 {
     match cluster.declared(ckpt) {
         None => false,
-        Some(attributes) => {
-            let flags = attributes.creation_flags;
-            flags == WR_ACTIVE_REPLICA_WEAK
-                || flags == WR_ACTIVE_REPLICA_WEAK + CHECKPOINT_COLLOCATED
-        }
+        Some(attributes) => is_weak(&attributes),
     }
 }
 

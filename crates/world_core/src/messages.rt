@@ -4,11 +4,13 @@ ghost use Rattle.ckpt_types.specs.declared.answers.Answer.TheVariants as answers
 ghost use Rattle.ckpt_types.specs.declared.answers.Outcome.TheVariants.{Done};
 ghost use Rattle.node_msgs.specs.declared.steps.StepReply.TheVariants as words;
 ghost use Rattle.node_msgs.specs.declared.details.Details.TheVariants as beside;
+ghost use Rattle.node_msgs.specs.Requests.{ckpt_of};
+ghost use Rattle.node_msgs.specs.Steps.{verb_of, word_of};
 ghost use Rattle.run_labels.specs.declared.labels.Label.TheVariants as labels;
 ghost use Rattle.ckpt_machine.specs.Steps.{look_word};
 
 use ckpt_types::{Answer, CallId, CkptId, NodeId, Outcome};
-use node_msgs::{Details, StepReply, Verb};
+use node_msgs::{Details, Reply, Request, StepReply, Verb};
 use run_labels::{Label, OpWord};
 
 /// How a label tells an end that the record alone decides.
@@ -52,22 +54,21 @@ pub fn stepped(
 pub fn served(
     call: CallId,
     op: OpWord,
-    verb: Verb,
-    ckpt: CkptId,
+    request: &Request,
     r: NodeId,
-    reply: StepReply,
+    reply: &Reply,
     end: Option<Outcome>,
     details: Details,
 ) -> Label
-    ensures { result ≡ labels.Stepped call op verb (Some ckpt) (Some r) reply end details }
+    ensures { result ≡ labels.Stepped call op (verb_of request.now) (Some (ckpt_of request.now)) (Some r) (word_of reply.now) end details }
 {
     Label::Stepped {
         call,
         op,
-        verb,
-        ckpt: Some(ckpt),
+        verb: request.verb(),
+        ckpt: Some(request.ckpt()),
         node: Some(r),
-        reply,
+        reply: reply.word(),
         end,
         details,
     }

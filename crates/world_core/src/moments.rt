@@ -15,7 +15,7 @@ impl World {
         ensures { Adds log.old log.new (SetsMoment t self.old self.new) }
     {
         self.cluster.set_moment(t);
-        self.nodes.free_gone(&self.cluster);
+        self.free_gone();
         log.push(Label::Moved(t));
     }
 }

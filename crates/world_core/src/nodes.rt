@@ -5,11 +5,11 @@ ghost use Rattle.ckpt_types.specs.Limits.{nodes_max};
 ghost use Rattle.cluster_record.specs.RecordState.{entry_of};
 ghost use Rattle.node_msgs.specs.Requests.{ckpt_of};
 ghost use Rattle.node_core.specs.Details.{details_told};
-ghost use Rattle.node_core.specs.Fitting.{RequestFits, TakesUpdate};
+ghost use Rattle.node_core.specs.Fitting.{RequestFits, TakesSnapshot, TakesUpdate};
 ghost use Rattle.node_core.specs.Nodes.{MayReply, replica_served, seen_from};
 ghost use Rattle.node_core.specs.Payloads.{payload_of};
 ghost use Rattle.node_core.specs.Serving.{details_at, iteration_behind};
-ghost use Rattle.replica.specs.Replicas.{answer_unless, committed, outcome_on, staged};
+ghost use Rattle.replica.specs.Replicas.{answer_unless, committed, install_answer, installed, outcome_on, staged};
 ghost use Rattle.stage_slot.specs.Slots.{IsOwnedBy, owner_of};
 ghost use Rattle.world_core.specs.Freeing.{freed};
 ghost use Rattle.world_core.specs.Nodes.{node_at, nodes_after, nodes_shown, replica_in, with_added, with_changed, StandByNumber};
@@ -18,7 +18,8 @@ use ckpt_types::{CallId, CkptId, Moment, NODES_MAX, NodeId, SharedUpdate};
 use cluster_record::{Entry, Record};
 use node_core::{Lent, Node};
 use node_msgs::{Reply, Request};
-use replica::{Replica, StageRefused};
+use replica::{Older, Replica, StageRefused};
+use snap_copy::Snap;
 use std::alloc::{AllocError, Global};
 use std::marker::Model;
 
@@ -99,6 +100,17 @@ impl Nodes {
         ensures { self.new ≡ with_changed ckpt r (λ x. committed x x.slot) self.old }
     {
         commit_node(self.list.as_mut_slice(), r, call, ckpt);
+    }
+
+    /// The replica of a checkpoint on a node has what a snapshot has from then on, where it is older. Any other stays as
+    /// it was, and the answer tells its generation and its count. It takes no memory.
+    pub fn install(&mut self, r: NodeId, ckpt: CkptId, snap: &Snap) -> Result<(), Older>
+        requires node { r < nodes_max }
+        requires there { IsSomeAnd (replica_in self.old ckpt r) (TakesSnapshot snap.now) }
+        ensures answer { IfSome (replica_in self.old ckpt r) (λ x. result ≡ install_answer x snap.now) }
+        ensures new { self.new ≡ with_changed ckpt r (installed snap.now) self.old }
+    {
+        install_at(self.list.as_mut_slice(), r, ckpt, snap)
     }
 
     /// A node gets the replica of a checkpoint, as the record has it. Where memory is refused, nothing changes.
@@ -199,6 +211,18 @@ fn commit_node(nodes: &mut [Node], r: NodeId, call: CallId, ckpt: CkptId)
 {
     let node = &mut nodes[r as usize];
     node.commit(call, ckpt);
+}
+
+fn install_at(nodes: &mut [Node], r: NodeId, ckpt: CkptId, snap: &Snap) -> Result<(), Older>
+    requires numbered { StandByNumber nodes.old }
+    requires node { r < length nodes.old }
+    requires there { IsSomeAnd (replica_in (nodes_shown nodes.old) ckpt r) (TakesSnapshot snap.now) }
+    ensures numbered { StandByNumber nodes.new }
+    ensures answer { IfSome (replica_in (nodes_shown nodes.old) ckpt r) (λ x. result ≡ install_answer x snap.now) }
+    ensures new { nodes_shown nodes.new ≡ with_changed ckpt r (installed snap.now) (nodes_shown nodes.old) }
+{
+    let node = &mut nodes[r as usize];
+    node.install(ckpt, snap)
 }
 
 fn add_to(

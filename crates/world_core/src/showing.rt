@@ -130,7 +130,7 @@ fn list_replica(
     })
 }
 
-fn is_active(active: Option<NodeId>, r: NodeId) -> bool
+pub(crate) fn is_active(active: Option<NodeId>, r: NodeId) -> bool
     ensures { result ≡ is_active active r }
 {
     match active {

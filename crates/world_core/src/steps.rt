@@ -126,16 +126,7 @@ impl World {
         let end = hand.take(&self.cluster, r, request, &reply);
         let_go(slot, &end);
         let details = told_details(&end, &reply, lent);
-        log.push(served(
-            call,
-            op,
-            request.verb(),
-            request.ckpt(),
-            r,
-            reply.word(),
-            end,
-            details,
-        ));
+        log.push(served(call, op, request, r, &reply, end, details));
         Ok(())
     }
 
@@ -234,8 +225,16 @@ impl World {
         let ckpt = event_ckpt(&self.cluster, &hand.driver, &step);
         let node = event_node(&hand.driver, &step);
         let verb = step.verb();
-        let cluster = &mut self.cluster;
-        if apply(alloc, cluster, &mut self.nodes, call, &hand.driver, step).is_err() {
+        let applied = apply(
+            alloc,
+            &mut self.cluster,
+            &mut self.nodes,
+            &mut self.snapshots,
+            call,
+            &hand.driver,
+            step,
+        );
+        if applied.is_err() {
             *slot = None;
             let end = Some(Outcome::NoMemory);
             log.push(stepped(call, op, verb, ckpt, node, StepReply::Memory, end));
@@ -245,7 +244,7 @@ impl World {
         let end = event_end(&step, ckpt);
         hand.told(&self.cluster, &step, ckpt, node, StepReply::Ok);
         let_go(slot, &end);
-        self.nodes.free_gone(&self.cluster);
+        self.free_gone();
         log.push(stepped(call, op, verb, ckpt, node, StepReply::Ok, end));
     }
 
@@ -269,14 +268,14 @@ impl World {
         log.push(stepped(call, op, Verb::Look, None, None, reply, Some(end)));
     }
 
-    // What a call is making is undone, if it is making something; what is over goes too, and its replicas.
+    // What a call is making is undone, if it is making something; what is over goes too, and what was kept for it.
     fn unmake(&mut self, making: Option<CkptId>)
         ensures { self.new ≡ without_making_of making self.old }
     {
         if let Some(ckpt) = making {
             self.cluster.undo_create(ckpt);
             self.cluster.sweep();
-            self.nodes.free_gone(&self.cluster);
+            self.free_gone();
         }
     }
 }

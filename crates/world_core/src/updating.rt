@@ -159,14 +159,5 @@ fn refuse_stage(
     let reply = reply_refused(refused);
     let end = hand.take(cluster, r, request, &reply);
     let_go(slot, &end);
-    log.push(served(
-        call,
-        op,
-        request.verb(),
-        request.ckpt(),
-        r,
-        reply.word(),
-        end,
-        Details::Nothing,
-    ));
+    log.push(served(call, op, request, r, &reply, end, Details::Nothing));
 }

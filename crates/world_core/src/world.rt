@@ -12,8 +12,9 @@ ghost use Rattle.world_core.specs.StepsLeft.{ComesNearer};
 
 use crate::hands::Hands;
 use crate::nodes::Nodes;
+use crate::snapshots::Snapshots;
 use crate::tables::Tables;
-use ckpt_types::{ActorName, CkptId, Moment, Op, Who};
+use ckpt_types::{ActorName, CkptId, Moment, NodeId, Op, Who};
 use cluster_record::Record;
 use run_labels::RunLog;
 use std::alloc::{AllocError, Global};
@@ -31,6 +32,10 @@ pub enum Event {
     At(Moment),
     /// The replicas of a checkpoint are told.
     Show(CkptId),
+    /// The background snapshot of a checkpoint is taken, of its active replica.
+    Pull(CkptId),
+    /// The background snapshot of a checkpoint is put onto the replica of a node.
+    Put(CkptId, NodeId),
 }
 
 /// The cluster.
@@ -40,6 +45,8 @@ pub struct World {
     pub(crate) cluster: Record,
     /// The nodes with their replicas.
     pub(crate) nodes: Nodes,
+    /// The background snapshots of the checkpoints.
+    pub(crate) snapshots: Snapshots,
     /// What each client keeps.
     pub(crate) tables: Tables,
     /// The calls in hand.
@@ -55,6 +62,7 @@ impl World {
         Ok(World {
             cluster: Record::new(alloc, 0)?,
             nodes: Nodes::new(alloc)?,
+            snapshots: Snapshots::new(alloc),
             tables: Tables::new(alloc)?,
             hands: Hands::new(alloc)?,
         })
@@ -134,6 +142,14 @@ impl World {
             Event::Show(ckpt) => self.show(alloc, ckpt, log),
             Event::At(t) => {
                 self.at(t, log);
+                Ok(())
+            }
+            Event::Pull(ckpt) => {
+                self.pull(ckpt, log);
+                Ok(())
+            }
+            Event::Put(ckpt, r) => {
+                self.put(ckpt, r, log);
                 Ok(())
             }
             _ => unreachable!(),

@@ -1,4 +1,6 @@
-use Rattle.std.proofs.Common.{Some, sym, ap, subst, ◌∙◌}
+use Rattle.std.proofs.Common.{Some, refl, sym, ap, subst, ◌∙◌}
+use Rattle.node_msgs.specs.Requests.{ckpt_of}
+use Rattle.node_msgs.specs.Steps.{verb_of, word_of}
 use Rattle.ckpt_machine.specs.Steps.{ended_details}
 use Rattle.world_core.specs.Happenings.{IsStep}
 use Rattle.world_core.proofs.HandPlaces.{left_alone}
@@ -30,14 +32,15 @@ pub returns-clause-ok : goal.returns-clause-ok
 returns-clause-ok c =
     let w = c.args.self.now in
     let hand = c.in-Some.hand in
+    let request = c.args.request.now in
     record {
       label = _;
       labels = c.push.ensures.labels;
       is = subst (IsStep c.args.c _ _) (sym c.served.ensures)
-          (step_is w c.args.c c.args.r c.args.request.now hand (c.at-slot.ensures.value ∙ c.in-Some.is) c.requires.next c.requires.shown c.requires.roomy c.in_ok-lent.lent c.in_ok-lent.ensures.lent
+          (step_is w c.args.c c.args.r request hand (c.at-slot.ensures.value ∙ c.in-Some.is) c.requires.next c.requires.shown c.requires.roomy c.in_ok-lent.lent c.in_ok-lent.ensures.lent
           c.lend_iteration.new.hand c.lend_iteration.result c.lend_iteration.new.tables c.lend_iteration.ensures.hand c.lend_iteration.ensures.lent c.lend_iteration.ensures.tables
-          c.serve-reply.result c.serve-reply.new.self c.serve-reply.new.lent c.take.result c.keep_iteration.new.tables c.take-end.new.self c.let_go.new.slot c.take-end.result c.word-op.result c.verb.result c.ckpt.result c.word.result c.told_details-details.result
+          c.serve-reply.result c.serve-reply.new.self c.serve-reply.new.lent c.take.result c.keep_iteration.new.tables c.take-end.new.self c.let_go.new.slot c.take-end.result c.word-op.result (verb_of request) (ckpt_of request) (word_of c.serve-reply.result) c.told_details-details.result
           c.lend_iteration.ensures.valid (record { there = c.serve-reply.ensures.there; may = c.serve-reply.ensures.reply; nodes_are = c.serve-reply.ensures.new; details = c.serve-reply.ensures.details; iteration = c.serve-reply.ensures.iteration }) c.take.ensures.value
-          c.keep_iteration.ensures c.take-end.ensures.new c.take-end.ensures.end c.let_go.ensures c.word-op.ensures c.verb.ensures c.ckpt.ensures c.word.ensures
+          c.keep_iteration.ensures c.take-end.ensures.new c.take-end.ensures.end c.let_go.ensures c.word-op.ensures refl refl refl
           (c.told_details-details.ensures ∙ ap (ended_details c.take-end.result) (told_still c.serve-reply.result c.serve-reply.new.lent c.take.new.self)));
     }

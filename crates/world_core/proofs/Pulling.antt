@@ -1,0 +1,255 @@
+-- A pull: what it tells is due, and what the world shows behind it.
+use Rattle.std.proofs.Common.{◌≡◌, ℕ, Bool, true, false, List, [], ◌∷◌, length, refl, sym, ap, subst, ◌∙◌, cond}
+use Rattle.std.specs.Prelude.{Option, Some, None, IsSomeAnd, is_some, ◌==◌, ◌||◌}
+use Rattle.std.proofs.lemmas.Bool.{eqb-true}
+use Rattle.ckpt_types.specs.declared.identities.CallId.{CallId}
+use Rattle.run_labels.specs.declared.labels.Label.TheVariants as labels
+use Rattle.run_labels.specs.declared.labels.PullReply.{PullReply}
+use Rattle.run_labels.specs.declared.labels.PullReply.TheVariants as pulls
+use Rattle.weak_marks.specs.Marks.{call_of}
+use Rattle.cluster_record.specs.declared.entries.Entry.{Entry}
+use Rattle.cluster_record.specs.Places.{change_key, put}
+use Rattle.cluster_record.specs.RecordState.{entry_of}
+use Rattle.cluster_record.proofs.Places.{find_changed, not_changed}
+use Rattle.snap_copy.specs.Snapshots.{Snapshot}
+use Rattle.replica.specs.Replicas.{Replica, pulled_from}
+use Rattle.ckpt_machine.specs.Machine.{Machine, Effect, ReplicaState}
+use Rattle.ckpt_machine.specs.Options.{is_all}
+use Rattle.ckpt_machine.specs.Propagation.{source_of, on_node, source_at, pull_unless, pull_reply, pull_answer, copied, with_pulled}
+use Rattle.ckpt_machine.specs.Steps.{IsDue, after, snapshot_under}
+use Rattle.world_core.specs.declared.snapshots.Background.{Background}
+use Rattle.world_core.specs.declared.world.World.{World}
+use Rattle.world_core.specs.Backgrounds.{background_key, background_in, where_pulled, pulled_in, filled_unless, HasRoom, HaveRooms}
+use Rattle.world_core.specs.Propagating.{source_in, pull_held, pull_told, snapshots_pulled, CanPull}
+use Rattle.world_core.specs.Happenings.{Propagates}
+use Rattle.world_core.specs.Runs.{IsPulledOf}
+use Rattle.world_core.specs.Shows.{Does, IsShown, History, HistoryFits, FitsReplica, FitsSnapshot, machine_of, complete_replica, shown_replica, shown_slot, shown_snapshot, snapshot_shown}
+use Rattle.world_core.proofs.CallSteps.{IsKnown, known, known_by}
+
+-- ---- the snapshots, changed at one
+
+-- a change that changes nothing leaves them as they were
+change_nothing : {X : Type 0} (key : X → ℕ) (k : ℕ) (xs : List X) → change_key key k (λ x. x) xs ≡ xs
+change_nothing key k [] = refl
+change_nothing key k (x ∷ xs) = by_test (key x == k) (change_nothing key k xs)
+  where
+    by_test : (b : Bool) → change_key key k (λ x. x) xs ≡ xs → cond b (x ∷ xs) (x ∷ change_key key k (λ x. x) xs) ≡ x ∷ xs
+    by_test true same = refl
+    by_test false same = ap (λ xs. x ∷ xs) same
+
+-- ---- where a pull takes a snapshot
+
+-- the checkpoint has its updates on its active alone, which is on this node
+pub source_entry : (o : Option Entry) (r : ℕ) → source_of o ≡ Some r → (e : Entry) × (o ≡ Some e) × (is_all e.attributes ≡ false)
+source_entry None r is = absurd (cc is)
+source_entry (Some e) r is = (e, refl, by_tests (is_some e.making) (is_all e.attributes) is)
+  where
+    by_tests : (making all : Bool) → cond (making || all) None e.active ≡ Some r → all ≡ false
+    by_tests true all none = absurd (cc none)
+    by_tests false true none = absurd (cc none)
+    by_tests false false some = refl
+
+-- so it has room for one
+room_there : (e : Entry) (o : Option Background) → HasRoom (Some e) o → is_all e.attributes ≡ false → IsSomeAnd o (λ b. b.snap.attributes ≡ e.attributes)
+room_there e None all none = absurd (let w : true ≡ false = sym all ∙ none in cc w)
+room_there e (Some b) same none = same
+
+module _ (w : World) (h : History) (is : IsKnown w h) (k : ℕ) where
+  abbrev m : Machine
+  m = machine_of w h
+
+  abbrev entry : Option Entry
+  entry = entry_of k w.cluster.entries
+
+  abbrev on : ℕ → Option Replica
+  on r = complete_replica w.cluster w.nodes k r
+
+  -- what it asks
+  can_pull_at : (o : Option ℕ) → o ≡ source_of entry → CanPull (on_node on o) (background_in w.snapshots k)
+  can_pull_at None from = tt
+  can_pull_at (Some r) from = by_replica (on r) (is.fits.replicas k r)
+    where
+      here : (e : Entry) × (entry ≡ Some e) × (is_all e.attributes ≡ false)
+      here = source_entry entry r (sym from)
+
+      by_room : (e : Entry) (x : Replica) (o : Option Background) → x.attributes ≡ e.attributes → IsSomeAnd o (λ b. b.snap.attributes ≡ e.attributes) → IsSomeAnd o (λ b. b.snap.attributes ≡ x.attributes)
+      by_room e x None same room = absurd room
+      by_room e x (Some b) same room = room ∙ sym same
+
+      by_replica : (y : Option Replica) → FitsReplica k entry (h.effects k r) y → CanPull y (background_in w.snapshots k)
+      by_replica None fits = tt
+      by_replica (Some x) fits =
+          let (e, there, alone) = here in
+          let declared : FitsReplica k (Some e) (h.effects k r) (Some x) = subst (λ o. FitsReplica k o (h.effects k r) (Some x)) there fits in
+          by_room e x (background_in w.snapshots k) declared.1 (room_there e (background_in w.snapshots k) (subst (λ o. HasRoom o (background_in w.snapshots k)) there (is.keeps k)) alone)
+
+  pub can_pull : CanPull (source_in w.cluster w.nodes k) (background_in w.snapshots k)
+  can_pull = can_pull_at (source_of entry) refl
+
+  -- ---- what it tells
+
+  told_count : (c : Option CallId) (E : List Effect) (x : Replica) → length E ≡ x.count → pull_held c x.count ≡ pull_unless c (record { sections = x.sections; effects = E; generation = x.generation; slot = None; marks = x.marks })
+  told_count (Some holder) E x counts = refl
+  told_count None E x counts = ap pulls.Ok (sym counts)
+
+  told_replica : (E : List Effect) (o : CallId) (y : Option Replica) → FitsReplica k entry E y → pull_told y ≡ pull_reply (shown_replica E o y)
+  told_replica E o None fits = refl
+  told_replica E o (Some x) fits = by_call (call_of x.marks)
+    where
+      by_call : (c : Option CallId) → pull_held c x.count ≡ pull_unless c (record { sections = x.sections; effects = E; generation = x.generation; slot = shown_slot o x.slot; marks = x.marks })
+      by_call (Some holder) = refl
+      by_call None = ap pulls.Ok (sym fits.2)
+
+  told_at : (o : Option ℕ) → pull_told (on_node on o) ≡ pull_reply (on_node (m.replicas k) o)
+  told_at None = refl
+  told_at (Some r) = told_replica (h.effects k r) (h.origins k r) (on r) (is.fits.replicas k r)
+
+  pub pull_due : pull_told (source_in w.cluster w.nodes k) ≡ pull_answer m k
+  pull_due = told_at (source_of entry)
+
+  -- ---- what is shown behind it
+
+  abbrev with_snapshots : List Background → World
+  with_snapshots backgrounds = record w { snapshots = backgrounds }
+
+  -- the machine behind a pull of this replica, of which the answer was this, is shown by these snapshots
+  record Shown (reply : PullReply) (x : Option ReplicaState) (backgrounds : List Background) : Type 0 where
+    history : History
+    same : with_pulled m k reply x ≡ machine_of (with_snapshots backgrounds) history
+    fits : HistoryFits (with_snapshots backgrounds) history
+
+  as_before : (reply : PullReply) (x : Option ReplicaState) (backgrounds : List Background) → with_pulled m k reply x ≡ m → backgrounds ≡ w.snapshots → Shown reply x backgrounds
+  as_before reply x backgrounds same snapshots = subst (Shown reply x) (sym snapshots) (record { history = h; same = same; fits = is.fits })
+
+  module _ (r : ℕ) (from : Some r ≡ source_of entry) (x : Replica) (here : on r ≡ Some x) where
+    abbrev E : List Effect
+    E = h.effects k r
+
+    its : FitsReplica k entry E (Some x)
+    its = subst (FitsReplica k entry E) here (is.fits.replicas k r)
+
+    abbrev X : ReplicaState
+    X = record { sections = x.sections; effects = E; generation = x.generation; slot = shown_slot (h.origins k r) x.slot; marks = x.marks }
+
+    declared : (e : Entry) × (entry ≡ Some e) × (is_all e.attributes ≡ false)
+    declared = source_entry entry r (sym from)
+
+    room : (b : Background) × (background_in w.snapshots k ≡ Some b)
+    room = by_room (background_in w.snapshots k) refl (room_there declared.0 (background_in w.snapshots k) (subst (λ o. HasRoom o (background_in w.snapshots k)) declared.1 (is.keeps k)) declared.2)
+      where
+        by_room : (o : Option Background) → background_in w.snapshots k ≡ o → IsSomeAnd o (λ b. b.snap.attributes ≡ declared.0.attributes) → (b : Background) × (background_in w.snapshots k ≡ Some b)
+        by_room None there none = absurd none
+        by_room (Some b) there same = (b, there)
+
+    abbrev b : Background
+    b = room.0
+
+    abbrev then : List Background
+    then = change_key background_key k (filled_unless None x) w.snapshots
+
+    abbrev later : History
+    later = record h { copied = put h.copied k E }
+
+    pulled_case : (t : Bool) (o : Option Background) → where_pulled (cond t (Some (filled_unless None x b)) o) ≡ cond t (Some (pulled_from x b.snap)) (where_pulled o)
+    pulled_case true o = refl
+    pulled_case false o = refl
+
+    -- of this checkpoint it was pulled, and of others what was pulled before
+    pulled_then : (j : ℕ) → pulled_in then j ≡ cond (j == k) (Some (pulled_from x b.snap)) (pulled_in w.snapshots j)
+    pulled_then j = ap where_pulled (find_changed background_key k (filled_unless None x) (λ b. refl) w.snapshots b j room.1) ∙ pulled_case (j == k) (background_in w.snapshots j)
+
+    shown_case : (j : ℕ) (t : Bool) (F : List Effect) (s : Option Snapshot) → (t ≡ true → (e : Entry) × (entry_of j w.cluster.entries ≡ Some e)) →
+        cond t (Some (copied X)) (snapshot_under (entry_of j w.cluster.entries) (shown_snapshot F s)) ≡ snapshot_under (entry_of j w.cluster.entries) (shown_snapshot (cond t E F) (cond t (Some (pulled_from x b.snap)) s))
+    shown_case j true F s there = let (e, found) = there refl in sym (ap (λ o. snapshot_under o (shown_snapshot E (Some (pulled_from x b.snap)))) found)
+    shown_case j false F s there = refl
+
+    same_then : (j : ℕ) → put m.snapshots k (Some (copied X)) j ≡ snapshot_shown w.cluster then j (put h.copied k E j)
+    same_then j =
+        shown_case j (j == k) (h.copied j) (pulled_in w.snapshots j) (λ t. (declared.0, ap (λ j. entry_of j w.cluster.entries) (eqb-true j k t) ∙ declared.1))
+        ∙ ap (λ s. snapshot_under (entry_of j w.cluster.entries) (shown_snapshot (put h.copied k E j) s)) (sym (pulled_then j))
+
+    fits_case : (t : Bool) (F : List Effect) (s : Option Snapshot) → FitsSnapshot F s → FitsSnapshot (cond t E F) (cond t (Some (pulled_from x b.snap)) s)
+    fits_case true F s fits = its.2
+    fits_case false F s fits = fits
+
+    taken : Shown (pulls.Ok x.count) (Some X) then
+    taken = record {
+      history = later;
+      same = λ i. record (machine_of (with_snapshots then) later) { snapshots = λ j. same_then j i };
+      fits = record {
+        replicas = is.fits.replicas;
+        copies = λ j. subst (FitsSnapshot (put h.copied k E j)) (sym (pulled_then j)) (fits_case (j == k) (h.copied j) (pulled_in w.snapshots j) (is.fits.copies j));
+        hands = is.fits.hands;
+      };
+    }
+
+    by_call : (c : Option CallId) → Shown (pull_held c x.count) (Some X) (change_key background_key k (filled_unless c x) w.snapshots)
+    by_call (Some holder) = as_before (pulls.Held holder) (Some X) (change_key background_key k (λ b. b) w.snapshots) refl (change_nothing background_key k w.snapshots)
+    by_call None = taken
+
+  pulled_at : (r : ℕ) → Some r ≡ source_of entry → (y : Option Replica) → on r ≡ y → Shown (pull_told y) (shown_replica (h.effects k r) (h.origins k r) y) (snapshots_pulled y k w.snapshots)
+  pulled_at r from None here = as_before pulls.Nothing None w.snapshots refl refl
+  pulled_at r from (Some x) here = by_call r from x here (call_of x.marks)
+
+  pulled_by : (o : Option ℕ) → o ≡ source_of entry → Shown (pull_told (on_node on o)) (on_node (m.replicas k) o) (snapshots_pulled (on_node on o) k w.snapshots)
+  pulled_by None from = as_before pulls.Nothing None w.snapshots refl refl
+  pulled_by (Some r) from = pulled_at r from (on r) refl
+
+  pull_shown : Shown (pull_told (source_in w.cluster w.nodes k)) (source_at m k) (snapshots_pulled (source_in w.cluster w.nodes k) k w.snapshots)
+  pull_shown = pulled_by (source_of entry) refl
+
+-- ---- the rooms stay
+
+module _ (c : Option CallId) (x : Replica) where
+  attributes_same : (b : Background) → (filled_unless c x b).snap.attributes ≡ b.snap.attributes
+  attributes_same b = elim c as (λ c. (filled_unless c x b).snap.attributes ≡ b.snap.attributes) [ None ↦ refl | Some holder ↦ refl ]
+
+  key_same : (b : Background) → background_key (filled_unless c x b) ≡ background_key b
+  key_same b = elim c as (λ c. background_key (filled_unless c x b) ≡ background_key b) [ None ↦ refl | Some holder ↦ refl ]
+
+room_stays : (o : Option Entry) (a b : Background) → b.snap.attributes ≡ a.snap.attributes → HasRoom o (Some a) → HasRoom o (Some b)
+room_stays None a b same has = absurd (cc has)
+room_stays (Some e) a b same has = same ∙ has
+
+rooms_filled : (entries : List Entry) (backgrounds : List Background) (k : ℕ) (c : Option CallId) (x : Replica) → HaveRooms entries backgrounds → HaveRooms entries (change_key background_key k (filled_unless c x) backgrounds)
+rooms_filled entries backgrounds k c x keeps j = by_found (background_in backgrounds k) refl
+  where
+    by_test : (b : Background) → background_in backgrounds k ≡ Some b → (t : Bool) → (j == k) ≡ t → HasRoom (entry_of j entries) (cond t (Some (filled_unless c x b)) (background_in backgrounds j))
+    by_test b found false t = keeps j
+    by_test b found true t = room_stays (entry_of j entries) b (filled_unless c x b) (attributes_same c x b) (subst (HasRoom (entry_of j entries)) (ap (background_in backgrounds) (eqb-true j k t) ∙ found) (keeps j))
+
+    by_found : (o : Option Background) → background_in backgrounds k ≡ o → HasRoom (entry_of j entries) (background_in (change_key background_key k (filled_unless c x) backgrounds) j)
+    by_found None none = subst (λ (ys : List Background). HasRoom (entry_of j entries) (background_in ys j)) (sym (not_changed background_key k (filled_unless c x) backgrounds none)) (keeps j)
+    by_found (Some b) found = subst (HasRoom (entry_of j entries)) (sym (find_changed background_key k (filled_unless c x) (key_same c x) backgrounds b j found)) (by_test b found (j == k) refl)
+
+pulled_rooms : (entries : List Entry) (backgrounds : List Background) (k : ℕ) (y : Option Replica) → HaveRooms entries backgrounds → HaveRooms entries (snapshots_pulled y k backgrounds)
+pulled_rooms entries backgrounds k None keeps = keeps
+pulled_rooms entries backgrounds k (Some x) keeps = rooms_filled entries backgrounds k (call_of x.marks) x keeps
+
+-- ---- the whole of a pull
+
+pull_does : (w : World) (k : ℕ) → let x = source_in w.cluster w.nodes k in Does w (record w { snapshots = snapshots_pulled x k w.snapshots }) (labels.Pulled k (pull_told x))
+pull_does w k = let x = source_in w.cluster w.nodes k in record {
+  due_is = λ m s f. subst (λ (m : Machine). IsDue m (labels.Pulled k (pull_told x))) (sym s.same) (pull_due w s.history (known_by w m s f) k);
+  shows = λ m s f. let behind = pull_shown w s.history (known_by w m s f) k in record {
+    history = behind.history;
+    same = ap (λ (m : Machine). after m (labels.Pulled k (pull_told x))) s.same ∙ behind.same;
+    fits = behind.fits;
+    holds = s.holds;
+    keeps = pulled_rooms w.cluster.entries w.snapshots k x s.keeps;
+    rooms = s.rooms;
+  };
+}
+
+-- what is asked of the world for it
+pub can_pull_shown : (w : World) (k : ℕ) → IsShown w → CanPull (source_in w.cluster w.nodes k) (background_in w.snapshots k)
+can_pull_shown w k shown = can_pull w shown.shows.history (known w shown) k
+
+-- with the parts as the code names them
+pub pull_done : (w : World) (k : ℕ) (reply : PullReply) (backgrounds : List Background) → reply ≡ pull_told (source_in w.cluster w.nodes k) → backgrounds ≡ snapshots_pulled (source_in w.cluster w.nodes k) k w.snapshots → Propagates (IsPulledOf k) w (record w { snapshots = backgrounds }) (labels.Pulled k reply)
+pull_done w k reply backgrounds reply_is backgrounds_are = record {
+  label_is = refl;
+  hands = refl;
+  moment = refl;
+  does = rw (reply_is, backgrounds_are) (pull_does w k);
+}
