@@ -15,7 +15,9 @@ use Rattle.node_msgs.specs.declared.steps.Verb.TheVariants.{Look}
 use Rattle.node_msgs.specs.declared.details.Details.TheVariants as beside
 use Rattle.run_labels.specs.declared.labels.Label.{Label}
 use Rattle.run_labels.specs.declared.labels.Label.TheVariants as labels
-use Rattle.ckpt_types.specs.Limits.{built_line_labels}
+use Rattle.run_labels.specs.declared.labels.PullReply.TheVariants as pulls
+use Rattle.run_labels.specs.declared.labels.PutReply.TheVariants as puts
+use Rattle.ckpt_types.specs.Limits.{built_line_labels, nodes_max}
 use Rattle.ckpt_types.specs.OpWord.{word_of_op}
 use Rattle.script_lang.specs.declared.lines.Line.{Line}
 use Rattle.script_lang.specs.declared.lines.Line.TheVariants as lines
@@ -54,6 +56,9 @@ could_answer m (lines.Begin (Client c) op) = could_begin c op
 could_answer m (lines.Step who n) = could_step (stepped_call m who) who linewords.Step
 could_answer m (lines.Finish who) = could_step (stepped_call m who) who linewords.Finish
 could_answer m (lines.At t) = labels.Moved t
+could_answer m (lines.Pull k) = labels.Pulled k pulls.Nothing
+could_answer m (lines.Put k r) = labels.Put k r puts.Nothing
+could_answer m (lines.Propagate k) = labels.Pulled k pulls.Nothing
 could_answer m (lines.Show k) = labels.Shown k None
 could_answer m line = labels.Nodes 0
 
@@ -74,6 +79,9 @@ could_answer-answers m t (lines.Begin (Node r) op) playable = absurd playable.0
 could_answer-answers m t (lines.Step who n) playable = could_step-steps (stepped_call m who) who n playable.1
 could_answer-answers m t (lines.Finish who) playable = could_step-finishes (stepped_call m who) who
 could_answer-answers m t (lines.At u) playable = refl
+could_answer-answers m t (lines.Pull k) playable = (refl, refl)
+could_answer-answers m t (lines.Put k r) playable = (refl, refl, refl)
+could_answer-answers m t (lines.Propagate k) playable = (refl, refl)
 could_answer-answers m t (lines.Show k) playable = (refl, refl)
 could_answer-answers m t line playable = absurd playable
 
@@ -104,7 +112,7 @@ could_finish-steps n None some = refl
 could_finish-steps zero (Some h) some = absurd (omega (arith, some))
 could_finish-steps (suc n) (Some h) some = (refl, refl)
 
-could_finish-few : (o : Option InHand) → length (could_finish o) ≤ 1
+could_finish-few : (o : Option InHand) → length (could_finish o) ≤ nodes_max
 could_finish-few None = omega arith
 could_finish-few (Some h) = omega arith
 
@@ -173,7 +181,7 @@ front_in_line script rest line others old new e f few goes could =
     let front : List Label = f.2.0 in
     let joined : new ++ end ≡ old ++ front = f.2.1 in
     let back = could (last_from (last old) front) in
-    let short : length end ≤ 1 = f.1 in
+    let short : length end ≤ nodes_max = f.1 in
     let size : length new + length end ≡ length old + length front = sym (length-append new end) ∙ ap length joined ∙ length-append old front in
     let all : FollowsFrom (last old) rest (front ++ back.0) = subst (λ r. FollowsFrom (last old) r (front ++ back.0)) (sym e) (front, back.0, refl, f.2.2, omega (arith, few, short, size), back.1) in
     let same : old ++ (front ++ back.0) ≡ new ++ (end ++ back.0) = sym (append_assoc old front back.0) ∙ ap (λ xs. xs ++ back.0) (sym joined) ∙ append_assoc new end back.0 in

@@ -18,9 +18,10 @@ use Rattle.ckpt_types.specs.Limits.{line_labels_max}
 use Rattle.ckpt_types.specs.OpWord.{word_of_op}
 use Rattle.script_lang.specs.declared.lines.Line.{Line}
 use Rattle.script_lang.specs.declared.lines.Line.TheVariants as lines
-use Rattle.cluster_record.specs.RecordState.{is_up}
+use Rattle.cluster_record.specs.RecordState.{entry_of, is_up}
 use Rattle.ckpt_machine.specs.Machine.{Machine, CallState, empty_cluster}
 use Rattle.ckpt_machine.specs.Runs.{last_from}
+use Rattle.session_run.specs.Puts.{ArePuts, IsPropagation, IsPull, other_nodes}
 
 -- the steps of a call to its end, and nothing else; none where it has ended
 abbrev pub StepsToEnd : CallId → Option Outcome → List Label → Type 0
@@ -78,6 +79,9 @@ AnswersLine m (lines.Begin a op) log = IsBegunCall m a op log
 AnswersLine m (lines.Step who n) log = AreSteps (stepped_call m who) who linewords.Step (λ call. StepsUpTo call n None) log
 AnswersLine m (lines.Finish who) log = AreSteps (stepped_call m who) who linewords.Finish (λ call. StepsToEnd call None) log
 AnswersLine m (lines.At t) log = log ≡ labels.Moved t ∷ []
+AnswersLine m (lines.Pull k) log = IsPull k log
+AnswersLine m (lines.Put k r) log = ArePuts k (r ∷ []) log
+AnswersLine m (lines.Propagate k) log = IsPropagation k (other_nodes (entry_of k m.cluster.entries)) log
 AnswersLine m (lines.Show k) log = IsListing k log
 AnswersLine m line log = ⊥
 

@@ -12,14 +12,19 @@ use Rattle.world_core.specs.declared.world.World.{World}
 use Rattle.world_core.specs.Shows.{hand_at}
 use Rattle.session_run.specs.Follows.{StepsToEnd, StepsUpTo}
 use Rattle.session_run.specs.Playable.{IsPlayableLine, ArePlayable, IsPlayable}
+use Rattle.session_run.specs.Puts.{ArePuts}
 
 -- the log is longer by labels that have this
 abbrev pub GrowsBy : List Label → List Label → (List Label → Type 0) → Type 0
 GrowsBy old new P = (more : List Label) × (new ≡ old ++ more) × P more
 
--- with at most one label behind it, the log is longer by labels that have this
+-- with a few labels behind it, at most one for each node, the log is longer by labels that have this
 abbrev pub GrowsTowards : List Label → List Label → (List Label → Type 0) → Type 0
-GrowsTowards old new P = (end : List Label) × (length end ≤ 1) × GrowsBy old (new ++ end) P
+GrowsTowards old new P = (end : List Label) × (length end ≤ nodes_max) × GrowsBy old (new ++ end) P
+
+-- with puts at the nodes that are left behind it, the log is longer by puts at these nodes
+abbrev pub GrowsToPuts : ℕ → List ℕ → List ℕ → List Label → List Label → Type 0
+GrowsToPuts k left nodes old new = (more : List Label) → ArePuts k left more → GrowsBy old (new ++ more) (ArePuts k nodes)
 
 -- the steps that are left of a call in hand, if there is one
 abbrev pub IsFinish : Option InHand → List Label → Type 0

@@ -1,3 +1,4 @@
 pub mod Follows
 pub mod Growing
 pub mod Playable
+pub mod Puts

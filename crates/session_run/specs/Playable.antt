@@ -1,7 +1,7 @@
 -- Which scripts can be played so far: calls of clients in any order, of up to eight nodes.
 use Rattle.std.specs.Prelude.{List, [], ◌∷◌, ◌<◌, ℤ, pos}
 use Rattle.ckpt_types.specs.Asks.{IsBuilt}
-use Rattle.ckpt_types.specs.Limits.{client_numbers}
+use Rattle.ckpt_types.specs.Limits.{client_numbers, nodes_max}
 use Rattle.script_lang.specs.declared.lines.Line.{Line}
 use Rattle.script_lang.specs.declared.lines.Line.TheVariants as lines
 use Rattle.script_lang.specs.BuiltScripts.{AreFirstNodes}
@@ -9,13 +9,16 @@ use Rattle.script_lang.specs.Grammar.{moment_behind}
 use Rattle.cluster_record.specs.RecordState.{IsMomentFrom}
 use Rattle.world_core.specs.Runs.{IsScriptClient, MayBeStepped}
 
--- at this moment the line can be played with the nodes up: a call of a client, whole or only begun; steps of a call; a moment that does not go back; or a show
+-- at this moment the line can be played with the nodes up: a call of a client, whole or only begun; steps of a call; a moment that does not go back; a pull, a put at one of the nodes, or a propagation; or a show
 abbrev pub IsPlayableLine : ℤ → Line → Type 0
 IsPlayableLine t (lines.Call c op) = (c < client_numbers) × IsBuilt op
 IsPlayableLine t (lines.Begin a op) = IsScriptClient a × IsBuilt op
 IsPlayableLine t (lines.Step who steps) = MayBeStepped who × (0 < steps)
 IsPlayableLine t (lines.Finish who) = MayBeStepped who
 IsPlayableLine t (lines.At u) = IsMomentFrom t u
+IsPlayableLine t (lines.Pull k) = Unit {0}
+IsPlayableLine t (lines.Put k r) = r < nodes_max
+IsPlayableLine t (lines.Propagate k) = Unit {0}
 IsPlayableLine t (lines.Show k) = Unit {0}
 IsPlayableLine t line = ⊥
 

@@ -3,5 +3,6 @@
 
 mod calls;
 mod playing;
+mod propagation;
 
 pub use playing::session;

@@ -13,6 +13,7 @@ ghost use Rattle.session_run.specs.Growing.{CanPlay, GrowsBy, GrowsTowards};
 ghost use Rattle.session_run.specs.Playable.{IsPlayable};
 
 use crate::calls::{begin_of, finish_of, play_call, steps_of};
+use crate::propagation::propagate;
 use outside_io::Gate;
 use run_labels::RunLog;
 use script_lang::{Line, Script};
@@ -103,6 +104,9 @@ fn play_line(
         Line::Step(who, most) => steps_of(alloc, *who, *most, log, world),
         Line::Finish(who) => finish_of(alloc, *who, log, world),
         Line::At(t) => world.event(alloc, Event::At(*t), log),
+        Line::Pull(ckpt) => world.event(alloc, Event::Pull(*ckpt), log),
+        Line::Put(ckpt, node) => world.event(alloc, Event::Put(*ckpt, *node), log),
+        Line::Propagate(ckpt) => propagate(alloc, *ckpt, log, world),
         Line::Show(ckpt) => world.event(alloc, Event::Show(*ckpt), log),
         _ => unreachable!(),
     }

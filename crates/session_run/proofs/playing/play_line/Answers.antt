@@ -4,11 +4,14 @@ use Rattle.std.specs.Int.RustNames.{FitsSigned}
 use Rattle.std.specs.Prelude.{None}
 use Rattle.run_labels.specs.declared.labels.Label.{Label}
 use Rattle.run_labels.specs.declared.labels.Label.TheVariants as labels
+use Rattle.run_labels.specs.declared.labels.PullReply.TheVariants as pulls
+use Rattle.run_labels.specs.declared.labels.PutReply.TheVariants as puts
 use Rattle.script_lang.specs.declared.lines.Line.{Line}
 use Rattle.ckpt_machine.specs.Runs.{last}
 use Rattle.session_run.specs.Follows.{AnswersLine}
 use Rattle.session_run.specs.Growing.{GrowsTowards}
 use Rattle.session_run.proofs.Following.{OnOk-map, listing_alone}
+use Rattle.session_run.proofs.Putting.{pull_alone, put_before}
 use Rattle.session_run.proofs.Fronts.{towards_label, towards_begun, fault_leaves}
 use Rattle.session_run.proofs.playing.play_line.Goals as goal
 
@@ -46,3 +49,25 @@ returns-in-Show-clause-front c =
     subst (λ (line : Line). GrowsTowards old c.event-in-Show.new.log.labels (AnswersLine (last old) line)) (sym c.in-Show.is)
     (towards_begun c.event-in-Show.result old c.event-in-Show.new.log.labels (labels.Shown k None) (refl, refl) (fault_leaves _ _ c.event-in-Show.result c.event-in-Show.ensures.err)
     (OnOk-map c.event-in-Show.result c.event-in-Show.ensures.happens (λ h. (h.label ∷ [], h.grows, listing_alone k h.label h.answers.0))))
+
+pub returns-in-Pull-clause-front : goal.returns-in-Pull-clause-front
+returns-in-Pull-clause-front c =
+    let old = c.args.log.now.labels in
+    let k = c.in-Pull.ckpt in
+    subst (λ (line : Line). GrowsTowards old c.event-in-Pull.new.log.labels (AnswersLine (last old) line)) (sym c.in-Pull.is)
+    (towards_begun c.event-in-Pull.result old c.event-in-Pull.new.log.labels (labels.Pulled k pulls.Nothing) (refl, refl) (fault_leaves _ _ c.event-in-Pull.result c.event-in-Pull.ensures.err)
+    (OnOk-map c.event-in-Pull.result c.event-in-Pull.ensures.happens (λ h. (h.label ∷ [], h.grows, pull_alone k h.label h.answers.0))))
+
+pub returns-in-Put-clause-front : goal.returns-in-Put-clause-front
+returns-in-Put-clause-front c =
+    let old = c.args.log.now.labels in
+    let k = c.in-Put.ckpt in
+    let r = c.in-Put.node in
+    subst (λ (line : Line). GrowsTowards old c.event-in-Put.new.log.labels (AnswersLine (last old) line)) (sym c.in-Put.is)
+    (towards_begun c.event-in-Put.result old c.event-in-Put.new.log.labels (labels.Put k r puts.Nothing) (refl, refl, refl) (fault_leaves _ _ c.event-in-Put.result c.event-in-Put.ensures.err)
+    (OnOk-map c.event-in-Put.result c.event-in-Put.ensures.happens (λ h. (h.label ∷ [], h.grows, put_before k r [] h.label [] h.answers.0 refl))))
+
+pub returns-in-Propagate-clause-front : goal.returns-in-Propagate-clause-front
+returns-in-Propagate-clause-front c =
+    let old = c.args.log.now.labels in
+    subst (λ (line : Line). GrowsTowards old c.propagate.new.log.labels (AnswersLine (last old) line)) (sym c.in-Propagate.is) c.propagate.ensures.front
