@@ -13,7 +13,7 @@ use std::alloc::{AllocError, Global};
 use std::process::Abort;
 use std::test::Fail;
 
-const ATTRIBUTES: CreationAttributes = CreationAttributes {
+pub const ATTRIBUTES: CreationAttributes = CreationAttributes {
     creation_flags: WR_ALL_REPLICAS,
     checkpoint_size: 64,
     retention_duration: 10,
@@ -75,7 +75,12 @@ fn create_by(
     find(record, alloc, name)
 }
 
-fn create(record: &mut Record, alloc: Global, name: &[u8]) -> Result<Option<CkptId>, AllocError> {
+/// The same of c3.
+pub fn create(
+    record: &mut Record,
+    alloc: Global,
+    name: &[u8],
+) -> Result<Option<CkptId>, AllocError> {
     create_by(record, alloc, 3, name)
 }
 

@@ -52,6 +52,9 @@ ok 7 => step c0 1|step c99 1000000|step n0 2|step n7 999999
 ok 6 => step c0.1 1|step c0.10 1000000|step c99.4294967295 1
 ok 8 => finish c0|finish c99|finish n0|finish n7|finish c99.4294967295
 ok 5 => show K1|show K9999
+ok 5 => pull K1|pull K9999
+ok 6 => put K1 n0|put K9999 n7|put K10 n1
+ok 5 => propagate K1|propagate K9999
 ok 8 => begin close c0 h0|at 5|step c0 1|at 6|finish c0";
 
 /// What is told of a script that is at fault, and the script.
@@ -157,6 +160,9 @@ const FAULTS_BEHIND: &str = "\
 4 word => begin step c0 1
 4 word => begin finish c0
 4 word => begin show K1
+4 word => begin pull K1
+4 word => begin put K1 n0
+4 word => begin propagate K1
 4 word => begin foo
 4 word => begin Close c0 h0
 4 not built => begin copy n0
@@ -203,7 +209,22 @@ const FAULTS_BEHIND: &str = "\
 4 word => show K01
 4 word => show K10000
 4 word => show k1
-4 word => show n0";
+4 word => show n0
+4 count => pull
+4 count => pull K1 n0
+4 word => pull K0
+4 word => pull K10000
+4 word => pull c0
+4 count => put K1
+4 count => put K1 n0 n1
+4 word => put K0 n0
+4 word => put K1 n8
+4 word => put K1 c0
+4 word => put n0 K1
+4 count => propagate
+4 count => propagate K1 K2
+4 word => propagate K01
+4 word => propagate h0";
 
 /// A script, and its one spelling.
 const SPELLED: &str = "\
@@ -214,6 +235,7 @@ nodes 1|status c9 h8|#|iter c0 i1 h2 3 9223372036854775807|next c0 i1|enditer c0
 nodes 1|close c9 h8|unlink c0 'a||retain c1 h2 9223372036854775807|retain c1 h2 -1|finalize c0 => nodes 1|close c9 h8|unlink c0 x61|retain c1 h2 end|retain c1 h2 -1|finalize c0|
 nodes 1|open c7 h1 x 1 9223372036854775807|open c7 h2 '~ 2 -5 => nodes 1|open c7 h1 x 1 end|open c7 h2 x7e 2 -5|
 nodes 8|begin close c9 h8|step c9 1000000|#|finish c9|step c9.70 2|finish n7||show K9999 => nodes 8|begin close c9 h8|step c9 1000000|finish c9|step c9.70 2|finish n7|show K9999|
+nodes 8|#|pull K9|put K9 n7||put K9999 n0|propagate K80 => nodes 8|pull K9|put K9 n7|put K9999 n0|propagate K80|
 nodes 2|begin create c0 h0 'a 9223372036854775807 'b|begin write c0 h0 'a 0 'b x 1 xFF => nodes 2|begin create c0 h0 x61 end x62|begin write c0 h0 x61 0 x62 x 1 xff|";
 
 /// The same, of scripts behind the lines of `OPENED`.
