@@ -77,10 +77,12 @@ abbrev pub synchronize_next : RecordState → SyncState → Option ℤ → Entry
 synchronize_next R s deadline e None = End (Refused NotExist Plain)
 synchronize_next R s deadline e (Some r) = in_time deadline R.moment (unless_stale s e r s.pulled)
 
+-- by what it asks for
 abbrev pub kind_next : RecordState → SyncState → Entry → SyncKind → Next
 kind_next R s e (Synchronize deadline) = synchronize_next R s deadline e e.active
 kind_next R s e (ActiveSet local) = unless_held s.call local e.active e.hold
 
+-- a checkpoint that is gone is refused with NOT_EXIST
 abbrev pub sync_on : RecordState → SyncState → Option Entry → Next
 sync_on R s None = End (Refused NotExist Plain)
 sync_on R s (Some e) = kind_next R s e s.kind
@@ -114,10 +116,7 @@ abbrev pub ended_by : ℕ → Option ℕ → Option Outcome
 ended_by count None = Some (Done (Pulled count))
 ended_by count (Some r) = None
 
+-- only where it has pulled
 abbrev pub sync_ended : List ℕ → List Bool → Option PulledAt → Option Outcome
 sync_ended complete served None = None
 sync_ended complete served (Some p) = ended_by p.count (first_unserved 0 complete served)
-
--- being as it is behind the step
-abbrev pub sync_end : StepDone → SyncState → Option Outcome
-sync_end d s = sync_ended d.complete s.served s.pulled
