@@ -1,7 +1,7 @@
 -- What was answered OK is on every complete replica of its checkpoint, or where updates go to the active alone, on the active's; and it stays there.
 use Rattle.std.proofs.Common.{◌≡◌, ◌⊎◌, ℕ, zero, suc, ◌+◌, ◌≤◌, inl, inr, List, [], ◌∷◌, ◌++◌, Option, Some, None, Bool, true, false, cond, not, ◌==◌, ◌&&◌, ℤ, refl, sym, ap, subst, ◌∙◌, append_assoc, arith}
 use Rattle.std.specs.Prelude.{IsSomeAnd, slice_index}
-use Rattle.std.proofs.lemmas.Bool.{eqb-true, eq-eqb, and_parts}
+use Rattle.std.proofs.lemmas.Bool.{eqb-true, and_parts}
 use Rattle.std.proofs.lemmas.Option.{same_Some}
 use Rattle.ckpt_types.specs.declared.answers.Answer.{Answer}
 use Rattle.ckpt_types.specs.declared.answers.Outcome.{Outcome}
@@ -31,7 +31,7 @@ use Rattle.ckpt_machine.specs.Acknowledged.{IsUpdateWord, Acknowledges, ckpt_nam
 use Rattle.ckpt_machine.specs.AllOrNone.{OneUpdate, IsOfOne}
 use Rattle.ckpt_types.specs.Asks.{asked, update_asked, update_of}
 use Rattle.ckpt_machine.specs.Complete.{with_replica, replicas_from, complete_replicas}
-use Rattle.ckpt_machine.specs.Guards.{OnEach, OnAll, CommitOk, ApplyOk, AreMarksOf, Allowed, ends_update}
+use Rattle.ckpt_machine.specs.Guards.{OnEach, OnAll, CommitOk, ApplyOk, AreMarksOf, Row, Allowed, ends_update}
 use Rattle.ckpt_machine.specs.Invariant.{Invariant}
 use Rattle.ckpt_machine.specs.Laws.{AcknowledgedStays}
 use Rattle.ckpt_machine.specs.Listing.{is_active}
@@ -45,12 +45,13 @@ use Rattle.ckpt_machine.specs.Shape.{IsCompleteOn}
 use Rattle.ckpt_machine.specs.Steps.{Told, IsDue, with_record, record_step, created_for, retained_for, change_replica, with_committed, committed_slot, with_applied, having_taken, with_marks, with_next_element, without_marks, marks_ended, with_slot, effect_of, changed, on_ok, on_look, without_making, at_some, replica_under, opened_state, stepped, step_of, staged_moment, after}
 use Rattle.ckpt_machine.proofs.ActiveNode.{active_complete}
 use Rattle.ckpt_machine.proofs.AllOrNone.{all_or_none}
-use Rattle.ckpt_machine.proofs.Copying.{IsPutOn, not_active, after_pull, after_put, put2-cases}
+use Rattle.ckpt_machine.proofs.Copying.{IsPutOn, not_active, after_pull, after_put, put2-here, put2-cases}
 use Rattle.ckpt_machine.proofs.Entries.{ComesOf-filter}
 use Rattle.ckpt_machine.proofs.EachReplica.{made_where_complete}
 use Rattle.ckpt_machine.proofs.EntryLists.{entry_of-given}
 use Rattle.ckpt_machine.proofs.Follows.{IsBare, element_effects}
 use Rattle.ckpt_machine.proofs.Histories.{HasHistory, slot_owned, on_replica-there, on_active-there, keeps_history, run_history}
+use Rattle.ckpt_machine.proofs.Installed.{after_install}
 use Rattle.ckpt_machine.proofs.Joining.{opened_with-identity}
 use Rattle.ckpt_machine.proofs.Lawful.{lawful}
 use Rattle.ckpt_machine.proofs.OptionLemmas.{IsSomeAnd-at}
@@ -214,42 +215,52 @@ module _ (k : ℕ) (call : CallId) (update : Update) (m : Machine) (stay : Stays
     both_stay : (j q : Option ℕ) (change : ℕ → ℕ → Machine) → ((j q : ℕ) → Stays k call update (change j q)) → Stays k call update (at_some j m (λ j. at_some q m (change j)))
     both_stay j q change each = one_stays j _ (λ j. one_stays q (change j) (each j))
 
+    -- what an installation leaves
+    abbrev Installs : CallState → Verb → Option ℕ → Option ℕ → StepReply → Type 0
+    Installs s verbs.Install j q reply = Stays k call update (changed m s verbs.Install j q reply)
+    Installs s verb j q reply = Unit {0}
+
+    installs : (s : CallState) (verb : Verb) (j q : Option ℕ) (reply : StepReply) (t : Told) → Row m s verb (record t { verb = verb; ckpt = j; node = q; reply = reply }) → Installs s verb j q reply
+    installs s verbs.Install j q reply t row = after_install (Stays k call update) m s t j q reply row stay (λ i r z x is in_hand over. put_stays i r z x over.on)
+    installs s verb j q reply t row = tt
+
     finished_stays : (s : CallState) (j q : Option ℕ) (reply : StepReply) → StepNeeds m.cluster s.call verbs.Finish j reply → Stays k call update (changed m s verbs.Finish j q reply)
     finished_stays s (Some j) q words.Ok by = step_stays (finished j (client_of s.call)) (finished_on k m.cluster stay.given rises up_to s.call j (client_of s.call) by)
     finished_stays s None q words.Ok by = stay
     finished_stays s j q reply by = stay
 
     -- any step
-    changed_stays : (s : CallState) (verb : Verb) (j q : Option ℕ) (reply : StepReply) → StepNeeds m.cluster s.call verb j reply → Stays k call update (changed m s verb j q reply)
-    changed_stays s verbs.Enter j q reply needs = ok_stays reply _ (one_stays q _ (λ q. step_stays (entered (client_of s.call) q s.call.number) (record { last = omega arith; rises = rises; made = (same_on k m.cluster stay.given rises up_to).made })))
-    changed_stays s verbs.Open j q reply needs = ok_stays reply _ (one_stays j _ (λ j. step_stays (opened j (client_of s.call)) (changed_on k m.cluster stay.given rises up_to j (opened_with (home_of (client_of s.call) m.cluster) m.cluster.up (client_of s.call)) (opened_with-identity (home_of (client_of s.call) m.cluster) m.cluster.up (client_of s.call)) (opened_made (home_of (client_of s.call) m.cluster) m.cluster.up (client_of s.call)))))
-    changed_stays s verbs.Create j q reply needs = ok_stays reply _ (step_stays (created_for s.call (asked s.op)) (created_for_on k m.cluster stay.given rises up_to s.call (asked s.op)))
-    changed_stays s verbs.Reserve j q reply needs = ok_stays reply _ (both_stay j q _ (λ j q. record { given = stay.given; made = stay.made; led = stay.led; its = stay.its }))
-    changed_stays s verbs.Finish j q reply needs = finished_stays s j q reply needs
-    changed_stays s verbs.Undo j q reply needs = ok_stays reply _ (one_stays j _ undone_stays)
-    changed_stays s verbs.Stage j q reply needs = ok_stays reply _ (both_stay j q _ (λ j q. replica_stays j q (m.replicas j q) refl (with_slot s.call (update_of s.op) (staged_moment m j)) (λ x has. has)))
-    changed_stays s verbs.Commit j q reply needs = ok_stays reply _ (both_stay j q _ (λ j q. replica_stays j q (m.replicas j q) refl (with_committed (entry_of j m.cluster.entries)) (λ x has. committed_has (entry_of j m.cluster.entries) x call update has)))
-    changed_stays s verbs.Apply j q reply needs = ok_stays reply _ (both_stay j q _ (λ j q. replica_stays j q (m.replicas j q) refl (with_applied s.call (update_of s.op) m.cluster.moment (entry_of j m.cluster.entries))
+    changed_stays : (s : CallState) (verb : Verb) (j q : Option ℕ) (reply : StepReply) → StepNeeds m.cluster s.call verb j reply → Installs s verb j q reply → Stays k call update (changed m s verb j q reply)
+    changed_stays s verbs.Enter j q reply needs done = ok_stays reply _ (one_stays q _ (λ q. step_stays (entered (client_of s.call) q s.call.number) (record { last = omega arith; rises = rises; made = (same_on k m.cluster stay.given rises up_to).made })))
+    changed_stays s verbs.Open j q reply needs done = ok_stays reply _ (one_stays j _ (λ j. step_stays (opened j (client_of s.call)) (changed_on k m.cluster stay.given rises up_to j (opened_with (home_of (client_of s.call) m.cluster) m.cluster.up (client_of s.call)) (opened_with-identity (home_of (client_of s.call) m.cluster) m.cluster.up (client_of s.call)) (opened_made (home_of (client_of s.call) m.cluster) m.cluster.up (client_of s.call)))))
+    changed_stays s verbs.Create j q reply needs done = ok_stays reply _ (step_stays (created_for s.call (asked s.op)) (created_for_on k m.cluster stay.given rises up_to s.call (asked s.op)))
+    changed_stays s verbs.Reserve j q reply needs done = ok_stays reply _ (both_stay j q _ (λ j q. record { given = stay.given; made = stay.made; led = stay.led; its = stay.its }))
+    changed_stays s verbs.Finish j q reply needs done = finished_stays s j q reply needs
+    changed_stays s verbs.Undo j q reply needs done = ok_stays reply _ (one_stays j _ undone_stays)
+    changed_stays s verbs.Stage j q reply needs done = ok_stays reply _ (both_stay j q _ (λ j q. replica_stays j q (m.replicas j q) refl (with_slot s.call (update_of s.op) (staged_moment m j)) (λ x has. has)))
+    changed_stays s verbs.Commit j q reply needs done = ok_stays reply _ (both_stay j q _ (λ j q. replica_stays j q (m.replicas j q) refl (with_committed (entry_of j m.cluster.entries)) (λ x has. committed_has (entry_of j m.cluster.entries) x call update has)))
+    changed_stays s verbs.Apply j q reply needs done = ok_stays reply _ (both_stay j q _ (λ j q. replica_stays j q (m.replicas j q) refl (with_applied s.call (update_of s.op) m.cluster.moment (entry_of j m.cluster.entries))
         (λ x has. applied_has (entry_of j m.cluster.entries) s.call (update_of s.op) m.cluster.moment x call update has)))
-    changed_stays s verbs.Mark j q reply needs = ok_stays reply _ (both_stay j q _ (λ j q. replica_stays j q (m.replicas j q) refl (with_marks s.call (update_of s.op) m.cluster.moment) (λ x has. has)))
-    changed_stays s verbs.Element j q reply needs = ok_stays reply _ (both_stay j q _ (λ j q. replica_stays j q (m.replicas j q) refl (with_next_element (entry_of j m.cluster.entries)) (λ x has. subst (HasUpdate call update) (sym (element_effects (entry_of j m.cluster.entries) x)) has)))
-    changed_stays s verbs.Unmark j q reply needs = ok_stays reply _ (both_stay j q _ (λ j q. replica_stays j q (m.replicas j q) refl without_marks (λ x has. unmarked_has x call update has)))
-    changed_stays s verbs.Iter j q reply needs = ok_stays reply _ (both_stay j q _ (λ j q. stay))
-    changed_stays s verbs.Next j q reply needs = ok_stays reply _ (both_stay j q _ (λ j q. stay))
-    changed_stays s verbs.Leave j q reply needs = ok_stays reply _ (step_stays (departed (client_of s.call)) (departed_on k m.cluster stay.given rises up_to (client_of s.call)))
-    changed_stays s verbs.Close j q reply needs = ok_stays reply _ (one_stays j _ (λ j. step_stays (closed j (client_of s.call))
+    changed_stays s verbs.Mark j q reply needs done = ok_stays reply _ (both_stay j q _ (λ j q. replica_stays j q (m.replicas j q) refl (with_marks s.call (update_of s.op) m.cluster.moment) (λ x has. has)))
+    changed_stays s verbs.Element j q reply needs done = ok_stays reply _ (both_stay j q _ (λ j q. replica_stays j q (m.replicas j q) refl (with_next_element (entry_of j m.cluster.entries)) (λ x has. subst (HasUpdate call update) (sym (element_effects (entry_of j m.cluster.entries) x)) has)))
+    changed_stays s verbs.Unmark j q reply needs done = ok_stays reply _ (both_stay j q _ (λ j q. replica_stays j q (m.replicas j q) refl without_marks (λ x has. unmarked_has x call update has)))
+    changed_stays s verbs.Iter j q reply needs done = ok_stays reply _ (both_stay j q _ (λ j q. stay))
+    changed_stays s verbs.Next j q reply needs done = ok_stays reply _ (both_stay j q _ (λ j q. stay))
+    changed_stays s verbs.Leave j q reply needs done = ok_stays reply _ (step_stays (departed (client_of s.call)) (departed_on k m.cluster stay.given rises up_to (client_of s.call)))
+    changed_stays s verbs.Close j q reply needs done = ok_stays reply _ (one_stays j _ (λ j. step_stays (closed j (client_of s.call))
         (changed_on k m.cluster stay.given rises up_to j (unreferred (client_of s.call) m.cluster.moment) (released-identity (client_of s.call) m.cluster.moment) (released_made (client_of s.call) m.cluster.moment))))
-    changed_stays s verbs.Unlink j q reply needs = ok_stays reply _ (one_stays j _ (λ j. step_stays (unlinked j) (changed_on k m.cluster stay.given rises up_to j unnamed (λ e. refl) (λ e. StaysMade-kept e (unnamed e) refl refl refl refl refl))))
-    changed_stays s verbs.Retain j q reply needs = ok_stays reply _ (one_stays j _ (λ j. step_stays (retained_for (asked s.op) j) (retained_for_on k m.cluster stay.given rises up_to (asked s.op) j)))
-    changed_stays s verbs.Look j q reply needs = look_stays reply _ _ stay (making_stays (making_of s.call m.cluster))
-    changed_stays s verb j q reply needs = stay
+    changed_stays s verbs.Unlink j q reply needs done = ok_stays reply _ (one_stays j _ (λ j. step_stays (unlinked j) (changed_on k m.cluster stay.given rises up_to j unnamed (λ e. refl) (λ e. StaysMade-kept e (unnamed e) refl refl refl refl refl refl))))
+    changed_stays s verbs.Retain j q reply needs done = ok_stays reply _ (one_stays j _ (λ j. step_stays (retained_for (asked s.op) j) (retained_for_on k m.cluster stay.given rises up_to (asked s.op) j)))
+    changed_stays s verbs.Look j q reply needs done = look_stays reply _ _ stay (making_stays (making_of s.call m.cluster))
+    changed_stays s verbs.Install j q reply needs done = done
+    changed_stays s verb j q reply needs done = stay
 
   -- any label that is allowed
   after_stays : Invariant m → (l : Label) → Allowed m l → Stays k call update (after m l)
   after_stays inv (labels.Began d op end) allowed = record { given = stay.given; made = stay.made; led = stay.led; its = stay.its }
   after_stays inv (labels.Stepped d op verb j q reply end details) allowed =
       let s = allowed.state in
-      let then = changed_stays inv.holds.rises inv.holds.up_to s verb j q reply (row_needs m inv s verb j q reply end details allowed.row) in
+      let then = changed_stays inv.holds.rises inv.holds.up_to s verb j q reply (row_needs m inv s verb j q reply end details allowed.row) (installs inv.holds.rises inv.holds.up_to s verb j q reply (record { verb = verb; ckpt = j; node = q; reply = reply; end = end; details = details }) allowed.row) in
       subst (λ o. Stays k call update (step_of m o verb j q reply end)) (sym allowed.in_hand) (record { given = then.given; made = then.made; led = then.led; its = then.its })
   after_stays inv (labels.Word who line said) allowed = stay
   after_stays inv (labels.Nodes n) allowed = record { given = stay.given; made = stay.made; led = stay.led; its = stay.its }
@@ -333,9 +344,6 @@ unmarked_new x None marks d u is call update = absurd (cc is)
 unmarked_new x (Some other) marks d u is call update =
     let same = same_Some other marks is in
     has_new d u x.effects (Applied other.call other.update other.moment) (ap (λ (z : Marked). z.call) same ∙ call, ap (λ (z : Marked). z.update) same ∙ update)
-
-put2-here : (f : ℕ → ℕ → Option ReplicaState) (k r : ℕ) (x : Option ReplicaState) → put2 f k r x k r ≡ x
-put2-here f k r x = ap (λ b. cond (b && (r == r)) x (f k r)) (eq-eqb k k refl) ∙ ap (λ b. cond b x (f k r)) (eq-eqb r r refl)
 
 -- the checkpoint of which a node has a replica is made
 is_made : (m : Machine) (inv : Invariant m) (bare : IsBare m) (k r : ℕ) (e : Entry) (x : ReplicaState) → entry_of k m.cluster.entries ≡ Some e → m.replicas k r ≡ Some x → e.making ≡ None

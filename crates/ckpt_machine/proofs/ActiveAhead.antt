@@ -8,7 +8,8 @@ use Rattle.ckpt_machine.specs.Options.{is_all}
 use Rattle.ckpt_machine.specs.Replays.{IsPrefix}
 use Rattle.ckpt_machine.specs.Runs.{last, IsRun}
 use Rattle.ckpt_machine.proofs.EachReplica.{run_copies}
+use Rattle.ckpt_machine.proofs.Generations.{run_generation}
 
 -- THE LAW: each has only what the active has taken first
 pub run_prefix : (log : List Label) → IsRun log → (k q r : ℕ) (e : Entry) (x y : ReplicaState) → entry_of k (last log).cluster.entries ≡ Some e → is_all e.attributes ≡ false → e.active ≡ Some r → (last log).replicas k r ≡ Some y → (last log).replicas k q ≡ Some x → IsPrefix x.effects y.effects
-run_prefix log run k q r e x y found alone active at there = ((run_copies log run).ahead k r e y found alone active at).replica q x there
+run_prefix log run k q r e x y found alone active at there = ((run_copies log run).ahead k r e y found alone active at).replica q x there (run_generation log run k q e x found there)

@@ -1,6 +1,6 @@
 -- What is asked of the active, by the kind of the call; and the active of a checkpoint that is made.
 use Rattle.std.proofs.Common.{◌≡◌, ◌⊎◌, ℕ, inl, inr, suc, ◌+◌, ◌<◌, List, [], ◌∷◌, length, Option, Some, None, Bool, true, false, cond, not, ◌&&◌, ◌==◌, refl, sym, ap, subst, ◌∙◌, arith, ℤ}
-use Rattle.std.specs.Prelude.{is_some, IfSome, slice_index}
+use Rattle.std.specs.Prelude.{is_some, IsSomeAnd, IfSome, slice_index}
 use Rattle.std.proofs.lemmas.Option.{same_Some}
 use Rattle.ckpt_types.specs.declared.ais_error.AisError.TheVariants.{NoResources}
 use Rattle.ckpt_types.specs.declared.answers.Cause.TheVariants.{Count}
@@ -118,6 +118,7 @@ pub record ActiveOf (m : Machine) (marks : Option Marked) (k : ℕ) : Type 0 whe
   pub active : entry.active ≡ Some node
   pub replica : ReplicaState
   pub there : m.replicas k node ≡ Some replica
+  pub generation : replica.generation ≡ entry.generation
   -- where updates go to it alone, nothing is staged on it, and these marks stand
   pub apart : is_all entry.attributes ≡ false → IsApart marks replica
 
@@ -145,6 +146,7 @@ active_of m shapes k e inv made found = by_kind (is_collocated e.attributes) spr
           active = active ∙ first;
           replica = x;
           there = here;
+          generation = (subst (λ o. IsSomeAnd o (λ (e : Entry). IsCompleteOn e r × (x.generation ≡ e.generation))) found (inv.replicas k r x here)).1;
           apart = λ alone. subst (λ marks. IsApart marks x) (marks_here e.active (shapes k).marks r (active ∙ first)) (subst (λ b. IsShapedBy b (shapes k) e.active r x) alone shaped);
         }
 

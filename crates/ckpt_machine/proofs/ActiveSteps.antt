@@ -103,7 +103,7 @@ module _ (m : Machine) (shapes : ℕ → Shape) (inv : InvariantIn shapes m) (s 
   -- ---- its checkpoint is there
 
   module _ (r : ℕ) (e : Entry) (found : entry_of a.ckpt m.cluster.entries ≡ Some e) (made : e.making ≡ None) (alone : is_all e.attributes ≡ false) (active : e.active ≡ Some r)
-      (y : ReplicaState) (marks : Option Marked) (apart : IsApart marks y) (o : Option CallState) where
+      (y : ReplicaState) (marks : Option Marked) (apart : IsApart marks y) (generation : y.generation ≡ e.generation) (o : Option CallState) where
     abbrev pub then_machine : Machine
     then_machine = record m { replicas = put2 m.replicas a.ckpt r (Some y); in_hand = put_actor m.in_hand s.call.actor o }
 
@@ -156,7 +156,7 @@ module _ (m : Machine) (shapes : ℕ → Shape) (inv : InvariantIn shapes m) (s 
       tables = refl;
       making = λ v at. making_still m then_machine z v (λ w at. record { there = at.there; declares = at.declares; nodes = at.nodes; reserved = at.reserved; only = at.only; within = at.within }) at;
       made = λ k was. was;
-      later = λ k was e found. (e, found, λ all. refl, refl, refl);
+      later = λ k was e found. (e, found, λ all. refl, refl, refl, refl);
       owners = λ j was q. elim (j == a.ckpt) as (λ b. (j == a.ckpt) ≡ b → is_owner z.call ((cond b (marked_so (shapes a.ckpt) marks) (shapes j)).owners q) ≡ is_owner z.call ((shapes j).owners q)) [
         | true ↦ λ same. ap (λ n. is_owner z.call ((shapes n).owners q)) (sym (eqb-true j a.ckpt same))
         | false ↦ λ same. refl
@@ -176,7 +176,7 @@ module _ (m : Machine) (shapes : ℕ → Shape) (inv : InvariantIn shapes m) (s 
       up_to = inv.up_to;
       swept = inv.swept;
       entries = λ j f there. by_test j f there (j == a.ckpt) refl;
-      replicas = put_complete m.cluster m.replicas a.ckpt r y (IsSomeAnd-from (entry_of a.ckpt m.cluster.entries) (λ e. IsCompleteOn e r) e found (active_complete m shapes a.ckpt e r inv found made active)) inv.replicas;
+      replicas = put_complete m.cluster m.replicas a.ckpt r y (IsSomeAnd-from (entry_of a.ckpt m.cluster.entries) (λ e. IsCompleteOn e r × (y.generation ≡ e.generation)) e found (active_complete m shapes a.ckpt e r inv found made active, generation)) inv.replicas;
       reserves = inv.reserves;
       handles = inv.handles;
       rest = inv.rest;

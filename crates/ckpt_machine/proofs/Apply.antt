@@ -66,7 +66,7 @@ module _ (m : Machine) (shapes : ℕ → Shape) (inv : InvariantIn shapes m) (s 
   holds_taken : (shapes k).marks ≡ None → Invariant (record m { replicas = put2 m.replicas k at.node (Some taken); in_hand = put_actor m.in_hand s.call.actor None })
   holds_taken unmarked = record {
     shapes = _;
-    holds = active_keeps m shapes inv s _ held is at.node at.entry at.found at.made (alone m shapes inv s call k kinds.Apply None held at refl is) at.active taken None (record { free = (apart m shapes inv s call k kinds.Apply None held at refl is).free; marks_are = marks_are ∙ unmarked }) None
+    holds = active_keeps m shapes inv s _ held is at.node at.entry at.found at.made (alone m shapes inv s call k kinds.Apply None held at refl is) at.active taken None (record { free = (apart m shapes inv s call k kinds.Apply None held at refl is).free; marks_are = marks_are ∙ unmarked }) at.generation None
         (λ d other. sym (ap (is_marked_by d) unmarked)) (λ marks none. absurd (cc none)) (λ z there. absurd (cc there));
   }
 

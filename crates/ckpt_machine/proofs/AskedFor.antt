@@ -61,6 +61,8 @@ start_drives call (asks.Status place) kept = kept_drives call (asks.Status place
 start_drives call (asks.Iterate iteration place chosen time) kept = kept_drives call (asks.Iterate iteration place chosen time) kept.ckpt _ (λ k. tt)
 start_drives call (asks.Next iteration) kept = kept_drives call (asks.Next iteration) kept.ckpt _ (λ k. tt)
 start_drives call (asks.Close place) kept = kept_drives call (asks.Close place) kept.ckpt _ (λ k. tt)
+start_drives call (asks.Synchronize place timeout) kept = kept_drives call (asks.Synchronize place timeout) kept.ckpt _ (λ k. tt)
+start_drives call (asks.SetActive place) kept = kept_drives call (asks.SetActive place) kept.ckpt _ (λ k. tt)
 start_drives call ask kept = tt
 
 -- ---- behind a step
@@ -102,6 +104,7 @@ taken_drives call ask d (drivers.Open o) drives =
     }
 taken_drives call ask d (drivers.Update u) drives = tt
 taken_drives call ask d (drivers.Active a) drives = tt
+taken_drives call ask d (drivers.Sync u) drives = tt
 
 -- ---- in any state of a call
 

@@ -10,7 +10,7 @@ use Rattle.ckpt_types.specs.declared.answers.Outcome.TheVariants.{Done, Refused,
 use Rattle.ckpt_types.specs.declared.identities.ActorName.TheVariants.{Client}
 use Rattle.ckpt_types.specs.declared.identities.Who.TheVariants.{Actor}
 use Rattle.ckpt_types.specs.declared.update.Update.TheVariants as updates
-use Rattle.ckpt_types.specs.Limits.{wr_all_replicas, checkpoint_read, checkpoint_create, sections_any, release, major_max, minor_answered, end_of_time, nodes_max}
+use Rattle.ckpt_types.specs.Limits.{wr_all_replicas, wr_active_replica, checkpoint_read, checkpoint_create, sections_any, release, major_max, minor_answered, end_of_time, nodes_max}
 use Rattle.run_labels.specs.declared.labels.Label.{Label}
 use Rattle.run_labels.specs.declared.labels.Label.TheVariants as labels
 use Rattle.run_labels.specs.declared.words.LineWord.TheVariants as linewords
@@ -58,6 +58,13 @@ deletes = asks.Change 0 (updates.Delete (codes "s"))
 
 abbrev an_iteration : ℕ → Ask
 an_iteration chosen = asks.Iterate 0 0 chosen (pos 0)
+
+-- a handle for writing of a checkpoint whose updates go to the active alone, and a synchronisation
+abbrev on_the_active : Option HandleView
+on_the_active = Some (record { id = 1; flags = record { read = false; write = true; create = false }; creation_flags = wr_active_replica; handle = 1 })
+
+abbrev synchronises : ℕ → Ask
+synchronises timeout = asks.Synchronize 0 (pos timeout)
 
 -- ---- VERSION
 
@@ -129,10 +136,30 @@ not_where_it_was_opened_for_writing row = false≢true row.4
 pub a_status_asks_for_no_flag : BeginRow true for_writing (asks.Status 0) (refused_plainly errors.Access) → ⊥
 a_status_asks_for_no_flag row = false≢true row.4
 
+pub access_of_a_synchronisation : BeginRow true for_reading (synchronises 0) (refused_plainly errors.Access)
+access_of_a_synchronisation = (refl, refl, refl, refl, refl)
+
+-- ---- BAD_OPERATION
+
+pub bad_operation_with_updates_on_all_replicas : BeginRow true for_writing (synchronises 0) (refused_plainly errors.BadOperation)
+bad_operation_with_updates_on_all_replicas = (refl, refl, refl, refl, refl, refl)
+
+pub access_comes_before_bad_operation : BeginRow true for_reading (synchronises 0) (refused_plainly errors.BadOperation) → ⊥
+access_comes_before_bad_operation row = true≢false row.4
+
+pub invalid_param_of_a_timeout_below_0 : BeginRow true for_writing (asks.Synchronize 0 (negsuc 0)) (refused_plainly errors.InvalidParam)
+invalid_param_of_a_timeout_below_0 = (refl, refl, refl, refl)
+
+pub not_with_updates_on_the_active : BeginRow true on_the_active (synchronises 0) (refused_plainly errors.BadOperation) → ⊥
+not_with_updates_on_the_active row = false≢true row.5
+
+pub not_of_a_deletion : BeginRow true for_writing deletes (refused_plainly errors.BadOperation) → ⊥
+not_of_a_deletion row = false≢true row.5
+
 -- ---- OK at once
 
 pub the_end_of_an_iteration_is_ok : BeginRow true for_reading (asks.EndIteration 0) done_at_once
-the_end_of_an_iteration_is_ok = (record { version = refl; handle = refl; flags = refl; arguments = refl; access = refl }, refl)
+the_end_of_an_iteration_is_ok = (record { version = refl; handle = refl; flags = refl; arguments = refl; access = refl; operation = refl }, refl)
 
 pub it_does_not_go_on : BeginRow true for_reading (asks.EndIteration 0) None → ⊥
 it_does_not_go_on row = true≢false row.1
@@ -146,7 +173,13 @@ no_other_call_is_ok_at_once row = false≢true row.1
 -- ---- NO_MEMORY
 
 pub no_memory_for_an_iteration : BeginRow true for_reading (an_iteration sections_any) (Some NoMemory)
-no_memory_for_an_iteration = (record { version = refl; handle = refl; flags = refl; arguments = refl; access = refl }, refl)
+no_memory_for_an_iteration = (record { version = refl; handle = refl; flags = refl; arguments = refl; access = refl; operation = refl }, refl)
+
+pub no_memory_for_a_synchronisation : BeginRow true on_the_active (synchronises 0) (Some NoMemory)
+no_memory_for_a_synchronisation = (record { version = refl; handle = refl; flags = refl; arguments = refl; access = refl; operation = refl }, refl)
+
+pub bad_operation_comes_before_no_memory : BeginRow true for_writing (synchronises 0) (Some NoMemory) → ⊥
+bad_operation_comes_before_no_memory row = true≢false row.0.operation
 
 pub access_comes_before_no_memory : BeginRow true for_writing (an_iteration sections_any) (Some NoMemory) → ⊥
 access_comes_before_no_memory row = true≢false row.0.access
@@ -157,7 +190,10 @@ no_other_call_takes_room row = false≢true row.1
 -- ---- a call that goes on
 
 pub a_deletion_goes_on : BeginRow true for_writing deletes None
-a_deletion_goes_on = (record { version = refl; handle = refl; flags = refl; arguments = refl; access = refl }, refl)
+a_deletion_goes_on = (record { version = refl; handle = refl; flags = refl; arguments = refl; access = refl; operation = refl }, refl)
+
+pub a_synchronisation_goes_on : BeginRow true on_the_active (synchronises 0) None
+a_synchronisation_goes_on = (record { version = refl; handle = refl; flags = refl; arguments = refl; access = refl; operation = refl }, refl)
 
 pub not_where_a_refusal_applies : BeginRow true for_reading (an_iteration 0) None → ⊥
 not_where_a_refusal_applies row = true≢false row.0.arguments

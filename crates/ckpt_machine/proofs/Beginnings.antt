@@ -16,7 +16,7 @@ use Rattle.ckpt_types.specs.declared.operation.Op.{Op}
 use Rattle.ckpt_types.specs.declared.update.Update.{Update}
 use Rattle.ckpt_types.specs.declared.update.Update.TheVariants as updates
 use Rattle.ckpt_types.specs.Attributes.{has_bad_open_flags}
-use Rattle.ckpt_types.specs.Limits.{client_numbers}
+use Rattle.ckpt_types.specs.Limits.{client_numbers, nodes_max}
 use Rattle.section_iter.specs.Room.{room_declared}
 use Rattle.client_handles.specs.declared.begun.BegunIteration.{BegunIteration}
 use Rattle.client_handles.specs.declared.handle_view.HandleView.{HandleView}
@@ -31,17 +31,20 @@ use Rattle.cluster_record.specs.Places.{find_key}
 use Rattle.cluster_record.specs.RecordState.{entry_of, client_key, node_of_client, is_live, is_live_client, is_up}
 use Rattle.ckpt_types.specs.Asks.{Ask, asked, IsBuiltAsk, IsBuilt}
 use Rattle.ckpt_types.specs.Asks as asks
-use Rattle.ckpt_machine.specs.Beginning.{begin_end, if_live, on_handle, open_begin, may_always, may_write, update_is_bad, attributes_are_bad, name_is_bad}
+use Rattle.ckpt_machine.specs.Beginning.{begin_end, if_live, on_handle, sync_begin, unless_forbidden, are_of_all, open_begin, may_always, may_write, update_is_bad, attributes_are_bad, name_is_bad}
 use Rattle.ckpt_machine.specs.Drivers.{Driver}
 use Rattle.ckpt_machine.specs.Drivers as drivers
 use Rattle.cluster_record.specs.DueActive.{active_begun}
 use Rattle.cluster_record.specs.DueOnce as once
+use Rattle.cluster_record.specs.DueSync.{sync_begun}
+use Rattle.cluster_record.specs.declared.calls.SyncKind.TheVariants.{Synchronize}
+use Rattle.moment_rules.specs.Times.{sum_until_end}
 use Rattle.cluster_record.specs.DueUpdate.{update_begun}
 use Rattle.ckpt_machine.specs.Driving.{Kept, driver_start, active_start, deadline_from, kind_of_change, change_start}
 use Rattle.ckpt_machine.specs.Entries.{WasMade}
 use Rattle.ckpt_machine.specs.InHand.{AreGoodAttributes, active_kind, is_enter, is_marked_by, MarksFit, IsInPlace, change_kind}
 use Rattle.weak_marks.specs.Marks.{Marked}
-use Rattle.ckpt_machine.specs.Invariant.{IsGoodClient, IsGoodIn, InvariantIn, Invariant}
+use Rattle.ckpt_machine.specs.Invariant.{IsGoodClient, IsGoodHandle, IsGoodIn, InvariantIn, Invariant}
 use Rattle.ckpt_machine.specs.Machine.{Machine, CallState}
 use Rattle.ckpt_machine.specs.Steps.{IsBegun, IsDriven, MayBegin, asked_handle, kept_at_beginning, room_in, after_beginning, begun_call, call_begun, started_call, driver_of}
 use Rattle.ckpt_machine.specs.Tables.{handle_asked, ckpt_of_handle, choice_of, ended_at_once}
@@ -51,7 +54,8 @@ use Rattle.ckpt_machine.proofs.Begun.{begun_live, begun_keeps, update_begins}
 use Rattle.ckpt_machine.proofs.ClientTables.{same_tables}
 use Rattle.ckpt_machine.proofs.EndedTables.{client_by_number, ended_at_once_keeps}
 use Rattle.ckpt_machine.proofs.ReplicaSteps.{put_actor-here}
-use Rattle.ckpt_machine.proofs.Starting.{if_live-None, on_handle-None, iteration_answers, goes_on_begun, driven_begun}
+use Rattle.ckpt_machine.proofs.Served.{slice_get-replicate}
+use Rattle.ckpt_machine.proofs.Starting.{if_live-None, on_handle-None, sync_begin-None, iteration_answers, goes_on_begun, driven_begun}
 use Rattle.ckpt_machine.specs.Options.{is_all, is_weak, if_declared}
 
 -- ---- what a beginning that goes on has passed
@@ -121,6 +125,8 @@ handle_asked-Contains (asks.Next iteration) t h e = iterated_at-Contains iterati
 handle_asked-Contains (asks.EndIteration iteration) t h e = iterated_at-Contains iteration t h e
 handle_asked-Contains (asks.Close place) t h e = handle_at-Contains place t h e
 handle_asked-Contains (asks.Retain place duration) t h e = handle_at-Contains place t h e
+handle_asked-Contains (asks.Synchronize place timeout) t h e = handle_at-Contains place t h e
+handle_asked-Contains (asks.SetActive place) t h e = handle_at-Contains place t h e
 handle_asked-Contains ask t h e = absurd (cc e)
 
 -- the room that a call keeps is what its checkpoint declares, where it is there
@@ -132,6 +138,20 @@ kept_room (Some e) = refl
 kept_declares : (is : CreationAttributes → Bool) (o : Option Entry) → IfSome o (λ e. if_declared is (declared_in o) ≡ is e.attributes)
 kept_declares is None = tt
 kept_declares is (Some e) = refl
+
+-- it keeps all that its checkpoint declares
+declares_itself : (o : Option Entry) → IfSome o (λ e. declared_in o ≡ Some e.attributes)
+declares_itself None = tt
+declares_itself (Some e) = refl
+
+-- what creation flags do not forbid
+not_forbidden : (x : HandleView) → unless_forbidden are_of_all (Some x) ≡ None → are_of_all x.creation_flags ≡ false
+not_forbidden x allowed = (passed (are_of_all x.creation_flags) _ None allowed).0
+
+-- a checkpoint with creation flags that do not have updates on all replicas
+not_of_all : (o : Option Entry) (flags : ℕ) → are_of_all flags ≡ false → IfSome o (λ e. flags ≡ e.attributes.creation_flags) → IfSome o (λ e. is_all e.attributes ≡ false)
+not_of_all None flags not_all same = tt
+not_of_all (Some e) flags not_all same = ap are_of_all (sym same) ∙ not_all
 
 -- a weak write that begins has no marks, and as many elements as a vector may have
 change_fits : (weak : Bool) (update : Update) → update_is_bad update ≡ false → MarksFit (kind_of_change weak update) None
@@ -157,9 +177,13 @@ module _ (m : Machine) (shapes : ℕ → Shape) (inv : InvariantIn shapes m) (ca
   abbrev state_with : Op → Option HandleView → Driver → CallState
   state_with op h d = started_call call op (kept_with h) d
 
-  -- the checkpoint of the handle that an operation is about was made
+  -- the handle that an operation is about is good
+  asked_good : (op : Op) (h : HandleView) → asked_handle m call.actor op ≡ Some h → IsGoodHandle m.cluster h
+  asked_good op h e = inv.handles call.actor h (handle_asked-Contains (asked op) (m.tables call.actor) h e)
+
+  -- its checkpoint was made
   asked_made : (op : Op) (h : HandleView) → asked_handle m call.actor op ≡ Some h → WasMade m.cluster h.id
-  asked_made op h e = inv.handles call.actor h (handle_asked-Contains (asked op) (m.tables call.actor) h e)
+  asked_made op h e = (asked_good op h e).made
 
   -- where the client is live, its call is, and its node is up
   live_then : is_live_client c m.cluster ≡ true → is_live m.cluster call ≡ true
@@ -293,6 +317,31 @@ module _ (m : Machine) (shapes : ℕ → Shape) (inv : InvariantIn shapes m) (ca
       })
   starts op (asks.Unlink name) h on built = let (live, rest) = if_goes None on.goes in record { driver = drivers.Once (once.Unlink name); driven = refl; at = on.is; live = λ others. live }
   starts op asks.Leave h on built = let (live, rest) = if_live-None (is_live_client c m.cluster) None on.goes in record { driver = drivers.Once once.Leave; driven = refl; at = record { asks = on.is; live = live }; live = λ others. live_then live }
+  starts op (asks.Synchronize place timeout) h on built =
+      let (live, rest) = if_goes (sync_begin h (int_lt timeout (pos 0)) are_of_all) on.goes in
+      let (goes, allowed) = sync_begin-None h (int_lt timeout (pos 0)) are_of_all rest in
+      let (x, there) = on_handle-None h _ _ goes in
+      subst (Starts op (asks.Synchronize place timeout)) (sym there) (record {
+        driver = drivers.Sync (sync_begun call x.id (Synchronize (Some (sum_until_end m.cluster.moment timeout))));
+        driven = refl;
+        at = record {
+          call = refl;
+          place = place;
+          timeout = timeout;
+          asks = on.is;
+          kind = ap (λ a. Synchronize (deadline_from m.cluster.moment a)) (sym on.is);
+          kept = refl;
+          made = asked_made op x (on.named ∙ there);
+          alone = not_of_all (entry_of x.id m.cluster.entries) x.creation_flags (not_forbidden x (ap (unless_forbidden are_of_all) (sym there) ∙ allowed)) (asked_good op x (on.named ∙ there)).flags;
+          declares = declares_itself (entry_of x.id m.cluster.entries);
+          pulled = refl;
+          nodes = refl;
+          served = λ r below. slice_get-replicate {A = Bool} nodes_max false r below;
+          led = tt;
+        };
+        live = λ others. live;
+      })
+  starts op (asks.SetActive place) h on built = absurd built
   starts op asks.Unbuilt h on built = absurd built
 
   -- ---- the state after a beginning

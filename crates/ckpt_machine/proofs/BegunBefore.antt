@@ -11,7 +11,7 @@ use Rattle.cluster_record.specs.Calls.{left}
 use Rattle.ckpt_machine.specs.Acknowledged.{HasBegun}
 use Rattle.ckpt_machine.specs.Guards.{Allowed, Row}
 use Rattle.ckpt_machine.specs.Invariant.{Invariant}
-use Rattle.ckpt_machine.specs.Machine.{Machine, CallState}
+use Rattle.ckpt_machine.specs.Machine.{Machine, Snapshot, CallState}
 use Rattle.ckpt_machine.specs.Runs.{last, IsRunFrom, IsRun}
 use Rattle.cluster_record.specs.StepDone.{StepDone}
 use Rattle.ckpt_machine.specs.Steps.{IsDue, call_begun, kept_behind, changed, step_of, after}
@@ -28,7 +28,7 @@ abbrev AllBegan : List Label → Machine → Type 0
 AllBegan log m = (s : CallState) → m.in_hand s.call.actor ≡ Some s → HasBegun log s.call s.op s.kept.ckpt
 
 -- it did so in a longer log too
-begun_longer : (log : List Label) (l : Label) (call : CallId) (op : Op) (k : Option ℕ) → HasBegun log call op k → HasBegun (log ++ l ∷ []) call op k
+pub begun_longer : (log : List Label) (l : Label) (call : CallId) (op : Op) (k : Option ℕ) → HasBegun log call op k → HasBegun (log ++ l ∷ []) call op k
 begun_longer log l call op k begun = record {
   before = begun.before;
   behind = begun.behind ++ l ∷ [];
@@ -44,9 +44,9 @@ begins_there log call op None s is =
 begins_there log call op (Some e) s is = absurd (cc is)
 
 -- a call that goes on after a step is the one that took it
-left_same : (log : List Label) (s : CallState) (steps : List StepDone) (created : Option (List ℕ)) (end : Option Outcome) (z : CallState) → HasBegun log s.call s.op s.kept.ckpt → left end (record s { steps = steps; created = created }) ≡ Some z → HasBegun log z.call z.op z.kept.ckpt
-left_same log s steps created None z begun is = subst (λ (z : CallState). HasBegun log z.call z.op z.kept.ckpt) (same_Some (record s { steps = steps; created = created }) z is) begun
-left_same log s steps created (Some e) z begun is = absurd (cc is)
+left_same : (log : List Label) (s : CallState) (steps : List StepDone) (created : Option (List ℕ)) (snapshot : Option Snapshot) (end : Option Outcome) (z : CallState) → HasBegun log s.call s.op s.kept.ckpt → left end (record s { steps = steps; created = created; snapshot = snapshot }) ≡ Some z → HasBegun log z.call z.op z.kept.ckpt
+left_same log s steps created snapshot None z begun is = subst (λ (z : CallState). HasBegun log z.call z.op z.kept.ckpt) (same_Some (record s { steps = steps; created = created; snapshot = snapshot }) z is) begun
+left_same log s steps created snapshot (Some e) z begun is = absurd (cc is)
 
 module _ (log : List Label) (inv : Invariant (last log)) (history : HasHistory (last log)) (began : AllBegan log (last log)) where
   longer : (l : Label) → AllBegan (log ++ l ∷ []) (last log)
@@ -67,7 +67,7 @@ module _ (log : List Label) (inv : Invariant (last log)) (history : HasHistory (
       let there = subst (λ o. (step_of (last log) o verb k r reply end).in_hand z.call.actor ≡ Some z) due.in_hand in_hand in
       let behind : CallState = kept_behind (last log) s (changed (last log) s verb k r reply).cluster verb k r reply in
       elim (put_actor-cases (changed (last log) s verb k r reply).in_hand s.call.actor (left end behind) z.call.actor z there) [
-        | inl own ↦ left_same (log ++ labels.Stepped call op verb k r reply end details ∷ []) s behind.steps behind.created end z (longer (labels.Stepped call op verb k r reply end details) s held) own.1
+        | inl own ↦ left_same (log ++ labels.Stepped call op verb k r reply end details ∷ []) s behind.steps behind.created behind.snapshot end z (longer (labels.Stepped call op verb k r reply end details) s held) own.1
         | inr other ↦ longer (labels.Stepped call op verb k r reply end details) z (sym (then.in_hand z.call.actor) ∙ other.1)
       ]
   after_began (labels.Word who word said) allowed due s held = longer (labels.Word who word said) s held

@@ -72,6 +72,8 @@ of_start call (asks.Iterate iteration place chosen time) kept = of_kept call kep
 of_start call (asks.Next iteration) kept = of_kept call kept.ckpt _ (λ k. refl)
 of_start call (asks.Close place) kept = of_kept call kept.ckpt _ (λ k. tt)
 of_start call (asks.Retain place duration) kept = of_kept call kept.ckpt _ (λ k. tt)
+of_start call (asks.Synchronize place timeout) kept = of_kept call kept.ckpt _ (λ k. tt)
+of_start call (asks.SetActive place) kept = of_kept call kept.ckpt _ (λ k. tt)
 of_start call ask kept = tt
 
 of_taken : (call : CallId) (d : StepDone) (x : Driver) → Of call x → Of call (driver_taken d x)
@@ -107,6 +109,7 @@ own_kind call k kinds.Next marks = tt
 own_asked : (c : CallId) (x : Driver) → Of c x → OfAsked (Asks c) x
 own_asked c (drivers.Update u) is = (λ r t. is, λ r. is)
 own_asked c (drivers.Active a) is = λ r. subst (λ d. IsOwn d (active_request a)) is (own_kind a.call a.ckpt a.kind a.marks)
+own_asked c (drivers.Sync u) is = (λ r. tt, λ r. tt)
 own_asked c x is = tt
 
 -- what a call asks a node, it asks as itself

@@ -5,8 +5,7 @@ use Rattle.ckpt_types.specs.declared.identities.ActorName.{ActorName}
 use Rattle.client_handles.specs.ClientState.{ClientState, NoneLent}
 use Rattle.client_handles.specs.declared.handle_view.HandleView.{HandleView}
 use Rattle.cluster_record.specs.Calls.{same_actor}
-use Rattle.ckpt_machine.specs.Entries.{WasMade}
-use Rattle.ckpt_machine.specs.Invariant.{InvariantIn}
+use Rattle.ckpt_machine.specs.Invariant.{IsGoodHandle, InvariantIn}
 use Rattle.ckpt_machine.specs.Machine.{Machine, CallState}
 use Rattle.ckpt_machine.specs.Steps.{with_tables}
 use Rattle.ckpt_machine.specs.Shape.{Shape}
@@ -28,13 +27,13 @@ module _ (m : Machine) (shapes : ℕ → Shape) (inv : InvariantIn shapes m) (a 
     tables = put_actor-other m.tables a (change (m.tables a)) z.call.actor other;
     making = λ o at. making_still m then_machine z o (λ w at. record { there = at.there; declares = at.declares; nodes = at.nodes; reserved = at.reserved; only = at.only; within = at.within }) at;
     made = λ k was. was;
-    later = λ k was e found. (e, found, λ all. refl, refl, refl);
+    later = λ k was e found. (e, found, λ all. refl, refl, refl, refl);
     owners = λ k was r. refl;
     marks = λ k was. refl;
   }
 
-  -- the invariant holds after it, where no iteration is lent then, and each handle that it has then is of a checkpoint that was made
-  pub tables_keep : NoneLent (change (m.tables a)) → ((h : HandleView) → Contains (change (m.tables a)).handles h → WasMade m.cluster h.id) → InvariantIn shapes then_machine
+  -- the invariant holds after it, where no iteration is lent then, and each handle that it has then is good
+  pub tables_keep : NoneLent (change (m.tables a)) → ((h : HandleView) → Contains (change (m.tables a)).handles h → IsGoodHandle m.cluster h) → InvariantIn shapes then_machine
   tables_keep at_rest good = record {
     up = inv.up;
     none_live = inv.none_live;
@@ -44,7 +43,7 @@ module _ (m : Machine) (shapes : ℕ → Shape) (inv : InvariantIn shapes m) (a 
     entries = λ k e found. IsGoodIn-alike m then_machine k (shapes k) e (λ r there. refl) (λ d own. refl) (λ marks own. refl) (λ d own. refl) e.making (inv.entries k e found);
     replicas = inv.replicas;
     reserves = inv.reserves;
-    handles = λ b h. elim (same_actor b a) as (λ t. Contains (cond t (change (m.tables a)) (m.tables b)).handles h → WasMade m.cluster h.id) [ true ↦ λ among. good h among | false ↦ λ among. inv.handles b h among ];
+    handles = λ b h. elim (same_actor b a) as (λ t. Contains (cond t (change (m.tables a)) (m.tables b)).handles h → IsGoodHandle m.cluster h) [ true ↦ λ among. good h among | false ↦ λ among. inv.handles b h among ];
     rest = λ b. elim (same_actor b a) as (λ t. NoneLent (cond t (change (m.tables a)) (m.tables b))) [ true ↦ at_rest | false ↦ inv.rest b ];
     clients = inv.clients;
     hands = λ b z held.

@@ -29,10 +29,9 @@ use Rattle.ckpt_machine.specs.Complete.{complete_replicas, replicas_from}
 use Rattle.ckpt_machine.specs.Guards.{HasSlotOrEffect, CommitOk, CommitRow, owns_slot, owned_elsewhere, ends_update}
 use Rattle.ckpt_machine.specs.Shape.{Shape, IsCompleteOn, IsShaped, is_owner, IsOwner, IsSpread, slot_by}
 use Rattle.ckpt_machine.specs.InHand.{is_enter, IsInPlace, IsUpdateIn, IsInHand, OwnsIn, HasSome}
-use Rattle.ckpt_machine.specs.Invariant.{InvariantIn, Invariant}
+use Rattle.ckpt_machine.specs.Invariant.{IsCompleteAt, InvariantIn, Invariant}
 use Rattle.ckpt_machine.proofs.NodeLists.{elsewhere-is, last_having-None, index-set, index-other, length-slice_set, index-within, had-there, has-none}
 use Rattle.ckpt_machine.proofs.OnComplete.{put_complete}
-use Rattle.ckpt_machine.proofs.OptionLemmas.{IsSomeAnd-from}
 use Rattle.ckpt_machine.proofs.ReplicaSteps.{IsMarker-other, put_actor-here, one_changed, step_keeps}
 use Rattle.ckpt_machine.proofs.Owning.{is_owner-true, is_owner-here, owner_alone, at, made, on_all, all_is}
 use Rattle.ckpt_machine.proofs.OnAll.{shaped_replicas, by_shape}
@@ -172,6 +171,11 @@ module _ (m : Machine) (shapes : ℕ → Shape) (inv : InvariantIn shapes m) (s 
   abbrev then_machine : Option CallState → Machine
   then_machine o = record m { replicas = put2 m.replicas u.ckpt r (Some with_commit); in_hand = put_actor m.in_hand s.call.actor o }
 
+  -- its generation stays
+  with_commit-generation : with_commit.generation ≡ x.generation
+  unfolding with_commit
+  with_commit-generation = refl
+
   -- what the replica becomes
   pub commit_is : with_committed (entry_of u.ckpt m.cluster.entries) x ≡ with_commit
   unfolding with_commit
@@ -261,7 +265,7 @@ module _ (m : Machine) (shapes : ℕ → Shape) (inv : InvariantIn shapes m) (s 
     shapes = put shapes u.ckpt committed;
     holds = step_keeps m shapes inv s u held is (put2 m.replicas u.ckpt r (Some with_commit)) o committed (one_changed m shapes inv s u held is with_commit r) (refl, keeps_then)
         (λ f there none. subst (IsSpread (then_machine o) u.ckpt committed) (same_Some e f (sym found ∙ there)) (spread_then o owned)) hand (made m shapes inv s u held is)
-        (put_complete m.cluster m.replicas u.ckpt r with_commit (IsSomeAnd-from (entry_of u.ckpt m.cluster.entries) (λ e. IsCompleteOn e r) e found (spread.complete r s.call own)) inv.replicas);
+        (put_complete m.cluster m.replicas u.ckpt r with_commit (subst (IsCompleteAt m.cluster u.ckpt r) (sym with_commit-generation) (inv.replicas u.ckpt r x there)) inv.replicas);
   }
 
   -- by the last commit the call ends

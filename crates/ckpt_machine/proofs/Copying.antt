@@ -1,5 +1,5 @@
 -- Where a snapshot is taken, where it is put, and what is so after a pull and a put.
-use Rattle.std.proofs.Common.{◌≡◌, ◌⊎◌, ℕ, inl, inr, Option, Some, None, Bool, true, false, cond, ◌||◌, ◌&&◌, ◌==◌, refl, sym, subst, ◌∙◌}
+use Rattle.std.proofs.Common.{◌≡◌, ◌⊎◌, ℕ, inl, inr, Option, Some, None, Bool, true, false, cond, not, ◌||◌, ◌&&◌, ◌==◌, length, refl, sym, ap, subst, ◌∙◌}
 use Rattle.std.specs.Prelude.{is_some, IsSome}
 use Rattle.std.proofs.lemmas.Bool.{eqb-true, eq-eqb, and_parts}
 use Rattle.std.proofs.lemmas.Option.{same_Some}
@@ -12,10 +12,11 @@ use Rattle.run_labels.specs.declared.labels.PutReply.TheVariants as puts
 use Rattle.cluster_record.specs.declared.entries.Entry.{Entry}
 use Rattle.cluster_record.specs.Places.{put, put2}
 use Rattle.cluster_record.specs.RecordState.{entry_of}
+use Rattle.cluster_record.specs.StepDone.{generation_in}
 use Rattle.ckpt_machine.specs.Listing.{is_active}
 use Rattle.ckpt_machine.specs.Machine.{Machine, ReplicaState, Snapshot}
 use Rattle.ckpt_machine.specs.Options.{is_all}
-use Rattle.ckpt_machine.specs.Propagation.{source_of, source_at, on_node, target_of, target_at, pull_unless, pull_reply, pull_answer, copied, with_pulled, replica_from, with_put}
+use Rattle.ckpt_machine.specs.Propagation.{source_of, source_at, on_node, target_of, target_at, is_behind, pull_unless, pull_reply, pull_answer, copied, with_pulled, put_onto, put_reply, put_answer, replica_from, with_put}
 
 -- ---- where
 
@@ -70,6 +71,12 @@ put_on m k r x is = by_entry (entry_of k m.cluster.entries) refl is
     by_entry None found none = absurd (cc none)
     by_entry (Some e) found at = by_tests e found (is_all e.attributes) refl (is_active e.active r) refl at
 
+-- it takes a snapshot, which is of the present generation, and which it is behind
+pub record TakesOver (m : Machine) (k r : ℕ) (s : Snapshot) (x : ReplicaState) : Type 0 where
+  pub on : IsPutOn m k r x
+  pub present : s.generation ≡ on.entry.generation
+  pub behind : is_behind x s ≡ true
+
 -- the active is another node
 pub not_active : (active : Option ℕ) (r : ℕ) → is_active active r ≡ false → active ≡ Some r → ⊥
 not_active active r other is = let w : false ≡ true = sym (subst (λ o. is_active o r ≡ false) is other) ∙ eq-eqb r r refl in cc w
@@ -103,6 +110,28 @@ after_put P m k r reply same done = by_target reply (m.snapshots k) refl (target
     by_target (puts.Ok count) None is o at = same
     by_target reply s is o at = same
 
+-- a put that is done is of the present generation, and onto a replica that is behind
+put_done : (present count : ℕ) (s : Snapshot) (x : ReplicaState) → puts.Ok count ≡ put_onto present s x → (s.generation ≡ present) × (is_behind x s ≡ true)
+put_done present count s x is = by_tests (s.generation == present) refl (is_behind x s) refl is
+  where
+    by_tests : (same : Bool) → (s.generation == present) ≡ same → (behind : Bool) → is_behind x s ≡ behind → puts.Ok count ≡ cond (not same) (puts.Stale s.generation present) (cond behind (puts.Ok (length s.effects)) (puts.Old x.generation (length x.effects))) → (s.generation ≡ present) × (is_behind x s ≡ true)
+    by_tests false other behind behind_is stale = absurd (cc stale)
+    by_tests true same false behind_is old = absurd (cc old)
+    by_tests true same true behind_is done = (eqb-true s.generation present same, behind_is)
+
+-- what is so now, and where a replica took a snapshot that it was behind
+pub after_put_over : (P : Machine → Type 0) (m : Machine) (k r : ℕ) (reply : PutReply) → reply ≡ put_answer m k r → P m → ((s : Snapshot) (x : ReplicaState) → m.snapshots k ≡ Some s → TakesOver m k r s x → P (record m { replicas = put2 m.replicas k r (Some (replica_from s x)) })) → P (with_put m k r reply (m.snapshots k) (target_at m k r))
+after_put_over P m k r reply is same done = by_target reply (m.snapshots k) refl (target_at m k r) refl is
+  where
+    by_target : (reply : PutReply) (s : Option Snapshot) → m.snapshots k ≡ s → (o : Option ReplicaState) → target_at m k r ≡ o → reply ≡ put_reply (generation_in (entry_of k m.cluster.entries)) s o → P (with_put m k r reply s o)
+    by_target (puts.Ok count) (Some s) copied (Some x) at is =
+        let on = put_on m k r x at in
+        let (present, behind) = put_done (generation_in (entry_of k m.cluster.entries)) count s x is in
+        done s x copied (record { on = on; present = present ∙ ap generation_in on.found; behind = behind })
+    by_target (puts.Ok count) (Some s) copied None at is = same
+    by_target (puts.Ok count) None copied o at is = same
+    by_target reply s copied o at is = same
+
 -- ---- places
 
 -- what is there is what was put there, or was there
@@ -111,6 +140,10 @@ put-cases f k x j z is = elim (j == k) as (λ b. (j == k) ≡ b → cond b (Some
   | true ↦ λ at here. inl (sym (eqb-true j k at), same_Some x z here)
   | false ↦ λ at was. inr was
 ] refl is
+
+-- what was put at a place of two is there
+pub put2-here : {X : Type 0} (f : ℕ → ℕ → Option X) (k r : ℕ) (x : Option X) → put2 f k r x k r ≡ x
+put2-here f k r x = ap (λ b. cond (b && (r == r)) x (f k r)) (eq-eqb k k refl) ∙ ap (λ b. cond b x (f k r)) (eq-eqb r r refl)
 
 -- or was at another place
 pub put2-cases : {X : Type 0} (f : ℕ → ℕ → Option X) (k r : ℕ) (x : X) (j q : ℕ) (z : X) → put2 f k r (Some x) j q ≡ Some z → ((k ≡ j) × (r ≡ q) × (x ≡ z)) ⊎ ((f j q ≡ Some z) × ((k ≡ j) → (r ≡ q) → ⊥))

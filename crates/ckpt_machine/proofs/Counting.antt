@@ -1,5 +1,6 @@
 -- Each label counts up by at most one.
-use Rattle.std.proofs.Common.{◌≡◌, ◌⊎◌, ℕ, zero, suc, ◌+◌, ◌-◌, ◌≤◌, inl, inr, List, [], ◌∷◌, ◌++◌, filter, length, Option, Some, None, Bool, true, false, cond, not, ◌==◌, ◌&&◌, ℤ, refl, sym, ap, subst, arith}
+use Rattle.std.proofs.Common.{◌≡◌, ◌⊎◌, ℕ, zero, suc, ◌+◌, ◌-◌, ◌≤◌, inl, inr, List, [], ◌∷◌, ◌++◌, filter, length, Option, Some, None, Bool, true, false, cond, not, ◌==◌, ◌&&◌, ℤ, refl, sym, ap, subst, ◌∙◌, arith}
+use Rattle.std.specs.Option.{option_map}
 use Rattle.std.specs.Prelude.{slice_index, slice_set}
 use Rattle.std.proofs.lemmas.List.{length_push}
 use Rattle.std.proofs.lemmas.Option.{same_Some}
@@ -27,7 +28,7 @@ use Rattle.run_labels.specs.declared.labels.PullReply.TheVariants as pulls
 use Rattle.run_labels.specs.declared.labels.PutReply.{PutReply}
 use Rattle.run_labels.specs.declared.labels.PutReply.TheVariants as puts
 use Rattle.cluster_record.specs.declared.entries.Entry.{Entry}
-use Rattle.cluster_record.specs.Calls.{same_actor, client_of}
+use Rattle.cluster_record.specs.Calls.{same_actor, client_of, left}
 use Rattle.cluster_record.specs.Identities.{IdentitiesRise, AllUpTo}
 use Rattle.cluster_record.specs.LookUps.{creation_flags_of}
 use Rattle.cluster_record.specs.Makings.{making_of}
@@ -42,7 +43,7 @@ use Rattle.ckpt_machine.specs.Laws.{CountsUp}
 use Rattle.ckpt_machine.specs.Propagation.{source_at, copied, with_pulled, target_at, replica_from, with_put}
 use Rattle.ckpt_machine.specs.Runs.{Counts}
 use Rattle.ckpt_machine.specs.Steps.{given_at, chosen_at}
-use Rattle.ckpt_machine.specs.Steps.{with_record, record_step, with_tables, with_given, with_started, with_gone_on, ids_asked, seen_at, created_for, retained_for, change_replica, with_committed, committed_slot, with_applied, with_marks, without_marks, marks_ended, effect_of, after_beginning, begun_call, changed, step_of, on_ok, on_look, without_making, at_some, replica_under, snapshot_under, opened_state}
+use Rattle.ckpt_machine.specs.Steps.{with_record, record_step, with_tables, with_given, with_started, with_gone_on, ids_asked, seen_at, created_for, retained_for, change_replica, with_committed, committed_slot, with_applied, with_marks, without_marks, marks_ended, with_installed, effect_of, after_beginning, begun_call, call_begun, changed, pulled_by, kept_behind, step_of, on_ok, on_look, without_making, at_some, replica_under, snapshot_under, opened_state}
 use Rattle.ckpt_machine.specs.Tables.{handle_given, with_iteration, started, with_next, gone_on, closing, ended_at_once}
 use Rattle.ckpt_machine.proofs.References.{released-identity, released_all-identity}
 use Rattle.ckpt_machine.proofs.Joining.{opened_with-identity}
@@ -50,6 +51,9 @@ use Rattle.ckpt_machine.proofs.Entries.{ComesOf, ComesOf-filter, ComesOf-change_
 use Rattle.ckpt_machine.proofs.Follows.{element_effects}
 use Rattle.ckpt_machine.proofs.NodeLists.{slice_index-replicate}
 use Rattle.ckpt_machine.proofs.Propagated.{source_there}
+use Rattle.ckpt_machine.proofs.ReplicaSteps.{put_actor-cases}
+use Rattle.ckpt_machine.proofs.Starting.{first_kept, begun_as}
+use Rattle.ckpt_machine.proofs.Sync.{left_is}
 
 -- ---- what counts up
 
@@ -89,6 +93,7 @@ Counts-record m R n counts identity references = record {
     | inr none ↦ omega (arith, ap length none)
   ];
   snapshots = λ k s is. omega (arith, counts.snapshots k s (snapshot_under-Some (entry_of k R.entries) (m.snapshots k) s is));
+  copies = λ a s x held is. omega (arith, counts.copies a s x held is);
   identity = identity;
   references = references;
 }
@@ -104,6 +109,7 @@ Counts-replica m k r x n counts few = record {
     | false ↦ λ there. omega (arith, counts.effects j q y there)
   ] is;
   snapshots = λ j s is. omega (arith, counts.snapshots j s is);
+  copies = λ a s x held is. omega (arith, counts.copies a s x held is);
   identity = omega arith;
   references = λ j e c is. omega (arith, counts.references j e c is);
 }
@@ -116,6 +122,7 @@ counts_empty = record {
   last_iterations = λ c. omega arith;
   effects = λ k r x is. absurd (cc is);
   snapshots = λ k s is. absurd (cc is);
+  copies = λ a s x held is. absurd (cc held);
   identity = omega arith;
   references = λ k e c is. absurd (cc is);
 }
@@ -283,9 +290,9 @@ CountsOne-ended_at_once end ask t = record { handles = omega arith; iterations =
 
 -- ---- the machine
 
--- other calls in hand
-Counts-in_hand : (m : Machine) (f : ActorName → Option CallState) (n : ℕ) → Counts m n → Counts (record m { in_hand = f }) n
-Counts-in_hand m f n counts = record { next = counts.next; last_handles = counts.last_handles; last_iterations = counts.last_iterations; effects = counts.effects; snapshots = counts.snapshots; identity = counts.identity; references = counts.references }
+-- other calls in hand, whose snapshots have no more
+Counts-in_hand : (m : Machine) (f : ActorName → Option CallState) (n : ℕ) → Counts m n → ((a : ActorName) (s : CallState) (x : Snapshot) → f a ≡ Some s → s.snapshot ≡ Some x → length x.effects ≤ n) → Counts (record m { in_hand = f }) n
+Counts-in_hand m f n counts few = record { copies = few; next = counts.next; last_handles = counts.last_handles; last_iterations = counts.last_iterations; effects = counts.effects; snapshots = counts.snapshots; identity = counts.identity; references = counts.references }
 
 module _ (m : Machine) (n : ℕ) (counts : Counts m n) where
   more : Counts m (n + 1)
@@ -295,6 +302,7 @@ module _ (m : Machine) (n : ℕ) (counts : Counts m n) where
     last_iterations = λ c. omega (arith, counts.last_iterations c);
     effects = λ k r x is. omega (arith, counts.effects k r x is);
     snapshots = λ k s is. omega (arith, counts.snapshots k s is);
+    copies = λ a s x held is. omega (arith, counts.copies a s x held is);
     identity = omega arith;
     references = λ k e c is. omega (arith, counts.references k e c is);
   }
@@ -313,6 +321,7 @@ module _ (m : Machine) (n : ℕ) (counts : Counts m n) where
     last_iterations = λ b. elim (same_actor b a) as (λ t. (cond t (change (then_machine.tables a)) (then_machine.tables b)).last_iteration ≤ n + 1) [ true ↦ omega (arith, one.iterations, counts.last_iterations a) | false ↦ on.last_iterations b ];
     effects = on.effects;
     snapshots = on.snapshots;
+    copies = on.copies;
     identity = on.identity;
     references = on.references;
   }
@@ -333,10 +342,29 @@ module _ (m : Machine) (n : ℕ) (counts : Counts m n) where
       | true ↦ λ here. subst (λ (z : Snapshot). length z.effects ≤ n + 1) (same_Some (copied x) s here) (let (r, there) = source_there m k x is in more.effects k r x there)
       | false ↦ λ there. more.snapshots j s there
     ] at;
+    copies = more.copies;
     identity = more.identity;
     references = more.references;
   }
   pulled_on k reply o is = more
+
+  -- an installation gives a replica what a snapshot in hand has
+  installed_on : (a : ActorName) (s : CallState) → m.in_hand a ≡ Some s → (k r : ℕ) (x : Option ReplicaState) → m.replicas k r ≡ x → Counts (change_replica m k r x (with_installed s.snapshot)) (n + 1)
+  installed_on a s held k r None there = more
+  installed_on a s held k r (Some x) there = by_snapshot s.snapshot refl
+    where
+      by_snapshot : (o : Option Snapshot) → s.snapshot ≡ o → Counts (change_replica m k r (Some x) (with_installed o)) (n + 1)
+      by_snapshot None none = Counts-replica m k r x n counts (more.effects k r x there)
+      by_snapshot (Some p) is = Counts-replica m k r (replica_from p x) n counts (more.copies a s p held is)
+
+  -- what a call has in its hand behind a step is what it had, or a copy of a replica
+  pulled_few : (a : ActorName) (s : CallState) → m.in_hand a ≡ Some s → (verb : Verb) (k r : Option ℕ) (reply : StepReply) (x : Snapshot) → pulled_by m s verb k r reply ≡ Some x → length x.effects ≤ n
+  pulled_few a s held verbs.Pull (Some k) (Some r) words.Ok x is = by_replica (m.replicas k r) refl is
+    where
+      by_replica : (o : Option ReplicaState) → m.replicas k r ≡ o → option_map copied o ≡ Some x → length x.effects ≤ n
+      by_replica None none gone = absurd (cc gone)
+      by_replica (Some y) there same = subst (λ (z : Snapshot). length z.effects ≤ n) (same_Some (copied y) x same) (counts.effects k r y there)
+  pulled_few a s held verb k r reply x is = counts.copies a s x held is
 
   -- and a put gives a replica what a snapshot has
   put_on : (k r : ℕ) (reply : PutReply) (o : Option Snapshot) (x : Option ReplicaState) → m.snapshots k ≡ o → Counts (with_put m k r reply o x) (n + 1)
@@ -391,7 +419,7 @@ unmarked_few x = by_marks x.marks
     by_marks (Some marked) = let a = length_push x.effects (Applied marked.call marked.update marked.moment) in omega (arith, a)
 
 -- a step counts up by at most one
-module _ (m : Machine) (n : ℕ) (rises : IdentitiesRise m.cluster.entries) (up_to : AllUpTo m.cluster.last_identity m.cluster.entries) (counts : Counts m n) (s : CallState) where
+module _ (m : Machine) (n : ℕ) (rises : IdentitiesRise m.cluster.entries) (up_to : AllUpTo m.cluster.last_identity m.cluster.entries) (counts : Counts m n) (s : CallState) (held : m.in_hand s.call.actor ≡ Some s) where
   -- one entry is changed
   abbrev changing : ℕ → (Entry → Entry) → RecordState → RecordState
   changing k f R = record R { entries = change_key identity_of k f R.entries }
@@ -420,7 +448,7 @@ module _ (m : Machine) (n : ℕ) (rises : IdentitiesRise m.cluster.entries) (up_
   changed_counts verbs.Enter k r reply = ok_on m n counts reply _ (some_on m n counts r _ (λ r. on_step m n counts (entered (client_of s.call) r s.call.number) (record { rises = rises; last = omega arith; few = (same_on m.cluster rises up_to).few })))
   changed_counts verbs.Leave k r reply = ok_on m n counts reply _ (tables_on m n counts _ (on_step m n counts (departed (client_of s.call)) (departed_on m.cluster rises up_to (client_of s.call))) s.call.actor emptied (record { handles = omega arith; iterations = omega arith }))
   changed_counts verbs.Create k r reply = ok_on m n counts reply _ (on_step m n counts (created_for s.call (asked s.op)) (created_for_on m.cluster rises up_to s.call (asked s.op)))
-  changed_counts verbs.Reserve k r reply = ok_on m n counts reply _ (both_on m n counts k r _ (λ k r. let c = more m n counts in record { next = c.next; last_handles = c.last_handles; last_iterations = c.last_iterations; effects = c.effects; snapshots = c.snapshots; identity = c.identity; references = c.references }))
+  changed_counts verbs.Reserve k r reply = ok_on m n counts reply _ (both_on m n counts k r _ (λ k r. let c = more m n counts in record { next = c.next; last_handles = c.last_handles; last_iterations = c.last_iterations; effects = c.effects; snapshots = c.snapshots; copies = c.copies; identity = c.identity; references = c.references }))
   changed_counts verbs.Finish k r reply = ok_on m n counts reply _ (some_on m n counts k _ (λ k. entry_given k (made_with (home_of (client_of s.call) m.cluster) m.cluster.up (client_of s.call)) (λ e. refl) (OneMore-made (home_of (client_of s.call) m.cluster) m.cluster.up (client_of s.call))))
   changed_counts verbs.Undo k r reply = ok_on m n counts reply _ (some_on m n counts k _ (undone_on m n counts rises up_to))
   changed_counts verbs.Open k r reply = ok_on m n counts reply _ (some_on m n counts k _ (λ k. entry_given k (opened_with (home_of (client_of s.call) m.cluster) m.cluster.up (client_of s.call)) (opened_with-identity (home_of (client_of s.call) m.cluster) m.cluster.up (client_of s.call)) (OneMore-opened (home_of (client_of s.call) m.cluster) m.cluster.up (client_of s.call))))
@@ -433,6 +461,7 @@ module _ (m : Machine) (n : ℕ) (rises : IdentitiesRise m.cluster.entries) (up_
   changed_counts verbs.Mark k r reply = ok_on m n counts reply _ (both_on m n counts k r _ (λ k r. replica_on m n counts k r (m.replicas k r) refl (with_marks s.call (update_of s.op) m.cluster.moment) (λ x. omega arith)))
   changed_counts verbs.Element k r reply = ok_on m n counts reply _ (both_on m n counts k r _ (λ k r. replica_on m n counts k r (m.replicas k r) refl _ (λ x. let same = ap length (element_effects (entry_of k m.cluster.entries) x) in omega (arith, same))))
   changed_counts verbs.Unmark k r reply = ok_on m n counts reply _ (both_on m n counts k r _ (λ k r. replica_on m n counts k r (m.replicas k r) refl _ unmarked_few))
+  changed_counts verbs.Install k r reply = ok_on m n counts reply _ (both_on m n counts k r _ (λ k r. installed_on m n counts s.call.actor s held k r (m.replicas k r) refl))
   changed_counts verbs.Iter k r reply = ok_on m n counts reply _ (both_on m n counts k r _ started_counts)
   changed_counts verbs.Next k r reply = ok_on m n counts reply _ (both_on m n counts k r _ gone_on_counts)
   changed_counts verbs.Look k r reply =
@@ -447,6 +476,12 @@ begun_counts m call op end n counts = tables_on m n counts (begun_call m call op
   last_iterations = λ a. omega (arith, counts.last_iterations a);
   effects = λ k r x is. omega (arith, counts.effects k r x is);
   snapshots = λ k s is. omega (arith, counts.snapshots k s is);
+  copies = λ a s x held is. elim (put_actor-cases m.in_hand call.actor (call_begun end call op (first_kept m call op)) a s held) [
+    | inl own ↦ (
+        let (driver, starts, same) = begun_as end call op (first_kept m call op) s own.1 in
+        absurd (let w : None ≡ Some x = ap (λ (z : CallState). z.snapshot) same ∙ is in cc w))
+    | inr other ↦ omega (arith, counts.copies a s x other.1 is)
+  ];
   identity = omega arith;
   references = λ k e c is. omega (arith, counts.references k e c is);
 }) call.actor (ended_at_once end (asked op)) (CountsOne-ended_at_once end (asked op) (m.tables call.actor))
@@ -456,10 +491,20 @@ begun_counts m call op end n counts = tables_on m n counts (begun_call m call op
 pub counts_up : CountsUp
 counts_up m (labels.Began call op end) n inv is few = begun_counts m call op end n few
 counts_up m (labels.Stepped call op verb k r reply end details) n inv is few =
+    let s = is.state in
+    let held : m.in_hand s.call.actor ≡ Some s = ap (λ (c : CallId). m.in_hand c.actor) is.call_is ∙ is.in_hand in
+    let behind = changed m s verb k r reply in
+    let on = changed_counts m n inv.holds.rises inv.holds.up_to few s held verb k r reply in
     subst (λ o. Counts (step_of m o verb k r reply end) (n + 1)) (sym is.in_hand)
-    (Counts-in_hand (changed m is.state verb k r reply) _ (n + 1) (changed_counts m n inv.holds.rises inv.holds.up_to few is.state verb k r reply))
+    (Counts-in_hand behind _ (n + 1) on (λ a z x in_hand has. elim (put_actor-cases behind.in_hand s.call.actor (left end (kept_behind m s behind.cluster verb k r reply)) a z in_hand) [
+      | inl own ↦ (
+          let same = left_is end (kept_behind m s behind.cluster verb k r reply) z own.1 in
+          let a = pulled_few m n few s.call.actor s held verb k r reply x (ap (λ (z : CallState). z.snapshot) same ∙ has) in
+          omega (arith, a))
+      | inr other ↦ on.copies a z x other.1 has
+    ]))
 counts_up m (labels.Word who word said) n inv is few = more m n few
-counts_up m (labels.Nodes nodes) n inv is few = let c = more m n few in record { next = c.next; last_handles = c.last_handles; last_iterations = c.last_iterations; effects = c.effects; snapshots = c.snapshots; identity = c.identity; references = c.references }
+counts_up m (labels.Nodes nodes) n inv is few = let c = more m n few in record { next = c.next; last_handles = c.last_handles; last_iterations = c.last_iterations; effects = c.effects; snapshots = c.snapshots; copies = c.copies; identity = c.identity; references = c.references }
 counts_up m (labels.Moved t) n inv is few = on_record m n few (moved t m.cluster) (record { rises = IdentitiesRise-filter (stays t) m.cluster.entries inv.holds.rises; last = omega arith; few = λ n few k e c found. let a = Few-filter n (stays t) m.cluster.entries inv.holds.rises few k e c found in omega (arith, a) })
 counts_up m (labels.Shown k replicas) n inv is few = more m n few
 counts_up m (labels.Pulled k reply) n inv is few = pulled_on m n few k reply (source_at m k) refl

@@ -23,6 +23,7 @@ use Rattle.ckpt_machine.specs.Steps.{driver_of, with_record, replica_under, rese
 use Rattle.ckpt_machine.specs.Shape.{Shape, IsCompleteOn}
 use Rattle.ckpt_machine.proofs.NodeLists.{slice_index-replicate}
 use Rattle.ckpt_machine.proofs.EntryLists.{entry_of-given, find_key-push, AllStay-push}
+use Rattle.ckpt_machine.proofs.Handles.{IsGoodHandle-later}
 use Rattle.ckpt_machine.proofs.OtherCalls.{LooksAlike, making_still, IsInHand-alike, IsGoodIn-alike}
 use Rattle.ckpt_machine.proofs.OptionLemmas.{IsSomeAnd-at, IsSomeAnd-from}
 use Rattle.ckpt_machine.proofs.ReplicaSteps.{put_actor-cases, put_actor-here, put_actor-other}
@@ -139,7 +140,7 @@ module _ (m : Machine) (shapes : ℕ → Shape) (inv : InvariantIn shapes m) (s 
       tables = refl;
       making = λ x at. making_still m then_machine z x making_then at;
       made = WasMade-then;
-      later = λ j was e found. (e, sym (entry_other j (given_apart j was.given)) ∙ found, λ all. refl, refl, refl);
+      later = λ j was e found. (e, sym (entry_other j (given_apart j was.given)) ∙ found, λ all. refl, refl, refl, refl);
       owners = λ j was r. refl;
       marks = λ j was. refl;
     }
@@ -162,9 +163,9 @@ module _ (m : Machine) (shapes : ℕ → Shape) (inv : InvariantIn shapes m) (s 
     up_to = AllUpTo-push m.cluster.last_identity m.cluster.entries new inv.up_to refl;
     swept = AllStay-push m.cluster.moment m.cluster.entries new inv.swept refl;
     entries = λ j e found. by_test j e found (j == next) refl;
-    replicas = λ j q x is. under_complete (entry_of j R.entries) (slice_index (complete_of (entry_of j m.cluster.entries)) q) q (m.replicas j q) x is;
+    replicas = λ j q x is. under_complete (entry_of j R.entries) (slice_index (complete_of (entry_of j m.cluster.entries)) q) q (m.replicas j q) x (λ f found was. let (g, there, at) = IsSomeAnd-at (entry_of j m.cluster.entries) (λ (e : Entry). IsCompleteOn e q × (x.generation ≡ e.generation)) (inv.replicas j q x was) in at.1 ∙ ap (λ (e : Entry). e.generation) (same_Some g f (sym (entry_other j (was_there j g there) ∙ there) ∙ found))) is;
     reserves = λ j q n reserved. was_reserved (entry_of j R.entries) q n (m.reserved j q) (λ f. IsSome f.making) (λ f found free was. reserves_then j q n f found was (j == next) refl) reserved;
-    handles = λ b h among. WasMade-then h.id (inv.handles b h among);
+    handles = λ b h among. IsGoodHandle-later m.cluster R WasMade-then (λ j was e found. (e, sym (entry_other j (given_apart j was.given)) ∙ found, refl)) h (inv.handles b h among);
     rest = inv.rest;
     clients = inv.clients;
     hands = λ b z there. elim (put_actor-cases m.in_hand s.call.actor (Some w) b z there) [

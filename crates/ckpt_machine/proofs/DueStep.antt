@@ -1,16 +1,10 @@
 -- What is to be shown of a due step.
 use Rattle.std.proofs.Common.{◌≡◌, ◌<◌, Some, None}
 use Rattle.ckpt_machine.specs.Drivers.{Driver}
-use Rattle.cluster_record.specs.StepDone.{done_of}
+use Rattle.cluster_record.specs.StepDone.{done_of, counting}
 use Rattle.ckpt_machine.specs.Driving.{driver_taken}
 use Rattle.ckpt_machine.specs.Machine.{Machine, CallState}
-use Rattle.ckpt_machine.specs.Steps.{Told, step_of}
-use Rattle.ckpt_machine.specs.Guards.{Row}
-use Rattle.ckpt_machine.specs.Left.{steps_left}
-use Rattle.std.proofs.Common.{◌≡◌, ◌<◌, Some, None}
-use Rattle.cluster_record.specs.StepDone.{done_of}
-use Rattle.ckpt_machine.specs.Driving.{driver_taken}
-use Rattle.ckpt_machine.specs.Steps.{Told}
+use Rattle.ckpt_machine.specs.Steps.{Told, counted_at, step_of}
 use Rattle.ckpt_machine.specs.Guards.{Row}
 use Rattle.ckpt_machine.specs.Left.{steps_left}
 use Rattle.ckpt_machine.specs.Invariant.{Invariant}
@@ -28,4 +22,4 @@ pub record Moves (m : Machine) (s : CallState) (t : Told) : Type 0 where
 pub record Goes (m : Machine) (s : CallState) (d : Driver) (t : Told) : Type 0 where
   pub row : Row m s t.verb t
   pub holds : Invariant (after_step m s t)
-  pub nearer : t.end ≡ None → steps_left (after_step m s t).cluster (driver_taken (done_of (after_step m s t).cluster t.verb t.ckpt t.node t.reply) d) < steps_left m.cluster d
+  pub nearer : t.end ≡ None → steps_left (after_step m s t).cluster (driver_taken (counting (counted_at m t.verb t.ckpt t.node t.reply) (done_of (after_step m s t).cluster t.verb t.ckpt t.node t.reply)) d) < steps_left m.cluster d

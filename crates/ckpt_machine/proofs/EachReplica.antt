@@ -1,10 +1,14 @@
--- What is said of a replica by its checkpoint's entry and its node, and of a snapshot by that entry, and what keeps it at each step: then it holds of each replica and each snapshot in every state of a run. And where updates go to the active alone, no other replica and no snapshot is ahead of it.
+-- What is said of a replica by its checkpoint's entry and its node, and of a snapshot by that entry, and what keeps it at each step: then it holds of each replica and each snapshot, in a hand too, in every state of a run. And where updates go to the active alone, no other replica and no snapshot of its generation is ahead of it.
 use Rattle.std.proofs.Common.{◌≡◌, ◌⊎◌, inl, inr, ℕ, ◌≤◌, List, [], ◌∷◌, ◌++◌, Option, Some, None, Bool, true, false, cond, not, ◌==◌, ℤ, refl, sym, ap, subst, ◌∙◌, append_assoc, arith}
-use Rattle.std.specs.Prelude.{IsSome, IsSomeAnd, IsOk, slice_index}
+use Rattle.std.specs.Option.{option_map}
+use Rattle.std.specs.Prelude.{IsSome, IsSomeAnd, IfSome, IsOk, slice_index}
 use Rattle.std.proofs.lemmas.Bool.{eqb-true}
 use Rattle.std.proofs.lemmas.List.{append-nil}
 use Rattle.std.proofs.lemmas.Option.{same_Some}
+use Rattle.ckpt_types.specs.declared.answers.Outcome.{Outcome}
+use Rattle.ckpt_types.specs.declared.identities.ActorName.{ActorName}
 use Rattle.ckpt_types.specs.declared.identities.CallId.{CallId}
+use Rattle.ckpt_types.specs.declared.operation.Op.{Op}
 use Rattle.ckpt_types.specs.declared.update.Update.{Update}
 use Rattle.ckpt_types.specs.Asks.{asked, update_asked, update_of}
 use Rattle.ckpt_types.specs.Asks as asks
@@ -17,14 +21,15 @@ use Rattle.node_msgs.specs.declared.steps.StepReply.TheVariants as words
 use Rattle.run_labels.specs.declared.labels.Label.{Label}
 use Rattle.run_labels.specs.declared.labels.Label.TheVariants as labels
 use Rattle.cluster_record.specs.declared.entries.Entry.{Entry}
-use Rattle.cluster_record.specs.Calls.{client_of}
+use Rattle.cluster_record.specs.Calls.{client_of, put_actor, left}
 use Rattle.cluster_record.specs.Makings.{making_of}
 use Rattle.cluster_record.specs.Places.{change_key, put, put2}
 use Rattle.cluster_record.specs.RecordState.{RecordState, entry_of, identity_of, complete_of, stays, swept, moved, entered, finished, home_of, opened_with, unreferred, unnamed, departed, undone}
 use Rattle.cluster_record.proofs.IdentityLaws.{IdentitiesRise-filter}
 use Rattle.ckpt_machine.specs.Beginning.{update_is_bad}
 use Rattle.ckpt_machine.specs.BeginRows.{has_bad_arguments}
-use Rattle.ckpt_machine.specs.Guards.{CommitOk, ApplyOk, MarkOk, AreMarksOf, OnAll, OnActive, Row, Allowed}
+use Rattle.ckpt_machine.specs.Driving.{Kept}
+use Rattle.ckpt_machine.specs.Guards.{CommitOk, ApplyOk, MarkOk, AreMarksOf, PullOk, OnAll, OnActive, IsOnOwn, Row, Allowed}
 use Rattle.ckpt_machine.specs.Invariant.{Invariant}
 use Rattle.ckpt_machine.specs.Machine.{Machine, Effect, Applied, Staged, ReplicaState, Snapshot, CallState, empty_cluster}
 use Rattle.ckpt_machine.specs.Listing.{is_active}
@@ -33,34 +38,24 @@ use Rattle.ckpt_machine.specs.Propagation.{copied, replica_from}
 use Rattle.ckpt_machine.specs.Replays.{IsPrefix}
 use Rattle.ckpt_machine.specs.Runs.{last, IsRun}
 use Rattle.ckpt_machine.specs.Shape.{IsCompleteOn, IsApart, IsShapedBy, marks_at}
-use Rattle.ckpt_machine.specs.Steps.{Told, IsDone, IsDue, due, with_record, record_step, created_for, retained_for, change_replica, having_taken, committed_slot, with_committed, with_applied, with_slot, with_marks, next_element_written, with_next_element, marks_ended, without_marks, changed, on_ok, on_look, without_making, at_some, replica_under, snapshot_under, effect_of, opened_state, step_of, staged_moment, after}
+use Rattle.ckpt_machine.specs.Steps.{Told, IsDone, IsDue, due, with_record, record_step, created_for, retained_for, change_replica, having_taken, committed_slot, with_committed, with_applied, with_slot, with_marks, next_element_written, with_next_element, marks_ended, without_marks, changed, on_ok, on_look, without_making, at_some, replica_under, snapshot_under, effect_of, opened_state, pulled_by, kept_behind, step_of, call_begun, after_beginning, staged_moment, after}
 use Rattle.ckpt_machine.proofs.ActiveNode.{active_complete}
-use Rattle.ckpt_machine.proofs.Copying.{IsSource, IsPulledFrom, IsPutOn, not_active, after_pull, after_put, put-cases, put2-cases}
+use Rattle.ckpt_machine.proofs.Copying.{IsSource, IsPulledFrom, IsPutOn, TakesOver, not_active, after_pull, after_put_over, put-cases, put2-cases}
 use Rattle.ckpt_machine.proofs.Entries.{ComesOf-filter}
 use Rattle.ckpt_machine.proofs.EntryLists.{entry_of-given}
 use Rattle.ckpt_machine.proofs.Follows.{under, snapshot_was, element_effects}
 use Rattle.ckpt_machine.proofs.GoodArguments.{HaveGoodArguments, good_arguments}
-use Rattle.ckpt_machine.proofs.Histories.{HasHistory, shaped_there, maker_incomplete, on_replica-there, run_history}
+use Rattle.ckpt_machine.proofs.Histories.{HasHistory, shaped_there, maker_incomplete, on_replica-there, follows, run_history}
+use Rattle.ckpt_machine.proofs.Installed.{after_install}
 use Rattle.ckpt_machine.proofs.Joining.{opened_with-identity}
-use Rattle.ckpt_machine.proofs.OptionLemmas.{IsSomeAnd-at, IsSomeAnd-from}
+use Rattle.ckpt_machine.proofs.OptionLemmas.{IsSomeAnd-at, IsSomeAnd-from, IfSome-from, IfSome-at}
 use Rattle.ckpt_machine.proofs.OwnMaking.{making_there}
+use Rattle.ckpt_machine.proofs.Prefixes.{prefix_same, prefix_of_same, prefix_of_none, prefix_then}
 use Rattle.ckpt_machine.proofs.References.{released-identity}
+use Rattle.ckpt_machine.proofs.ReplicaSteps.{put_actor-cases}
 use Rattle.ckpt_machine.proofs.Runs.{last-push, IsRunFrom-front, IsRunFrom-back}
+use Rattle.ckpt_machine.proofs.Starting.{first_kept, begun_as}
 use Rattle.ckpt_machine.proofs.StaysMade.{StaysMade, StaysMade-same, StaysMade-kept, released_made, opened_made, MadeOn, MadeOn-swept, changed_on, filter_on, departed_on, created_for_on, retained_for_on, finished_on}
-
--- ---- what goes on from what
-
-prefix_same : (xs : List Effect) → IsPrefix xs xs
-prefix_same xs = ([], sym (append-nil xs))
-
-prefix_of_same : (xs ys : List Effect) → ys ≡ xs → IsPrefix xs ys
-prefix_of_same xs ys same = subst (IsPrefix xs) (sym same) (prefix_same xs)
-
-prefix_of_none : (xs ys : List Effect) → xs ≡ [] → IsPrefix xs ys
-prefix_of_none xs ys none = (ys, ap (λ (xs : List Effect). xs ++ ys) (sym none))
-
-prefix_then : (xs ys zs : List Effect) → IsPrefix xs ys → IsPrefix ys zs → IsPrefix xs zs
-prefix_then xs ys zs one two = (one.0 ++ two.0, two.1 ∙ ap (λ (ys : List Effect). ys ++ two.0) one.1 ∙ append_assoc xs one.0 two.0)
 
 -- ---- a step on one replica
 
@@ -97,13 +92,32 @@ pub record IsMarkedFor (call : CallId) (update : Update) (left : Bool) (x : Repl
   pub stand : x.marks ≡ Some marks
   pub are : AreMarksOf call update left marks
 
--- what one replica becomes: it has its effects still, and where updates are on the active alone, more only if it is the active
+-- what one replica becomes: it has its generation and its effects still, and where updates are on the active alone, more only if it is the active
 pub record Grows (m : Machine) (k r : ℕ) (x y : ReplicaState) : Type 0 where
+  pub generation : y.generation ≡ x.generation
   pub more : IsPrefix x.effects y.effects
   pub other : (e : Entry) → entry_of k m.cluster.entries ≡ Some e → is_all e.attributes ≡ false → (e.active ≡ Some r) ⊎ (y.effects ≡ x.effects)
 
+-- a commit leaves the generation
+pub committed_generation : (o : Option Entry) (x : ReplicaState) → (with_committed o x).generation ≡ x.generation
+committed_generation None x = refl
+committed_generation (Some e) x = by_slot x.slot
+  where
+    by_slot : (o : Option Staged) → (committed_slot e.attributes x o).generation ≡ x.generation
+    by_slot None = refl
+    by_slot (Some slot) = refl
+
+-- an element of a weak write leaves the generation
+pub element_generation : (o : Option Entry) (x : ReplicaState) → (with_next_element o x).generation ≡ x.generation
+element_generation None x = refl
+element_generation (Some e) x = by_marks x.marks
+  where
+    by_marks : (marks : Option Marked) → (next_element_written e.attributes x marks).generation ≡ x.generation
+    by_marks None = refl
+    by_marks (Some marked) = refl
+
 -- a commit takes no effect away
-committed_more : (o : Option Entry) (x : ReplicaState) → IsPrefix x.effects (with_committed o x).effects
+pub committed_more : (o : Option Entry) (x : ReplicaState) → IsPrefix x.effects (with_committed o x).effects
 committed_more None x = prefix_same x.effects
 committed_more (Some e) x = by_slot x.slot
   where
@@ -119,14 +133,34 @@ no_marks_at (Some active) marks r other = elim (r == active) as (λ b. (r == act
   | false ↦ λ is. refl
 ] refl
 
--- where its effects stay
-grows_same : (m : Machine) (k r : ℕ) (x y : ReplicaState) → y.effects ≡ x.effects → Grows m k r x y
-grows_same m k r x y same = record { more = prefix_of_same x.effects y.effects same; other = λ e found alone. inr same }
+-- where its effects and its generation stay
+grows_same : (m : Machine) (k r : ℕ) (x y : ReplicaState) → y.effects ≡ x.effects → y.generation ≡ x.generation → Grows m k r x y
+grows_same m k r x y same generation = record { generation = generation; more = prefix_of_same x.effects y.effects same; other = λ e found alone. inr same }
 
--- each replica of the checkpoint, and its snapshot, has only what this one has taken first
-pub record IsAhead (k : ℕ) (replicas : ℕ → ℕ → Option ReplicaState) (snapshots : ℕ → Option Snapshot) (y : ReplicaState) : Type 0 where
-  pub replica : (q : ℕ) (x : ReplicaState) → replicas k q ≡ Some x → IsPrefix x.effects y.effects
-  pub snapshot : (s : Snapshot) → snapshots k ≡ Some s → IsPrefix s.effects y.effects
+-- ---- snapshots in hands
+
+-- a call in hand, on this checkpoint, has pulled this snapshot
+pub record PulledInHand (hands : ActorName → Option CallState) (k : ℕ) (s : Snapshot) : Type 0 where
+  pub actor : ActorName
+  pub state : CallState
+  pub in_hand : hands actor ≡ Some state
+  pub ckpt : state.kept.ckpt ≡ Some k
+  pub snapshot : state.snapshot ≡ Some s
+
+-- a call that has begun has pulled nothing
+begun_empty : (end : Option Outcome) (call : CallId) (op : Op) (kept : Kept) (z : CallState) (s : Snapshot) → call_begun end call op kept ≡ Some z → z.snapshot ≡ Some s → ⊥
+begun_empty end call op kept z s is pulled = let (d, driven, same) = begun_as end call op kept z is in let w : None ≡ Some s = ap (λ (z : CallState). z.snapshot) same ∙ pulled in cc w
+
+-- a call that goes on is as its step leaves it
+pub left_as : (end : Option Outcome) (s z : CallState) → left end s ≡ Some z → s ≡ z
+left_as None s z is = same_Some s z is
+left_as (Some e) s z is = absurd (cc is)
+
+-- each replica of the checkpoint, and each snapshot of it, that is of this generation has only what this one has taken first
+pub record IsAhead (k g : ℕ) (replicas : ℕ → ℕ → Option ReplicaState) (snapshots : ℕ → Option Snapshot) (hands : ActorName → Option CallState) (y : ReplicaState) : Type 0 where
+  pub replica : (q : ℕ) (x : ReplicaState) → replicas k q ≡ Some x → x.generation ≡ g → IsPrefix x.effects y.effects
+  pub snapshot : (s : Snapshot) → snapshots k ≡ Some s → s.generation ≡ g → IsPrefix s.effects y.effects
+  pub in_hand : (s : Snapshot) → PulledInHand hands k s → s.generation ≡ g → IsPrefix s.effects y.effects
 
 -- the checkpoint on which a node is complete is made
 pub made_where_complete : (m : Machine) → Invariant m → (k r : ℕ) (e : Entry) → entry_of k m.cluster.entries ≡ Some e → IsCompleteOn e r → e.making ≡ None
@@ -139,22 +173,48 @@ made_where_complete m inv k r e found complete = by_making e.making refl
 -- ---- what is kept
 
 module _ (Q : Option Entry → ℕ → ReplicaState → Type 0) (S : Entry → Snapshot → Type 0) where
-  -- it holds of each replica and each snapshot; a snapshot is of a checkpoint that is made, and whose updates go to an active alone; and no replica and no snapshot is ahead of such an active
-  pub record EachIn (entries : List Entry) (replicas : ℕ → ℕ → Option ReplicaState) (snapshots : ℕ → Option Snapshot) : Type 0 where
+  -- it holds of each replica and each snapshot; a snapshot is of a checkpoint that is made, and whose updates go to an active alone, but the checkpoint of one in a hand may be gone; and no replica and no snapshot of its generation is ahead of such an active
+  pub record EachIn (last : ℕ) (entries : List Entry) (replicas : ℕ → ℕ → Option ReplicaState) (snapshots : ℕ → Option Snapshot) (hands : ActorName → Option CallState) : Type 0 where
     pub replica : (k r : ℕ) (x : ReplicaState) → replicas k r ≡ Some x → Q (entry_of k entries) r x
     pub snapshot : (k : ℕ) (s : Snapshot) → snapshots k ≡ Some s → IsSomeAnd (entry_of k entries) (λ e. IsSource e × S e s)
-    pub ahead : (k r : ℕ) (e : Entry) (y : ReplicaState) → entry_of k entries ≡ Some e → is_all e.attributes ≡ false → e.active ≡ Some r → replicas k r ≡ Some y → IsAhead k replicas snapshots y
+    pub in_hand : (k : ℕ) (s : Snapshot) → PulledInHand hands k s → (k ≤ last) × IfSome (entry_of k entries) (λ e. IsSource e × S e s)
+    pub ahead : (k r : ℕ) (e : Entry) (y : ReplicaState) → entry_of k entries ≡ Some e → is_all e.attributes ≡ false → e.active ≡ Some r → replicas k r ≡ Some y → IsAhead k e.generation replicas snapshots hands y
 
   abbrev pub Each : Machine → Type 0
-  Each m = EachIn m.cluster.entries m.replicas m.snapshots
+  Each m = EachIn m.cluster.last_identity m.cluster.entries m.replicas m.snapshots m.in_hand
+
+  -- a call in hand may have this snapshot
+  record MayHave (n : Machine) (k : ℕ) (s : Snapshot) : Type 0 where
+    given : k ≤ n.cluster.last_identity
+    so : IfSome (entry_of k n.cluster.entries) (λ e. IsSource e × S e s)
+    behind : (r : ℕ) (e : Entry) (y : ReplicaState) → entry_of k n.cluster.entries ≡ Some e → is_all e.attributes ≡ false → e.active ≡ Some r → n.replicas k r ≡ Some y → s.generation ≡ e.generation → IsPrefix s.effects y.effects
+
+  -- a call in hand may have what one has
+  still_has : (n : Machine) → Each n → (k : ℕ) (s : Snapshot) → PulledInHand n.in_hand k s → MayHave n k s
+  still_has n each k s has = record {
+    given = (each.in_hand k s has).0;
+    so = (each.in_hand k s has).1;
+    behind = λ r e y found alone active at. (each.ahead k r e y found alone active at).in_hand s has;
+  }
+
+  -- it holds with other calls in hand, which have what they may
+  hands_each : (n : Machine) → Each n → (hands : ActorName → Option CallState) → ((k : ℕ) (s : Snapshot) → PulledInHand hands k s → MayHave n k s) → Each (record n { in_hand = hands })
+  hands_each n each hands may = record {
+    replica = each.replica;
+    snapshot = each.snapshot;
+    in_hand = λ k s has. ((may k s has).given, (may k s has).so);
+    ahead = λ k r e y found alone active at. (
+        let before = each.ahead k r e y found alone active at in
+        record { replica = before.replica; snapshot = before.snapshot; in_hand = λ s has. (may k s has).behind r e y found alone active at });
+  }
 
   -- it holds of what a checkpoint's opening makes, whatever becomes of its entry, and where it holds it does behind a stage, a commit, an update in one step, and what is done for a weak write: its marks, each element and its end; and so it does of a snapshot of the active, and of a replica that takes it
   pub record IsKept : Type 0 where
     pub opened : (e : Entry) (r : ℕ) → Q (Some e) r (opened_state e)
     pub stays : (e f : Entry) (r : ℕ) (x : ReplicaState) → StaysMade e f → e.making ≡ None → Q (Some e) r x → Q (Some f) r x
-    pub stays_copied : (e f : Entry) (s : Snapshot) → StaysMade e f → S e s → S f s
+    pub stays_copied : (e f : Entry) (s : Snapshot) → StaysMade e f → IsSource e → S e s → S f s
     pub pulled : (e : Entry) (r : ℕ) (x : ReplicaState) → IsSource e → e.active ≡ Some r → x.marks ≡ None → Q (Some e) r x → S e (copied x)
-    pub put : (e : Entry) (r : ℕ) (s : Snapshot) (x : ReplicaState) → x.slot ≡ None → x.marks ≡ None → S e s → Q (Some e) r x → Q (Some e) r (replica_from s x)
+    pub put : (e : Entry) (r : ℕ) (s : Snapshot) (x : ReplicaState) → s.generation ≡ e.generation → x.slot ≡ None → x.marks ≡ None → S e s → Q (Some e) r x → Q (Some e) r (replica_from s x)
     pub staged : (m : Machine) (s : CallState) (k r : ℕ) (x : ReplicaState) → StepsOn m s verbs.Stage k r x → Q (entry_of k m.cluster.entries) r x → Q (entry_of k m.cluster.entries) r (with_slot s.call (update_of s.op) (staged_moment m k) x)
     pub committed : (m : Machine) (s : CallState) (k r : ℕ) (x : ReplicaState) (e : Entry) → StepsOn m s verbs.Commit k r x → DeclaresAll m k e → Q (Some e) r x → Q (Some e) r (committed_slot e.attributes x x.slot)
     pub applied : (m : Machine) (s : CallState) (k r : ℕ) (x : ReplicaState) (e : Entry) → StepsOn m s verbs.Apply k r x → IsActiveOf m k r e → x.marks ≡ None → Q (Some e) r x → Q (Some e) r (having_taken e.attributes s.call (update_of s.op) m.cluster.moment x)
@@ -177,9 +237,15 @@ module _ (Q : Option Entry → ℕ → ReplicaState → Type 0) (S : Entry → S
   ] is
 
   module _ (kept : IsKept) (m : Machine) (inv : Invariant m) (history : HasHistory m) (arguments : HaveGoodArguments m) (each : Each m) where
+    -- a checkpoint that has a replica is made
+    made_where_complete_at : (k r : ℕ) (x : ReplicaState) (e : Entry) → entry_of k m.cluster.entries ≡ Some e → m.replicas k r ≡ Some x → e.making ≡ None
+    made_where_complete_at k r x e found there =
+        let (f, is, complete) = IsSomeAnd-at (entry_of k m.cluster.entries) (λ e. IsCompleteOn e r) (history.bare.complete k r x there) in
+        made_where_complete m inv k r e found (subst (λ e. IsCompleteOn e r) (same_Some f e (sym is ∙ found)) complete)
+
     -- a step of the record: a replica was there, of a checkpoint that is made, or is as its opening makes it
     record_each : (R : RecordState) → ((k : ℕ) → k ≤ m.cluster.last_identity → MadeOn k m.cluster R) → Each (with_record m R)
-    record_each R on = record { replica = replica; snapshot = snapshot; ahead = ahead }
+    record_each R on = record { replica = replica; snapshot = snapshot; in_hand = in_hand; ahead = ahead }
       where
         -- what was made stays so
         still_made : (k : ℕ) (e f : Entry) → entry_of k m.cluster.entries ≡ Some e → entry_of k R.entries ≡ Some f → StaysMade e f
@@ -220,27 +286,48 @@ module _ (Q : Option Entry → ℕ → ReplicaState → Type 0) (S : Entry → S
             let (f, found, was) = IsSomeAnd-at (entry_of k R.entries) (λ e. m.snapshots k ≡ Some s) (snapshot_was (entry_of k R.entries) (m.snapshots k) s is) in
             let (e, there, is_so) = copied_was k s was in
             let made = still_made k e f there found in
-            IsSomeAnd-from (entry_of k R.entries) (λ e. IsSource e × S e s) f found (IsSource-stays e f made is_so.0, kept.stays_copied e f s made is_so.1)
+            IsSomeAnd-from (entry_of k R.entries) (λ e. IsSource e × S e s) f found (IsSource-stays e f made is_so.0, kept.stays_copied e f s made is_so.0 is_so.1)
 
-        -- where the checkpoint was made, its active is as it was
+        -- the entry of a snapshot in a hand, where it is there still
+        pulled_was : (k : ℕ) (s : Snapshot) (f : Entry) → PulledInHand m.in_hand k s → entry_of k R.entries ≡ Some f → (e : Entry) × (entry_of k m.cluster.entries ≡ Some e) × StaysMade e f × IsSource e × S e s
+        pulled_was k s f has found =
+            let (given, so) = each.in_hand k s has in
+            let (e, there, made) = (on k given).made f found in
+            let is_so = IfSome-at (entry_of k m.cluster.entries) (λ e. IsSource e × S e s) so e there in
+            (e, there, made, is_so.0, is_so.1)
+
+        in_hand : (k : ℕ) (s : Snapshot) → PulledInHand m.in_hand k s → (k ≤ R.last_identity) × IfSome (entry_of k R.entries) (λ e. IsSource e × S e s)
+        in_hand k s has =
+            let given : k ≤ m.cluster.last_identity = (each.in_hand k s has).0 in
+            let later : m.cluster.last_identity ≤ R.last_identity = (on k given).last in (
+              omega (arith, given, later),
+              IfSome-from (entry_of k R.entries) (λ e. IsSource e × S e s) (λ f found. (
+                  let (e, there, made, source, is_so) = pulled_was k s f has found in
+                  (IsSource-stays e f made source, kept.stays_copied e f s made source is_so))),
+            )
+
+        -- where the checkpoint was made, its active and its generation are as they were
         ahead_still : (k r : ℕ) (e f : Entry) (y : ReplicaState) → entry_of k m.cluster.entries ≡ Some e → e.making ≡ None → entry_of k R.entries ≡ Some f → is_all f.attributes ≡ false → f.active ≡ Some r
-            → replica_under (entry_of k R.entries) (slice_index (complete_of (entry_of k m.cluster.entries)) r) r (m.replicas k r) ≡ Some y → IsAhead k m.replicas m.snapshots y
+            → replica_under (entry_of k R.entries) (slice_index (complete_of (entry_of k m.cluster.entries)) r) r (m.replicas k r) ≡ Some y → IsAhead k f.generation m.replicas m.snapshots m.in_hand y
         ahead_still k r e f y there made found alone active is =
             let still = (still_made k e f there found).made made in
             let led : e.active ≡ Some r = sym still.active ∙ active in
             let complete : (slice_index (complete_of (entry_of k m.cluster.entries)) r == 0) ≡ false = subst (λ o. (slice_index (complete_of o) r == 0) ≡ false) (sym there) (active_complete m inv.shapes k e r inv.holds there made led) in
-            each.ahead k r e y there (ap is_all (sym still.attributes) ∙ alone) led (was_there (entry_of k R.entries) (slice_index (complete_of (entry_of k m.cluster.entries)) r) r (m.replicas k r) y complete is)
+            subst (λ g. IsAhead k g m.replicas m.snapshots m.in_hand y) (sym still.generation) (each.ahead k r e y there (ap is_all (sym still.attributes) ∙ alone) led (was_there (entry_of k R.entries) (slice_index (complete_of (entry_of k m.cluster.entries)) r) r (m.replicas k r) y complete is))
 
-        ahead : (k r : ℕ) (f : Entry) (y : ReplicaState) → entry_of k R.entries ≡ Some f → is_all f.attributes ≡ false → f.active ≡ Some r → (with_record m R).replicas k r ≡ Some y → IsAhead k (with_record m R).replicas (with_record m R).snapshots y
+        ahead : (k r : ℕ) (f : Entry) (y : ReplicaState) → entry_of k R.entries ≡ Some f → is_all f.attributes ≡ false → f.active ≡ Some r → (with_record m R).replicas k r ≡ Some y → IsAhead k f.generation (with_record m R).replicas (with_record m R).snapshots m.in_hand y
         ahead k r f y found alone active is = record {
-          replica = λ q x at. elim (under (entry_of k R.entries) (slice_index (complete_of (entry_of k m.cluster.entries)) q) q (m.replicas k q) x at).1 [
-            | inl was ↦ (let (e, there, made) = entry_was k q x was in (ahead_still k r e f y there made found alone active is).replica q x was)
+          replica = λ q x at present. elim (under (entry_of k R.entries) (slice_index (complete_of (entry_of k m.cluster.entries)) q) q (m.replicas k q) x at).1 [
+            | inl was ↦ (let (e, there, made) = entry_was k q x was in (ahead_still k r e f y there made found alone active is).replica q x was present)
             | inr none ↦ prefix_of_none x.effects y.effects none
           ];
           snapshot = λ s at.
               let was = (IsSomeAnd-at (entry_of k R.entries) (λ e. m.snapshots k ≡ Some s) (snapshot_was (entry_of k R.entries) (m.snapshots k) s at)).2 in
               let (e, there, is_so) = copied_was k s was in
               (ahead_still k r e f y there is_so.0.made found alone active is).snapshot s was;
+          in_hand = λ s has.
+              let (e, there, made, source, is_so) = pulled_was k s f has found in
+              (ahead_still k r e f y there source.made found alone active is).in_hand s has;
         }
 
     step_each : (step : RecordState → RecordState) → ((k : ℕ) → k ≤ m.cluster.last_identity → MadeOn k m.cluster (step m.cluster)) → Each (record_step step m)
@@ -267,8 +354,9 @@ module _ (Q : Option Entry → ℕ → ReplicaState → Type 0) (S : Entry → S
         | inr was ↦ each.replica j q z was.0
       ];
       snapshot = each.snapshot;
+      in_hand = each.in_hand;
       ahead = λ j q e y found alone active is. elim (put2-cases m.replicas k r (change x) j q y is) [
-        | inl here ↦ subst (IsAhead j (put2 m.replicas k r (Some (change x))) m.snapshots) here.2 (subst (λ j. IsAhead j (put2 m.replicas k r (Some (change x))) m.snapshots (change x)) here.0 (own e (ap (λ j. entry_of j m.cluster.entries) here.0 ∙ found) alone (active ∙ ap Some (sym here.1))))
+        | inl here ↦ subst (IsAhead j e.generation (put2 m.replicas k r (Some (change x))) m.snapshots m.in_hand) here.2 (subst (λ j. IsAhead j e.generation (put2 m.replicas k r (Some (change x))) m.snapshots m.in_hand (change x)) here.0 (own e (ap (λ j. entry_of j m.cluster.entries) here.0 ∙ found) alone (active ∙ ap Some (sym here.1))))
         | inr was ↦ others j q e y found alone active was.0 was.1
       ];
     }
@@ -280,31 +368,107 @@ module _ (Q : Option Entry → ℕ → ReplicaState → Type 0) (S : Entry → S
         grows = (becomes x there).grows
 
         -- the active itself
-        own : (e : Entry) → entry_of k m.cluster.entries ≡ Some e → is_all e.attributes ≡ false → e.active ≡ Some r → IsAhead k (put2 m.replicas k r (Some (change x))) m.snapshots (change x)
+        own : (e : Entry) → entry_of k m.cluster.entries ≡ Some e → is_all e.attributes ≡ false → e.active ≡ Some r → IsAhead k e.generation (put2 m.replicas k r (Some (change x))) m.snapshots m.in_hand (change x)
         own e found alone active =
             let before = each.ahead k r e x found alone active there in
             record {
-              replica = λ q z at. elim (put2-cases m.replicas k r (change x) k q z at) [
+              replica = λ q z at present. elim (put2-cases m.replicas k r (change x) k q z at) [
                 | inl here ↦ prefix_of_same z.effects (change x).effects (ap (λ (z : ReplicaState). z.effects) here.2)
-                | inr was ↦ prefix_then z.effects x.effects (change x).effects (before.replica q z was.0) grows.more
+                | inr was ↦ prefix_then z.effects x.effects (change x).effects (before.replica q z was.0 present) grows.more
               ];
-              snapshot = λ s at. prefix_then s.effects x.effects (change x).effects (before.snapshot s at) grows.more;
+              snapshot = λ s at present. prefix_then s.effects x.effects (change x).effects (before.snapshot s at present) grows.more;
+              in_hand = λ s has present. prefix_then s.effects x.effects (change x).effects (before.in_hand s has present) grows.more;
             }
 
         -- another one is the active, or it is of another checkpoint
-        others : (j q : ℕ) (e : Entry) (y : ReplicaState) → entry_of j m.cluster.entries ≡ Some e → is_all e.attributes ≡ false → e.active ≡ Some q → m.replicas j q ≡ Some y → ((k ≡ j) → (r ≡ q) → ⊥) → IsAhead j (put2 m.replicas k r (Some (change x))) m.snapshots y
+        others : (j q : ℕ) (e : Entry) (y : ReplicaState) → entry_of j m.cluster.entries ≡ Some e → is_all e.attributes ≡ false → e.active ≡ Some q → m.replicas j q ≡ Some y → ((k ≡ j) → (r ≡ q) → ⊥) → IsAhead j e.generation (put2 m.replicas k r (Some (change x))) m.snapshots m.in_hand y
         others j q e y found alone active at other =
             let before = each.ahead j q e y found alone active at in
             record {
-              replica = λ p z there_then. elim (put2-cases m.replicas k r (change x) j p z there_then) [
+              replica = λ p z there_then present. elim (put2-cases m.replicas k r (change x) j p z there_then) [
                 | inl here ↦ elim (grows.other e (ap (λ k. entry_of k m.cluster.entries) here.0 ∙ found) alone) [
                   | inl led ↦ absurd (other here.0 (same_Some r q (sym led ∙ active)))
-                  | inr same ↦ subst (λ xs. IsPrefix xs y.effects) (sym same ∙ ap (λ (z : ReplicaState). z.effects) here.2) (before.replica r x (subst (λ j. m.replicas j r ≡ Some x) here.0 there))
+                  | inr same ↦ subst (λ xs. IsPrefix xs y.effects) (sym same ∙ ap (λ (z : ReplicaState). z.effects) here.2) (before.replica r x (subst (λ j. m.replicas j r ≡ Some x) here.0 there) (sym grows.generation ∙ ap (λ (z : ReplicaState). z.generation) here.2 ∙ present))
                 ]
-                | inr was ↦ before.replica p z was.0
+                | inr was ↦ before.replica p z was.0 present
               ];
               snapshot = before.snapshot;
+              in_hand = before.in_hand;
             }
+
+    -- a snapshot of the active
+    pulled_each : (k : ℕ) (x : ReplicaState) → IsPulledFrom m k x → x.marks ≡ None → Each (record m { snapshots = put m.snapshots k (Some (copied x)) })
+    pulled_each k x from none = record {
+      replica = each.replica;
+      snapshot = λ j s is. elim (put-cases m.snapshots k (copied x) j s is) [
+        | inl here ↦ subst (λ s. IsSomeAnd (entry_of j m.cluster.entries) (λ e. IsSource e × S e s)) here.1 (subst (λ j. IsSomeAnd (entry_of j m.cluster.entries) (λ e. IsSource e × S e (copied x))) here.0 own)
+        | inr was ↦ each.snapshot j s was
+      ];
+      in_hand = each.in_hand;
+      ahead = λ j r e y found alone active at.
+          let before = each.ahead j r e y found alone active at in
+          record {
+            replica = before.replica;
+            snapshot = λ s is present. elim (put-cases m.snapshots k (copied x) j s is) [
+              | inl here ↦ subst (λ (s : Snapshot). IsPrefix s.effects y.effects) here.1 (before.replica from.node x (subst (λ j. m.replicas j from.node ≡ Some x) here.0 from.there) (ap (λ (s : Snapshot). s.generation) here.1 ∙ present))
+              | inr was ↦ before.snapshot s was present
+            ];
+            in_hand = before.in_hand;
+          };
+    }
+      where
+        own : IsSomeAnd (entry_of k m.cluster.entries) (λ e. IsSource e × S e (copied x))
+        own = IsSomeAnd-from (entry_of k m.cluster.entries) (λ e. IsSource e × S e (copied x)) from.entry from.found
+            (from.source, kept.pulled from.entry from.node x from.source from.active none (subst (λ o. Q o from.node x) from.found (each.replica k from.node x from.there)))
+
+    -- a call in hand may have what is the background snapshot of a checkpoint that is there
+    copied_may : (k : ℕ) (s : Snapshot) (e : Entry) → entry_of k m.cluster.entries ≡ Some e → m.snapshots k ≡ Some s → MayHave m k s
+    copied_may k s e found is = record {
+      given = entry_of-given m.cluster.last_identity k m.cluster.entries e inv.holds.up_to found;
+      so = (let (f, there, is_so) = IsSomeAnd-at (entry_of k m.cluster.entries) (λ e. IsSource e × S e s) (each.snapshot k s is) in subst (λ o. IfSome o (λ e. IsSource e × S e s)) (sym there) is_so);
+      behind = λ r f y at alone active there. (each.ahead k r f y at alone active there).snapshot s is;
+    }
+
+    -- on what a snapshot is put nothing is staged, and no marks stand
+    put_apart : (k r : ℕ) (x : ReplicaState) (on : IsPutOn m k r x) → IsApart None x
+    put_apart k r x on =
+        let shaped = (shaped_there m inv.shapes inv.holds history.bare k r x on.entry on.there on.found).shaped in
+        subst (λ marks. IsApart marks x) (no_marks_at on.entry.active (inv.shapes k).marks r on.other) (subst (λ all. IsShapedBy all (inv.shapes k) on.entry.active r x) on.alone shaped)
+
+    -- a replica that takes a snapshot
+    put_each : (k r : ℕ) (s : Snapshot) (x : ReplicaState) → MayHave m k s → TakesOver m k r s x → Each (record m { replicas = put2 m.replicas k r (Some (replica_from s x)) })
+    put_each k r s x may over = record {
+      replica = λ j q z at. elim (put2-cases m.replicas k r (replica_from s x) j q z at) [
+        | inl here ↦ subst (Q (entry_of j m.cluster.entries) q) here.2 (subst (λ q. Q (entry_of j m.cluster.entries) q (replica_from s x)) here.1 (subst (λ j. Q (entry_of j m.cluster.entries) r (replica_from s x)) here.0 own))
+        | inr was ↦ each.replica j q z was.0
+      ];
+      snapshot = each.snapshot;
+      in_hand = each.in_hand;
+      ahead = λ j q e y found alone active at. elim (put2-cases m.replicas k r (replica_from s x) j q y at) [
+        | inl here ↦ absurd (
+            let same : e ≡ on.entry = same_Some e on.entry (sym found ∙ ap (λ k. entry_of k m.cluster.entries) (sym here.0) ∙ on.found) in
+            not_active on.entry.active r on.other (ap (λ (e : Entry). e.active) (sym same) ∙ active ∙ ap Some (sym here.1)))
+        | inr was ↦ (
+            let before = each.ahead j q e y found alone active was.0 in
+            record {
+              replica = λ p z there present. elim (put2-cases m.replicas k r (replica_from s x) j p z there) [
+                | inl here ↦ subst (λ (z : ReplicaState). IsPrefix z.effects y.effects) here.2 ((subst (λ j. MayHave m j s) here.0 may).behind q e y found alone active was.0 (ap (λ (z : ReplicaState). z.generation) here.2 ∙ present))
+                | inr was ↦ before.replica p z was.0 present
+              ];
+              snapshot = before.snapshot;
+              in_hand = before.in_hand;
+            })
+      ];
+    }
+      where
+        on : IsPutOn m k r x
+        on = over.on
+
+        own : Q (entry_of k m.cluster.entries) r (replica_from s x)
+        own =
+            let apart = put_apart k r x on in
+            let is_so = IfSome-at (entry_of k m.cluster.entries) (λ e. IsSource e × S e s) may.so on.entry on.found in
+            subst (λ o. Q o r (replica_from s x)) (sym on.found) (kept.put on.entry r s x over.present apart.free apart.marks_are is_so.1 (subst (λ o. Q o r x) on.found (each.replica k r x on.there)))
 
     -- what is done on OK alone, and at a checkpoint and a node that are named
     ok_each : (reply : StepReply) (n : Machine) → Each n → Each (on_ok reply m n)
@@ -332,7 +496,7 @@ module _ (Q : Option Entry → ℕ → ReplicaState → Type 0) (S : Entry → S
     Becomes (Some k) (Some r) words.Ok change = (x : ReplicaState) → m.replicas k r ≡ Some x → BecomesThere k r x (change k x)
     Becomes k r reply change = Unit {0}
 
-    -- what a step of a call needs: what it finishes was in the making by it, and on the replica on which it is taken it leaves what is kept
+    -- what a step of a call needs: what it finishes was in the making by it, and on the replica on which it is taken it leaves what is kept, as an installation does
     abbrev Needs : CallState → Verb → Option ℕ → Option ℕ → StepReply → Type 0
     Needs s verbs.Finish (Some j) q words.Ok = IsSomeAnd (entry_of j m.cluster.entries) (λ e. e.making ≡ Some s.call)
     Needs s verbs.Stage k r reply = Becomes k r reply (λ k. with_slot s.call (update_of s.op) (staged_moment m k))
@@ -341,6 +505,7 @@ module _ (Q : Option Entry → ℕ → ReplicaState → Type 0) (S : Entry → S
     Needs s verbs.Mark k r reply = Becomes k r reply (λ k. with_marks s.call (update_of s.op) m.cluster.moment)
     Needs s verbs.Element k r reply = Becomes k r reply (λ k. with_next_element (entry_of k m.cluster.entries))
     Needs s verbs.Unmark k r reply = Becomes k r reply (λ k. without_marks)
+    Needs s verbs.Install k r reply = Each (changed m s verbs.Install k r reply)
     Needs s verb k r reply = Unit {0}
 
     finished_each : (s : CallState) (j q : Option ℕ) (reply : StepReply) → Needs s verbs.Finish j q reply → Each (changed m s verbs.Finish j q reply)
@@ -368,11 +533,12 @@ module _ (Q : Option Entry → ℕ → ReplicaState → Type 0) (S : Entry → S
     changed_each s verbs.Mark j q reply needs = becomes_each j q reply _ needs
     changed_each s verbs.Element j q reply needs = becomes_each j q reply _ needs
     changed_each s verbs.Unmark j q reply needs = becomes_each j q reply _ needs
+    changed_each s verbs.Install j q reply needs = needs
     changed_each s verbs.Iter j q reply needs = ok_each reply _ (both_each j q _ (λ j q. each))
     changed_each s verbs.Next j q reply needs = ok_each reply _ (both_each j q _ (λ j q. each))
     changed_each s verbs.Leave j q reply needs = ok_each reply _ (step_each (departed (client_of s.call)) (λ k given. departed_on k m.cluster given inv.holds.rises inv.holds.up_to (client_of s.call)))
     changed_each s verbs.Close j q reply needs = ok_each reply _ (one_each j _ (λ j. entry_each j (λ R. unreferred (client_of s.call) R.moment) (released-identity (client_of s.call) m.cluster.moment) (released_made (client_of s.call) m.cluster.moment)))
-    changed_each s verbs.Unlink j q reply needs = ok_each reply _ (one_each j _ (λ j. entry_each j (λ R. unnamed) (λ e. refl) (λ e. StaysMade-kept e (unnamed e) refl refl refl refl refl)))
+    changed_each s verbs.Unlink j q reply needs = ok_each reply _ (one_each j _ (λ j. entry_each j (λ R. unnamed) (λ e. refl) (λ e. StaysMade-kept e (unnamed e) refl refl refl refl refl refl)))
     changed_each s verbs.Retain j q reply needs = ok_each reply _ (one_each j _ (λ j. step_each (retained_for (asked s.op) j) (λ k given. retained_for_on k m.cluster given inv.holds.rises inv.holds.up_to (asked s.op) j)))
     changed_each s verbs.Look j q reply needs = look_each reply _ _ each (making_each (making_of s.call m.cluster))
     changed_each s verb j q reply needs = each
@@ -396,8 +562,8 @@ module _ (Q : Option Entry → ℕ → ReplicaState → Type 0) (S : Entry → S
       there_by e found = subst (λ o. Q o r x) found (each.replica k r x there)
 
       -- it is the active, and has an effect more
-      grows_active : (e : Entry) (y : ReplicaState) (new : List Effect) → IsActiveOf m k r e → y.effects ≡ x.effects ++ new → Grows m k r x y
-      grows_active e y new active is = record { more = (new, is); other = λ f found alone. inl (ap (λ (e : Entry). e.active) (same_Some f e (sym found ∙ active.found)) ∙ active.active) }
+      grows_active : (e : Entry) (y : ReplicaState) (new : List Effect) → IsActiveOf m k r e → y.effects ≡ x.effects ++ new → y.generation ≡ x.generation → Grows m k r x y
+      grows_active e y new active is generation = record { generation = generation; more = (new, is); other = λ f found alone. inl (ap (λ (e : Entry). e.active) (same_Some f e (sym found ∙ active.found)) ∙ active.active) }
 
       committed_needs : (t : Told) → StepsOn m s verbs.Commit k r x → OnAll m k r (λ e x. CommitOk m s.call update k r t.end t.details x) → BecomesThere k r x (with_committed (entry_of k m.cluster.entries) x)
       committed_needs t step on =
@@ -405,6 +571,7 @@ module _ (Q : Option Entry → ℕ → ReplicaState → Type 0) (S : Entry → S
           record {
             so = subst (λ o. Q o r (with_committed o x)) (sym found) (kept.committed m s k r x e step (record { found = found; all = facts.0 }) (there_by e found));
             grows = record {
+              generation = committed_generation (entry_of k m.cluster.entries) x;
               more = committed_more (entry_of k m.cluster.entries) x;
               other = λ f is alone. absurd (let w : true ≡ false = sym facts.0 ∙ ap (λ (e : Entry). is_all e.attributes) (same_Some e f (sym found ∙ is)) ∙ alone in cc w);
             };
@@ -415,7 +582,7 @@ module _ (Q : Option Entry → ℕ → ReplicaState → Type 0) (S : Entry → S
           let (e, active, at_once, ok) = on_active-there update false k r (ApplyOk m update t) on x there in
           record {
             so = subst (λ o. Q o r (with_applied s.call (update_of s.op) m.cluster.moment o x)) (sym active.found) (kept.applied m s k r x e step active ok.unmarked (there_by e active.found));
-            grows = grows_active e _ (Applied s.call (update_of s.op) m.cluster.moment ∷ []) active (ap (λ o. (with_applied s.call (update_of s.op) m.cluster.moment o x).effects) active.found);
+            grows = grows_active e _ (Applied s.call (update_of s.op) m.cluster.moment ∷ []) active (ap (λ o. (with_applied s.call (update_of s.op) m.cluster.moment o x).effects) active.found) (ap (λ o. (with_applied s.call (update_of s.op) m.cluster.moment o x).generation) active.found);
           }
 
       marked_needs : (t : Told) → StepsOn m s verbs.Mark k r x → OnActive m update true k r (MarkOk m update t) → BecomesThere k r x (with_marks s.call (update_of s.op) m.cluster.moment x)
@@ -425,7 +592,7 @@ module _ (Q : Option Entry → ℕ → ReplicaState → Type 0) (S : Entry → S
           let can : CanBeMarked e update m.cluster.moment x = record { none = ok.unmarked; by_element = by_element; good = good; fits = ok.fits } in
           record {
             so = subst (λ o. Q o r (with_marks s.call (update_of s.op) m.cluster.moment x)) (sym active.found) (kept.marked m s k r x e step active (subst (λ update. CanBeMarked e update m.cluster.moment x) own can) (there_by e active.found));
-            grows = grows_same m k r x _ refl;
+            grows = grows_same m k r x _ refl refl;
           }
 
       -- the marks that stand there
@@ -441,7 +608,7 @@ module _ (Q : Option Entry → ℕ → ReplicaState → Type 0) (S : Entry → S
           let then = kept.element m s k r x e marks step active stand (there_by e active.found) in
           record {
             so = subst (λ o. Q o r (with_next_element o x)) (sym active.found) (subst (λ marks. Q (Some e) r (next_element_written e.attributes x marks)) (sym stand.stand) then);
-            grows = grows_same m k r x _ (element_effects (entry_of k m.cluster.entries) x);
+            grows = grows_same m k r x _ (element_effects (entry_of k m.cluster.entries) x) (element_generation (entry_of k m.cluster.entries) x);
           }
 
       unmarked_needs : StepsOn m s verbs.Unmark k r x → OnActive m update true k r (λ e x. IsSomeAnd x.marks (AreMarksOf s.call update false)) → BecomesThere k r x (without_marks x)
@@ -450,96 +617,88 @@ module _ (Q : Option Entry → ℕ → ReplicaState → Type 0) (S : Entry → S
           let then = kept.unmarked m s k r x e marks step active stand (there_by e active.found) in
           record {
             so = subst (λ o. Q o r (without_marks x)) (sym active.found) (subst (λ marks. Q (Some e) r (marks_ended x marks)) (sym stand.stand) then);
-            grows = grows_active e _ (Applied marks.call marks.update marks.moment ∷ []) active (ap (λ marks. (marks_ended x marks).effects) stand.stand);
+            grows = grows_active e _ (Applied marks.call marks.update marks.moment ∷ []) active (ap (λ marks. (marks_ended x marks).effects) stand.stand) (ap (λ marks. (marks_ended x marks).generation) stand.stand);
           }
 
     -- what it needs is in its row
-    row_needs : (s : CallState) → m.in_hand s.call.actor ≡ Some s → (t : Told) → IsDone m s (due m s) t → (verb : Verb) (k r : Option ℕ) (reply : StepReply) → t.verb ≡ verb → Row m s verb (record t { verb = verb; ckpt = k; node = r; reply = reply }) → Needs s verb k r reply
-    row_needs s held t done verbs.Finish (Some j) None words.Ok verb row = making_there m.cluster inv.holds.rises s.call j row.0.3.0
-    row_needs s held t done verbs.Finish (Some j) (Some q) words.Ok verb row = absurd row.0
-    row_needs s held t done verbs.Stage (Some k) (Some r) words.Ok verb row = λ x there. record { so = kept.staged m s k r x (steps_on s held t done verbs.Stage verb k r x there) (each.replica k r x there); grows = grows_same m k r x _ refl }
-    row_needs s held t done verbs.Commit (Some k) (Some r) words.Ok verb row = λ x there. committed_needs s k r x there row.0 row.1 row.2 t (steps_on s held t done verbs.Commit verb k r x there) row.3
-    row_needs s held t done verbs.Apply (Some k) (Some r) words.Ok verb row = λ x there. applied_needs s k r x there row.0 row.1 row.2 (record t { verb = verbs.Apply; ckpt = Some k; node = Some r; reply = words.Ok }) (steps_on s held t done verbs.Apply verb k r x there) row.3
-    row_needs s held t done verbs.Mark (Some k) (Some r) words.Ok verb row = λ x there. marked_needs s k r x there row.0 row.1 row.2 (record t { verb = verbs.Mark; ckpt = Some k; node = Some r; reply = words.Ok }) (steps_on s held t done verbs.Mark verb k r x there) row.3
-    row_needs s held t done verbs.Element (Some k) (Some r) words.Ok verb row = λ x there. element_needs s k r x there row.0 row.1 row.2 (steps_on s held t done verbs.Element verb k r x there) row.3.0
-    row_needs s held t done verbs.Unmark (Some k) (Some r) words.Ok verb row = λ x there. unmarked_needs s k r x there row.0 row.1 row.2 (steps_on s held t done verbs.Unmark verb k r x there) row.3.0
-    row_needs s held t done verb k r reply verb_is row = tt
+    row_needs : (s : CallState) → m.in_hand s.call.actor ≡ Some s → (t : Told) → IsDone m s (due m s) t → (verb : Verb) (k r : Option ℕ) (reply : StepReply) → t.verb ≡ verb → IsOnOwn verb k s.kept.ckpt → Row m s verb (record t { verb = verb; ckpt = k; node = r; reply = reply }) → Needs s verb k r reply
+    row_needs s held t done verbs.Finish (Some j) None words.Ok verb own row = making_there m.cluster inv.holds.rises s.call j row.0.3.0
+    row_needs s held t done verbs.Finish (Some j) (Some q) words.Ok verb own row = absurd row.0
+    row_needs s held t done verbs.Stage (Some k) (Some r) words.Ok verb own row = λ x there. record { so = kept.staged m s k r x (steps_on s held t done verbs.Stage verb k r x there) (each.replica k r x there); grows = grows_same m k r x _ refl refl }
+    row_needs s held t done verbs.Commit (Some k) (Some r) words.Ok verb own row = λ x there. committed_needs s k r x there row.0 row.1 row.2 t (steps_on s held t done verbs.Commit verb k r x there) row.3
+    row_needs s held t done verbs.Apply (Some k) (Some r) words.Ok verb own row = λ x there. applied_needs s k r x there row.0 row.1 row.2 (record t { verb = verbs.Apply; ckpt = Some k; node = Some r; reply = words.Ok }) (steps_on s held t done verbs.Apply verb k r x there) row.3
+    row_needs s held t done verbs.Mark (Some k) (Some r) words.Ok verb own row = λ x there. marked_needs s k r x there row.0 row.1 row.2 (record t { verb = verbs.Mark; ckpt = Some k; node = Some r; reply = words.Ok }) (steps_on s held t done verbs.Mark verb k r x there) row.3
+    row_needs s held t done verbs.Element (Some k) (Some r) words.Ok verb own row = λ x there. element_needs s k r x there row.0 row.1 row.2 (steps_on s held t done verbs.Element verb k r x there) row.3.0
+    row_needs s held t done verbs.Unmark (Some k) (Some r) words.Ok verb own row = λ x there. unmarked_needs s k r x there row.0 row.1 row.2 (steps_on s held t done verbs.Unmark verb k r x there) row.3.0
+    row_needs s held t done verbs.Install j q reply verb own row = after_install Each m s t j q reply row each (λ k r z x is in_hand over. (
+        put_each k r z x (still_has m each k z (record { actor = s.call.actor; state = s; in_hand = held; ckpt = sym own ∙ is; snapshot = in_hand })) over))
+    row_needs s held t done verb k r reply verb_is own row = tt
 
-    -- a snapshot of the active
-    pulled_each : (k : ℕ) (x : ReplicaState) → IsPulledFrom m k x → x.marks ≡ None → Each (record m { snapshots = put m.snapshots k (Some (copied x)) })
-    pulled_each k x from none = record {
-      replica = each.replica;
-      snapshot = λ j s is. elim (put-cases m.snapshots k (copied x) j s is) [
-        | inl here ↦ subst (λ s. IsSomeAnd (entry_of j m.cluster.entries) (λ e. IsSource e × S e s)) here.1 (subst (λ j. IsSomeAnd (entry_of j m.cluster.entries) (λ e. IsSource e × S e (copied x))) here.0 own)
-        | inr was ↦ each.snapshot j s was
-      ];
-      ahead = λ j r e y found alone active at.
-          let before = each.ahead j r e y found alone active at in
-          record {
-            replica = before.replica;
-            snapshot = λ s is. elim (put-cases m.snapshots k (copied x) j s is) [
-              | inl here ↦ subst (λ (s : Snapshot). IsPrefix s.effects y.effects) here.1 (before.replica from.node x (subst (λ j. m.replicas j from.node ≡ Some x) here.0 from.there))
-              | inr was ↦ before.snapshot s was
-            ];
-          };
-    }
+    -- what a call has in hand behind a step, by its pull or from before, it may have
+    pulled_may : (s : CallState) → m.in_hand s.call.actor ≡ Some s → (t : Told) (verb : Verb) (j q : Option ℕ) (reply : StepReply) → IsOnOwn verb j s.kept.ckpt → Row m s verb (record t { verb = verb; ckpt = j; node = q; reply = reply })
+        → ((a : ActorName) → (changed m s verb j q reply).in_hand a ≡ m.in_hand a) → Each (changed m s verb j q reply) → (k : ℕ) (z : Snapshot) → s.kept.ckpt ≡ Some k → pulled_by m s verb j q reply ≡ Some z → MayHave (changed m s verb j q reply) k z
+    pulled_may s held t verbs.Pull (Some j) (Some q) words.Ok own row same then k z ckpt is =
+        let u : Told = record t { verb = verbs.Pull; ckpt = Some j; node = Some q; reply = words.Ok } in
+        let (e, x, found, there, ok) = on_replica-there m j q (PullOk m s q u) row.0.3 in
+        let made = made_where_complete_at j q x e found there in
+        let source : IsSource e = record { made = made; alone = ok.alone; led = subst IsSome (sym ok.active) refl } in
+        let copy : copied x ≡ z = same_Some (copied x) z (sym (ap (option_map copied) there) ∙ is) in
+        let may : MayHave m j (copied x) = record {
+          given = entry_of-given m.cluster.last_identity j m.cluster.entries e inv.holds.up_to found;
+          so = subst (λ o. IfSome o (λ e. IsSource e × S e (copied x))) (sym found) (source, kept.pulled e q x source ok.active ok.unmarked (subst (λ o. Q o q x) found (each.replica j q x there)));
+          behind = λ r f y at alone active here. (each.ahead j r f y at alone active here).replica q x there;
+        } in
+        subst (MayHave m k) copy (subst (λ j. MayHave m j (copied x)) (same_Some j k (own ∙ ckpt)) may)
+    pulled_may s held t verb j q reply own row same then k z ckpt is = still_has (changed m s verb j q reply) then k z (record { actor = s.call.actor; state = s; in_hand = same s.call.actor ∙ held; ckpt = ckpt; snapshot = is })
+
+    -- a step leaves in the hand of its call what this may have
+    stepped_each : (s : CallState) → m.in_hand s.call.actor ≡ Some s → (t : Told) → IsOnOwn t.verb t.ckpt s.kept.ckpt → Row m s t.verb t → (end : Option Outcome) → Each (changed m s t.verb t.ckpt t.node t.reply) → Each (step_of m (Some s) t.verb t.ckpt t.node t.reply end)
+    stepped_each s held t own row end then = hands_each n then (put_actor n.in_hand s.call.actor (left end behind)) may
       where
-        own : IsSomeAnd (entry_of k m.cluster.entries) (λ e. IsSource e × S e (copied x))
-        own = IsSomeAnd-from (entry_of k m.cluster.entries) (λ e. IsSource e × S e (copied x)) from.entry from.found
-            (from.source, kept.pulled from.entry from.node x from.source from.active none (subst (λ o. Q o from.node x) from.found (each.replica k from.node x from.there)))
+        n : Machine
+        n = changed m s t.verb t.ckpt t.node t.reply
 
-    -- on what a snapshot is put nothing is staged, and no marks stand
-    put_apart : (k r : ℕ) (x : ReplicaState) (on : IsPutOn m k r x) → IsApart None x
-    put_apart k r x on =
-        let shaped = (shaped_there m inv.shapes inv.holds history.bare k r x on.entry on.there on.found).shaped in
-        subst (λ marks. IsApart marks x) (no_marks_at on.entry.active (inv.shapes k).marks r on.other) (subst (λ all. IsShapedBy all (inv.shapes k) on.entry.active r x) on.alone shaped)
+        behind : CallState
+        behind = kept_behind m s n.cluster t.verb t.ckpt t.node t.reply
 
-    -- a replica that takes it
-    put_each : (k r : ℕ) (s : Snapshot) (x : ReplicaState) → m.snapshots k ≡ Some s → IsPutOn m k r x → Each (record m { replicas = put2 m.replicas k r (Some (replica_from s x)) })
-    put_each k r s x is on = record {
-      replica = λ j q z at. elim (put2-cases m.replicas k r (replica_from s x) j q z at) [
-        | inl here ↦ subst (Q (entry_of j m.cluster.entries) q) here.2 (subst (λ q. Q (entry_of j m.cluster.entries) q (replica_from s x)) here.1 (subst (λ j. Q (entry_of j m.cluster.entries) r (replica_from s x)) here.0 own))
-        | inr was ↦ each.replica j q z was.0
-      ];
-      snapshot = each.snapshot;
-      ahead = λ j q e y found alone active at. elim (put2-cases m.replicas k r (replica_from s x) j q y at) [
-        | inl here ↦ absurd (
-            let same : e ≡ on.entry = same_Some e on.entry (sym found ∙ ap (λ k. entry_of k m.cluster.entries) (sym here.0) ∙ on.found) in
-            not_active on.entry.active r on.other (ap (λ (e : Entry). e.active) (sym same) ∙ active ∙ ap Some (sym here.1)))
-        | inr was ↦ (
-            let before = each.ahead j q e y found alone active was.0 in
-            record {
-              replica = λ p z there. elim (put2-cases m.replicas k r (replica_from s x) j p z there) [
-                | inl here ↦ subst (λ (z : ReplicaState). IsPrefix z.effects y.effects) here.2 (before.snapshot s (subst (λ j. m.snapshots j ≡ Some s) here.0 is))
-                | inr was ↦ before.replica p z was.0
-              ];
-              snapshot = before.snapshot;
-            })
-      ];
-    }
+        same : (a : ActorName) → n.in_hand a ≡ m.in_hand a
+        same = (follows m inv history s held t row).in_hand
+
+        may : (k : ℕ) (z : Snapshot) → PulledInHand (put_actor n.in_hand s.call.actor (left end behind)) k z → MayHave n k z
+        may k z has = elim (put_actor-cases n.in_hand s.call.actor (left end behind) has.actor has.state has.in_hand) [
+          | inl own_hand ↦ (
+              let is = left_as end behind has.state own_hand.1 in
+              pulled_may s held t t.verb t.ckpt t.node t.reply own row same then k z (ap (λ (z : CallState). z.kept.ckpt) is ∙ has.ckpt) (ap (λ (z : CallState). z.snapshot) is ∙ has.snapshot))
+          | inr other ↦ still_has n then k z (record { actor = has.actor; state = has.state; in_hand = other.1; ckpt = has.ckpt; snapshot = has.snapshot })
+        ]
+
+    -- a call that begins has nothing in hand
+    begun_each : (call : CallId) (op : Op) (end : Option Outcome) → Each (after_beginning m call op end)
+    begun_each call op end = hands_each m each (put_actor m.in_hand call.actor begun) (λ k z has. elim (put_actor-cases m.in_hand call.actor begun has.actor has.state has.in_hand) [
+      | inl own ↦ absurd (begun_empty end call op (first_kept m call op) has.state z own.1 has.snapshot)
+      | inr other ↦ still_has m each k z (record { actor = has.actor; state = has.state; in_hand = other.1; ckpt = has.ckpt; snapshot = has.snapshot })
+    ])
       where
-        own : Q (entry_of k m.cluster.entries) r (replica_from s x)
-        own =
-            let apart = put_apart k r x on in
-            let (e, there, is_so) = IsSomeAnd-at (entry_of k m.cluster.entries) (λ e. IsSource e × S e s) (each.snapshot k s is) in
-            subst (λ o. Q o r (replica_from s x)) (sym there) (kept.put e r s x apart.free apart.marks_are is_so.1 (subst (λ o. Q o r x) there (each.replica k r x on.there)))
+        begun : Option CallState
+        begun = call_begun end call op (first_kept m call op)
 
     -- any label that is allowed and due
     after_each : (l : Label) → Allowed m l → IsDue m l → Each (after m l)
-    after_each (labels.Began d op end) allowed is = each
+    after_each (labels.Began d op end) allowed is = begun_each d op end
     after_each (labels.Stepped d op verb j q reply end details) allowed step =
         let s = step.state in
         let t : Told = record { verb = verb; ckpt = j; node = q; reply = reply; end = end; details = details } in
         let held : m.in_hand s.call.actor ≡ Some s = ap (λ (c : CallId). m.in_hand c.actor) step.call_is ∙ step.in_hand in
         let same : allowed.state ≡ s = same_Some allowed.state s (sym allowed.in_hand ∙ step.in_hand) in
-        let then = changed_each s verb j q reply (row_needs s held t step.done verb j q reply refl (subst (λ z. Row m z verb t) same allowed.row)) in
-        subst (λ o. Each (step_of m o verb j q reply end)) (sym step.in_hand) then
+        let row = subst (λ z. Row m z verb t) same allowed.row in
+        let own = subst (λ (z : CallState). IsOnOwn verb j z.kept.ckpt) same allowed.own in
+        subst (λ o. Each (step_of m o verb j q reply end)) (sym step.in_hand) (stepped_each s held t own row end (changed_each s verb j q reply (row_needs s held t step.done verb j q reply refl own row)))
     after_each (labels.Word who line said) allowed is = each
     after_each (labels.Nodes n) allowed is = each
     after_each (labels.Moved t) allowed is = record_each (moved t m.cluster) (λ k given. record { last = omega arith; rises = IdentitiesRise-filter (stays t) m.cluster.entries inv.holds.rises; made = ComesOf-filter StaysMade StaysMade-same (stays t) m.cluster.entries inv.holds.rises k })
     after_each (labels.Shown j replicas) allowed is = each
     after_each (labels.Pulled k reply) allowed is = after_pull Each m k reply is each (pulled_each k)
-    after_each (labels.Put k r reply) allowed is = after_put Each m k r reply each (put_each k r)
+    after_each (labels.Put k r reply) allowed is = after_put_over Each m k r reply is each (λ s x at over. put_each k r s x (copied_may k s over.on.entry over.on.found at) over)
     after_each l allowed is = absurd is
 
   -- so it holds in a run
@@ -554,16 +713,16 @@ module _ (Q : Option Entry → ℕ → ReplicaState → Type 0) (S : Entry → S
       subst (λ (log : List Label). Each (last log)) longer (run_from kept (front ++ l ∷ []) more (subst IsRun (sym longer) run) (subst Each (sym (last-push front l)) then))
 
   pub run_each : IsKept → (log : List Label) → IsRun log → Each (last log)
-  run_each kept log run = run_from kept [] log run (record { replica = λ k r x is. absurd (cc is); snapshot = λ k s is. absurd (cc is); ahead = λ k r e y found. absurd (cc found) })
+  run_each kept log run = run_from kept [] log run (record { replica = λ k r x is. absurd (cc is); snapshot = λ k s is. absurd (cc is); in_hand = λ k s has. absurd (let none = has.in_hand in cc none); ahead = λ k r e y found. absurd (cc found) })
 
 -- where nothing is said
 kept_nothing : IsKept (λ o r x. Unit {0}) (λ e s. Unit {0})
 kept_nothing = record {
   opened = λ e r. tt;
   stays = λ e f r x stays made is. tt;
-  stays_copied = λ e f s stays is. tt;
+  stays_copied = λ e f s stays source is. tt;
   pulled = λ e r x source active none is. tt;
-  put = λ e r s x free none copied is. tt;
+  put = λ e r s x present free none copied is. tt;
   staged = λ m s k r x step is. tt;
   committed = λ m s k r x e step all is. tt;
   applied = λ m s k r x e step active none is. tt;

@@ -110,9 +110,9 @@ kept_once : IsKept (λ o r x. IsOnce x) (λ e s. EachCallOnce s.effects)
 kept_once = record {
   opened = λ e r. record { each = tt; fresh = λ slot none. absurd (cc none) };
   stays = λ e f r x stays made once. once;
-  stays_copied = λ e f s stays once. once;
+  stays_copied = λ e f s stays source once. once;
   pulled = λ e r x source active none once. once.each;
-  put = λ e r s x free none copied once. record { each = copied; fresh = λ slot staged. absurd (let w : None ≡ Some slot = sym free ∙ staged in cc w) };
+  put = λ e r s x present free none copied once. record { each = copied; fresh = λ slot staged. absurd (let w : None ≡ Some slot = sym free ∙ staged in cc w) };
   staged = λ m s k r x step once. record {
     each = once.each;
     fresh = λ slot is has.

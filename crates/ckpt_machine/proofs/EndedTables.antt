@@ -16,7 +16,8 @@ use Rattle.client_handles.specs.declared.handle_view.HandleView.{HandleView}
 use Rattle.client_handles.proofs.LentLaws.{NoneLent-emptied}
 use Rattle.cluster_record.specs.Calls.{IsClient, same_actor, number_of, client_of}
 use Rattle.cluster_record.specs.Places.{find_key}
-use Rattle.cluster_record.specs.RecordState.{RecordState, client_key, is_live, is_live_from}
+use Rattle.cluster_record.specs.LookUps.{creation_flags_of}
+use Rattle.cluster_record.specs.RecordState.{RecordState, entry_of, client_key, is_live, is_live_from}
 use Rattle.ckpt_types.specs.Asks.{Ask}
 use Rattle.ckpt_types.specs.Asks as asks
 use Rattle.ckpt_machine.specs.Entries.{WasMade}
@@ -27,6 +28,7 @@ use Rattle.ckpt_machine.specs.Tables.{handle_given, with_iteration, started, wit
 use Rattle.ckpt_machine.specs.Shape.{Shape}
 use Rattle.ckpt_machine.proofs.AtRest.{NoneLent-given, NoneLent-started, NoneLent-gone_on, NoneLent-closing, NoneLent-ended_at_once}
 use Rattle.ckpt_machine.proofs.ClientTables.{tables_keep, fewer_keep}
+use Rattle.ckpt_machine.proofs.Handles.{IsGoodHandle-given}
 
 -- two clients have two numbers
 pub other_number : (a b : ActorName) → IsClient a → IsClient b → same_actor a b ≡ false → (number_of a == number_of b) ≡ false
@@ -90,9 +92,9 @@ pub ended_at_once-handles : (end : Option Outcome) (ask : Ask) (t : ClientState)
 ended_at_once-handles (Some (outcomes.Done answer)) (asks.EndIteration iteration) t = refl
 ended_at_once-handles end ask t = refl
 
--- one that is given more is of this checkpoint
-pub given-handles : (ask : Ask) (k creation_flags : ℕ) (t : ClientState) (h : HandleView) → Contains (handle_given ask k creation_flags t).handles h → Contains t.handles h ⊎ (h.id ≡ k)
-given-handles (asks.Open place name flags timeout a) k creation_flags t h among = elim (Contains-push_cases t.handles _ h among) [ inl was ↦ inl was | inr new ↦ inr (ap (λ (x : HandleView). x.id) (sym new)) ]
+-- one that is given more is of this checkpoint, with these creation flags
+pub given-handles : (ask : Ask) (k creation_flags : ℕ) (t : ClientState) (h : HandleView) → Contains (handle_given ask k creation_flags t).handles h → Contains t.handles h ⊎ ((h.id ≡ k) × (h.creation_flags ≡ creation_flags))
+given-handles (asks.Open place name flags timeout a) k creation_flags t h among = elim (Contains-push_cases t.handles _ h among) [ inl was ↦ inl was | inr new ↦ inr (ap (λ (x : HandleView). x.id) (sym new), ap (λ (x : HandleView). x.creation_flags) (sym new)) ]
 given-handles ask k creation_flags t h among = inl among
 
 -- ---- the invariant
@@ -122,6 +124,11 @@ module _ (m : Machine) (shapes : ℕ → Shape) (inv : InvariantIn shapes m) (a 
   pub ended_at_once_keeps : (end : Option Outcome) (ask : Ask) → InvariantIn shapes (with_tables a (ended_at_once end ask) m)
   ended_at_once_keeps end ask = same_handles_keep (ended_at_once end ask) (NoneLent-ended_at_once end ask (m.tables a) (inv.rest a)) (ended_at_once-handles end ask (m.tables a))
 
-  -- with a handle of a checkpoint that was made
-  pub given_keeps : (ask : Ask) (k creation_flags : ℕ) → WasMade m.cluster k → InvariantIn shapes (with_tables a (handle_given ask k creation_flags) m)
-  given_keeps ask k creation_flags made = tables_keep m shapes inv a idle (handle_given ask k creation_flags) (NoneLent-given ask k creation_flags (m.tables a) (inv.rest a)) (λ h among. elim (given-handles ask k creation_flags (m.tables a) h among) [ inl was ↦ inv.handles a h was | inr same ↦ subst (WasMade m.cluster) (sym same) made ])
+  -- with a handle of a checkpoint that was made, and its creation flags
+  pub given_keeps : (ask : Ask) (k : ℕ) → WasMade m.cluster k → InvariantIn shapes (with_tables a (handle_given ask k (creation_flags_of (entry_of k m.cluster.entries))) m)
+  given_keeps ask k made =
+      let flags : ℕ = creation_flags_of (entry_of k m.cluster.entries) in
+      tables_keep m shapes inv a idle (handle_given ask k flags) (NoneLent-given ask k flags (m.tables a) (inv.rest a)) (λ h among. elim (given-handles ask k flags (m.tables a) h among) [
+        | inl was ↦ inv.handles a h was
+        | inr new ↦ IsGoodHandle-given m.cluster k h made new.0 new.1
+      ])

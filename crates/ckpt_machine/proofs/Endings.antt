@@ -1,5 +1,5 @@
 -- A call ends only with an answer that it may have.
-use Rattle.std.proofs.Common.{◌≡◌, ℕ, List, Option, Some, None, Bool, true, false, cond, refl, sym, ap, subst, ◌∙◌}
+use Rattle.std.proofs.Common.{◌≡◌, ℕ, List, length, Option, Some, None, Bool, true, false, cond, refl, sym, ap, subst, ◌∙◌}
 use Rattle.std.specs.Prelude.{IfSome}
 use Rattle.ckpt_types.specs.declared.ais_error.AisError.{AisError}
 use Rattle.ckpt_types.specs.declared.ais_error.AisError.TheVariants as errors
@@ -31,7 +31,7 @@ use Rattle.ckpt_machine.specs.BeginRows.{BeginRow}
 use Rattle.ckpt_machine.specs.Complete.{complete_replicas}
 use Rattle.ckpt_machine.specs.Driving.{refused_cause}
 use Rattle.ckpt_machine.specs.Endings.{may_lack_memory, IsEndOf}
-use Rattle.ckpt_machine.specs.Guards.{AsksToOpen, StageRefused, StageHeld, StageRow, CommitOk, CommitRow, ends_update, ApplyOk, ApplyRow, MarkOk, MarkRow, ElementRow, UnmarkRow, ReadRow, StatusOk, StatusRow, IterOk, IterRow, NextOk, NextAnswer, EnterRow, CreateRow, ReserveRow, FinishRow, UndoRow, OpenHeld, OpenRow, LeaveRow, CloseRow, UnlinkRow, RetainRow, LookRow, Row}
+use Rattle.ckpt_machine.specs.Guards.{all_served, steps_with, PullOk, PullHeld, PullRow, InstallOk, InstallRow, AsksToOpen, StageRefused, StageHeld, StageRow, CommitOk, CommitRow, ends_update, ApplyOk, ApplyRow, MarkOk, MarkRow, ElementRow, UnmarkRow, ReadRow, StatusOk, StatusRow, IterOk, IterRow, NextOk, NextAnswer, EnterRow, CreateRow, ReserveRow, FinishRow, UndoRow, OpenHeld, OpenRow, LeaveRow, CloseRow, UnlinkRow, RetainRow, LookRow, Row}
 use Rattle.ckpt_machine.specs.Laws.{EndsAsItMay}
 use Rattle.ckpt_machine.specs.Machine.{Machine, CallState}
 use Rattle.node_core.specs.Serving.{update_answer}
@@ -45,6 +45,8 @@ abbrev may_lack : Ask → Bool
 may_lack (asks.Enter r version callbacks) = true
 may_lack (asks.Open place name flags timeout a) = true
 may_lack (asks.Iterate iteration place chosen time) = true
+may_lack (asks.Synchronize place timeout) = true
+may_lack (asks.SetActive place) = true
 may_lack ask = false
 
 -- each has such a word
@@ -52,6 +54,8 @@ lacks_memory : (op : Op) → may_lack (asked op) ≡ true → may_lack_memory (w
 lacks_memory (ops.Client r version callbacks) is = refl
 lacks_memory (ops.Open place name flags timeout a) is = refl
 lacks_memory (ops.Iter iteration place chosen time) is = refl
+lacks_memory (ops.Sync place timeout) is = refl
+lacks_memory (ops.Active place) is = refl
 lacks_memory op is = absurd (cc is)
 
 open_lacks : (s : CallState) (name : List ℕ) (a : Option CreationAttributes) → AsksToOpen s name a → may_lack_memory (word_of_op s.op) ≡ true
@@ -59,6 +63,8 @@ open_lacks s name a opens = lacks_memory s.op (ap may_lack opens.asks)
 
 room_lacks : (ask : Ask) → takes_room ask ≡ true → may_lack ask ≡ true
 room_lacks (asks.Iterate iteration place chosen time) takes = refl
+room_lacks (asks.Synchronize place timeout) takes = refl
+room_lacks (asks.SetActive place) takes = refl
 room_lacks ask takes = absurd (cc takes)
 
 -- ---- an end that is none of the word
@@ -167,6 +173,16 @@ module _ (m : Machine) (s : CallState) (end : Option Outcome) (amiss : EndsAmiss
   read_ends elements k r ckpt place words.Refused details row = on_replica m k r _ row (λ e x answer. let why = answer.1.0 in refused why.error (Index why.index) answer.1.3)
   read_ends elements k r ckpt place reply details row = on_replica m k r _ row (λ e x answer. absurd answer.1)
 
+  pull_ends : (k r : ℕ) (t : Told) (reply : StepReply) → t.end ≡ end → PullRow m s k r t reply → ⊥
+  pull_ends k r t words.Ok is row = on_replica m k r (PullOk m s r t) row (λ e x (ok : PullOk m s r t e x). committed (all_served (steps_with m s t) 0 e.complete) (answers.Pulled (length x.effects)) (sym is ∙ ok.answer))
+  pull_ends k r t (words.Held by) is row = on_replica m k r (PullHeld m s r by t) row (λ e x (held : PullHeld m s r by t e x). refused errors.TryAgain (Holder by) (sym is ∙ held.held.answer))
+  pull_ends k r t reply is row = absurd row
+
+  install_ends : (k r : ℕ) (t : Told) (reply : StepReply) → t.end ≡ end → InstallRow m s k r t reply → ⊥
+  install_ends k r t words.Ok is row = on_replica m k r (InstallOk m s r t true) row (λ e x (ok : InstallOk m s r t true e x). committed (all_served (steps_with m s t) 0 e.complete) (answers.Pulled (length ok.pulled.effects)) (sym is ∙ ok.answer))
+  install_ends k r t words.Older is row = on_replica m k r (InstallOk m s r t false) row (λ e x (ok : InstallOk m s r t false e x). committed (all_served (steps_with m s t) 0 e.complete) (answers.Pulled (length ok.pulled.effects)) (sym is ∙ ok.answer))
+  install_ends k r t reply is row = absurd row
+
   status_ends : (k r : ℕ) (reply : StepReply) (details : Details) → StatusRow m k r reply end details → ⊥
   status_ends k r words.Ok details row = on_replica m k r (StatusOk m r end details) row (λ e x (ok : StatusOk m r end details e x). done answers.Status ok.answer)
   status_ends k r reply details row = absurd row
@@ -216,6 +232,8 @@ module _ (m : Machine) (s : CallState) (end : Option Outcome) (amiss : EndsAmiss
   row_ends verbs.Next k r reply details row =
       let t : Told = record { verb = verbs.Next; ckpt = k; node = r; reply = reply; end = end; details = details } in
       at_node k r _ row (λ k r p. on_replica m k r (NextOk m s r t) p.2 (λ e x (ok : NextOk m s r t e x). given_ends (given (ids_asked m s) m.cluster.moment x.sections) reply details ok.answer))
+  row_ends verbs.Pull k r reply details row = at_node k r _ row.0 (λ q n p. pull_ends q n (record { verb = verbs.Pull; ckpt = k; node = r; reply = reply; end = end; details = details }) reply refl p.3)
+  row_ends verbs.Install k r reply details row = at_node k r _ row.0 (λ q n p. install_ends q n (record { verb = verbs.Install; ckpt = k; node = r; reply = reply; end = end; details = details }) reply refl p.3)
   row_ends verbs.Leave k r reply details row = at_none k r _ row.0 (λ p. leave_ends (client_of s.call) reply p.1)
   row_ends verbs.Close k r reply details row = row_at_ckpt k r _ row.0 (λ k p. close_ends k reply p.2)
   row_ends verbs.Unlink k r reply details row = row_at_ckpt k r _ row.0 (λ k p. unlink_ends p.0 k reply p.2)
@@ -225,7 +243,7 @@ module _ (m : Machine) (s : CallState) (end : Option Outcome) (amiss : EndsAmiss
 
 -- ---- the law
 
--- a beginning lacks_memory memory where it takes the room of an iteration
+-- a beginning lacks_memory memory where it takes the room of an iteration or of a snapshot
 begin_ends : (live : Bool) (h : Option HandleView) (op : Op) (end : Option Outcome) → BeginRow live h (asked op) end → IfSome end (IsEndOf (word_of_op op))
 begin_ends live h op None row = tt
 begin_ends live h op (Some (Done answer)) row = tt

@@ -1,7 +1,7 @@
 -- What the code relies on holds wherever the invariant does.
 use Rattle.std.proofs.Common.{◌≡◌, ℕ, inl, inr, ◌<◌, List, length, Option, Some, None, Bool, true, false, cond, not, ◌&&◌, ◌==◌, nat_le, ℤ, refl, sym, ap, subst, ◌∙◌}
 use Rattle.std.specs.Prelude.{is_some, IsSome, IsSomeAnd, IfSome, pos, ◌≤ℤ◌}
-use Rattle.std.proofs.lemmas.Bool.{leb-false}
+use Rattle.std.proofs.lemmas.Bool.{eqb-true, leb-false}
 use Rattle.ckpt_types.specs.declared.ais_error.AisError.TheVariants.{NoResources, BadOperation, TryAgain}
 use Rattle.ckpt_types.specs.declared.answers.Cause.TheVariants.{Plain, Count, Generations}
 use Rattle.ckpt_types.specs.declared.answers.Outcome.TheVariants.{Refused}
@@ -22,6 +22,8 @@ use Rattle.cluster_record.specs.declared.entries.Entry.{Entry}
 use Rattle.cluster_record.specs.DueActive.{unless_changed, on_active, request_by, starts_iteration, active_on}
 use Rattle.cluster_record.specs.DueOnce.{OneStep, Enter, Leave, Close, Unlink, Retain, enter_next, close_of, unlink_of, unlink_of_making, retain_of, once_next}
 use Rattle.cluster_record.specs.DueOpen.{OpenState}
+use Rattle.cluster_record.specs.DueSync.{SyncState, first_unserved, install_next, unless_stale, synchronize_next, kind_next, sync_on, sync_next}
+use Rattle.cluster_record.specs.declared.calls.PulledAt.{PulledAt}
 use Rattle.cluster_record.specs.DueUpdate.{UpdateState, by_phase, stage_at, commit_at, update_next, update_on}
 use Rattle.cluster_record.specs.RecordState.{entry_of, named}
 use Rattle.cluster_record.specs.StepDone.{has, first_lacking, last_having}
@@ -32,14 +34,19 @@ use Rattle.ckpt_machine.specs.Driving.{driver_next}
 use Rattle.ckpt_machine.specs.Machine.{Machine, CallState}
 use Rattle.node_core.specs.Fitting.{IsReadyFor}
 use Rattle.ckpt_machine.specs.Steps.{due, driver_of, room_in, room_at, rooms_of, seen_at, seen, seen_slot}
-use Rattle.ckpt_machine.specs.Facts.{IsActive, IsServable, IsEventReady, IsStarting, IsGoingOn, Facts}
-use Rattle.ckpt_machine.specs.InHand.{MarksFit, IsEnterAt, IsOnceAt, IsInPlace, IsActiveIn}
+use Rattle.ckpt_machine.specs.Facts.{IsActive, IsServable, IsEventReady, IsStarting, IsGoingOn, HasCopyRoom, Facts}
+use Rattle.ckpt_machine.specs.InHand.{MarksFit, IsEnterAt, IsOnceAt, IsInPlace, IsActiveIn, IsSyncIn}
 use Rattle.ckpt_machine.specs.Invariant.{InvariantIn, Invariant}
+use Rattle.ckpt_machine.specs.Guards.{deadline_of}
 use Rattle.ckpt_machine.specs.Shape.{Shape}
+use Rattle.ckpt_machine.specs.Tables.{takes_copy}
 use Rattle.section_iter.specs.Room.{room_declared}
 use Rattle.cluster_record.specs.LookUps.{declared_in}
 use Rattle.ckpt_machine.proofs.ActiveNode.{AsksOf, by_kind as asks_of_kind, is_change, ActiveOf, active_of, active_seen, active_next-there}
+use Rattle.ckpt_machine.proofs.Deadlines.{in_time-either}
+use Rattle.ckpt_machine.proofs.Installing.{below, free_there}
 use Rattle.ckpt_machine.proofs.OnTheActive.{apart}
+use Rattle.ckpt_machine.proofs.Sync.{at_sync, has_pulled}
 use Rattle.ckpt_machine.proofs.Weak.{marks_ready}
 use Rattle.replica.specs.Replicas.{IsWrite}
 use Rattle.cluster_record.specs.declared.calls.MarksMade.{MarksMade}
@@ -49,11 +56,13 @@ use Rattle.ckpt_machine.proofs.Propagated.{complete_there, target_there, target_
 use Rattle.ckpt_machine.proofs.UpdateReady.{HasMoment, HasOwn, IsReadyNext, update_ready}
 use Rattle.ckpt_machine.proofs.OptionLemmas.{IsSomeAnd-from}
 
--- what it relies on of a weak write that begins, of an iteration that is started, and of one that goes on
+-- what it relies on of a weak write that begins, of an iteration that is started, and of one that goes on; and of a pull and an installation
 abbrev pub IsFor : Machine → CallState → Request → Type 0
 IsFor m s (requests.Mark call k) = IsWrite (update_of s.op)
 IsFor m s (requests.Iterate call k choice) = IsStarting m s k choice
 IsFor m s (requests.Next call k) = IsGoingOn m s
+IsFor m s (requests.Pull call k) = HasCopyRoom m s k
+IsFor m s (requests.Install call k) = HasCopyRoom m s k × IsSome s.snapshot
 IsFor m s request = Unit {0}
 
 -- what the code relies on of what is due
@@ -167,6 +176,52 @@ module _ (m : Machine) (shapes : ℕ → Shape) (inv : InvariantIn shapes m) (s 
         | inr at ↦ subst (IsDueReady m s driver) (sym (active_next-there m (shapes k).marks k at call kind made rooms)) (by_kind at kind refl (asks_of_kind s.kept.all s.kept.weak (asked s.op) kind at_active.kind) at_active.fit (starts_iteration kind && not rooms.iterations))
       ]
 
+-- ---- a synchronisation
+
+module _ (m : Machine) (shapes : ℕ → Shape) (inv : InvariantIn shapes m) (s : CallState) (u : SyncState) (held : m.in_hand s.call.actor ≡ Some s) (is : driver_of s ≡ drivers.Sync u) where
+  its : IsSyncIn m s u
+  its = at_sync m shapes inv s u held is
+
+  module _ (at : ActiveOf m (shapes u.ckpt).marks u.ckpt) where
+    -- it has room for a copy of what its checkpoint declares
+    has_copy_room : HasCopyRoom m s u.ckpt
+    has_copy_room = record {
+      takes = ap takes_copy its.asks;
+      declares = IsSomeAnd-from (entry_of u.ckpt m.cluster.entries) (λ e. s.kept.declares ≡ Some e.attributes) at.entry at.found (subst (λ o. IfSome o (λ (e : Entry). s.kept.declares ≡ Some e.attributes)) at.found its.declares);
+    }
+
+    pull_ready : IsDueReady m s (drivers.Sync u) (Serve at.node (requests.Pull u.call u.ckpt))
+    pull_ready = (at.within, IsSomeAnd-from (seen_at m u.ckpt at.node) (IsReadyFor (requests.Pull u.call u.ckpt)) (seen u.ckpt at.entry.attributes at.replica) (active_seen m (shapes u.ckpt).marks u.ckpt at) tt, tt, tt, has_copy_room)
+
+    install_ready : (p : PulledAt) → u.pulled ≡ Some p → p.generation ≡ at.entry.generation → (r : Option ℕ) → first_unserved 0 at.entry.complete u.served ≡ r → IsDueReady m s (drivers.Sync u) (install_next u.call u.ckpt p.count r)
+    install_ready p keeps present None none = tt
+    install_ready p keeps present (Some r) next = (
+      below m shapes inv s u held is at p keeps present r next,
+      free_there m shapes inv s u held is at p keeps present r next,
+      tt,
+      tt,
+      (has_copy_room, let pulled = has_pulled m shapes inv s u held is p keeps in ap is_some pulled.in_hand),
+    )
+
+    pulled_ready : (o : Option PulledAt) → u.pulled ≡ o → IsDueReady m s (drivers.Sync u) (unless_stale u at.entry at.node o)
+    pulled_ready None first = pull_ready
+    pulled_ready (Some p) keeps = by_generation (p.generation == at.entry.generation) refl
+      where
+        by_generation : (b : Bool) → (p.generation == at.entry.generation) ≡ b → IsDueReady m s (drivers.Sync u) (cond b (install_next u.call u.ckpt p.count (first_unserved 0 at.entry.complete u.served)) (End (Refused TryAgain (Generations p.generation at.entry.generation))))
+        by_generation true same = install_ready p keeps (eqb-true p.generation at.entry.generation same) (first_unserved 0 at.entry.complete u.served) refl
+        by_generation false other = tt
+
+  sync_ready : IsDueReady m s (drivers.Sync u) (sync_next m.cluster u)
+  sync_ready = by_entry (entry_of u.ckpt m.cluster.entries) refl
+    where
+      by_entry : (o : Option Entry) → entry_of u.ckpt m.cluster.entries ≡ o → IsDueReady m s (drivers.Sync u) (sync_next m.cluster u)
+      by_entry None gone = subst (IsDueReady m s (drivers.Sync u)) (sym (ap (sync_on m.cluster u) gone)) tt
+      by_entry (Some e) found = elim (active_of m shapes u.ckpt e inv its.made found) [
+        | inl none ↦ subst (IsDueReady m s (drivers.Sync u)) (sym (ap (sync_on m.cluster u) found ∙ ap (kind_next m.cluster u e) its.kind ∙ ap (synchronize_next m.cluster u (deadline_of s) e) none)) tt
+        | inr at ↦ subst (IsDueReady m s (drivers.Sync u)) (sym (ap (sync_on m.cluster u) at.found ∙ ap (kind_next m.cluster u at.entry) its.kind ∙ ap (synchronize_next m.cluster u (deadline_of s) at.entry) at.active))
+            (in_time-either (IsDueReady m s (drivers.Sync u)) (deadline_of s) m.cluster.moment (unless_stale u at.entry at.node u.pulled) (λ o. tt) (pulled_ready at u.pulled refl))
+      ]
+
 -- ---- a call of one step of the record
 
 module _ (m : Machine) (s : CallState) where
@@ -215,6 +270,7 @@ module _ (m : Machine) (shapes : ℕ → Shape) (inv : InvariantIn shapes m) (s 
   driver_ready (drivers.Open o) is = open_due m s o (driver_next m.cluster (rooms_of m s) (drivers.Open o)) (subst (λ d. IsReadyOpen m s o (driver_next m.cluster (rooms_of m s) d)) is (open_ready m shapes inv s o held is))
   driver_ready (drivers.Update u) is = update_due m s u (update_ready m shapes inv s u held is)
   driver_ready (drivers.Active a) is = active_ready m shapes inv s a.call a.ckpt a.kind a.marks held is (rooms_of m s)
+  driver_ready (drivers.Sync u) is = sync_ready m shapes inv s u held is
 
 -- ---- the facts
 
@@ -247,6 +303,8 @@ facts m inv = record {
   makes = λ a s here. making_is m inv.shapes inv.holds s (in_own m inv a s here);
   complete = λ k r e found complete. complete_there m inv.shapes inv.holds k r e found complete;
   puts = λ k r x is. target_free m inv.shapes inv.holds k r x (target_there m k r x is);
+  pulls = λ a s r call k here is. (ready_for m inv a s (Serve r (requests.Pull call k)) here is).4;
+  installs = λ a s r call k here is. (ready_for m inv a s (Serve r (requests.Install call k)) here is).4;
   starts = λ a s r call k choice here is. (ready_for m inv a s (Serve r (requests.Iterate call k choice)) here is).4;
   goes_on = λ a s r call k here is. (ready_for m inv a s (Serve r (requests.Next call k)) here is).4;
 }

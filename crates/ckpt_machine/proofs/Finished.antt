@@ -19,10 +19,11 @@ use Rattle.ckpt_machine.specs.InHand.{is_marked_by, attributes_asked, IsMakingIn
 use Rattle.ckpt_types.specs.Asks.{asked}
 use Rattle.weak_marks.specs.Marks.{Marked}
 use Rattle.ckpt_machine.specs.Invariant.{IsMaker, IsGoodIn, InvariantIn}
-use Rattle.ckpt_machine.specs.Machine.{Machine, CallState}
+use Rattle.ckpt_machine.specs.Machine.{Machine, ReplicaState, CallState}
 use Rattle.ckpt_machine.specs.Steps.{driver_of, with_record, replica_under, reservation_under, opened_state}
 use Rattle.ckpt_machine.specs.Shape.{Shape, IsCompleteOn, IsShapedBy, is_owner, IsOwner, IsMarker, IsSpread}
 use Rattle.ckpt_machine.proofs.ReplicaSteps.{put_actor-cases, put_actor-other}
+use Rattle.ckpt_machine.proofs.Handles.{IsGoodHandle-later}
 use Rattle.ckpt_machine.proofs.OtherCalls.{LooksAlike, making_still, IsInHand-alike, IsGoodIn-alike}
 use Rattle.ckpt_machine.proofs.OptionLemmas.{IsSomeAnd-at, IsSomeAnd-from}
 use Rattle.ckpt_machine.proofs.MarksAt.{none_marked}
@@ -205,7 +206,7 @@ module _ (m : Machine) (shapes : ℕ → Shape) (inv : InvariantIn shapes m) (s 
       tables = refl;
       making = λ v at. making_still m then_machine z v making_then at;
       made = WasMade-then;
-      later = λ j was g found. (g, sym (entry_other j (not_made j was)) ∙ found, λ all. refl, refl, refl);
+      later = λ j was g found. (g, sym (entry_other j (not_made j was)) ∙ found, λ all. refl, refl, refl, refl);
       owners = λ j was r. ap (λ (sh : Shape). is_owner z.call (sh.owners r)) (ap (λ b. cond b opened_shape (shapes j)) (not_made j was));
       marks = λ j was. ap (λ (sh : Shape). is_marked_by z.call sh.marks) (ap (λ b. cond b opened_shape (shapes j)) (not_made j was));
     }
@@ -221,6 +222,13 @@ module _ (m : Machine) (shapes : ℕ → Shape) (inv : InvariantIn shapes m) (s 
       let none : m.reserved making.ckpt q ≡ None = none_else q (ap (λ (x : Entry). slice_index x.complete q == 0) g_is ∙ free) in
       absurd (let w : None ≡ Some n = sym none ∙ ap (λ i. m.reserved i q) at_k ∙ was in cc w)
 
+  -- a replica that was there is of another checkpoint, since this one had none
+  generation_then : (j q : ℕ) (x : ReplicaState) (g : Entry) → entry_of j R.entries ≡ Some g → m.replicas j q ≡ Some x → (b : Bool) → (j == making.ckpt) ≡ b → x.generation ≡ g.generation
+  generation_then j q x g there was false other = (subst (λ o. IsSomeAnd o (λ (e : Entry). IsCompleteOn e q × (x.generation ≡ e.generation))) (sym (entry_other j other) ∙ there) (inv.replicas j q x was)).1
+  generation_then j q x g there was true same =
+      let complete = (subst (λ o. IsSomeAnd o (λ (e : Entry). IsCompleteOn e q × (x.generation ≡ e.generation))) (ap (λ n. entry_of n m.cluster.entries) (eqb-true j making.ckpt same) ∙ found) (inv.replicas j q x was)).0 in
+      absurd (let w : true ≡ false = sym (none_before q) ∙ complete in cc w)
+
   -- the invariant holds after it
   pub finish_keeps : InvariantIn (put shapes making.ckpt opened_shape) then_machine
   finish_keeps = record {
@@ -230,9 +238,9 @@ module _ (m : Machine) (shapes : ℕ → Shape) (inv : InvariantIn shapes m) (s 
     up_to = AllUpTo-change_key (made_with (home_of c m.cluster) m.cluster.up c) (λ x. refl) m.cluster.last_identity making.ckpt m.cluster.entries inv.up_to;
     swept = stays;
     entries = λ j g there. by_test j g there (j == making.ckpt) refl;
-    replicas = λ j q x is. under_complete (entry_of j R.entries) (slice_index (complete_of (entry_of j m.cluster.entries)) q) q (m.replicas j q) x is;
+    replicas = λ j q x is. under_complete (entry_of j R.entries) (slice_index (complete_of (entry_of j m.cluster.entries)) q) q (m.replicas j q) x (λ g found was. generation_then j q x g found was (j == making.ckpt) refl) is;
     reserves = λ j q n reserved. was_reserved (entry_of j R.entries) q n (m.reserved j q) (λ g. IsSome g.making) (λ g found free was. reserves_then j q n g found free was (j == making.ckpt) refl) reserved;
-    handles = λ b h among. WasMade-then h.id (inv.handles b h among);
+    handles = λ b h among. IsGoodHandle-later m.cluster R WasMade-then (λ j was g found. (g, sym (entry_other j (not_made j was)) ∙ found, refl)) h (inv.handles b h among);
     rest = inv.rest;
     clients = inv.clients;
     hands = λ a z there. elim (put_actor-cases m.in_hand s.call.actor None a z there) [

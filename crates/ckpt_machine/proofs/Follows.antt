@@ -1,4 +1,4 @@
--- What a step leaves of replicas and their effects: a replica is where its node is complete, and no checkpoint is held; effects are those that were, or of the call that commits, applies, or ends its weak write; and a snapshot is one that was.
+-- What a step leaves of replicas and their effects: a replica is where its node is complete, and no checkpoint is held; effects are those that were, or of the call that commits, applies, or ends its weak write, or of the snapshot in the hand of one that installs it; and a background snapshot is one that was.
 use Rattle.std.proofs.Common.{◌≡◌, ◌⊎◌, ℕ, ◌-◌, inl, inr, List, [], ◌∷◌, ◌++◌, filter, All, Option, Some, None, Bool, true, false, cond, not, ◌==◌, ◌&&◌, ℤ, refl, sym, ap, subst, ◌∙◌}
 use Rattle.std.specs.Prelude.{IsSomeAnd, slice_index, slice_set}
 use Rattle.std.proofs.lemmas.Bool.{eqb-true, and_parts}
@@ -24,7 +24,7 @@ use Rattle.ckpt_types.specs.Asks as asks
 use Rattle.ckpt_machine.specs.Machine.{Machine, Effect, Applied, ReplicaState, Snapshot, Staged, CallState}
 use Rattle.ckpt_machine.specs.Owned.{IsEffectOf, HasEffect}
 use Rattle.ckpt_machine.specs.Shape.{IsCompleteOn}
-use Rattle.ckpt_machine.specs.Steps.{with_record, record_step, created_for, retained_for, change_replica, with_slot, staged_moment, with_committed, committed_slot, with_applied, with_marks, with_next_element, next_element_written, without_marks, marks_ended, effect_of, changed, on_ok, on_look, without_making, at_some, replica_under, reservation_under, snapshot_under, opened_state}
+use Rattle.ckpt_machine.specs.Steps.{with_record, record_step, created_for, retained_for, change_replica, with_slot, staged_moment, with_committed, committed_slot, with_applied, with_marks, with_next_element, next_element_written, without_marks, marks_ended, with_installed, effect_of, changed, on_ok, on_look, without_making, at_some, replica_under, reservation_under, snapshot_under, opened_state}
 use Rattle.ckpt_machine.proofs.Joining.{joined-hold}
 use Rattle.ckpt_machine.proofs.OptionLemmas.{IsSomeAnd-at}
 
@@ -56,6 +56,15 @@ pub record Has (m : Machine) (k r : ℕ) (call : CallId) : Type 0 where
 pub record HasCopied (m : Machine) (k : ℕ) (call : CallId) : Type 0 where
   pub snapshot : Snapshot
   pub there : m.snapshots k ≡ Some snapshot
+  pub effect : HasEffect call snapshot.effects
+
+-- a snapshot in the hand of a call has one
+pub record HasInHand (m : Machine) (call : CallId) : Type 0 where
+  pub actor : ActorName
+  pub state : CallState
+  pub held : m.in_hand actor ≡ Some state
+  pub snapshot : Snapshot
+  pub there : state.snapshot ≡ Some snapshot
   pub effect : HasEffect call snapshot.effects
 
 -- what comes of m: bare, with the same calls, with no effects but those that m has and those that are new, and with no snapshot but those that m has
@@ -281,67 +290,84 @@ module _ (m : Machine) (bare : IsBare m) (IsNew : ℕ → CallId → Type 0) whe
         | false ↦ λ at some. bare.reserves j q i some
       ] refl is
 
-  -- what a step of a call needs of its row: a node that reserves is not complete, the new effects of a commit are of the origins of what is staged there, that of an update in one step is of the call, and that of the end of a weak write is of the call of the marks
-  abbrev pub StepNeeds : CallId → Verb → Option ℕ → Option ℕ → StepReply → Type 0
-  StepNeeds call verbs.Reserve (Some k) (Some r) words.Ok = IsSomeAnd (entry_of k m.cluster.entries) (λ e. IsIncomplete e r)
-  StepNeeds call verbs.Commit (Some k) (Some r) words.Ok = (x : ReplicaState) (slot : Staged) → m.replicas k r ≡ Some x → x.slot ≡ Some slot → IsNew k slot.origin
-  StepNeeds call verbs.Apply (Some k) (Some r) words.Ok = IsNew k call
-  StepNeeds call verbs.Unmark (Some k) (Some r) words.Ok = (x : ReplicaState) (marks : Marked) → m.replicas k r ≡ Some x → x.marks ≡ Some marks → IsNew k marks.call
-  StepNeeds call verb k r reply = Unit {0}
+  -- what a step of a call needs of its row: a node that reserves is not complete, the new effects of a commit are of the origins of what is staged there, that of an update in one step is of the call, that of the end of a weak write is of the call of the marks, and those of an installation are the ones of the snapshot in hand
+  abbrev pub StepNeeds : CallState → Verb → Option ℕ → Option ℕ → StepReply → Type 0
+  StepNeeds s verbs.Reserve (Some k) (Some r) words.Ok = IsSomeAnd (entry_of k m.cluster.entries) (λ e. IsIncomplete e r)
+  StepNeeds s verbs.Commit (Some k) (Some r) words.Ok = (x : ReplicaState) (slot : Staged) → m.replicas k r ≡ Some x → x.slot ≡ Some slot → IsNew k slot.origin
+  StepNeeds s verbs.Apply (Some k) (Some r) words.Ok = IsNew k s.call
+  StepNeeds s verbs.Unmark (Some k) (Some r) words.Ok = (x : ReplicaState) (marks : Marked) → m.replicas k r ≡ Some x → x.marks ≡ Some marks → IsNew k marks.call
+  StepNeeds s verbs.Install (Some k) (Some r) words.Ok = (pulled : Snapshot) (d : CallId) → s.snapshot ≡ Some pulled → HasEffect d pulled.effects → IsNew k d
+  StepNeeds s verb k r reply = Unit {0}
 
-  reserved_follows : (call : CallId) (k r : Option ℕ) (reply : StepReply) → StepNeeds call verbs.Reserve k r reply → ReplicasFollow m IsNew (on_ok reply m (at_some k m (λ k. at_some r m (λ r. record m { reserved = put2 m.reserved k r (Some (slice_index m.cluster.up r)) }))))
-  reserved_follows call (Some k) (Some r) words.Ok there = reserve_follows k r (slice_index m.cluster.up r) there
-  reserved_follows call (Some k) None words.Ok there = same_follows
-  reserved_follows call None r words.Ok there = same_follows
-  reserved_follows call k r reply there = same_follows
+  reserved_follows : (s : CallState) (k r : Option ℕ) (reply : StepReply) → StepNeeds s verbs.Reserve k r reply → ReplicasFollow m IsNew (on_ok reply m (at_some k m (λ k. at_some r m (λ r. record m { reserved = put2 m.reserved k r (Some (slice_index m.cluster.up r)) }))))
+  reserved_follows s (Some k) (Some r) words.Ok there = reserve_follows k r (slice_index m.cluster.up r) there
+  reserved_follows s (Some k) None words.Ok there = same_follows
+  reserved_follows s None r words.Ok there = same_follows
+  reserved_follows s k r reply there = same_follows
 
-  commit_follows : (call : CallId) (k r : Option ℕ) (reply : StepReply) → StepNeeds call verbs.Commit k r reply → ReplicasFollow m IsNew (on_ok reply m (at_some k m (λ k. at_some r m (λ r. change_replica m k r (m.replicas k r) (with_committed (entry_of k m.cluster.entries))))))
-  commit_follows call (Some k) (Some r) words.Ok new =
+  commit_follows : (s : CallState) (k r : Option ℕ) (reply : StepReply) → StepNeeds s verbs.Commit k r reply → ReplicasFollow m IsNew (on_ok reply m (at_some k m (λ k. at_some r m (λ r. change_replica m k r (m.replicas k r) (with_committed (entry_of k m.cluster.entries))))))
+  commit_follows s (Some k) (Some r) words.Ok new =
       changed_replica k r (m.replicas k r) refl (with_committed (entry_of k m.cluster.entries))
       (λ x d there has. elim (committed_effects (entry_of k m.cluster.entries) x d has) [
         | inl was ↦ inl was
         | inr by ↦ (let (slot, is, origin) = by in inr (subst (IsNew k) origin (new x slot there is)))
       ])
-  commit_follows call (Some k) None words.Ok new = same_follows
-  commit_follows call None r words.Ok new = same_follows
-  commit_follows call k r reply new = same_follows
+  commit_follows s (Some k) None words.Ok new = same_follows
+  commit_follows s None r words.Ok new = same_follows
+  commit_follows s k r reply new = same_follows
 
-  apply_follows : (call : CallId) (update : Update) (t : ℤ) (k r : Option ℕ) (reply : StepReply) → StepNeeds call verbs.Apply k r reply → ReplicasFollow m IsNew (on_ok reply m (at_some k m (λ k. at_some r m (λ r. change_replica m k r (m.replicas k r) (with_applied call update t (entry_of k m.cluster.entries))))))
-  apply_follows call update t (Some k) (Some r) words.Ok new =
-      changed_replica k r (m.replicas k r) refl (with_applied call update t (entry_of k m.cluster.entries))
-      (λ x d there has. elim (applied_effects (entry_of k m.cluster.entries) call update t x d has) [
+  apply_follows : (s : CallState) (update : Update) (t : ℤ) (k r : Option ℕ) (reply : StepReply) → StepNeeds s verbs.Apply k r reply → ReplicasFollow m IsNew (on_ok reply m (at_some k m (λ k. at_some r m (λ r. change_replica m k r (m.replicas k r) (with_applied s.call update t (entry_of k m.cluster.entries))))))
+  apply_follows s update t (Some k) (Some r) words.Ok new =
+      changed_replica k r (m.replicas k r) refl (with_applied s.call update t (entry_of k m.cluster.entries))
+      (λ x d there has. elim (applied_effects (entry_of k m.cluster.entries) s.call update t x d has) [
         | inl was ↦ inl was
         | inr by ↦ inr (subst (IsNew k) by new)
       ])
-  apply_follows call update t (Some k) None words.Ok new = same_follows
-  apply_follows call update t None r words.Ok new = same_follows
-  apply_follows call update t k r reply new = same_follows
+  apply_follows s update t (Some k) None words.Ok new = same_follows
+  apply_follows s update t None r words.Ok new = same_follows
+  apply_follows s update t k r reply new = same_follows
 
-  unmark_follows : (call : CallId) (k r : Option ℕ) (reply : StepReply) → StepNeeds call verbs.Unmark k r reply → ReplicasFollow m IsNew (on_ok reply m (at_some k m (λ k. at_some r m (λ r. change_replica m k r (m.replicas k r) without_marks))))
-  unmark_follows call (Some k) (Some r) words.Ok new =
+  unmark_follows : (s : CallState) (k r : Option ℕ) (reply : StepReply) → StepNeeds s verbs.Unmark k r reply → ReplicasFollow m IsNew (on_ok reply m (at_some k m (λ k. at_some r m (λ r. change_replica m k r (m.replicas k r) without_marks))))
+  unmark_follows s (Some k) (Some r) words.Ok new =
       changed_replica k r (m.replicas k r) refl without_marks
       (λ x d there has. elim (unmarked_effects x d has) [
         | inl was ↦ inl was
         | inr by ↦ (let (marks, is, own) = by in inr (subst (IsNew k) own (new x marks there is)))
       ])
-  unmark_follows call (Some k) None words.Ok new = same_follows
-  unmark_follows call None r words.Ok new = same_follows
-  unmark_follows call k r reply new = same_follows
+  unmark_follows s (Some k) None words.Ok new = same_follows
+  unmark_follows s None r words.Ok new = same_follows
+  unmark_follows s k r reply new = same_follows
+
+  installed_effects : (o : Option Snapshot) (x : ReplicaState) (d : CallId) → HasEffect d (with_installed o x).effects → HasEffect d x.effects ⊎ IsSomeAnd o (λ p. HasEffect d p.effects)
+  installed_effects None x d has = inl has
+  installed_effects (Some p) x d has = inr has
+
+  install_follows : (s : CallState) (k r : Option ℕ) (reply : StepReply) → StepNeeds s verbs.Install k r reply → ReplicasFollow m IsNew (on_ok reply m (at_some k m (λ k. at_some r m (λ r. change_replica m k r (m.replicas k r) (with_installed s.snapshot)))))
+  install_follows s (Some k) (Some r) words.Ok new =
+      changed_replica k r (m.replicas k r) refl (with_installed s.snapshot)
+      (λ x d there has. elim (installed_effects s.snapshot x d has) [
+        | inl was ↦ inl was
+        | inr of_it ↦ (let (p, is, effect) = IsSomeAnd-at s.snapshot (λ p. HasEffect d p.effects) of_it in inr (new p d is effect))
+      ])
+  install_follows s (Some k) None words.Ok new = same_follows
+  install_follows s None r words.Ok new = same_follows
+  install_follows s k r reply new = same_follows
 
   -- any step
-  pub changed_follows : (s : CallState) (verb : Verb) (k r : Option ℕ) (reply : StepReply) → StepNeeds s.call verb k r reply → ReplicasFollow m IsNew (changed m s verb k r reply)
+  pub changed_follows : (s : CallState) (verb : Verb) (k r : Option ℕ) (reply : StepReply) → StepNeeds s verb k r reply → ReplicasFollow m IsNew (changed m s verb k r reply)
   changed_follows s verbs.Enter k r reply new = ok_follows reply _ (one_follows r _ (λ r. step_follows (entered (client_of s.call) r s.call.number) bare.free))
   changed_follows s verbs.Open k r reply new = ok_follows reply _ (one_follows k _ (λ k. entry_follows k (λ R. opened_with (home_of (client_of s.call) R) R.up (client_of s.call)) (joined-hold (home_of (client_of s.call) m.cluster) m.cluster.up)))
   changed_follows s verbs.Create k r reply new = ok_follows reply _ (step_follows (created_for s.call (asked s.op)) (created_for_free m.cluster bare.free s.call (asked s.op)))
-  changed_follows s verbs.Reserve k r reply new = reserved_follows s.call k r reply new
+  changed_follows s verbs.Reserve k r reply new = reserved_follows s k r reply new
   changed_follows s verbs.Finish k r reply new = ok_follows reply _ (one_follows k _ (λ k. entry_follows k (λ R. made_with (home_of (client_of s.call) R) R.up (client_of s.call)) (λ e. refl)))
   changed_follows s verbs.Undo k r reply new = ok_follows reply _ (one_follows k _ undone_follows)
   changed_follows s verbs.Stage k r reply new = ok_follows reply _ (both_follow k r _ (λ k r. changed_replica k r (m.replicas k r) refl (with_slot s.call (update_of s.op) (staged_moment m k)) (λ x d there has. inl has)))
-  changed_follows s verbs.Commit k r reply new = commit_follows s.call k r reply new
-  changed_follows s verbs.Apply k r reply new = apply_follows s.call (update_of s.op) m.cluster.moment k r reply new
+  changed_follows s verbs.Commit k r reply new = commit_follows s k r reply new
+  changed_follows s verbs.Apply k r reply new = apply_follows s (update_of s.op) m.cluster.moment k r reply new
   changed_follows s verbs.Mark k r reply new = ok_follows reply _ (both_follow k r _ (λ k r. changed_replica k r (m.replicas k r) refl (with_marks s.call (update_of s.op) m.cluster.moment) (λ x d there has. inl has)))
   changed_follows s verbs.Element k r reply new = ok_follows reply _ (both_follow k r _ (λ k r. changed_replica k r (m.replicas k r) refl _ (λ x d there has. inl (subst (HasEffect d) (element_effects (entry_of k m.cluster.entries) x) has))))
-  changed_follows s verbs.Unmark k r reply new = unmark_follows s.call k r reply new
+  changed_follows s verbs.Unmark k r reply new = unmark_follows s k r reply new
+  changed_follows s verbs.Install k r reply new = install_follows s k r reply new
   changed_follows s verbs.Iter k r reply new = ok_follows reply _ (both_follow k r _ (λ k r. same_follows))
   changed_follows s verbs.Next k r reply new = ok_follows reply _ (both_follow k r _ (λ k r. same_follows))
   changed_follows s verbs.Leave k r reply new = ok_follows reply _ (step_follows (departed (client_of s.call)) (departed_free m.cluster bare.free (client_of s.call)))

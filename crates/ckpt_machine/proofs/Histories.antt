@@ -1,6 +1,7 @@
 -- Which calls replicas and snapshots have effects of: of calls that were begun; and one that is in hand commits its update there, since an update of the active alone has ended.
 use Rattle.std.proofs.Common.{◌≡◌, ◌⊎◌, ℕ, ◌+◌, ◌<◌, inl, inr, List, [], ◌∷◌, Option, Some, None, Bool, true, false, cond, ◌==◌, ℤ, refl, sym, ap, subst, ◌∙◌, arith}
-use Rattle.std.specs.Prelude.{IsSomeAnd, slice_index}
+use Rattle.std.specs.Option.{option_map}
+use Rattle.std.specs.Prelude.{IsSomeAnd, IfSome, slice_index}
 use Rattle.std.proofs.lemmas.List.Elements.{All-nil, All-filter}
 use Rattle.std.proofs.lemmas.Option.{same_Some}
 use Rattle.ckpt_types.specs.declared.ais_error.AisError.TheVariants.{NotExist}
@@ -30,17 +31,18 @@ use Rattle.ckpt_machine.specs.Drivers.{Driver}
 use Rattle.ckpt_machine.specs.Drivers as drivers
 use Rattle.ckpt_machine.specs.Driving.{driver_next, driver_taken}
 use Rattle.node_core.specs.Serving.{update_answer}
-use Rattle.ckpt_machine.specs.Guards.{IsMadeBy, OnReplica, OnAll, OnActive, CommitOk, ApplyOk, AreMarksOf, UnmarkRow, Row, Allowed}
+use Rattle.ckpt_machine.specs.Guards.{IsMadeBy, OnReplica, OnAll, OnActive, CommitOk, ApplyOk, AreMarksOf, UnmarkRow, PullOk, Row, Allowed}
+use Rattle.ckpt_machine.specs.InHand.{IsInPlace, IsUpdateIn}
 use Rattle.ckpt_machine.specs.Invariant.{IsGoodIn, InvariantIn, Invariant}
 use Rattle.ckpt_machine.specs.Machine.{Machine, Staged, ReplicaState, Snapshot, CallState, empty_cluster}
 use Rattle.ckpt_machine.specs.Options.{is_all, is_weak, is_by_element}
 use Rattle.ckpt_machine.specs.Owned.{HasEffect}
 use Rattle.ckpt_machine.specs.Propagation.{copied, replica_from}
 use Rattle.ckpt_machine.specs.Shape.{Shape, IsCompleteOn, IsShapedBy, IsOwner, IsMarker, IsSpread, slot_by, marks_at}
-use Rattle.ckpt_machine.specs.Steps.{Told, IsDone, IsDue, driver_of, due, rooms_of, after_beginning, with_record, call_begun, changed, kept_behind, claimed_count, stepped, step_of, after}
+use Rattle.ckpt_machine.specs.Steps.{Told, IsDone, IsDue, driver_of, due, rooms_of, after_beginning, with_record, call_begun, changed, kept_behind, counted_at, pulled_by, stepped, step_of, after}
 use Rattle.ckpt_machine.proofs.Copying.{IsPulledFrom, after_pull, after_put, put-cases}
 use Rattle.ckpt_machine.proofs.OwnMaking.{making_there}
-use Rattle.ckpt_machine.proofs.Follows.{IsFree, IsIncomplete, IsBare, Has, HasCopied, ReplicasFollow, record_follows, replica_follows, StepNeeds, changed_follows}
+use Rattle.ckpt_machine.proofs.Follows.{IsFree, IsIncomplete, IsBare, Has, HasCopied, HasInHand, ReplicasFollow, record_follows, replica_follows, StepNeeds, changed_follows}
 use Rattle.ckpt_machine.specs.Runs.{last_from, last, IsRunFrom, IsRun}
 use Rattle.ckpt_machine.proofs.Lawful.{lawful}
 use Rattle.ckpt_machine.proofs.ReplicaSteps.{put_actor-cases}
@@ -65,6 +67,9 @@ pub record HasHistory (m : Machine) : Type 0 where
   pub commits : (k r : ℕ) (s : CallState) → m.in_hand s.call.actor ≡ Some s → Has m k r s.call → IsCommittingAt k (driver_of s)
   pub given_copied : (k : ℕ) (d : CallId) → HasCopied m k d → d.number < m.next d.actor
   pub commits_copied : (k : ℕ) (s : CallState) → m.in_hand s.call.actor ≡ Some s → HasCopied m k s.call → IsCommittingAt k (driver_of s)
+  -- a call that a snapshot in hand has an effect of was begun, and is in hand no more
+  pub given_pulled : (d : CallId) → HasInHand m d → d.number < m.next d.actor
+  pub ended_pulled : (s : CallState) → m.in_hand s.call.actor ≡ Some s → HasInHand m s.call → ⊥
 
 pub history_empty : HasHistory empty_cluster
 history_empty = record {
@@ -73,6 +78,8 @@ history_empty = record {
   commits = λ k r s held has. absurd (cc held);
   given_copied = λ k d has. absurd (let none = has.there in cc none);
   commits_copied = λ k s held has. absurd (cc held);
+  given_pulled = λ d has. absurd (let none = has.held in cc none);
+  ended_pulled = λ s held has. cc held;
 }
 
 -- ---- whose a slot is, and whose marks are
@@ -231,6 +238,10 @@ module _ (m : Machine) (inv : Invariant m) (history : HasHistory m) (s : CallSta
     pub reply : t.reply ≡ words.Ok
     pub by : Commits k ⊎ Applies
 
+  -- or one of the snapshot in its hand
+  abbrev IsNewEffect : ℕ → CallId → Type 0
+  IsNewEffect k d = IsOwnEffect k d ⊎ HasInHand m d
+
   abbrev n : Machine
   n = changed m s t.verb t.ckpt t.node t.reply
 
@@ -259,19 +270,51 @@ module _ (m : Machine) (inv : Invariant m) (history : HasHistory m) (s : CallSta
       let same : there ≡ marks = same_Some there marks (sym marks_are ∙ ap (λ (z : ReplicaState). z.marks) (same_Some y x (sym is ∙ at)) ∙ marked) in
       record { own = ap (λ (z : Marked). z.call) (sym same) ∙ own.call_is; reply = reply; by = inr (record { verb = inr verb; answer = answers.Nothing; ends = sym end ∙ on.1 }) }
 
-  pub follows : ReplicasFollow m IsOwnEffect n
-  follows = changed_follows m history.bare IsOwnEffect s t.verb t.ckpt t.node t.reply (news t.verb t.ckpt t.node t.reply refl refl row)
+  pub follows : ReplicasFollow m IsNewEffect n
+  follows = changed_follows m history.bare IsNewEffect s t.verb t.ckpt t.node t.reply (news t.verb t.ckpt t.node t.reply refl refl row)
     where
-      news : (verb : Verb) (k r : Option ℕ) (reply : StepReply) → t.verb ≡ verb → t.reply ≡ reply → Row m s verb (record t { verb = verb; ckpt = k; node = r; reply = reply }) → StepNeeds m history.bare IsOwnEffect s.call verb k r reply
-      news verbs.Commit (Some k) (Some r) words.Ok verb reply row = own_commit row.1 k r verb reply row.3
-      news verbs.Apply (Some k) (Some r) words.Ok verb reply row = own_apply row.1 k r (record t { verb = verbs.Apply; ckpt = Some k; node = Some r; reply = words.Ok }) refl verb reply row.3
-      news verbs.Unmark (Some k) (Some r) words.Ok verb reply row = own_unmark row.1 k r (record t { verb = verbs.Unmark; ckpt = Some k; node = Some r; reply = words.Ok }) refl verb reply row.3
+      news : (verb : Verb) (k r : Option ℕ) (reply : StepReply) → t.verb ≡ verb → t.reply ≡ reply → Row m s verb (record t { verb = verb; ckpt = k; node = r; reply = reply }) → StepNeeds m history.bare IsNewEffect s verb k r reply
+      news verbs.Commit (Some k) (Some r) words.Ok verb reply row = λ x slot there staged. inl (own_commit row.1 k r verb reply row.3 x slot there staged)
+      news verbs.Apply (Some k) (Some r) words.Ok verb reply row = inl (own_apply row.1 k r (record t { verb = verbs.Apply; ckpt = Some k; node = Some r; reply = words.Ok }) refl verb reply row.3)
+      news verbs.Unmark (Some k) (Some r) words.Ok verb reply row = λ x marks there marked. inl (own_unmark row.1 k r (record t { verb = verbs.Unmark; ckpt = Some k; node = Some r; reply = words.Ok }) refl verb reply row.3 x marks there marked)
+      news verbs.Install (Some k) (Some r) words.Ok verb reply row = λ pulled d there has. inr (record { actor = s.call.actor; state = s; held = held; snapshot = pulled; there = there; effect = has })
       news verbs.Reserve (Some k) (Some r) words.Ok verb reply row = making_incomplete m inv s.call k r row.0.3.1
       news verb k r reply verb_is reply_is row = tt
 
   -- whoever has an effect after the step had it before, or has it by this step
-  pub had : (k r : ℕ) (d : CallId) → Has n k r d → Has m k r d ⊎ IsOwnEffect k d
+  pub had : (k r : ℕ) (d : CallId) → Has n k r d → Has m k r d ⊎ IsNewEffect k d
   had k r d has = follows.effects k r has.replica d has.there has.effect
+
+  -- a call that is in hand has no effect where updates go to the active alone, since that of an update on all replicas is elsewhere, and every other has ended
+  none_alone : (k r : ℕ) (z : CallState) → m.in_hand z.call.actor ≡ Some z → IsSomeAnd (entry_of k m.cluster.entries) (λ e. is_all e.attributes ≡ false) → Has m k r z.call → ⊥
+  none_alone k r z in_hand there has =
+      let (e, found, alone) = IsSomeAnd-at (entry_of k m.cluster.entries) (λ e. is_all e.attributes ≡ false) there in
+      let commits = history.commits k r z in_hand has in
+      let at : IsUpdateIn m inv.shapes z commits.update = subst (λ d. IsInPlace m inv.shapes z d) commits.driver_is (inv.holds.hands z.call.actor z in_hand).here in
+      let all : is_all e.attributes ≡ true = subst (λ o. IfSome o (λ (e : Entry). is_all e.attributes ≡ true)) (ap (λ k. entry_of k m.cluster.entries) commits.ckpt ∙ found) at.all in
+      (let w : true ≡ false = sym all ∙ alone in cc w)
+
+  -- what the call has pulled by the step is of the active of a checkpoint whose updates go there alone
+  record IsPulledEffect (d : CallId) : Type 0 where
+    ckpt : ℕ
+    node : ℕ
+    alone : IsSomeAnd (entry_of ckpt m.cluster.entries) (λ e. is_all e.attributes ≡ false)
+    has : Has m ckpt node d
+
+  pulled_effect : (k r : ℕ) (u : Told) (p : Snapshot) (d : CallId) → OnReplica m k r (PullOk m s r u) → option_map copied (m.replicas k r) ≡ Some p → HasEffect d p.effects → IsPulledEffect d
+  pulled_effect k r u p d on is effect =
+      let (e, x, found, there, ok) = on_replica-there m k r (PullOk m s r u) on in
+      record {
+        ckpt = k;
+        node = r;
+        alone = IsSomeAnd-from (entry_of k m.cluster.entries) (λ e. is_all e.attributes ≡ false) e found ok.alone;
+        has = record { replica = x; there = there; effect = subst (λ (q : Snapshot). HasEffect d q.effects) (sym (same_Some (copied x) p (sym (ap (option_map copied) there) ∙ is))) effect };
+      }
+
+  -- an effect of the snapshot in its hand behind the step was there before, or is pulled
+  pulled_was : (verb : Verb) (k r : Option ℕ) (reply : StepReply) (p : Snapshot) (d : CallId) → Row m s verb (record t { verb = verb; ckpt = k; node = r; reply = reply }) → pulled_by m s verb k r reply ≡ Some p → HasEffect d p.effects → HasInHand m d ⊎ IsPulledEffect d
+  pulled_was verbs.Pull (Some k) (Some r) words.Ok p d row is effect = inr (pulled_effect k r (record t { verb = verbs.Pull; ckpt = Some k; node = Some r; reply = words.Ok }) p d row.0.3 is effect)
+  pulled_was verb k r reply p d row is effect = inl (record { actor = s.call.actor; state = s; held = held; snapshot = p; there = is; effect = effect })
 
   module _ (end : Option Outcome) (ends : t.end ≡ end) (done : IsDone m s (due m s) t) where
     abbrev then_state : CallState
@@ -282,14 +325,15 @@ module _ (m : Machine) (inv : Invariant m) (history : HasHistory m) (s : CallSta
 
     -- the step as its driver is told of it
     abbrev told : StepDone
-    told = counting (claimed_count m t.verb t.ckpt t.node) (done_of n.cluster t.verb t.ckpt t.node t.reply)
+    told = counting (counted_at m t.verb t.ckpt t.node t.reply) (done_of n.cluster t.verb t.ckpt t.node t.reply)
 
     -- where the call goes on, it commits still
     own_commits : (k r : ℕ) → end ≡ None → Has then_machine k r s.call → IsCommittingAt k (driver_of then_state)
     own_commits k r none has =
         elim (had k r s.call (record { replica = has.replica; there = has.there; effect = has.effect })) [
           | inl was ↦ commits_still m s t told k refl done (ends ∙ none) (history.commits k r s held was)
-          | inr new ↦ by_new new.reply new.by
+          | inr (inl new) ↦ by_new new.reply new.by
+          | inr (inr pulled) ↦ absurd (history.ended_pulled s held pulled)
         ]
       where
         by_new : t.reply ≡ words.Ok → Commits k ⊎ Applies → IsCommittingAt k (driver_of then_state)
@@ -300,23 +344,34 @@ module _ (m : Machine) (inv : Invariant m) (history : HasHistory m) (s : CallSta
     other_commits k r z other in_hand has =
         elim (had k r z.call (record { replica = has.replica; there = has.there; effect = has.effect })) [
           | inl was ↦ history.commits k r z (sym (follows.in_hand z.call.actor) ∙ in_hand) was
-          | inr new ↦ absurd (let w : true ≡ false = sym (ap (λ (d : CallId). same_actor d.actor s.call.actor) new.own ∙ same_actor-refl s.call.actor) ∙ other in cc w)
+          | inr (inl new) ↦ absurd (let w : true ≡ false = sym (ap (λ (d : CallId). same_actor d.actor s.call.actor) new.own ∙ same_actor-refl s.call.actor) ∙ other in cc w)
+          | inr (inr pulled) ↦ absurd (history.ended_pulled z (sym (follows.in_hand z.call.actor) ∙ in_hand) pulled)
         ]
-
-    -- what a snapshot has, it had
-    was_copied : (k : ℕ) (d : CallId) → HasCopied then_machine k d → HasCopied m k d
-    was_copied k d has = record { snapshot = has.snapshot; there = follows.copies k has.snapshot has.there; effect = has.effect }
 
     left_state : (o : Option Outcome) (z : CallState) → left o then_state ≡ Some z → (o ≡ None) × (then_state ≡ z)
     left_state None z is = (refl, same_Some then_state z is)
     left_state (Some e) z is = absurd (cc is)
+
+    -- what a snapshot in hand has, one had before, or it was pulled by the step
+    was_pulled : (d : CallId) → HasInHand then_machine d → HasInHand m d ⊎ IsPulledEffect d
+    was_pulled d has = elim (put_actor-cases n.in_hand s.call.actor (left end then_state) has.actor has.state has.held) [
+      | inl own ↦ (
+          let (none, is) = left_state end has.state own.1 in
+          pulled_was t.verb t.ckpt t.node t.reply has.snapshot d row (ap (λ (z : CallState). z.snapshot) is ∙ has.there) has.effect)
+      | inr other ↦ inl (record { actor = has.actor; state = has.state; held = sym (follows.in_hand has.actor) ∙ other.1; snapshot = has.snapshot; there = has.there; effect = has.effect })
+    ]
+
+    -- what a snapshot has, it had
+    was_copied : (k : ℕ) (d : CallId) → HasCopied then_machine k d → HasCopied m k d
+    was_copied k d has = record { snapshot = has.snapshot; there = follows.copies k has.snapshot has.there; effect = has.effect }
 
     pub step_history : HasHistory then_machine
     step_history = record {
       bare = follows.bare;
       given = λ k r d has. elim (had k r d (record { replica = has.replica; there = has.there; effect = has.effect })) [
         | inl was ↦ subst (λ next. d.number < next) (sym (follows.next d.actor)) (history.given k r d was)
-        | inr new ↦ subst (λ next. d.number < next) (sym (follows.next d.actor)) (subst (λ (d : CallId). d.number < m.next d.actor) (sym new.own) (inv.holds.hands s.call.actor s held).number)
+        | inr (inl new) ↦ subst (λ next. d.number < next) (sym (follows.next d.actor)) (subst (λ (d : CallId). d.number < m.next d.actor) (sym new.own) (inv.holds.hands s.call.actor s held).number)
+        | inr (inr pulled) ↦ subst (λ next. d.number < next) (sym (follows.next d.actor)) (history.given_pulled d pulled)
       ];
       commits = λ k r z in_hand has. elim (put_actor-cases n.in_hand s.call.actor (left end then_state) z.call.actor z in_hand) [
         | inl own ↦ (
@@ -333,7 +388,17 @@ module _ (m : Machine) (inv : Invariant m) (history : HasHistory m) (s : CallSta
             subst (λ z. IsCommittingAt k (driver_of z)) is (commits_still m s t told k refl done (ends ∙ none) (history.commits_copied k s held (subst (HasCopied m k) (sym call) (was_copied k z.call has)))))
         | inr other ↦ history.commits_copied k z (sym (follows.in_hand z.call.actor) ∙ other.1) (was_copied k z.call has)
       ];
+      given_pulled = λ d has. subst (λ next. d.number < next) (sym (follows.next d.actor)) (elim (was_pulled d has) [ inl was ↦ history.given_pulled d was | inr new ↦ history.given new.ckpt new.node d new.has ]);
+      ended_pulled = λ z in_hand has. elim (put_actor-cases n.in_hand s.call.actor (left end then_state) z.call.actor z in_hand) [
+        | inl own ↦ (
+            let (none, is) = left_state end z own.1 in
+            ended_by s held (subst (HasInHand then_machine) (sym (ap (λ (z : CallState). z.call) is)) has))
+        | inr other ↦ ended_by z (sym (follows.in_hand z.call.actor) ∙ other.1) has
+      ];
     }
+      where
+        ended_by : (z : CallState) → m.in_hand z.call.actor ≡ Some z → HasInHand then_machine z.call → ⊥
+        ended_by z in_hand has = elim (was_pulled z.call has) [ inl was ↦ history.ended_pulled z in_hand was | inr new ↦ none_alone new.ckpt new.node z in_hand new.alone new.has ]
 
 -- ---- any label
 
@@ -356,8 +421,24 @@ begun_history m history call op end number = record {
         absurd (omega (arith, below, number)))
     | inr other ↦ history.commits_copied k z other.1 (record { snapshot = has.snapshot; there = has.there; effect = has.effect })
   ];
+  given_pulled = λ d has. number_later d (history.given_pulled d (was_pulled d has));
+  ended_pulled = λ z in_hand has. elim (put_actor-cases m.in_hand call.actor (call_begun end call op (first_kept m call op)) z.call.actor z in_hand) [
+    | inl own ↦ (
+        let below : call.number < m.next call.actor = history.given_pulled call (subst (HasInHand m) (sym (begun_is z own.1)) (was_pulled z.call has)) in
+        omega (arith, below, number))
+    | inr other ↦ history.ended_pulled z other.1 (was_pulled z.call has)
+  ];
 }
   where
+    -- a call that begins has nothing in its hand
+    was_pulled : (d : CallId) → HasInHand (after_beginning m call op end) d → HasInHand m d
+    was_pulled d has = elim (put_actor-cases m.in_hand call.actor (call_begun end call op (first_kept m call op)) has.actor has.state has.held) [
+      | inl own ↦ (
+          let (driver, starts, same) = begun_as end call op (first_kept m call op) has.state own.1 in
+          absurd (let w : None ≡ Some has.snapshot = ap (λ (z : CallState). z.snapshot) same ∙ has.there in cc w))
+      | inr other ↦ record { actor = has.actor; state = has.state; held = other.1; snapshot = has.snapshot; there = has.there; effect = has.effect }
+    ]
+
     number_later : (d : CallId) → d.number < m.next d.actor → d.number < put_actor m.next call.actor (m.next call.actor + 1) d.actor
     number_later d below = by_test (same_actor d.actor call.actor) refl
       where
@@ -375,6 +456,8 @@ moved_history m history t = record {
   commits = λ k r s held has. history.commits k r s held (before k r s.call has);
   given_copied = λ k d has. history.given_copied k d (copied_before k d has);
   commits_copied = λ k s held has. history.commits_copied k s held (copied_before k s.call has);
+  given_pulled = λ d has. history.given_pulled d (hands_before d has);
+  ended_pulled = λ s held has. history.ended_pulled s held (hands_before s.call has);
 }
   where
     follows : ReplicasFollow m (λ k d. ⊥) (with_record m (moved t m.cluster))
@@ -386,6 +469,9 @@ moved_history m history t = record {
     copied_before : (k : ℕ) (d : CallId) → HasCopied (with_record m (moved t m.cluster)) k d → HasCopied m k d
     copied_before k d has = record { snapshot = has.snapshot; there = follows.copies k has.snapshot has.there; effect = has.effect }
 
+    hands_before : (d : CallId) → HasInHand (with_record m (moved t m.cluster)) d → HasInHand m d
+    hands_before d has = record { actor = has.actor; state = has.state; held = has.held; snapshot = has.snapshot; there = has.there; effect = has.effect }
+
 -- a snapshot of the active has the effects of the active
 pulled_history : (m : Machine) → HasHistory m → (k : ℕ) (x : ReplicaState) → IsPulledFrom m k x → HasHistory (record m { snapshots = put m.snapshots k (Some (copied x)) })
 pulled_history m history k x from = record {
@@ -394,6 +480,8 @@ pulled_history m history k x from = record {
   commits = λ j r s held has. history.commits j r s held (record { replica = has.replica; there = has.there; effect = has.effect });
   given_copied = λ j d has. elim (before j d has) [ inl was ↦ history.given_copied j d was | inr new ↦ history.given j from.node d new ];
   commits_copied = λ j s held has. elim (before j s.call has) [ inl was ↦ history.commits_copied j s held was | inr new ↦ history.commits j from.node s held new ];
+  given_pulled = λ d has. history.given_pulled d (record { actor = has.actor; state = has.state; held = has.held; snapshot = has.snapshot; there = has.there; effect = has.effect });
+  ended_pulled = λ s held has. history.ended_pulled s held (record { actor = has.actor; state = has.state; held = has.held; snapshot = has.snapshot; there = has.there; effect = has.effect });
 }
   where
     before : (j : ℕ) (d : CallId) → HasCopied (record m { snapshots = put m.snapshots k (Some (copied x)) }) j d → HasCopied m j d ⊎ Has m j from.node d
@@ -410,6 +498,8 @@ put_history m history k r s x is there = record {
   commits = λ j q z held has. elim (before j q z.call has) [ inl was ↦ history.commits j q z held was | inr copied ↦ history.commits_copied j z held copied ];
   given_copied = λ j d has. history.given_copied j d (record { snapshot = has.snapshot; there = has.there; effect = has.effect });
   commits_copied = λ j z held has. history.commits_copied j z held (record { snapshot = has.snapshot; there = has.there; effect = has.effect });
+  given_pulled = λ d has. history.given_pulled d (record { actor = has.actor; state = has.state; held = has.held; snapshot = has.snapshot; there = has.there; effect = has.effect });
+  ended_pulled = λ z held has. history.ended_pulled z held (record { actor = has.actor; state = has.state; held = has.held; snapshot = has.snapshot; there = has.there; effect = has.effect });
 }
   where
     follows : ReplicasFollow m (HasCopied m) (record m { replicas = put2 m.replicas k r (Some (replica_from s x)) })
@@ -432,6 +522,8 @@ keeps_history m (labels.Nodes n) inv history allowed is = record {
   commits = λ k r s held has. history.commits k r s held (record { replica = has.replica; there = has.there; effect = has.effect });
   given_copied = λ k d has. history.given_copied k d (record { snapshot = has.snapshot; there = has.there; effect = has.effect });
   commits_copied = λ k s held has. history.commits_copied k s held (record { snapshot = has.snapshot; there = has.there; effect = has.effect });
+  given_pulled = λ d has. history.given_pulled d (record { actor = has.actor; state = has.state; held = has.held; snapshot = has.snapshot; there = has.there; effect = has.effect });
+  ended_pulled = λ s held has. history.ended_pulled s held (record { actor = has.actor; state = has.state; held = has.held; snapshot = has.snapshot; there = has.there; effect = has.effect });
 }
 keeps_history m (labels.Moved t) inv history allowed is = moved_history m history t
 keeps_history m (labels.Shown k replicas) inv history allowed is = history

@@ -52,6 +52,9 @@ module _ (opener : ℕ) (up : List ℕ) (e : Entry) where
   pub joined-made : (joined opener up e).made ≡ e.made
   joined-made = joined-same {X = ℤ} (λ e. e.made) refl
 
+  pub joined-generation : (joined opener up e).generation ≡ e.generation
+  joined-generation = joined-same {X = ℕ} (λ e. e.generation) refl
+
   pub joined-hold : (joined opener up e).hold ≡ e.hold
   joined-hold = joined-same (λ e. e.hold) refl
 
@@ -120,6 +123,6 @@ opened_with-later opener up c e made = record {
   grows = joined-complete opener up e;
   active = joined-active opener up e;
   attributes = joined-attributes opener up e;
-  generation = joined-same opener up e {X = ℕ} (λ e. e.generation) refl;
+  generation = joined-generation opener up e;
   clients = length-slice_set (joined opener up e).references c _ ∙ ap length (joined-references opener up e);
 }

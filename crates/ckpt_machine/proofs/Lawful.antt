@@ -14,6 +14,7 @@ use Rattle.ckpt_machine.proofs.Active.{active_goes}
 use Rattle.ckpt_machine.proofs.Beginnings.{begin_keeps}
 use Rattle.ckpt_machine.proofs.BeginRows.{begin_row, word_row}
 use Rattle.ckpt_machine.proofs.BroughtUp.{nodes_keep}
+use Rattle.ckpt_machine.proofs.Installing.{sync_goes}
 use Rattle.ckpt_machine.proofs.Moment.{moved_keeps}
 use Rattle.ckpt_machine.proofs.OneStepCalls.{once_goes}
 use Rattle.ckpt_machine.proofs.Propagated.{pull_keeps, put_keeps}
@@ -32,6 +33,7 @@ module _ (m : Machine) (inv : Invariant m) (s : CallState) (held : m.in_hand s.c
   driver_goes (drivers.Open o) is done = open_goes m inv.shapes inv.holds s o held is t (subst (λ d. IsDone m s (driver_next m.cluster (rooms_of m s) d) t) (sym is) done)
   driver_goes (drivers.Update u) is done = subst (λ d. Goes m s d t) (sym is) (update_goes m inv.shapes inv.holds s u held is t done)
   driver_goes (drivers.Active a) is done = active_goes m inv.shapes inv.holds s a.call a.ckpt held a.kind a.marks is (rooms_of m s) t refl done
+  driver_goes (drivers.Sync u) is done = sync_goes m inv.shapes inv.holds s u held is t done
 
 -- ---- the law
 
@@ -48,5 +50,5 @@ lawful m (labels.Nodes n) inv is = ((is.0, is.1, λ r. is_up-none r m.cluster is
 lawful m (labels.Moved t) inv is = (is, moved_keeps m t inv)
 lawful m (labels.Shown k replicas) inv is = (is, inv)
 lawful m (labels.Pulled k reply) inv is = (is, record { shapes = inv.shapes; holds = pull_keeps m inv.shapes inv.holds k reply (source_at m k) })
-lawful m (labels.Put k r reply) inv is = (is, record { shapes = inv.shapes; holds = put_keeps m inv.shapes inv.holds k r reply (m.snapshots k) (target_at m k r) refl })
+lawful m (labels.Put k r reply) inv is = (is, record { shapes = inv.shapes; holds = put_keeps m inv.shapes inv.holds k r reply (m.snapshots k) (target_at m k r) refl is })
 lawful m l inv is = absurd is

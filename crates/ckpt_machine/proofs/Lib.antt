@@ -1,4 +1,8 @@
 pub mod OnComplete
+pub mod Handles
+pub mod Served
+pub mod Sync
+pub mod Installing
 pub mod Propagated
 pub mod OnceByKey
 pub mod Deadlines
@@ -83,7 +87,14 @@ pub mod Histories
 pub mod RefusedRuns
 pub mod RefusedRows
 pub mod ElementsDone
+pub mod Prefixes
+pub mod Installed
 pub mod EachReplica
+pub mod Generations
 pub mod EffectsOnce
+pub mod Growing
+pub mod SyncSteps
+pub mod Bringing
+pub mod Synchronized
 pub mod ActiveAhead
 pub mod EffectsTell

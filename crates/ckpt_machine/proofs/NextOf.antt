@@ -5,15 +5,20 @@ use Rattle.std.specs.Prelude.{Option, Some, None, is_some, not, ◌&&◌, nat_le
 use Rattle.ckpt_types.specs.declared.answers.Outcome.{Outcome}
 use Rattle.ckpt_types.specs.declared.attributes.CreationAttributes.{CreationAttributes}
 use Rattle.ckpt_types.specs.declared.identities.CallId.{CallId}
-use Rattle.node_msgs.specs.declared.requests.Request.TheVariants.{Reserve, Stage, Commit}
+use Rattle.node_msgs.specs.declared.requests.Request.TheVariants.{Reserve, Stage, Commit, Pull, Install}
 use Rattle.node_msgs.specs.declared.next.RecordStep.{RecordStep}
-use Rattle.node_msgs.specs.declared.next.RecordStep.TheVariants.{Open, Finish, Undo, Retain}
+use Rattle.node_msgs.specs.declared.next.RecordStep.TheVariants.{Open, Finish, Undo, Retain, Hold, Activate}
 use Rattle.node_msgs.specs.declared.next.Next.{Next}
 use Rattle.node_msgs.specs.declared.next.Next.TheVariants.{Serve, Event, End}
 use Rattle.ckpt_machine.specs.Drivers.{Driver}
 use Rattle.ckpt_machine.specs.Drivers as drivers
 use Rattle.cluster_record.specs.declared.calls.Making.{Making}
 use Rattle.cluster_record.specs.declared.calls.MarksMade.{MarksMade}
+use Rattle.cluster_record.specs.declared.calls.PulledAt.{PulledAt}
+use Rattle.cluster_record.specs.declared.calls.SyncKind.{SyncKind}
+use Rattle.cluster_record.specs.declared.calls.SyncKind.TheVariants.{Synchronize, ActiveSet}
+use Rattle.cluster_record.specs.Calls.{same_call}
+use Rattle.cluster_record.specs.DueSync.{SyncState, first_unserved, install_next, unless_stale, lead_next, unless_held, synchronize_next, kind_next, sync_on}
 use Rattle.cluster_record.specs.DueOpen.{OpenState}
 use Rattle.cluster_record.specs.DueActive.{ActiveState}
 use Rattle.cluster_record.specs.declared.entries.Entry.{Entry}
@@ -35,6 +40,7 @@ use Rattle.ckpt_machine.proofs.Deadlines.{in_time-either}
 abbrev pub OfAsked : (Next → Type 0) → Driver → Type 0
 OfAsked P (drivers.Update u) = ((r : ℕ) (t : ℤ) → P (Serve r (Stage u.call u.ckpt t))) × ((r : ℕ) → P (Serve r (Commit u.call u.ckpt)))
 OfAsked P (drivers.Active a) = (r : ℕ) → P (Serve r (active_request a))
+OfAsked P (drivers.Sync u) = ((r : ℕ) → P (Serve r (Pull u.call u.ckpt))) × ((r : ℕ) → P (Serve r (Install u.call u.ckpt)))
 OfAsked P driver = Unit {0}
 
 module _ (P : Next → Type 0) (ends : (o : Outcome) → P (End o)) (steps : (step : RecordStep) → P (Event step)) (reserves : (r k : ℕ) → P (Serve r (Reserve k))) where
@@ -112,6 +118,49 @@ module _ (P : Next → Type 0) (ends : (o : Outcome) → P (End o)) (steps : (st
     at generation None = ends _
     at generation (Some r) = by_test (starts_iteration a.kind && not room) _ generation r
 
+  -- ---- a synchronisation, and the setting of an active
+
+  module _ (R : RecordState) (u : SyncState) (pulls : (r : ℕ) → P (Serve r (Pull u.call u.ckpt))) (installs : (r : ℕ) → P (Serve r (Install u.call u.ckpt))) where
+    of_install : (count : ℕ) (r : Option ℕ) → P (install_next u.call u.ckpt count r)
+    of_install count None = ends _
+    of_install count (Some r) = installs r
+
+    of_pulled : (e : Entry) (r : ℕ) (p : Option PulledAt) → P (unless_stale u e r p)
+    of_pulled e r None = pulls r
+    of_pulled e r (Some p) = by_test (p.generation == e.generation) _
+      where
+        by_test : (b : Bool) (x : Outcome) → P (cond b (install_next u.call u.ckpt p.count (first_unserved 0 e.complete u.served)) (End x))
+        by_test true x = of_install p.count (first_unserved 0 e.complete u.served)
+        by_test false x = ends x
+
+    of_synchronize : (deadline : Option ℤ) (e : Entry) (r : Option ℕ) → P (synchronize_next R u deadline e r)
+    of_synchronize deadline e None = ends _
+    of_synchronize deadline e (Some r) = in_time-either P deadline R.moment (unless_stale u e r u.pulled) ends (of_pulled e r u.pulled)
+
+    of_lead : (local : ℕ) (active : Option ℕ) → P (lead_next local active)
+    of_lead local None = steps _
+    of_lead local (Some r) = by_test (r == local)
+      where
+        by_test : (b : Bool) → P (cond b (Event (Activate local)) (Event (Hold r)))
+        by_test true = steps _
+        by_test false = steps _
+
+    of_hold : (local : ℕ) (active : Option ℕ) (hold : Option CallId) → P (unless_held u.call local active hold)
+    of_hold local active None = of_lead local active
+    of_hold local active (Some holder) = by_test (same_call holder u.call) _
+      where
+        by_test : (b : Bool) (x : Outcome) → P (cond b (Event (Activate local)) (End x))
+        by_test true x = steps _
+        by_test false x = ends x
+
+    of_kind : (e : Entry) (kind : SyncKind) → P (kind_next R u e kind)
+    of_kind e (Synchronize deadline) = of_synchronize deadline e e.active
+    of_kind e (ActiveSet local) = of_hold local e.active e.hold
+
+    of_sync : (e : Option Entry) → P (sync_on R u e)
+    of_sync None = ends _
+    of_sync (Some e) = of_kind e u.kind
+
   -- ---- a call of one step
 
   of_close : (e : Option Entry) → P (close_of e)
@@ -146,3 +195,4 @@ module _ (P : Next → Type 0) (ends : (o : Outcome) → P (End o)) (steps : (st
   next_of R room (drivers.Open o) asks = of_open R room.handles o o.making
   next_of R room (drivers.Update u) asks = of_update u asks.0 asks.1 R.moment (entry_of u.ckpt R.entries)
   next_of R room (drivers.Active a) asks = of_active room.iterations a (entry_of a.ckpt R.entries) asks
+  next_of R room (drivers.Sync u) asks = of_sync R u asks.0 asks.1 (entry_of u.ckpt R.entries)

@@ -1,7 +1,8 @@
 -- Replicas are on complete nodes still, after a step of the record and where one of them is changed.
-use Rattle.std.proofs.Common.{◌≡◌, ℕ, Option, Some, None, true, false, cond, ◌&&◌, ◌==◌, refl, sym, subst}
+use Rattle.std.proofs.Common.{◌≡◌, ℕ, Option, Some, None, Bool, true, false, cond, ◌&&◌, ◌==◌, refl, sym, ap, subst}
 use Rattle.std.specs.Prelude.{IsSomeAnd, slice_index}
 use Rattle.std.proofs.lemmas.Bool.{eqb-true, and_parts}
+use Rattle.std.proofs.lemmas.Option.{same_Some}
 use Rattle.cluster_record.specs.declared.entries.Entry.{Entry}
 use Rattle.cluster_record.specs.Places.{put2}
 use Rattle.cluster_record.specs.RecordState.{RecordState}
@@ -10,18 +11,22 @@ use Rattle.ckpt_machine.specs.Machine.{ReplicaState}
 use Rattle.ckpt_machine.specs.Shape.{IsCompleteOn}
 use Rattle.ckpt_machine.specs.Steps.{opened_state, replica_under}
 
--- what is left of a replica under an entry is on a node on which this is complete
-pub under_complete : (o : Option Entry) (before r : ℕ) (was : Option ReplicaState) (x : ReplicaState) → replica_under o before r was ≡ Some x → IsSomeAnd o (λ e. IsCompleteOn e r)
-under_complete None before r was x gone = absurd (cc gone)
-under_complete (Some e) before r was x is =
-    elim (slice_index e.complete r == 0) as (λ b. cond b None (cond (before == 0) (Some (opened_state e)) was) ≡ Some x → b ≡ false) [ true ↦ λ gone. absurd (cc gone) | false ↦ λ there. refl ] is
+-- what is left of a replica under an entry is on a node on which this is complete, and has its generation, where it had it before
+pub under_complete : (o : Option Entry) (before r : ℕ) (was : Option ReplicaState) (x : ReplicaState) → ((e : Entry) → o ≡ Some e → was ≡ Some x → x.generation ≡ e.generation) → replica_under o before r was ≡ Some x → IsSomeAnd o (λ e. IsCompleteOn e r × (x.generation ≡ e.generation))
+under_complete None before r was x had gone = absurd (cc gone)
+under_complete (Some e) before r was x had is =
+    elim (slice_index e.complete r == 0) as (λ b. cond b None (cond (before == 0) (Some (opened_state e)) was) ≡ Some x → (b ≡ false) × (x.generation ≡ e.generation)) [ true ↦ λ gone. absurd (cc gone) | false ↦ λ there. (refl, by_before (before == 0) there) ] is
+  where
+    by_before : (b : Bool) → cond b (Some (opened_state e)) was ≡ Some x → x.generation ≡ e.generation
+    by_before true new = ap (λ (y : ReplicaState). y.generation) (sym (same_Some (opened_state e) x new))
+    by_before false old = had e refl old
 
--- the changed one was on a complete node, and so were the others
-pub put_complete : (R : RecordState) (replicas : ℕ → ℕ → Option ReplicaState) (k r : ℕ) (y : ReplicaState) → IsCompleteAt R k r → ((j q : ℕ) (x : ReplicaState) → replicas j q ≡ Some x → IsCompleteAt R j q)
-    → (j q : ℕ) (x : ReplicaState) → put2 replicas k r (Some y) j q ≡ Some x → IsCompleteAt R j q
-put_complete R replicas k r y here others j q x is = elim ((j == k) && (q == r)) as (λ b. ((j == k) && (q == r)) ≡ b → cond b (Some y) (replicas j q) ≡ Some x → IsCompleteAt R j q) [
+-- the changed one is on a complete node with the checkpoint's generation, and so were the others
+pub put_complete : (R : RecordState) (replicas : ℕ → ℕ → Option ReplicaState) (k r : ℕ) (y : ReplicaState) → IsCompleteAt R k r y.generation → ((j q : ℕ) (x : ReplicaState) → replicas j q ≡ Some x → IsCompleteAt R j q x.generation)
+    → (j q : ℕ) (x : ReplicaState) → put2 replicas k r (Some y) j q ≡ Some x → IsCompleteAt R j q x.generation
+put_complete R replicas k r y here others j q x is = elim ((j == k) && (q == r)) as (λ b. ((j == k) && (q == r)) ≡ b → cond b (Some y) (replicas j q) ≡ Some x → IsCompleteAt R j q x.generation) [
   | true ↦ λ at some.
       let (ckpt, node) = and_parts (j == k) (q == r) at in
-      subst (λ j. IsCompleteAt R j q) (sym (eqb-true j k ckpt)) (subst (IsCompleteAt R k) (sym (eqb-true q r node)) here)
+      subst (λ j. IsCompleteAt R j q x.generation) (sym (eqb-true j k ckpt)) (subst (λ q. IsCompleteAt R k q x.generation) (sym (eqb-true q r node)) (subst (λ (z : ReplicaState). IsCompleteAt R k r z.generation) (same_Some y x some) here))
   | false ↦ λ at was. others j q x was
 ] refl is

@@ -5,8 +5,6 @@ use Rattle.ckpt_types.specs.declared.ais_error.AisError.{AisError}
 use Rattle.ckpt_types.specs.declared.answers.Cause.{Cause}
 use Rattle.ckpt_types.specs.declared.attributes.CreationAttributes.{CreationAttributes}
 use Rattle.cluster_record.specs.declared.entries.Entry.{Entry}
-use Rattle.cluster_record.specs.LookUps.{creation_flags_of}
-use Rattle.cluster_record.specs.RecordState.{entry_of}
 use Rattle.ckpt_types.specs.Asks.{asked}
 use Rattle.ckpt_machine.specs.Entries.{WasMade}
 use Rattle.ckpt_machine.specs.Invariant.{InvariantIn}
@@ -29,4 +27,4 @@ may_exist (Some e) a asked = tt
 
 -- a call that has ended gives its client a handle of a checkpoint that was made
 pub given_ends : (n : Machine) (shapes : ℕ → Shape) (s : CallState) (k : ℕ) → InvariantIn shapes (ending s n) → WasMade n.cluster k → InvariantIn shapes (ending s (with_given s k n))
-given_ends n shapes s k ended made = given_keeps (ending s n) shapes ended s.call.actor (put_actor-here n.in_hand s.call.actor None) (asked s.op) k (creation_flags_of (entry_of k n.cluster.entries)) made
+given_ends n shapes s k ended made = given_keeps (ending s n) shapes ended s.call.actor (put_actor-here n.in_hand s.call.actor None) (asked s.op) k made

@@ -1,6 +1,6 @@
 -- A state that looks like the one before, to a call in hand or to a checkpoint: they are where they were.
 use Rattle.std.proofs.Common.{◌≡◌, ℕ, ◌<◌, List, Option, Some, None, Bool, true, false, cond, ◌==◌, refl, sym, ap, subst, ◌∙◌}
-use Rattle.std.specs.Prelude.{is_some, IsSome, IsSomeAnd, IfSome, slice_index}
+use Rattle.std.specs.Prelude.{is_some, IsSome, IsSomeAnd, IfSome, slice_get, slice_index}
 use Rattle.ckpt_types.specs.Attributes.{is_malformed}
 use Rattle.ckpt_types.specs.Updates.{outcome}
 use Rattle.ckpt_types.specs.declared.identities.ActorName.{ActorName}
@@ -15,6 +15,7 @@ use Rattle.cluster_record.specs.Calls.{client_of}
 use Rattle.cluster_record.specs.DueOnce.{OneStep}
 use Rattle.cluster_record.specs.DueOnce as once
 use Rattle.cluster_record.specs.DueOpen.{OpenState}
+use Rattle.cluster_record.specs.DueSync.{SyncState}
 use Rattle.cluster_record.specs.DueUpdate.{UpdateState}
 use Rattle.cluster_record.specs.Placement.{is_collocated}
 use Rattle.cluster_record.specs.RecordState.{entry_of, first_complete, is_live, is_live_client, is_up}
@@ -24,19 +25,19 @@ use Rattle.ckpt_machine.specs.Drivers.{Driver}
 use Rattle.ckpt_machine.specs.Drivers as drivers
 use Rattle.ckpt_machine.specs.Entries.{WasMade}
 use Rattle.ckpt_types.specs.declared.attributes.CreationAttributes.{CreationAttributes}
-use Rattle.ckpt_machine.specs.Machine.{Machine, ReplicaState, CallState}
+use Rattle.ckpt_machine.specs.Machine.{Machine, ReplicaState, Snapshot, CallState}
 use Rattle.ckpt_machine.specs.Options.{is_all, is_weak}
 use Rattle.weak_marks.specs.Marks.{Marked}
 use Rattle.ckpt_machine.specs.Shape.{Shape, IsCompleteOn, IsShapedBy, is_owner, IsOwner, IsMarker}
 use Rattle.ckpt_machine.specs.Steps.{opened_state, driver_of, asked_handle}
 use Rattle.ckpt_machine.specs.Tables.{handle_asked}
-use Rattle.ckpt_machine.specs.InHand.{is_marked_by, IsMakingIn, IsOpenIn, IsUpdateIn, HasSome, IsOnceAt, IsInPlace, IsInHand}
+use Rattle.ckpt_machine.specs.InHand.{is_marked_by, IsMakingIn, IsOpenIn, IsUpdateIn, HasSome, HasServedActive, IsOnceAt, IsInPlace, IsInHand}
 use Rattle.ckpt_machine.specs.Invariant.{IsMaker, IsGoodIn}
 use Rattle.ckpt_machine.specs.Later.{IsLaterEntry}
 pub use Rattle.ckpt_machine.proofs.Joining.{IsLaterEntry-refl}
 use Rattle.ckpt_machine.proofs.Joining.{collocated_apart}
 use Rattle.ckpt_machine.proofs.NodeLists.{first_complete-some, first_complete-there}
-use Rattle.ckpt_machine.proofs.OptionLemmas.{IsSomeAnd-from}
+use Rattle.ckpt_machine.proofs.OptionLemmas.{IsSomeAnd-from, IfSome-from}
 
 -- ---- a call in hand
 
@@ -53,9 +54,9 @@ pub record LooksAlike (m n : Machine) (shapes then_shapes : ℕ → Shape) (z : 
   pub lives : is_live_client (client_of z.call) n.cluster ≡ is_live_client (client_of z.call) m.cluster
   pub tables : n.tables z.call.actor ≡ m.tables z.call.actor
   pub making : (o : OpenState) → IsOpenIn m z o → IfSome o.making (IsMakingIn n z)
-  -- of the checkpoints that were made, those that are left are as they were, with the same nodes where updates are on all replicas
+  -- of the checkpoints that were made, those that are left are as they were, with the same active, and the same nodes where updates are on all replicas
   pub made : (k : ℕ) → WasMade m.cluster k → WasMade n.cluster k
-  pub later : (k : ℕ) → WasMade m.cluster k → (f : Entry) → entry_of k n.cluster.entries ≡ Some f → (e : Entry) × (entry_of k m.cluster.entries ≡ Some e) × (is_all e.attributes ≡ true → f.complete ≡ e.complete) × (f.attributes ≡ e.attributes) × (f.generation ≡ e.generation)
+  pub later : (k : ℕ) → WasMade m.cluster k → (f : Entry) → entry_of k n.cluster.entries ≡ Some f → (e : Entry) × (entry_of k m.cluster.entries ≡ Some e) × (is_all e.attributes ≡ true → f.complete ≡ e.complete) × (f.attributes ≡ e.attributes) × (f.generation ≡ e.generation) × (f.active ≡ e.active)
   pub owners : (k : ℕ) → WasMade m.cluster k → (r : ℕ) → is_owner z.call ((then_shapes k).owners r) ≡ is_owner z.call ((shapes k).owners r)
   pub marks : (k : ℕ) → WasMade m.cluster k → is_marked_by z.call (then_shapes k).marks ≡ is_marked_by z.call (shapes k).marks
 
@@ -70,7 +71,7 @@ module _ (m n : Machine) (shapes then_shapes : ℕ → Shape) (z : CallState) (a
       by_entry : (o : Option Entry) → entry_of k n.cluster.entries ≡ o → IfSome o (λ e. P e.attributes)
       by_entry None gone = tt
       by_entry (Some f) is =
-          let (e, there, complete, attributes, generation) = alike.later k was f is in
+          let (e, there, complete, attributes, generation, active) = alike.later k was f is in
           subst P (sym attributes) (subst (λ o. IfSome o (λ (e : Entry). P e.attributes)) there holds)
 
   -- the checkpoint of an update
@@ -80,6 +81,14 @@ module _ (m n : Machine) (shapes then_shapes : ℕ → Shape) (z : CallState) (a
   HasSome-alike : (u : UpdateState) (e f : Entry) → f.complete ≡ e.complete → (ph : UpdatePhase) → HasSome u e ph → HasSome u f ph
   HasSome-alike u e f same Staging some = tt
   HasSome-alike u e f same Committing some = subst (λ cs. IsSome (last_having 0 cs u.owned)) (sym same) some
+
+  -- where a synchronisation has pulled of the present generation, it has served the active
+  led_alike : (u : SyncState) → WasMade m.cluster u.ckpt → (o : Option Snapshot) → IfSome o (λ p. IfSome (entry_of u.ckpt m.cluster.entries) (HasServedActive u.served p)) → IfSome o (λ p. IfSome (entry_of u.ckpt n.cluster.entries) (HasServedActive u.served p))
+  led_alike u was None led = tt
+  led_alike u was (Some p) led = IfSome-from (entry_of u.ckpt n.cluster.entries) (HasServedActive u.served p) (λ f is.
+      let (e, there, complete, attributes, generation, active) = alike.later u.ckpt was f is in
+      let before : HasServedActive u.served p e = subst (λ o. IfSome o (λ (e : Entry). HasServedActive u.served p e)) there led in
+      λ present. subst (λ o. IsSomeAnd o (λ r. slice_get u.served r ≡ Some true)) (sym active) (before (present ∙ generation)))
 
   IsOnce-alike : (x : OneStep) → IsOnceAt m z x → IsOnceAt n z x
   IsOnce-alike (once.Enter r) at = record { version = at.version; callbacks = at.callbacks; asks = at.asks; client = at.client; up = alike.up r at.up; not_live = alike.lives ∙ at.not_live }
@@ -114,10 +123,10 @@ module _ (m n : Machine) (shapes then_shapes : ℕ → Shape) (z : CallState) (a
     all = declared_alike (λ a. is_all a ≡ true) u.ckpt at.made at.all;
     nodes = at.nodes;
     owns = λ f is r full.
-        let (e, was, complete, attributes, generation) = alike.later u.ckpt at.made f is in
+        let (e, was, complete, attributes, generation, active) = alike.later u.ckpt at.made f is in
         subst (λ (cs : List ℕ). (slice_index cs r == 0) ≡ false → has (slice_index cs r) (slice_index u.owned r) ≡ is_owner z.call ((shapes u.ckpt).owners r)) (sym (complete (all_at u at e was))) (at.owns e was r) full
         ∙ sym (alike.owners u.ckpt at.made r);
-    some = λ f is. let (e, was, complete, attributes, generation) = alike.later u.ckpt at.made f is in HasSome-alike u e f (complete (all_at u at e was)) u.phase (at.some e was);
+    some = λ f is. let (e, was, complete, attributes, generation, active) = alike.later u.ckpt at.made f is in HasSome-alike u e f (complete (all_at u at e was)) u.phase (at.some e was);
   }
   IsIn-alike (drivers.Active a) at = record {
     call = at.call;
@@ -129,10 +138,25 @@ module _ (m n : Machine) (shapes then_shapes : ℕ → Shape) (z : CallState) (a
     all = declared_alike (λ b. z.kept.all ≡ is_all b) a.ckpt at.made at.all;
     weak = declared_alike (λ b. z.kept.weak ≡ is_weak b) a.ckpt at.made at.weak;
     handle = handle_alike at.handle;
-    marks = λ f is. let (e, was, complete, attributes, generation) = alike.later a.ckpt at.made f is in alike.marks a.ckpt at.made ∙ at.marks e was;
+    marks = λ f is. let (e, was, complete, attributes, generation, active) = alike.later a.ckpt at.made f is in alike.marks a.ckpt at.made ∙ at.marks e was;
     generation = λ f is.
-        let (e, was, complete, attributes, generation) = alike.later a.ckpt at.made f is in
+        let (e, was, complete, attributes, generation, active) = alike.later a.ckpt at.made f is in
         subst (λ (n : ℕ). IfSome a.marks (λ marks. marks.generation ≡ n)) (sym generation) (at.generation e was);
+  }
+  IsIn-alike (drivers.Sync u) at = record {
+    call = at.call;
+    place = at.place;
+    timeout = at.timeout;
+    asks = at.asks;
+    kind = at.kind;
+    kept = at.kept;
+    made = alike.made u.ckpt at.made;
+    alone = declared_alike (λ a. is_all a ≡ false) u.ckpt at.made at.alone;
+    declares = declared_alike (λ a. z.kept.declares ≡ Some a) u.ckpt at.made at.declares;
+    pulled = at.pulled;
+    nodes = at.nodes;
+    served = at.served;
+    led = led_alike u at.made z.snapshot at.led;
   }
 
   -- and all holds of it that did
@@ -218,7 +242,7 @@ module _ (m : Machine) (shapes : ℕ → Shape) (next : ActorName → ℕ) (f : 
     tables = refl;
     making = λ o at. making_still m with_hands z o (λ w at. record { there = at.there; declares = at.declares; nodes = at.nodes; reserved = at.reserved; only = at.only; within = at.within }) at;
     made = λ k was. was;
-    later = λ k was e found. (e, found, λ all. refl, refl, refl);
+    later = λ k was e found. (e, found, λ all. refl, refl, refl, refl);
     owners = λ k was r. refl;
     marks = λ k was. refl;
   }

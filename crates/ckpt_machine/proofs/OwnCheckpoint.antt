@@ -67,10 +67,11 @@ kind_asks call k r kinds.Status marks = refl
 kind_asks call k r (kinds.Iterate choice) marks = refl
 kind_asks call k r kinds.Next marks = refl
 
--- an update and a call to the active are of the checkpoint that their call keeps
+-- an update, a call to the active and a synchronisation are of the checkpoint that their call keeps
 asks_own : (m : Machine) (shapes : ℕ → Shape) (s : CallState) (d : Driver) → IsInPlace m shapes s d → OfAsked (IsAskedOf s.kept.ckpt) d
 asks_own m shapes s (drivers.Update u) at = (λ r t. sym at.kept, λ r. sym at.kept)
 asks_own m shapes s (drivers.Active a) at = λ r. subst (λ own. IsAskedOf own (Serve r (active_request a))) (sym at.kept) (kind_asks a.call a.ckpt r a.kind a.marks)
+asks_own m shapes s (drivers.Sync u) at = (λ r. sym at.kept, λ r. sym at.kept)
 asks_own m shapes s (drivers.Once x) at = tt
 asks_own m shapes s (drivers.Open o) at = tt
 

@@ -131,6 +131,7 @@ module _ (m : Machine) (shapes : ℕ → Shape) (inv : InvariantIn shapes m) (s 
         ap (λ o. is_some (identity_in o)) found_is
   making_found (drivers.Update u) k at is = absurd (cc is)
   making_found (drivers.Active a) k at is = absurd (cc is)
+  making_found (drivers.Sync u) k at is = absurd (cc is)
 
   -- what a call is making by the record is what it is making by its own steps
   pub making_is : making_of s.call m.cluster ≡ making_in (driver_of s)

@@ -1,4 +1,4 @@
--- A call that is no update, has no marks and makes no checkpoint owns nothing and makes nothing: where it ends, what holds of all others stays.
+-- A call that is no update, has no marks and makes no checkpoint owns nothing and makes nothing: where it goes on or ends, what holds of all others stays.
 use Rattle.std.proofs.Common.{◌≡◌, ℕ, inl, inr, [], Option, Some, None, Bool, true, false, filter, not, refl, sym, ap, subst, ◌∙◌}
 use Rattle.std.specs.Prelude.{is_some, IsSome, IfSome}
 use Rattle.std.proofs.lemmas.Option.{same_Some}
@@ -29,6 +29,7 @@ use Rattle.ckpt_machine.specs.Steps.{Told, IsDone, driver_of, with_record, witho
 use Rattle.ckpt_machine.specs.Guards.{LookRefused}
 use Rattle.ckpt_machine.specs.Shape.{Shape, IsOwner, IsMarker}
 use Rattle.weak_marks.specs.Marks.{Marked}
+use Rattle.ckpt_machine.specs.InHand.{IsInHand}
 use Rattle.ckpt_machine.specs.Invariant.{IsMaker, IsGoodClient, InvariantIn, Invariant}
 use Rattle.ckpt_machine.specs.Later.{IsLaterEntry, IsLaterRecord}
 use Rattle.ckpt_machine.proofs.OtherCalls.{IsIn-apart, IsGoodIn-apart}
@@ -47,6 +48,7 @@ is_plain (drivers.Once x) = true
 is_plain (drivers.Open o) = not (is_some o.making)
 is_plain (drivers.Update u) = false
 is_plain (drivers.Active a) = not (is_some a.marks)
+is_plain (drivers.Sync u) = true
 
 -- one that is none of these makes nothing
 makes_none : (d : Driver) → is_plain d ≡ true → making_in d ≡ None
@@ -57,6 +59,7 @@ makes_none (drivers.Open o) plain = by_making o.making plain where
   by_making (Some w) plain = absurd (cc plain)
 makes_none (drivers.Update u) plain = refl
 makes_none (drivers.Active a) plain = refl
+makes_none (drivers.Sync u) plain = refl
 
 -- the call is in hand no more
 abbrev pub ending : CallState → Machine → Machine
@@ -109,6 +112,34 @@ module _ (m : Machine) (shapes : ℕ → Shape) (inv : InvariantIn shapes m) (s 
   pub maker_apart : (k : ℕ) (d : CallId) → IsMaker m k d → same_actor d.actor s.call.actor ≡ false
   maker_apart k d maker = apart_from d.actor maker.state maker.in_hand (ap is_plain maker.driver_is ∙ ap (λ w. not (is_some w)) maker.making_is)
 
+  -- ---- it goes on or ends, and nothing else changes
+
+  -- what is left of it is where its steps have led it
+  pub plain_steps : (o : Option CallState) → ((z : CallState) → o ≡ Some z → IsInHand (record m { in_hand = put_actor m.in_hand s.call.actor o }) shapes s.call.actor z) → InvariantIn shapes (record m { in_hand = put_actor m.in_hand s.call.actor o })
+  plain_steps o own = record {
+    up = inv.up;
+    none_live = inv.none_live;
+    rises = inv.rises;
+    up_to = inv.up_to;
+    swept = inv.swept;
+    entries = λ k e found. IsGoodIn-apart m shapes m.next (put_actor m.in_hand s.call.actor o)
+        (λ k sh d is. put_actor-other m.in_hand s.call.actor o d.actor (owner_apart k sh d is)) (λ k marks is. put_actor-other m.in_hand s.call.actor o marks.call.actor (marker_apart k marks is)) (λ k d is. put_actor-other m.in_hand s.call.actor o d.actor (maker_apart k d is))
+        k (shapes k) e e.making (inv.entries k e found);
+    replicas = inv.replicas;
+    reserves = inv.reserves;
+    handles = inv.handles;
+    rest = inv.rest;
+    clients = inv.clients;
+    hands = λ a z left. elim (put_actor-cases m.in_hand s.call.actor o a z left) [
+      | inl here ↦ subst (λ b. IsInHand (record m { in_hand = put_actor m.in_hand s.call.actor o }) shapes b z) (sym here.0) (own z here.1)
+      | inr other ↦ (let was = inv.hands a z other.1 in record { actor = was.actor; client = was.client; number = was.number; built = was.built; driven = was.driven; live = was.live; here = IsIn-apart m shapes m.next (put_actor m.in_hand s.call.actor o) z (driver_of z) was.here })
+    ];
+  }
+
+  -- it ends
+  pub plain_ends : InvariantIn shapes (record m { in_hand = put_actor m.in_hand s.call.actor None })
+  plain_ends = plain_steps None (λ z none. absurd (cc none))
+
   owner_stays : (k : ℕ) (sh : Shape) (d : CallId) → IsOwner m k sh d → others d.actor ≡ m.in_hand d.actor
   owner_stays k sh d own = put_actor-other m.in_hand s.call.actor None d.actor (owner_apart k sh d own)
 
@@ -118,28 +149,7 @@ module _ (m : Machine) (shapes : ℕ → Shape) (inv : InvariantIn shapes m) (s 
   maker_stays : (k : ℕ) (d : CallId) → IsMaker m k d → others d.actor ≡ m.in_hand d.actor
   maker_stays k d maker = put_actor-other m.in_hand s.call.actor None d.actor (maker_apart k d maker)
 
-  -- ---- it ends, and nothing else changes
-
-  pub plain_ends : InvariantIn shapes (record m { in_hand = put_actor m.in_hand s.call.actor None })
-  plain_ends = record {
-    up = inv.up;
-    none_live = inv.none_live;
-    rises = inv.rises;
-    up_to = inv.up_to;
-    swept = inv.swept;
-    entries = λ k e found. IsGoodIn-apart m shapes m.next others owner_stays marker_stays maker_stays k (shapes k) e e.making (inv.entries k e found);
-    replicas = inv.replicas;
-    reserves = inv.reserves;
-    handles = inv.handles;
-    rest = inv.rest;
-    clients = inv.clients;
-    hands = λ a z left. elim (put_actor-cases m.in_hand s.call.actor None a z left) [
-      | inl here ↦ absurd (let w : None ≡ Some z = here.1 in cc w)
-      | inr other ↦ (let was = inv.hands a z other.1 in record { actor = was.actor; client = was.client; number = was.number; built = was.built; driven = was.driven; live = was.live; here = IsIn-apart m shapes m.next others z (driver_of z) was.here })
-    ];
-  }
-
-  -- by a look that refuses it
+  -- it ends by a look that refuses it
   pub look_goes : (error : AisError) (cause : Cause) (t : Told) → LookRefused m s (asked s.op) error cause → IsDone m s (End (Refused error cause)) t → Goes m s (driver_of s) t
   look_goes error cause t look done = look_ends m shapes inv s held error cause t look (makes_none (driver_of s) plain) plain_ends done
 

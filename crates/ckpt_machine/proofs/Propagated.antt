@@ -1,5 +1,5 @@
 -- A pull and a put leave the invariant, and a put meets no slot and no marks.
-use Rattle.std.proofs.Common.{◌≡◌, ℕ, Option, Some, None, Bool, true, false, cond, ◌&&◌, ◌||◌, ◌==◌, refl, sym, ap, subst, ◌∙◌}
+use Rattle.std.proofs.Common.{◌≡◌, ℕ, length, Option, Some, None, Bool, true, false, cond, not, ◌&&◌, ◌||◌, ◌==◌, refl, sym, ap, subst, ◌∙◌}
 use Rattle.std.specs.Prelude.{IsSome, is_some, IsSomeAnd, slice_index}
 use Rattle.std.proofs.lemmas.Bool.{eqb-true, and_parts}
 use Rattle.std.proofs.lemmas.Option.{same_Some}
@@ -11,16 +11,17 @@ use Rattle.run_labels.specs.declared.labels.PutReply.TheVariants as puts
 use Rattle.cluster_record.specs.declared.entries.Entry.{Entry}
 use Rattle.cluster_record.specs.Places.{put, put2}
 use Rattle.cluster_record.specs.RecordState.{entry_of}
+use Rattle.cluster_record.specs.StepDone.{generation_in}
 use Rattle.ckpt_machine.specs.Invariant.{IsGoodIn, IsCompleteAt, InvariantIn}
 use Rattle.ckpt_machine.specs.Listing.{is_active}
 use Rattle.ckpt_machine.specs.Machine.{Machine, ReplicaState, Snapshot, CallState}
 use Rattle.ckpt_machine.specs.Options.{is_all}
-use Rattle.ckpt_machine.specs.Propagation.{source_of, on_node, source_at, copied, with_pulled, target_of, target_at, replica_from, with_put}
+use Rattle.ckpt_machine.specs.Propagation.{source_of, on_node, source_at, copied, with_pulled, target_of, target_at, is_behind, put_onto, put_reply, replica_from, with_put}
 use Rattle.ckpt_machine.specs.Shape.{Shape, IsCompleteOn, marks_at, IsApart, IsShapedBy, IsSpread}
 use Rattle.ckpt_machine.proofs.MarksAt.{none_elsewhere}
 use Rattle.ckpt_machine.proofs.NodeLists.{slice_index-replicate}
 use Rattle.ckpt_machine.proofs.OnComplete.{put_complete}
-use Rattle.ckpt_machine.proofs.OptionLemmas.{IsSomeAnd-at}
+use Rattle.ckpt_machine.proofs.OptionLemmas.{IsSomeAnd-at, IsSomeAnd-from}
 use Rattle.ckpt_machine.proofs.OtherCalls.{LooksAlike, making_still, IsInHand-alike, IsOwner-alike, IsMarker-alike, IsMaker-alike}
 
 -- ---- what they are about
@@ -73,7 +74,7 @@ module _ (m : Machine) (shapes : ℕ → Shape) (inv : InvariantIn shapes m) (k 
 module _ (m : Machine) (shapes : ℕ → Shape) (inv : InvariantIn shapes m) (k r : ℕ) (x : ReplicaState) (at : IsPutTarget m k r x) where
   -- its node is complete
   target_complete : IsCompleteOn at.entry r
-  target_complete = subst (λ o. IsSomeAnd o (λ (e : Entry). IsCompleteOn e r)) at.found (inv.replicas k r x at.there)
+  target_complete = (subst (λ o. IsSomeAnd o (λ (e : Entry). IsCompleteOn e r × (x.generation ≡ e.generation))) at.found (inv.replicas k r x at.there)).0
 
   -- so its checkpoint is made
   target_spread : IsSpread m k (shapes k) at.entry
@@ -88,7 +89,7 @@ module _ (m : Machine) (shapes : ℕ → Shape) (inv : InvariantIn shapes m) (k 
 
 -- ---- other replicas and snapshots
 
-module _ (m : Machine) (shapes : ℕ → Shape) (inv : InvariantIn shapes m) (f : ℕ → ℕ → Option ReplicaState) (g : ℕ → Option Snapshot) (complete : (j q : ℕ) (x : ReplicaState) → f j q ≡ Some x → IsCompleteAt m.cluster j q)
+module _ (m : Machine) (shapes : ℕ → Shape) (inv : InvariantIn shapes m) (f : ℕ → ℕ → Option ReplicaState) (g : ℕ → Option Snapshot) (complete : (j q : ℕ) (x : ReplicaState) → f j q ≡ Some x → IsCompleteAt m.cluster j q x.generation)
     (shaped : (j q : ℕ) (e : Entry) → entry_of j m.cluster.entries ≡ Some e → IsSomeAnd (m.replicas j q) (IsShapedBy (is_all e.attributes) (shapes j) e.active q) → IsSomeAnd (f j q) (IsShapedBy (is_all e.attributes) (shapes j) e.active q)) where
   abbrev then_machine : Machine
   then_machine = record m { replicas = f; snapshots = g }
@@ -117,7 +118,7 @@ module _ (m : Machine) (shapes : ℕ → Shape) (inv : InvariantIn shapes m) (f 
     tables = refl;
     making = λ o at. making_still m then_machine z o (λ w at. record { there = at.there; declares = at.declares; nodes = at.nodes; reserved = at.reserved; only = at.only; within = at.within }) at;
     made = λ k was. was;
-    later = λ k was e found. (e, found, λ all. refl, refl, refl);
+    later = λ k was e found. (e, found, λ all. refl, refl, refl, refl);
     owners = λ k was r. refl;
     marks = λ k was. refl;
   }
@@ -163,9 +164,20 @@ module _ (m : Machine) (shapes : ℕ → Shape) (inv : InvariantIn shapes m) whe
       | false ↦ λ other. was
     ] refl
 
-    put_target : InvariantIn shapes (record m { replicas = put2 m.replicas k r (Some (replica_from s x)) })
-    put_target = alike_keeps m shapes inv (put2 m.replicas k r (Some (replica_from s x))) m.snapshots (put_complete m.cluster m.replicas k r (replica_from s x) (inv.replicas k r x at.there) inv.replicas) shaped_still
+    -- so the invariant holds after it, where what is put is of the checkpoint's generation
+    pub put_target : s.generation ≡ at.entry.generation → InvariantIn shapes (record m { replicas = put2 m.replicas k r (Some (replica_from s x)) })
+    put_target present = alike_keeps m shapes inv (put2 m.replicas k r (Some (replica_from s x))) m.snapshots (put_complete m.cluster m.replicas k r (replica_from s x) (IsSomeAnd-from (entry_of k m.cluster.entries) (λ e. IsCompleteOn e r × (s.generation ≡ e.generation)) at.entry at.found (target_complete m shapes inv k r x at, present)) inv.replicas) shaped_still
 
-  pub put_keeps : (k r : ℕ) (reply : PutReply) (s : Option Snapshot) (x : Option ReplicaState) → target_at m k r ≡ x → InvariantIn shapes (with_put m k r reply s x)
-  put_keeps k r (puts.Ok count) (Some s) (Some x) is = put_target k r s x (target_there m k r x is)
-  put_keeps k r reply s x is = inv
+  -- a put that is done has the checkpoint's generation
+  ok_present : (present count : ℕ) (s : Snapshot) (x : ReplicaState) → puts.Ok count ≡ put_onto present s x → s.generation ≡ present
+  ok_present present count s x is = by_test (s.generation == present) refl is
+    where
+      by_test : (b : Bool) → (s.generation == present) ≡ b → puts.Ok count ≡ cond (not b) (puts.Stale s.generation present) (cond (is_behind x s) (puts.Ok (length s.effects)) (puts.Old x.generation (length x.effects))) → s.generation ≡ present
+      by_test true same is = eqb-true s.generation present same
+      by_test false other stale = absurd (cc stale)
+
+  pub put_keeps : (k r : ℕ) (reply : PutReply) (s : Option Snapshot) (x : Option ReplicaState) → target_at m k r ≡ x → reply ≡ put_reply (generation_in (entry_of k m.cluster.entries)) s x → InvariantIn shapes (with_put m k r reply s x)
+  put_keeps k r (puts.Ok count) (Some s) (Some x) is answered =
+      let at = target_there m k r x is in
+      put_target k r s x at (ok_present (generation_in (entry_of k m.cluster.entries)) count s x answered ∙ ap generation_in at.found)
+  put_keeps k r reply s x is answered = inv

@@ -19,6 +19,7 @@ use Rattle.ckpt_machine.specs.Steps.{opened_state, with_record, replica_under, r
 use Rattle.ckpt_machine.specs.Shape.{Shape, IsCompleteOn, IsOwner}
 use Rattle.ckpt_machine.specs.Later.{IsLaterEntry, IsLaterRecord}
 use Rattle.ckpt_machine.proofs.OtherCalls.{LooksAlike, making_still, IsInHand-alike, IsGoodIn-later}
+use Rattle.ckpt_machine.proofs.Handles.{IsGoodHandle-later}
 use Rattle.ckpt_machine.proofs.Joining.{all_apart}
 use Rattle.ckpt_machine.proofs.OptionLemmas.{IsSomeAnd-at, IsSomeAnd-from}
 use Rattle.ckpt_machine.proofs.OnComplete.{under_complete}
@@ -106,7 +107,7 @@ module _ (m : Machine) (shapes : ℕ → Shape) (inv : InvariantIn shapes m) (R 
       tables = refl;
       making = λ o at. making_still m then_machine z o making_kept at;
       made = WasMade-kept;
-      later = λ k was f found. let (e, there, later) = after_it.later k f found in (e, there, λ all. later.placed (all_apart e.attributes all), later.attributes, later.generation);
+      later = λ k was f found. let (e, there, later) = after_it.later k f found in (e, there, λ all. later.placed (all_apart e.attributes all), later.attributes, later.generation, later.active);
       owners = λ k was r. refl;
       marks = λ k was. refl;
     }
@@ -130,9 +131,9 @@ module _ (m : Machine) (shapes : ℕ → Shape) (inv : InvariantIn shapes m) (R 
     entries = λ k f is. (
         let (e, was, later) = after_it.later k f is in
         subst (IsGoodIn then_machine k (shapes k) f) (sym later.making) (IsGoodIn-kept k (shapes k) e f e.making was is later later.unmade (inv.entries k e was)));
-    replicas = λ j q x is. under_complete (entry_of j R.entries) (slice_index (complete_of (entry_of j m.cluster.entries)) q) q (m.replicas j q) x is;
+    replicas = λ j q x is. under_complete (entry_of j R.entries) (slice_index (complete_of (entry_of j m.cluster.entries)) q) q (m.replicas j q) x (λ f found was. let (e, there, later) = after_it.later j f found in (subst (λ o. IsSomeAnd o (λ (e : Entry). IsCompleteOn e q × (x.generation ≡ e.generation))) there (inv.replicas j q x was)).1 ∙ sym later.generation) is;
     reserves = λ j q n reserved. was_reserved (entry_of j R.entries) q n (m.reserved j q) (λ f. IsSome f.making) (λ f found free was. reserves_kept j q n f found was) reserved;
-    handles = λ b h among. WasMade-kept h.id (inv.handles b h among);
+    handles = λ b h among. IsGoodHandle-later m.cluster R WasMade-kept (λ k was f found. let (e, there, later) = after_it.later k f found in (e, there, later.attributes)) h (inv.handles b h among);
     rest = inv.rest;
     clients = after_it.clients;
     hands = λ a z left. let was = inv.hands a z (after_it.was_held a z left) in IsInHand-alike m then_machine shapes shapes z (looks_kept a z left) a (after_it.live a z left) was.number was;

@@ -87,7 +87,8 @@ module _ (m : Machine) (inv : Invariant m) (history : HasHistory m) (s : CallSta
   pub has_none : HasNoEffect (step_of m (Some s) t.verb t.ckpt t.node t.reply t.end) s.call
   has_none k r x there has = elim (had m inv history s held t row k r s.call (record { replica = x; there = there; effect = has })) [
     | inl was ↦ had_none k r was
-    | inr new ↦ none_new new.by
+    | inr (inl new) ↦ none_new new.by
+    | inr (inr pulled) ↦ absurd (history.ended_pulled s held pulled)
   ]
     where
       none_new : Commits m inv history s held t row k ⊎ Applies m inv history s held t row → ⊥

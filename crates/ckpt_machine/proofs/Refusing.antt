@@ -4,7 +4,7 @@ use Rattle.ckpt_types.specs.Reads.{NextGiven, given}
 use Rattle.cluster_record.specs.Calls.{same_actor, put_actor, left}
 use Rattle.ckpt_machine.specs.Driving.{Kept, refused_cause}
 use Rattle.cluster_record.specs.Makings.{making_of}
-use Rattle.std.proofs.Common.{◌≡◌, ◌⊎◌, inl, inr, ℕ, List, Option, Some, None, Bool, true, false, cond, refl, sym, ap, subst, ◌∙◌, IsSomeAnd}
+use Rattle.std.proofs.Common.{◌≡◌, ◌⊎◌, inl, inr, ℕ, List, length, Option, Some, None, Bool, true, false, cond, refl, sym, ap, subst, ◌∙◌, IsSomeAnd}
 use Rattle.ckpt_types.specs.declared.ais_error.AisError.{AisError}
 use Rattle.ckpt_types.specs.declared.ais_error.AisError.TheVariants.{TryAgain}
 use Rattle.ckpt_types.specs.declared.answers.Answer.{Answer}
@@ -35,7 +35,8 @@ use Rattle.ckpt_machine.specs.Steps.{changed, call_begun, stepped, step_of, afte
 use Rattle.ckpt_machine.specs.Tables.{ended_at_once}
 use Rattle.ckpt_machine.specs.Complete.{complete_replicas}
 use Rattle.ckpt_machine.specs.Options.{is_all, is_weak, is_by_element}
-use Rattle.ckpt_machine.specs.Guards.{AtCkpt, AtNode, AtNodeAlone, AtNone, OnReplica, OnAll, OnActive, CommitOk, ActiveRefused, ActiveHeld, BeginsOnActive, ApplyOk, MarkOk, Row, Allowed, ends_update, IterOk, NextOk, NextAnswer, LookRow, UndoRow, AsksToOpen}
+use Rattle.cluster_record.specs.StepDone.{StepDone}
+use Rattle.ckpt_machine.specs.Guards.{AtCkpt, AtNode, AtNodeAlone, AtNone, OnReplica, OnAll, OnActive, CommitOk, ActiveRefused, ActiveHeld, BeginsOnActive, ApplyOk, MarkOk, Row, Allowed, ends_update, IterOk, NextOk, NextAnswer, InstallOk, steps_with, all_served, unless_unserved, LookRow, UndoRow, AsksToOpen}
 use Rattle.ckpt_machine.specs.Refusals.{IsRefused, IsRefusal, LeavesAll, UndoesOwn, LeavesBy, unmade_swept}
 use Rattle.ckpt_machine.proofs.Actors.{same_actor-true}
 use Rattle.ckpt_machine.proofs.ReplicaSteps.{put_actor-here, put_actor-other}
@@ -94,6 +95,10 @@ no_refusal_yet end is refused = subst IsRefused is refused
 pub no_refusal_committed : (b : Bool) (answer : Answer) (end : Option Outcome) → end ≡ cond b (Some (Done answer)) None → IsRefused end → ⊥
 no_refusal_committed true answer end is refused = no_refusal_done end answer is refused
 no_refusal_committed false answer end is refused = no_refusal_yet end is refused
+
+-- a synchronisation that has served a node refuses nothing
+pub no_refusal_unserved : (steps : List StepDone) (complete : List ℕ) (count : ℕ) (end : Option Outcome) → end ≡ unless_unserved steps complete count → IsRefused end → ⊥
+no_refusal_unserved steps complete count end is refused = no_refusal_committed (all_served steps 0 complete) (answers.Pulled count) end is refused
 
 -- no commit refuses
 pub commit_ends : (m : Machine) (call : CallId) (update : Update) (k r : ℕ) (end : Option Outcome) (details : Details) → OnAll m k r (λ e x. CommitOk m call update k r end details x) → IsRefused end → ⊥
@@ -154,6 +159,11 @@ changed_same m s verbs.Element k r reply end details row refused looks = refl
 changed_same m s verbs.Unmark k r words.Ok end details row refused looks = absurd (at_node k r _ row (λ k r p. no_refusal_done end answers.Nothing p.3.1 refused))
 changed_same m s verbs.Unmark k r reply end details row refused looks = refl
 changed_same m s verbs.Read k r reply end details row refused looks = refl
+changed_same m s verbs.Pull k r reply end details row refused looks = refl
+changed_same m s verbs.Install k r words.Ok end details row refused looks =
+    let t : Told = record { verb = verbs.Install; ckpt = k; node = r; reply = words.Ok; end = end; details = details } in
+    absurd (at_node k r _ row.0 (λ k r p. on_replica m k r (InstallOk m s r t true) p.3 (λ e x (ok : InstallOk m s r t true e x). no_refusal_unserved (steps_with m s t) e.complete (length ok.pulled.effects) end ok.answer refused)))
+changed_same m s verbs.Install k r reply end details row refused looks = refl
 changed_same m s verbs.Status k r reply end details row refused looks = refl
 changed_same m s verbs.Iter k r words.Ok end details row refused looks = absurd (at_node k r _ row.0 (λ k r p. on_replica m k r (IterOk m s r end) p.5 (λ e x (ok : IterOk m s r end e x). no_refusal_done end answers.Nothing ok.answer refused)))
 changed_same m s verbs.Iter k r reply end details row refused looks = refl

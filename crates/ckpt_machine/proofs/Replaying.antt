@@ -167,9 +167,9 @@ kept_replay : IsKept (λ o r x. IsReplayedIn o x) IsReplayedCopy
 kept_replay = record {
   opened = λ e r f found. subst (λ f. IsReplayed f (opened_state e)) (same_Some e f found) (record { replays = refl; marked = tt });
   stays = λ e f r x stays made was g found. subst (λ g. IsReplayed g x) (same_Some f g found) (replay_kept e f stays x (was e refl));
-  stays_copied = copy_kept;
+  stays_copied = λ e f s stays source was. copy_kept e f s stays was;
   pulled = λ e r x source active none was. replay_there e x none (was e refl);
-  put = λ e r s x free none copied was f found. subst (λ f. IsReplayed f (replica_from s x)) (same_Some e f found) (replayed e (replica_from s x) none copied);
+  put = λ e r s x present free none copied was f found. subst (λ f. IsReplayed f (replica_from s x)) (same_Some e f found) (replayed e (replica_from s x) none copied);
   staged = λ m s k r x step was e found. (let it = was e found in record { replays = it.replays; marked = it.marked });
   committed = λ m s k r x e step all was f found. subst (λ f. IsReplayed f (committed_slot e.attributes x x.slot)) (same_Some e f found) (committed_replay e x x.slot (all_unmarked m step.inv step.history.bare k r x e step.there all.found all.all) (was e refl));
   applied = λ m s k r x e step active none was f found. subst (λ f. IsReplayed f (having_taken e.attributes s.call (update_of s.op) m.cluster.moment x)) (same_Some e f found) (taken_replay e s.call (update_of s.op) m.cluster.moment x none (was e refl));

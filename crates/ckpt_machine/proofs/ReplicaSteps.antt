@@ -142,7 +142,7 @@ module _ (m : Machine) (shapes : ℕ → Shape) (inv : InvariantIn shapes m) (s 
     tables = refl;
     making = λ v at. making_still m (with_step f o) z v (λ w at. record { there = at.there; declares = at.declares; nodes = at.nodes; reserved = at.reserved; only = at.only; within = at.within }) at;
     made = λ k was. was;
-    later = λ k was e found. (e, found, λ all. refl, refl, refl);
+    later = λ k was e found. (e, found, λ all. refl, refl, refl, refl);
     owners = λ k was q. owners_kept sh keeps z.call k q other;
     marks = λ k was. marks_kept sh keeps z.call k;
   }
@@ -161,7 +161,7 @@ module _ (m : Machine) (shapes : ℕ → Shape) (inv : InvariantIn shapes m) (s 
       → ((e : Entry) → entry_of u.ckpt m.cluster.entries ≡ Some e → e.making ≡ None → IsSpread (with_step f o) u.ckpt sh e)
       → ((z : CallState) → o ≡ Some z → IsInHand (with_step f o) (put shapes u.ckpt sh) s.call.actor z)
       → ((e : Entry) → entry_of u.ckpt m.cluster.entries ≡ Some e → e.making ≡ None)
-      → ((j q : ℕ) (x : ReplicaState) → f j q ≡ Some x → IsCompleteAt m.cluster j q)
+      → ((j q : ℕ) (x : ReplicaState) → f j q ≡ Some x → IsCompleteAt m.cluster j q x.generation)
       → InvariantIn (put shapes u.ckpt sh) (with_step f o)
   step_keeps f o sh stays keeps spread own made complete = record {
     up = inv.up;

@@ -89,7 +89,7 @@ module _ (m : Machine) (shapes : ℕ → Shape) (inv : InvariantIn shapes m) (s 
     tables = refl;
     making = λ o at. making_still m then_machine z o (making_then z other) at;
     made = λ k was. was;
-    later = λ k was e found. (e, found, λ all. refl, refl, refl);
+    later = λ k was e found. (e, found, λ all. refl, refl, refl, refl);
     owners = λ k was r. refl;
     marks = λ k was. refl;
   }

@@ -26,7 +26,6 @@ use Rattle.ckpt_machine.specs.InHand.{is_enter, IsUpdateIn, IsInPlace, IsInHand,
 use Rattle.ckpt_machine.specs.Invariant.{InvariantIn, Invariant}
 use Rattle.ckpt_machine.proofs.NodeLists.{OnEach-from, index-set, index-other, length-slice_set, index-within, not-lacked, has-itself}
 use Rattle.ckpt_machine.proofs.OnComplete.{put_complete}
-use Rattle.ckpt_machine.proofs.OptionLemmas.{IsSomeAnd-from}
 use Rattle.ckpt_machine.proofs.ReplicaSteps.{put_actor-here, IsMarker-other, one_changed, step_keeps}
 use Rattle.ckpt_machine.proofs.Owning.{is_owner-true, owner_alone, at, made, on_all, all_is}
 use Rattle.ckpt_machine.proofs.OnAll.{shaped_replicas, by_shape}
@@ -218,7 +217,7 @@ module _ (m : Machine) (shapes : ℕ → Shape) (inv : InvariantIn shapes m) (s 
           record {
             shapes = put shapes u.ckpt staged;
             holds = step_keeps m shapes inv s u held is (put2 m.replicas u.ckpt r (Some with_stage)) (Some then_state) staged (one_changed m shapes inv s u held is with_stage r) (keeps.0, keeps_then) spread_all own_then (made m shapes inv s u held is)
-                (put_complete m.cluster m.replicas u.ckpt r with_stage (IsSomeAnd-from (entry_of u.ckpt m.cluster.entries) (λ e. IsCompleteOn e r) e found complete) inv.replicas);
+                (put_complete m.cluster m.replicas u.ckpt r with_stage (inv.replicas u.ckpt r x there) inv.replicas);
           }
         where
           spread_all : (f : Entry) → entry_of u.ckpt m.cluster.entries ≡ Some f → f.making ≡ None → IsSpread then_machine u.ckpt staged f

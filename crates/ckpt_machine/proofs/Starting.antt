@@ -1,6 +1,6 @@
 -- A call that goes on behind its beginning is in hand, and something drives it.
 use Rattle.std.proofs.Common.{◌≡◌, ℕ, inl, inr, Option, Some, None, Bool, true, false, refl, sym, ap, ◌∙◌}
-use Rattle.std.specs.Option.{option_map}
+use Rattle.std.specs.Option.{option_or, option_map}
 use Rattle.std.proofs.lemmas.Option.{same_Some}
 use Rattle.ckpt_types.specs.declared.answers.Outcome.{Outcome}
 use Rattle.ckpt_types.specs.declared.answers.Outcome.TheVariants.{NoMemory}
@@ -12,7 +12,7 @@ use Rattle.cluster_record.specs.Calls.{number_of}
 use Rattle.cluster_record.specs.RecordState.{RecordState, is_live_client}
 use Rattle.ckpt_types.specs.Asks.{Ask, asked, IsBuiltAsk}
 use Rattle.ckpt_types.specs.Asks as asks
-use Rattle.ckpt_machine.specs.Beginning.{begin_end, if_live, on_handle, end_iteration}
+use Rattle.ckpt_machine.specs.Beginning.{begin_end, if_live, on_handle, end_iteration, may_write, sync_begin, unless_forbidden}
 use Rattle.ckpt_machine.specs.Drivers.{Driver}
 use Rattle.ckpt_machine.specs.Driving.{Kept, on_kept, driver_start, change_start, kind_of_change}
 use Rattle.ckpt_machine.specs.Machine.{Machine, CallState}
@@ -36,6 +36,15 @@ on_handle-None (Some x) bad may e = (x, refl)
 pub iteration_answers : (h : Option HandleView) → end_iteration h ≡ None → ⊥
 iteration_answers None e = cc e
 iteration_answers (Some h) e = cc e
+
+-- of two answers neither is one where the first that is one is none
+option_or-None : {X : Type 0} (a b : Option X) → option_or a b ≡ None → (a ≡ None) × (b ≡ None)
+option_or-None None b e = (refl, e)
+option_or-None (Some x) b e = absurd (cc e)
+
+-- what brings the active's sections to others goes on only on a handle that is good, of a checkpoint whose flags do not forbid it
+pub sync_begin-None : (h : Option HandleView) (bad : Bool) (forbid : ℕ → Bool) → sync_begin h bad forbid ≡ None → (on_handle h bad may_write ≡ None) × (unless_forbidden forbid h ≡ None)
+sync_begin-None h bad forbid e = option_or-None (on_handle h bad may_write) (unless_forbidden forbid h) e
 
 -- a call that goes on answers nothing at once
 pub goes_on_begun : (ask : Ask) (due end : Option Outcome) → IsBeginEnd ask due end → end ≡ None → due ≡ None
@@ -67,6 +76,8 @@ goes_on_driven R c live call h (asks.Close place) built goes = kept_starts live 
 goes_on_driven R c live call h (asks.Retain place duration) built goes = kept_starts live h _ _ _ goes
 goes_on_driven R c live call h (asks.Unlink name) built goes = (_, refl)
 goes_on_driven R c live call h asks.Leave built goes = (_, refl)
+goes_on_driven R c live call h (asks.Synchronize place timeout) built goes = let (lives, rest) = if_live-None live _ goes in kept_starts true h _ _ _ (sync_begin-None h _ _ rest).0
+goes_on_driven R c live call h (asks.SetActive place) built goes = absurd built
 goes_on_driven R c live call h asks.Unbuilt built goes = absurd built
 
 -- ---- in hand behind its beginning

@@ -28,12 +28,13 @@ use Rattle.ckpt_machine.proofs.OwnMaking.{making_there}
 use Rattle.ckpt_machine.proofs.Entries.{ComesOf-filter, ComesOf-change_key, ComesOf-map, ComesOf-then}
 use Rattle.ckpt_machine.proofs.EntryLists.{find_key-key, find_key-change_key}
 use Rattle.ckpt_machine.proofs.OptionLemmas.{IsSomeAnd-at}
-use Rattle.ckpt_machine.proofs.Joining.{joined-making, joined-active, joined-attributes, joined-made, joined-all, joined-complete}
+use Rattle.ckpt_machine.proofs.Joining.{joined-making, joined-active, joined-attributes, joined-made, joined-generation, joined-all, joined-complete}
 use Rattle.ckpt_machine.proofs.References.{released_all-identity}
 
--- it is made with the same active, and declares the same; it is on the same nodes where updates are on all replicas, and else on these and maybe more
+-- it is made with the same active and the same generation, and declares the same; it is on the same nodes where updates are on all replicas, and else on these and maybe more
 pub record IsMadeAs (e f : Entry) : Type 0 where
   pub made : f.making ≡ None
+  pub generation : f.generation ≡ e.generation
   pub complete : is_all e.attributes ≡ true → f.complete ≡ e.complete
   pub remains : (r : ℕ) → IsCompleteOn e r → IsCompleteOn f r
   pub active : f.active ≡ e.active
@@ -46,13 +47,14 @@ pub record StaysMade (e f : Entry) : Type 0 where
   pub since : f.made ≡ e.made
 
 pub StaysMade-same : (e : Entry) → StaysMade e e
-StaysMade-same e = record { made = λ made. record { made = made; complete = λ all. refl; remains = λ r there. there; active = refl; attributes = refl }; attributes = refl; since = refl }
+StaysMade-same e = record { made = λ made. record { made = made; generation = refl; complete = λ all. refl; remains = λ r there. there; active = refl; attributes = refl }; attributes = refl; since = refl }
 
 -- where none of that is changed
-pub StaysMade-kept : (e f : Entry) → f.making ≡ e.making → f.complete ≡ e.complete → f.active ≡ e.active → f.attributes ≡ e.attributes → f.made ≡ e.made → StaysMade e f
-StaysMade-kept e f making complete active attributes since = record {
+pub StaysMade-kept : (e f : Entry) → f.making ≡ e.making → f.complete ≡ e.complete → f.active ≡ e.active → f.attributes ≡ e.attributes → f.made ≡ e.made → f.generation ≡ e.generation → StaysMade e f
+StaysMade-kept e f making complete active attributes since generation = record {
   made = λ made. record {
     made = making ∙ made;
+    generation = generation;
     complete = λ all. complete;
     remains = λ r there. subst (λ (nodes : List ℕ). (slice_index nodes r == 0) ≡ false) (sym complete) there;
     active = active;
@@ -69,6 +71,7 @@ StaysMade-then e f g first second = record {
       let later = second.made between.made in
       record {
         made = later.made;
+        generation = later.generation ∙ between.generation;
         complete = λ all. later.complete (ap is_all between.attributes ∙ all) ∙ between.complete all;
         remains = λ r there. later.remains r (between.remains r there);
         active = later.active ∙ between.active;
@@ -81,8 +84,8 @@ StaysMade-then e f g first second = record {
 -- whether any references are left or not
 left_made : (e : Entry) (t : ℤ) (references : List ℕ) (none left : Bool) → StaysMade e (cond none e (cond left (record e { references = references }) (record e { references = references; idle = t })))
 left_made e t references true left = StaysMade-same e
-left_made e t references false true = StaysMade-kept e (record e { references = references }) refl refl refl refl refl
-left_made e t references false false = StaysMade-kept e (record e { references = references; idle = t }) refl refl refl refl refl
+left_made e t references false true = StaysMade-kept e (record e { references = references }) refl refl refl refl refl refl
+left_made e t references false false = StaysMade-kept e (record e { references = references; idle = t }) refl refl refl refl refl refl
 
 pub released_made : (c : ℕ) (t : ℤ) (e : Entry) → StaysMade e (unreferred c t e)
 released_made c t e = left_made e t (slice_set e.references c (slice_index e.references c - 1)) (slice_index e.references c == 0) (has_references (record e { references = slice_set e.references c (slice_index e.references c - 1) }))
@@ -95,6 +98,7 @@ pub opened_made : (opener : ℕ) (up : List ℕ) (c : ℕ) (e : Entry) → Stays
 opened_made opener up c e = record {
   made = λ made. record {
     made = joined-making opener up e ∙ made;
+    generation = joined-generation opener up e;
     complete = joined-all opener up e;
     remains = joined-complete opener up e;
     active = joined-active opener up e;
@@ -194,7 +198,7 @@ module _ (k : ℕ) (R : RecordState) (given : k ≤ R.last_identity) (rises : Id
   created_for_on call ask = same_on
 
   pub retained_for_on : (ask : Ask) (j : ℕ) → MadeOn k R (retained_for ask j R)
-  retained_for_on (asks.Retain place duration) j = changed_on j (retaining duration) (λ e. refl) (λ e. StaysMade-kept e (retaining duration e) refl refl refl refl refl)
+  retained_for_on (asks.Retain place duration) j = changed_on j (retaining duration) (λ e. refl) (λ e. StaysMade-kept e (retaining duration e) refl refl refl refl refl refl)
   retained_for_on ask j = same_on
 
 -- ---- a step's row

@@ -1,7 +1,7 @@
 -- The parts of a label, of a step that a node serves and of a step of the record.
 use Rattle.std.proofs.Common.{◌≡◌, ℕ, ◌⊎◌, inl, inr, Option, Some, None, ap, subst, ◌∙◌}
 use Rattle.ckpt_machine.specs.Drivers.{Driver}
-use Rattle.cluster_record.specs.StepDone.{done_of}
+use Rattle.cluster_record.specs.StepDone.{done_of, counting}
 use Rattle.ckpt_machine.specs.Driving.{driver_taken}
 use Rattle.ckpt_machine.specs.Machine.{Machine, CallState}
 use Rattle.ckpt_machine.specs.Steps.{Told}
@@ -16,7 +16,7 @@ use Rattle.node_msgs.specs.Requests.{ckpt_of}
 use Rattle.node_msgs.specs.Steps.{verb_of, word_of, event_verb}
 use Rattle.node_msgs.specs.declared.details.Details.TheVariants as beside
 use Rattle.ckpt_machine.specs.Driving.{driver_end, driver_taken, event_ckpt, event_node, event_end, event_refusal, takes_memory}
-use Rattle.ckpt_machine.specs.Steps.{Told, ended_details, details_due, IsServed, IsRecordAnswer, IsEvent, driver_of}
+use Rattle.ckpt_machine.specs.Steps.{Told, counted_at, ended_details, details_due, IsServed, IsRecordAnswer, IsEvent, driver_of}
 
 -- a label's parts are these
 pub Told-is : (t u : Told) → t.verb ≡ u.verb → t.ckpt ≡ u.ckpt → t.node ≡ u.node → t.reply ≡ u.reply → t.end ≡ u.end → t.details ≡ u.details → t ≡ u
@@ -24,7 +24,7 @@ Told-is t u verb k r reply end details = λ i. record { verb = verb i; ckpt = k 
 
 -- how a served step ends its call, with the answer
 abbrev pub served_end : Machine → CallState → ℕ → Request → Driver → Reply → Option Outcome
-served_end m s r request d answer = let done = done_of m.cluster (verb_of request) (Some (ckpt_of request)) (Some r) (word_of answer) in driver_end s.op done answer (driver_taken done d)
+served_end m s r request d answer = let done = counting (counted_at m (verb_of request) (Some (ckpt_of request)) (Some r) (word_of answer)) (done_of m.cluster (verb_of request) (Some (ckpt_of request)) (Some r) (word_of answer)) in driver_end s.op done answer (driver_taken done d)
 
 -- what a served step does, with the answer
 abbrev pub served_told : Machine → CallState → ℕ → Request → Driver → Reply → Told
@@ -41,7 +41,7 @@ served_told m s r request d answer = record {
 pub IsServed-told : (m : Machine) (s : CallState) (r : ℕ) (request : Request) (t : Told) (d : Driver) (answer : Reply) (served : IsServed m s r request t) → driver_of s ≡ d → served.answer ≡ answer → t ≡ served_told m s r request d answer
 IsServed-told m s r request t d answer served at is =
     let word : t.reply ≡ word_of answer = served.reply ∙ ap word_of is in
-    let end : t.end ≡ served_end m s r request d answer = served.end ∙ (λ i. let done = done_of m.cluster (served.verb i) (served.ckpt i) (served.node i) (word i) in driver_end s.op done (is i) (driver_taken done (at i))) in
+    let end : t.end ≡ served_end m s r request d answer = served.end ∙ (λ i. let done = counting (counted_at m (served.verb i) (served.ckpt i) (served.node i) (word i)) (done_of m.cluster (served.verb i) (served.ckpt i) (served.node i) (word i)) in driver_end s.op done (is i) (driver_taken done (at i))) in
     Told-is t (served_told m s r request d answer) served.verb served.ckpt served.node word end
     (served.details ∙ ap (λ end. ended_details end (details_due m s request r)) end)
 

@@ -62,9 +62,10 @@ IsTakenOn verbs.Apply (Some k) (Some r) words.Ok = Unit {0}
 IsTakenOn verbs.Unmark (Some k) (Some r) words.Ok = Unit {0}
 IsTakenOn verb k r reply = ⊥
 
--- nothing is left to do of a close alone
+-- nothing is left to do of a close or a synchronisation alone
 no_look_done : (m : Machine) (s : CallState) (ask : Ask) (answer : Answer) → IsChange ask → LookDone m s ask answer → ⊥
 no_look_done m s (asks.Close place) answers.Nothing change row = change
+no_look_done m s (asks.Synchronize place timeout) (answers.Pulled count) change row = change
 no_look_done m s ask answer change row = absurd row
 
 module _ (m : Machine) (s : CallState) (word : IsUpdateWord (word_of_op s.op)) (answer : Answer) where
@@ -139,6 +140,8 @@ module _ (m : Machine) (s : CallState) (word : IsUpdateWord (word_of_op s.op)) (
   done_by_taking verbs.Status k r reply details row = at_node k r _ row (λ k r p. no_other _ p.1)
   done_by_taking verbs.Iter k r reply details row = at_node k r _ row.0 (λ k r p. no_other _ p.4)
   done_by_taking verbs.Next k r reply details row = at_node k r _ row (λ k r p. no_other _ p.1)
+  done_by_taking verbs.Pull k r reply details row = at_node k r _ row.0 (λ k r p. no_other _ p.2)
+  done_by_taking verbs.Install k r reply details row = at_node k r _ row.0 (λ k r p. no_other _ p.2)
   done_by_taking verbs.Leave k r reply details row = at_none k r _ row.0 (λ p. no_other _ p.0)
   done_by_taking verbs.Close k r reply details row = row_at_ckpt k r _ row.0 (λ k p. no_other _ p.1)
   done_by_taking verbs.Unlink k r reply details row = row_at_ckpt k r _ row.0 (λ k p. no_other _ p.1)

@@ -89,7 +89,7 @@ module _ (m : Machine) (shapes : ℕ → Shape) (inv : InvariantIn shapes m) (s 
   abbrev then_state : Verb → CallState
   then_state verb = record s { steps = done verb ∷ s.steps }
 
-  module _ (verb : Verb) (y : ReplicaState) (marks : Marked) (w : MarksMade) (y_free : y.slot ≡ None) (y_marks : y.marks ≡ Some marks) (own : marks.call ≡ s.call) (update : marks.update ≡ update_of s.op)
+  module _ (verb : Verb) (y : ReplicaState) (marks : Marked) (w : MarksMade) (y_generation : y.generation ≡ at.entry.generation) (y_free : y.slot ≡ None) (y_marks : y.marks ≡ Some marks) (own : marks.call ≡ s.call) (update : marks.update ≡ update_of s.op)
       (left : marks.done + w.left ≡ length (elements_in marks.update)) (few : w.left ≤ n) (generation : w.generation ≡ at.entry.generation) (takes : driver_taken (done verb) (driver_of s) ≡ drivers.Active (driving (Some w)))
       (others : (d : CallId) → same_actor d.actor s.call.actor ≡ false → is_marked_by d (shapes k).marks ≡ false) where
     abbrev then_machine : Machine
@@ -140,7 +140,7 @@ module _ (m : Machine) (shapes : ℕ → Shape) (inv : InvariantIn shapes m) (s 
         let hand = inv.hands s.call.actor s held in
         record {
           shapes = then_shapes;
-          holds = active_keeps m shapes inv s (driving made) held is at.node at.entry at.found at.made (alone m shapes inv s call k (kinds.Weak n) made held at refl is) at.active y (Some marks) (record { free = y_free; marks_are = y_marks }) (Some (then_state verb))
+          holds = active_keeps m shapes inv s (driving made) held is at.node at.entry at.found at.made (alone m shapes inv s call k (kinds.Weak n) made held at refl is) at.active y (Some marks) (record { free = y_free; marks_are = y_marks }) y_generation (Some (then_state verb))
               (λ d other. not_marked d s.call other marks own ∙ sym (others d other))
               (λ v same. subst (IsMarker then_machine k) (same_Some marks v same) marker_then)
               (λ z same. subst (IsInHand then_machine then_shapes s.call.actor) (same_Some (then_state verb) z same) (record {
@@ -216,7 +216,7 @@ module _ (m : Machine) (shapes : ℕ → Shape) (inv : InvariantIn shapes m) (s 
     mark_takes = ap (driver_taken (done verbs.Mark)) is ∙ ap (λ o. drivers.Active (driving (Some (record { generation = generation_in o; left = n })))) at.found
 
     holds_marked : (shapes k).marks ≡ None → Invariant (record m { replicas = put2 m.replicas k at.node (Some marked); in_hand = put_actor m.in_hand s.call.actor (Some (then_state verbs.Mark)) })
-    holds_marked unmarked = goes_on_keeps verbs.Mark marked new_marks new_made free refl refl refl (let e = elements_are in omega (arith, e)) (omega arith) refl mark_takes (λ d other. ap (is_marked_by d) unmarked)
+    holds_marked unmarked = goes_on_keeps verbs.Mark marked new_marks new_made at.generation free refl refl refl (let e = elements_are in omega (arith, e)) (omega arith) refl mark_takes (λ d other. ap (is_marked_by d) unmarked)
 
     mark_by : (t : Told) → IsServed m s at.node to_mark t → (o : Option Marked) → (shapes k).marks ≡ o → (r : Result (List Section) Refusal) → Gives r → Goes m s (driver_of s) t
     mark_by t served None stand (Ok sections) gives = subst (Goes m s (driver_of s)) (sym (IsServed-told m s at.node to_mark t _ (replies.Done answers.Nothing) served is (answered t served None (Ok sections) stand gives))) (record {
@@ -302,7 +302,7 @@ module _ (m : Machine) (shapes : ℕ → Shape) (inv : InvariantIn shapes m) (s 
 
       holds_written : Invariant (record m { replicas = put2 m.replicas k at.node (Some (with_next_element (entry_of k m.cluster.entries) at.replica)); in_hand = put_actor m.in_hand s.call.actor (Some (then_state verbs.Element)) })
       holds_written = subst (λ y. Invariant (record m { replicas = put2 m.replicas k at.node (Some y); in_hand = put_actor m.in_hand s.call.actor (Some (then_state verbs.Element)) })) (sym element_is)
-          (goes_on_keeps verbs.Element written next_marks next_made free next_done its_own.own its_own.update (let l = its_own.left in let above = positive w.left left_some in omega (arith, l, above)) (let f = few_left in omega (arith, f))
+          (goes_on_keeps verbs.Element written next_marks next_made at.generation free next_done its_own.own its_own.update (let l = its_own.left in let above = positive w.left left_some in omega (arith, l, above)) (let f = few_left in omega (arith, f))
           ((subst (λ o. IfSome o (λ (v : MarksMade). v.generation ≡ at.entry.generation)) made_is (its.generation at.entry at.found))) element_takes others_unmarked)
 
       element_goes : (t : Told) → IsServed m s at.node to_do t → Goes m s (driver_of s) t
@@ -330,7 +330,7 @@ module _ (m : Machine) (shapes : ℕ → Shape) (inv : InvariantIn shapes m) (s 
       holds_ended : Invariant (record m { replicas = put2 m.replicas k at.node (Some (without_marks at.replica)); in_hand = put_actor m.in_hand s.call.actor None })
       holds_ended = subst (λ o. Invariant (record m { replicas = put2 m.replicas k at.node (Some (marks_ended at.replica o)); in_hand = put_actor m.in_hand s.call.actor None })) (sym stand_there) (record {
         shapes = _;
-        holds = active_keeps m shapes inv s (driving made) held is at.node at.entry at.found at.made (alone m shapes inv s call k (kinds.Weak n) made held at refl is) at.active ended None (record { free = free; marks_are = refl }) None
+        holds = active_keeps m shapes inv s (driving made) held is at.node at.entry at.found at.made (alone m shapes inv s call k (kinds.Weak n) made held at refl is) at.active ended None (record { free = free; marks_are = refl }) at.generation None
             (λ d other. sym (others_unmarked d other)) (λ marks none. absurd (cc none)) (λ z there. absurd (cc there));
       })
 

@@ -23,7 +23,7 @@ use Rattle.run_labels.specs.declared.words.Said.TheVariants.{Busy, Idle, Live, D
 use Rattle.client_handles.specs.declared.handle_view.HandleView.{HandleView}
 use Rattle.cluster_record.specs.Calls.{number_of, IsClient}
 use Rattle.cluster_record.specs.RecordState.{is_live_client, is_up}
-use Rattle.ckpt_machine.specs.Beginning.{version_is_bad, name_is_bad, attributes_are_bad, vector_is_bad, update_is_bad, choice_is_bad, may_write, may_read, may_always}
+use Rattle.ckpt_machine.specs.Beginning.{version_is_bad, name_is_bad, attributes_are_bad, are_of_all, are_not_collocated, vector_is_bad, update_is_bad, choice_is_bad, may_write, may_read, may_always}
 use Rattle.ckpt_types.specs.Asks.{Ask, asked, takes_room, IsBuilt}
 use Rattle.ckpt_types.specs.Asks as asks
 use Rattle.ckpt_machine.specs.Machine.{Machine}
@@ -59,13 +59,14 @@ abbrev pub has_bad_flags : Ask → Bool
 has_bad_flags (asks.Open place name flags timeout a) = has_bad_open_flags flags
 has_bad_flags ask = false
 
--- what is a bad argument of each: a name, timeout or attributes; a number of elements; a choice; a duration
+-- what is a bad argument of each: a name, timeout or attributes; a number of elements; a choice; a duration; a timeout
 abbrev pub has_bad_arguments : Ask → Bool
 has_bad_arguments (asks.Open place name flags timeout a) = name_is_bad name || int_lt timeout (pos 0) || attributes_are_bad flags a
 has_bad_arguments (asks.Change place update) = update_is_bad update
 has_bad_arguments (asks.Read place elements) = vector_is_bad (length elements)
 has_bad_arguments (asks.Iterate iteration place chosen time) = choice_is_bad chosen
 has_bad_arguments (asks.Retain place duration) = int_lt duration (pos 0)
+has_bad_arguments (asks.Synchronize place timeout) = int_lt timeout (pos 0)
 has_bad_arguments ask = false
 
 -- what its handle is to be opened for
@@ -73,6 +74,8 @@ abbrev pub needs_opened : Ask → OpenFlags → Bool
 needs_opened (asks.Change place update) = may_write
 needs_opened (asks.Read place elements) = may_read
 needs_opened (asks.Iterate iteration place chosen time) = may_read
+needs_opened (asks.Synchronize place timeout) = may_write
+needs_opened (asks.SetActive place) = may_write
 needs_opened ask = may_always
 
 -- there is a handle, which was not opened for this
@@ -83,6 +86,17 @@ was_not_opened_for may (Some h) = not (may h.flags)
 -- its handle was not opened for what it asks
 abbrev pub lacks_access : Option HandleView → Ask → Bool
 lacks_access h ask = was_not_opened_for (needs_opened ask) h
+
+-- which creation flags forbid it: of a synchronisation those that have updates on all replicas, and of the setting of an active those that are not collocated
+abbrev pub forbidden_by : Ask → ℕ → Bool
+forbidden_by (asks.Synchronize place timeout) = are_of_all
+forbidden_by (asks.SetActive place) = are_not_collocated
+forbidden_by ask = λ flags. false
+
+-- there is a handle, and the creation flags of its checkpoint forbid what is asked
+abbrev pub has_bad_operation : Option HandleView → Ask → Bool
+has_bad_operation None ask = false
+has_bad_operation (Some h) ask = forbidden_by ask h.creation_flags
 
 -- the end of an iteration is answered at once; every other call goes on
 abbrev pub ends_at_once : Ask → Bool
@@ -98,6 +112,7 @@ BeginRefused live h ask errors.BadHandle = (has_bad_version ask ≡ false) × (h
 BeginRefused live h ask errors.BadFlags = (has_bad_version ask ≡ false) × (has_bad_handle live h ask ≡ false) × (has_bad_flags ask ≡ true)
 BeginRefused live h ask errors.InvalidParam = (has_bad_version ask ≡ false) × (has_bad_handle live h ask ≡ false) × (has_bad_flags ask ≡ false) × (has_bad_arguments ask ≡ true)
 BeginRefused live h ask errors.Access = (has_bad_version ask ≡ false) × (has_bad_handle live h ask ≡ false) × (has_bad_flags ask ≡ false) × (has_bad_arguments ask ≡ false) × (lacks_access h ask ≡ true)
+BeginRefused live h ask errors.BadOperation = (has_bad_version ask ≡ false) × (has_bad_handle live h ask ≡ false) × (has_bad_flags ask ≡ false) × (has_bad_arguments ask ≡ false) × (lacks_access h ask ≡ false) × (has_bad_operation h ask ≡ true)
 BeginRefused live h ask error = ⊥
 
 -- no refusal applies
@@ -107,8 +122,9 @@ pub record MeetsNoRefusal (live : Bool) (h : Option HandleView) (ask : Ask) : Ty
   pub flags : has_bad_flags ask ≡ false
   pub arguments : has_bad_arguments ask ≡ false
   pub access : lacks_access h ask ≡ false
+  pub operation : has_bad_operation h ask ≡ false
 
--- a refusal; OK at once; no memory for the room of an iteration; or the call goes on
+-- a refusal; OK at once; no memory for the room of an iteration or a snapshot; or the call goes on
 abbrev pub BeginRow : Bool → Option HandleView → Ask → Option Outcome → Type 0
 BeginRow live h ask (Some (Refused error Plain)) = BeginRefused live h ask error
 BeginRow live h ask (Some (Done answers.Nothing)) = MeetsNoRefusal live h ask × (ends_at_once ask ≡ true)

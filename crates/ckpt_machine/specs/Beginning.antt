@@ -1,4 +1,5 @@
 -- What a call answers when it begins, by its arguments, the tables and the record: the first refusal that applies.
+use Rattle.std.specs.Option.{option_or}
 use Rattle.std.specs.Prelude.{ℕ, List, length, Option, Some, None, Bool, true, false, not, ◌||◌, ◌==◌, nat_lt, if◌then◌else◌, ℤ, pos, int_lt}
 use Rattle.ckpt_types.specs.declared.ais_error.AisError.{AisError}
 use Rattle.ckpt_types.specs.declared.ais_error.AisError.TheVariants as errors
@@ -12,7 +13,7 @@ use Rattle.ckpt_types.specs.declared.open_flags.OpenFlags.{OpenFlags}
 use Rattle.ckpt_types.specs.declared.update.Update.{Update}
 use Rattle.ckpt_types.specs.declared.update.Update.TheVariants as updates
 use Rattle.ckpt_types.specs.Attributes.{has_flag, has_bad_open_flags, is_malformed}
-use Rattle.ckpt_types.specs.Limits.{checkpoint_create, vector_max, name_max, release, sections_any, major_min, major_max}
+use Rattle.ckpt_types.specs.Limits.{wr_all_replicas, checkpoint_collocated, checkpoint_create, vector_max, name_max, release, sections_any, major_min, major_max}
 use Rattle.client_handles.specs.declared.handle_view.HandleView.{HandleView}
 use Rattle.ckpt_types.specs.Asks.{Ask}
 use Rattle.ckpt_types.specs.Asks as asks
@@ -80,6 +81,23 @@ end_iteration (Some h) = Some (Done answers.Nothing)
 abbrev pub update_begin : Option HandleView → Update → Option Outcome
 update_begin h update = on_handle h (update_is_bad update) may_write
 
+-- the creation flags have updates on all replicas
+abbrev pub are_of_all : ℕ → Bool
+are_of_all flags = flags == wr_all_replicas
+
+-- they are not those of a collocated checkpoint
+abbrev pub are_not_collocated : ℕ → Bool
+are_not_collocated flags = not (has_flag flags checkpoint_collocated)
+
+-- BAD_OPERATION where the creation flags of a handle's checkpoint forbid it
+abbrev pub unless_forbidden : (ℕ → Bool) → Option HandleView → Option Outcome
+unless_forbidden forbid None = None
+unless_forbidden forbid (Some h) = if forbid h.creation_flags then refused errors.BadOperation else None
+
+-- on a handle that was opened for writing, of a checkpoint whose flags do not forbid it
+abbrev pub sync_begin : Option HandleView → Bool → (ℕ → Bool) → Option Outcome
+sync_begin h bad forbid = option_or (on_handle h bad may_write) (unless_forbidden forbid h)
+
 -- BAD_HANDLE to a client that is not live
 abbrev pub if_live : Bool → Option Outcome → Option Outcome
 if_live true answer = answer
@@ -99,4 +117,6 @@ begin_end live h (asks.Close place) = if_live live (on_handle h false may_always
 begin_end live h (asks.Retain place duration) = if_live live (on_handle h (int_lt duration (pos 0)) may_always)
 begin_end live h (asks.Unlink name) = if_live live None
 begin_end live h asks.Leave = if_live live None
+begin_end live h (asks.Synchronize place timeout) = if_live live (sync_begin h (int_lt timeout (pos 0)) are_of_all)
+begin_end live h (asks.SetActive place) = if_live live (sync_begin h false are_not_collocated)
 begin_end live h asks.Unbuilt = None

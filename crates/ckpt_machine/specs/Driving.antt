@@ -5,7 +5,7 @@ use Rattle.ckpt_types.specs.declared.ais_error.AisError.TheVariants.{NotExist, T
 use Rattle.ckpt_types.specs.declared.answers.Answer.{Answer}
 use Rattle.ckpt_types.specs.declared.answers.Answer.TheVariants as answers
 use Rattle.ckpt_types.specs.declared.answers.Cause.{Cause}
-use Rattle.ckpt_types.specs.declared.answers.Cause.TheVariants.{Plain, Index, Holder}
+use Rattle.ckpt_types.specs.declared.answers.Cause.TheVariants.{Plain, Index, Holder, Generations}
 use Rattle.ckpt_types.specs.declared.answers.Outcome.{Outcome}
 use Rattle.ckpt_types.specs.declared.answers.Outcome.TheVariants.{Done, Refused, NoMemory}
 use Rattle.ckpt_types.specs.declared.identities.CallId.{CallId}
@@ -23,6 +23,10 @@ use Rattle.ckpt_machine.specs.Drivers.{Driver}
 use Rattle.ckpt_machine.specs.Drivers as drivers
 use Rattle.cluster_record.specs.declared.calls.ActiveKind.{ActiveKind}
 use Rattle.cluster_record.specs.declared.calls.ActiveKind.TheVariants as kinds
+use Rattle.cluster_record.specs.declared.calls.SyncKind.{SyncKind}
+use Rattle.cluster_record.specs.declared.calls.SyncKind.TheVariants.{Synchronize, ActiveSet}
+use Rattle.ckpt_types.specs.declared.attributes.CreationAttributes.{CreationAttributes}
+use Rattle.cluster_record.specs.DueSync.{sync_begun, sync_next, sync_taken, sync_ended}
 use Rattle.section_iter.specs.declared.room.Room.{Room}
 use Rattle.cluster_record.specs.Calls.{client_of}
 use Rattle.ckpt_types.specs.Asks.{Ask, asked}
@@ -51,6 +55,7 @@ driver_next R rooms (drivers.Once x) = once_next R x
 driver_next R rooms (drivers.Open o) = open_next R rooms.handles o
 driver_next R rooms (drivers.Update u) = update_next R u
 driver_next R rooms (drivers.Active a) = active_next R rooms.iterations a
+driver_next R rooms (drivers.Sync s) = sync_next R s
 
 -- the driver after a step of its call
 abbrev pub driver_taken : StepDone → Driver → Driver
@@ -58,6 +63,7 @@ driver_taken d (drivers.Once x) = drivers.Once x
 driver_taken d (drivers.Open o) = drivers.Open (open_taken d o)
 driver_taken d (drivers.Update u) = drivers.Update (update_taken d u)
 driver_taken d (drivers.Active a) = drivers.Active (active_taken d a)
+driver_taken d (drivers.Sync s) = drivers.Sync (sync_taken d s)
 
 -- how the call ends where a node has done what it asked
 abbrev pub done_end : StepDone → Answer → Driver → Option Outcome
@@ -65,6 +71,12 @@ done_end d answer (drivers.Once x) = None
 done_end d answer (drivers.Open o) = None
 done_end d answer (drivers.Update u) = done_end_by d answer u d.verb
 done_end d answer (drivers.Active a) = active_end answer d.verb
+done_end d answer (drivers.Sync s) = sync_ended d.complete s.served s.pulled
+
+-- how it ends where a replica has no need of what it was to take over
+abbrev pub older_end : StepDone → Driver → Option Outcome
+older_end d (drivers.Sync s) = sync_ended d.complete s.served s.pulled
+older_end d x = None
 
 -- how a call of an operation ends by a node's reply; where nothing comes of it, the call goes on
 abbrev pub driver_end : Op → StepDone → Reply → Driver → Option Outcome
@@ -72,6 +84,8 @@ driver_end op d (replies.Done answer) x = done_end d answer x
 driver_end op d (replies.Held by) x = if d.live then Some (Refused TryAgain (Holder by)) else None
 driver_end op d (replies.Refused error index) x = Some (Refused error (refused_cause op index))
 driver_end op d replies.NoReplica x = Some (Refused NotExist Plain)
+driver_end op d (replies.Older generation count) x = older_end d x
+driver_end op d (replies.Stale old present) x = Some (Refused TryAgain (Generations old present))
 driver_end op d _ x = None
 
 -- the checkpoint of a step of the record, which was as R before it
@@ -134,18 +148,20 @@ takes_memory events.Open = true
 takes_memory events.Create = true
 takes_memory step = false
 
--- what a call keeps of the tables and of the record at its beginning: the checkpoint of its handle, the room for the identifiers that this one declares, whether its updates are on all replicas, whether its writes are weak, the client's node, and the moment
+-- what a call keeps of the tables and of the record at its beginning: the checkpoint of its handle, the room for the identifiers that this one declares, whether its updates are on all replicas, whether its writes are weak, what it declares, the client's node, and the moment
 pub record Kept : Type 0 where
   pub ckpt : Option ℕ
   pub room : Room
   pub all : Bool
   pub weak : Bool
+  pub declares : Option CreationAttributes
   pub node : ℕ
   pub moment : ℤ
 
 -- the deadline of what was asked for at a moment, where it has a timeout
 abbrev pub deadline_from : ℤ → Ask → Option ℤ
 deadline_from moment (asks.Open place name flags timeout a) = Some (sum_until_end moment timeout)
+deadline_from moment (asks.Synchronize place timeout) = Some (sum_until_end moment timeout)
 deadline_from moment ask = None
 
 -- the driver of a call on the checkpoint that it keeps, where it keeps one
@@ -160,6 +176,10 @@ update_start call ckpt = on_kept ckpt (λ k. drivers.Update (update_begun call k
 -- the driver of a call to the active
 abbrev pub active_start : CallId → ActiveKind → Option ℕ → Option Driver
 active_start call kind ckpt = on_kept ckpt (λ k. drivers.Active (active_begun call k kind))
+
+-- the driver of a call that brings what the active has to other replicas
+abbrev pub sync_start : CallId → SyncKind → Option ℕ → Option Driver
+sync_start call kind ckpt = on_kept ckpt (λ k. drivers.Sync (sync_begun call k kind))
 
 -- how the active does an update, of a checkpoint that is weak or not: a weak write element by element, any other in one step
 abbrev pub kind_of_change : Bool → Update → ActiveKind
@@ -185,6 +205,8 @@ driver_start call (asks.Close place) kept = on_kept kept.ckpt (λ k. drivers.Onc
 driver_start call (asks.Retain place duration) kept = on_kept kept.ckpt (λ k. drivers.Once (Retain k duration))
 driver_start call (asks.Unlink name) kept = Some (drivers.Once (Unlink name))
 driver_start call asks.Leave kept = Some (drivers.Once Leave)
+driver_start call (asks.Synchronize place timeout) kept = sync_start call (Synchronize (Some (sum_until_end kept.moment timeout))) kept.ckpt
+driver_start call (asks.SetActive place) kept = sync_start call (ActiveSet kept.node) kept.ckpt
 driver_start call asks.Unbuilt kept = None
 
 -- where a call's steps, the newest first, have led what drove it at its beginning

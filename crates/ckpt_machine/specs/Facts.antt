@@ -31,7 +31,7 @@ use Rattle.cluster_record.specs.RecordReady.{CanBecomeLive, CanOpen}
 use Rattle.ckpt_types.specs.Asks.{asked, update_of, IsBuilt}
 use Rattle.client_handles.specs.ClientState.{NoneLent}
 use Rattle.ckpt_types.specs.Asks as asks
-use Rattle.ckpt_machine.specs.Tables.{choice_of}
+use Rattle.ckpt_machine.specs.Tables.{choice_of, takes_copy}
 use Rattle.ckpt_machine.specs.Machine.{Machine, ReplicaState, CallState}
 use Rattle.ckpt_machine.specs.Propagation.{target_at}
 use Rattle.ckpt_machine.specs.Steps.{due, driver_of, IsDriven, rooms_of, room_at, seen_at, staged_moment, asked_handle}
@@ -113,6 +113,11 @@ pub record IsGoingOn (m : Machine) (s : CallState) : Type 0 where
   pub within : iteration < places_max
   pub handle : IsSome (asked_handle m s.call.actor s.op)
 
+-- a call has room for a copy in hand, for what the checkpoint declares, which is there
+pub record HasCopyRoom (m : Machine) (s : CallState) (k : ℕ) : Type 0 where
+  pub takes : takes_copy (asked s.op) ≡ true
+  pub declares : IsSomeAnd (entry_of k m.cluster.entries) (λ e. s.kept.declares ≡ Some e.attributes)
+
 -- what the code relies on, of each call in hand
 pub record Facts (m : Machine) : Type 0 where
   -- a call in hand is its actor's, and is built, and what it asks for drives it
@@ -139,5 +144,8 @@ pub record Facts (m : Machine) : Type 0 where
   pub complete : (k r : ℕ) (e : Entry) → entry_of k m.cluster.entries ≡ Some e → (slice_index e.complete r == 0) ≡ false → IsSome (m.replicas k r)
   -- a put meets no slot and no marks
   pub puts : (k r : ℕ) (x : ReplicaState) → target_at m k r ≡ Some x → (x.slot ≡ None) × (x.marks ≡ None)
+  -- a due pull has room for what it copies, and a due installation has in hand what was pulled
+  pub pulls : (a : ActorName) (s : CallState) (r : ℕ) (call : CallId) (k : ℕ) → m.in_hand a ≡ Some s → due m s ≡ Serve r (requests.Pull call k) → HasCopyRoom m s k
+  pub installs : (a : ActorName) (s : CallState) (r : ℕ) (call : CallId) (k : ℕ) → m.in_hand a ≡ Some s → due m s ≡ Serve r (requests.Install call k) → HasCopyRoom m s k × IsSome s.snapshot
   pub starts : (a : ActorName) (s : CallState) (r : ℕ) (call : CallId) (k : ℕ) (choice : Choice) → m.in_hand a ≡ Some s → due m s ≡ Serve r (requests.Iterate call k choice) → IsStarting m s k choice
   pub goes_on : (a : ActorName) (s : CallState) (r : ℕ) (call : CallId) (k : ℕ) → m.in_hand a ≡ Some s → due m s ≡ Serve r (requests.Next call k) → IsGoingOn m s

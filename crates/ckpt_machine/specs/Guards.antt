@@ -1,4 +1,5 @@
 -- Which labels the machine allows: the guards, over all complete replicas at once, and the answers with their causes.
+use Rattle.std.specs.List.{list_any}
 use Rattle.std.specs.Prelude.{◌≡◌, ◌⊎◌, ℕ, ◌+◌, ◌<◌, ◌≤◌, List, [], ◌∷◌, ◌++◌, length, Option, Some, None, IsSome, IsSomeAnd, Ok, Err, IsOk, Bool, true, false, not, ◌==◌, ◌&&◌, ◌||◌, if◌then◌else◌, ℤ, slice_index}
 use Rattle.moment_rules.specs.Times.{is_reached}
 use Rattle.ckpt_types.specs.declared.ais_error.AisError.{AisError}
@@ -6,7 +7,7 @@ use Rattle.ckpt_types.specs.declared.ais_error.AisError.TheVariants as errors
 use Rattle.ckpt_types.specs.declared.answers.Answer.{Answer}
 use Rattle.ckpt_types.specs.declared.answers.Answer.TheVariants as answers
 use Rattle.ckpt_types.specs.declared.answers.Cause.{Cause}
-use Rattle.ckpt_types.specs.declared.answers.Cause.TheVariants.{Plain, Index, Holder, Deadline, Count}
+use Rattle.ckpt_types.specs.declared.answers.Cause.TheVariants.{Plain, Index, Holder, Generations, Deadline, Count}
 use Rattle.ckpt_types.specs.declared.answers.Outcome.{Outcome}
 use Rattle.ckpt_types.specs.declared.answers.Outcome.TheVariants.{Done, Refused, NoMemory}
 use Rattle.ckpt_types.specs.declared.attributes.CreationAttributes.{CreationAttributes}
@@ -40,12 +41,23 @@ use Rattle.ckpt_types.specs.Asks.{Ask, asked}
 use Rattle.ckpt_types.specs.Asks as asks
 use Rattle.ckpt_machine.specs.Driving.{deadline_from, refused_cause}
 use Rattle.node_core.specs.Serving.{update_answer, told_id}
-use Rattle.ckpt_machine.specs.Machine.{Machine, Staged, ReplicaState, CallState}
-use Rattle.ckpt_machine.specs.Propagation.{pull_answer, put_answer}
-use Rattle.ckpt_machine.specs.Listing.{listing_at}
+use Rattle.ckpt_machine.specs.Machine.{Machine, Staged, ReplicaState, Snapshot, CallState}
+use Rattle.ckpt_machine.specs.Propagation.{pull_answer, put_answer, is_behind}
+use Rattle.ckpt_machine.specs.Listing.{listing_at, is_active}
 use Rattle.ckpt_machine.specs.Options.{is_all, is_weak, is_by_element}
 use Rattle.weak_marks.specs.Marks.{Marked, is_left}
-use Rattle.ckpt_machine.specs.Steps.{Told, rooms_of, ids_asked, staged_moment, effect_of}
+use Rattle.ckpt_machine.specs.Steps.{Told, rooms_of, ids_asked, staged_moment, effect_of, step_told}
+use Rattle.cluster_record.specs.StepDone.{StepDone}
+
+-- ---- deadlines
+
+-- the deadline that a call has, if it has one
+abbrev pub deadline_of : CallState → Option ℤ
+deadline_of s = deadline_from s.kept.moment (asked s.op)
+
+-- the deadline of the call is not reached
+abbrev pub IsInTime : Machine → CallState → Type 0
+IsInTime m s = IsBefore m.cluster.moment (deadline_of s)
 
 -- ---- the complete replicas of a checkpoint, at once
 
@@ -214,6 +226,70 @@ ReadRow m elements k r t = OnReplica m k r (λ e x. (e.active ≡ Some r) × Rea
   ReadAnswer m elements x words.Refused = (why : Refusal) × (read elements m.cluster.moment x.sections ≡ Err why) × (t.details ≡ beside.Nothing) × (t.end ≡ Some (Refused why.error (Index why.index)))
   ReadAnswer m elements x reply = ⊥
 
+-- ---- synchronisations: what the active has is brought to the other replicas
+
+-- a step serves its node that pulls what it has, installs there what was pulled, or finds that it is not older
+abbrev pub is_service : Verb → StepReply → Bool
+is_service verbs.Pull words.Ok = true
+is_service verbs.Install words.Ok = true
+is_service verbs.Install words.Older = true
+is_service verb reply = false
+
+-- the step has served this node
+abbrev pub serves : ℕ → StepDone → Bool
+serves r d = is_active d.node r && is_service d.verb d.reply
+
+-- by what node n and those behind it are, each that is complete was served by one of the steps
+abbrev pub all_served : List StepDone → ℕ → List ℕ → Bool
+all_served steps n [] = true
+all_served steps n (c ∷ cs) = (c == 0 || list_any (serves n) steps) && all_served steps (n + 1) cs
+
+-- it is answered OK with the count that it has pulled, once each complete node was served by one of its steps; else it goes on
+abbrev pub unless_unserved : List StepDone → List ℕ → ℕ → Option Outcome
+unless_unserved steps complete count = if all_served steps 0 complete then Some (Done (answers.Pulled count)) else None
+
+-- the steps of a call with this one, at a node
+abbrev pub steps_with : Machine → CallState → Told → List StepDone
+steps_with m s t = step_told m t ∷ s.steps
+
+-- pulled: from the active, on which no marks stand
+pub record PullOk (m : Machine) (s : CallState) (r : ℕ) (t : Told) (e : Entry) (x : ReplicaState) : Type 0 where
+  pub alone : is_all e.attributes ≡ false
+  pub active : e.active ≡ Some r
+  pub in_time : IsInTime m s
+  pub unmarked : x.marks ≡ None
+  pub answer : t.end ≡ unless_unserved (steps_with m s t) e.complete (length x.effects)
+
+-- held: the marks of another call stand there, which is live; this one is to try again
+pub record PullHeld (m : Machine) (s : CallState) (r : ℕ) (by : CallId) (t : Told) (e : Entry) (x : ReplicaState) : Type 0 where
+  pub active : e.active ≡ Some r
+  pub in_time : IsInTime m s
+  pub held : ActiveHeld m s.call by t x
+
+-- what the active has is pulled, or the marks of another call hold that off
+abbrev pub PullRow : Machine → CallState → ℕ → ℕ → Told → StepReply → Type 0
+PullRow m s k r t words.Ok = OnReplica m k r (PullOk m s r t)
+PullRow m s k r t (words.Held by) = OnReplica m k r (PullHeld m s r by t)
+PullRow m s k r t reply = ⊥
+
+-- installed: what the call has pulled is of the present generation, and this replica, another than the active, is behind it; or it is not, and stays
+pub record InstallOk (m : Machine) (s : CallState) (r : ℕ) (t : Told) (behind : Bool) (e : Entry) (x : ReplicaState) : Type 0 where
+  pub alone : is_all e.attributes ≡ false
+  pub led : IsSome e.active
+  pub other : is_active e.active r ≡ false
+  pub in_time : IsInTime m s
+  pub pulled : Snapshot
+  pub in_hand : s.snapshot ≡ Some pulled
+  pub present : pulled.generation ≡ e.generation
+  pub behind_is : is_behind x pulled ≡ behind
+  pub answer : t.end ≡ unless_unserved (steps_with m s t) e.complete (length pulled.effects)
+
+-- what was pulled is installed at another complete node, or there is no need
+abbrev pub InstallRow : Machine → CallState → ℕ → ℕ → Told → StepReply → Type 0
+InstallRow m s k r t words.Ok = OnReplica m k r (InstallOk m s r t true)
+InstallRow m s k r t words.Older = OnReplica m k r (InstallOk m s r t false)
+InstallRow m s k r t reply = ⊥
+
 -- ---- status and iterations, on the active
 
 -- the status of its sections, with the checkpoint's attributes as they are now
@@ -270,14 +346,6 @@ EnterRow m c r reply end = ⊥
 -- the checkpoint is what the call is making
 abbrev pub IsMadeBy : Machine → CallId → ℕ → Type 0
 IsMadeBy m call k = making_of call m.cluster ≡ Some k
-
--- the deadline that a call has, if it has one
-abbrev pub deadline_of : CallState → Option ℤ
-deadline_of s = deadline_from s.kept.moment (asked s.op)
-
--- the deadline of the call is not reached
-abbrev pub IsInTime : Machine → CallState → Type 0
-IsInTime m s = IsBefore m.cluster.moment (deadline_of s)
 
 -- a checkpoint of the name can be made, with this identity
 pub record MayCreate (m : Machine) (s : CallState) (name : List ℕ) (a : Option CreationAttributes) (k : ℕ) : Type 0 where
@@ -438,6 +506,17 @@ abbrev pub RetainLook : Machine → Option ℕ → AisError → Cause → Type 0
 RetainLook m (Some k) errors.BadOperation Plain = IsSomeAnd (entry_of k m.cluster.entries) (λ e. e.name ≡ None)
 RetainLook m k error cause = GoneLook m k error cause
 
+-- the checkpoint that the call keeps is there, and has an active
+abbrev pub OnLed : Machine → Option ℕ → (Entry → Type 0) → Type 0
+OnLed m None P = ⊥
+OnLed m (Some k) P = IsSomeAnd (entry_of k m.cluster.entries) (λ e. IsSome e.active × P e)
+
+-- there is no active; or the deadline is reached; or the generation is another than that of what was pulled
+abbrev pub SyncLook : Machine → CallState → AisError → Cause → Type 0
+SyncLook m s errors.Timeout (Deadline deadline moment) = OnLed m s.kept.ckpt (λ e. Unit {0}) × (deadline_of s ≡ Some deadline) × (moment ≡ m.cluster.moment) × (is_reached deadline moment ≡ true)
+SyncLook m s errors.TryAgain (Generations old present) = OnLed m s.kept.ckpt (λ e. e.generation ≡ present) × IsInTime m s × IsSomeAnd s.snapshot (λ pulled. pulled.generation ≡ old) × ((old == present) ≡ false)
+SyncLook m s error cause = NoActiveLook m s.kept.ckpt error cause
+
 -- NOT_EXIST of an update: its checkpoint is gone, or where it goes to the active alone, has none
 abbrev pub ChangeLook : Bool → Machine → Option ℕ → AisError → Cause → Type 0
 ChangeLook true m k error cause = GoneLook m k error cause
@@ -454,11 +533,17 @@ LookRefused m s (asks.Iterate iteration place chosen time) error cause = IterLoo
 LookRefused m s (asks.Next iteration) error cause = NoActiveLook m s.kept.ckpt error cause
 LookRefused m s (asks.Unlink name) error cause = UnlinkLook m s name error cause
 LookRefused m s (asks.Retain place duration) error cause = RetainLook m s.kept.ckpt error cause
+LookRefused m s (asks.Synchronize place timeout) error cause = SyncLook m s error cause
 LookRefused m s ask error cause = ⊥
 
--- nothing is left to do: a close of a checkpoint that is gone
+-- a synchronisation has served each complete node with so many updates, of the present generation
+abbrev pub SyncDone : Machine → CallState → ℕ → Entry → Snapshot → Type 0
+SyncDone m s count e pulled = (pulled.generation ≡ e.generation) × (length pulled.effects ≡ count) × (all_served s.steps 0 e.complete ≡ true)
+
+-- nothing is left to do: a close of a checkpoint that is gone, or a synchronisation
 abbrev pub LookDone : Machine → CallState → Ask → Answer → Type 0
 LookDone m s (asks.Close place) answers.Nothing = IsSomeAnd s.kept.ckpt (λ k. entry_of k m.cluster.entries ≡ None)
+LookDone m s (asks.Synchronize place timeout) (answers.Pulled count) = OnLed m s.kept.ckpt (λ e. IsSomeAnd s.snapshot (SyncDone m s count e)) × IsInTime m s
 LookDone m s ask answer = ⊥
 
 -- the record alone refuses the call, or has nothing left for it to do
@@ -514,6 +599,8 @@ Row m s verbs.Read t = AtNode t.ckpt t.node (λ k r. (place : ℕ) × (elements 
 Row m s verbs.Status t = AtNode t.ckpt t.node (λ k r. (place : ℕ) × (asked s.op ≡ asks.Status place) × StatusRow m k r t.reply t.end t.details)
 Row m s verbs.Iter t = AtNode t.ckpt t.node (λ k r. (iteration place chosen : ℕ) × (time : ℤ) × (asked s.op ≡ asks.Iterate iteration place chosen time) × IterRow m s k r t.reply t.end) × (t.details ≡ beside.Nothing)
 Row m s verbs.Next t = AtNode t.ckpt t.node (λ k r. (iteration : ℕ) × (asked s.op ≡ asks.Next iteration) × NextRow m s k r t)
+Row m s verbs.Pull t = AtNode t.ckpt t.node (λ k r. (place : ℕ) × (timeout : ℤ) × (asked s.op ≡ asks.Synchronize place timeout) × PullRow m s k r t t.reply) × (t.details ≡ beside.Nothing)
+Row m s verbs.Install t = AtNode t.ckpt t.node (λ k r. (place : ℕ) × (timeout : ℤ) × (asked s.op ≡ asks.Synchronize place timeout) × InstallRow m s k r t t.reply) × (t.details ≡ beside.Nothing)
 Row m s verbs.Leave t = AtNone t.ckpt t.node ((asked s.op ≡ asks.Leave) × LeaveRow m (client_of s.call) t.reply t.end) × (t.details ≡ beside.Nothing)
 Row m s verbs.Close t = AtCkpt t.ckpt t.node (λ k. (place : ℕ) × (asked s.op ≡ asks.Close place) × CloseRow m s k t.reply t.end) × (t.details ≡ beside.Nothing)
 Row m s verbs.Unlink t = AtCkpt t.ckpt t.node (λ k. (name : List ℕ) × (asked s.op ≡ asks.Unlink name) × UnlinkRow m name k t.reply t.end) × (t.details ≡ beside.Nothing)
@@ -533,6 +620,8 @@ IsOnOwn verbs.Read ckpt own = ckpt ≡ own
 IsOnOwn verbs.Status ckpt own = ckpt ≡ own
 IsOnOwn verbs.Iter ckpt own = ckpt ≡ own
 IsOnOwn verbs.Next ckpt own = ckpt ≡ own
+IsOnOwn verbs.Pull ckpt own = ckpt ≡ own
+IsOnOwn verbs.Install ckpt own = ckpt ≡ own
 IsOnOwn verb ckpt own = Unit {0}
 
 -- a step is of the call that its actor has in hand, and its row holds

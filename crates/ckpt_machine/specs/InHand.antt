@@ -1,5 +1,7 @@
 -- Where a call in hand is: what is so of it, by what drives it.
-use Rattle.std.specs.Prelude.{◌≡◌, ◌==◌, ℕ, ◌<◌, ◌≤◌, length, Option, Some, None, is_some, IsSome, IsSomeAnd, IfSome, true, false, ℤ, pos, ◌≤ℤ◌, slice_index, Bool}
+use Rattle.std.specs.List.{list_any}
+use Rattle.std.specs.Option.{option_map}
+use Rattle.std.specs.Prelude.{◌≡◌, ◌==◌, ℕ, ◌<◌, ◌≤◌, length, Option, Some, None, is_some, IsSome, IsSomeAnd, IfSome, true, false, ℤ, pos, ◌≤ℤ◌, slice_index, slice_get, Bool, List}
 use Rattle.ckpt_types.specs.declared.attributes.CreationAttributes.{CreationAttributes}
 use Rattle.ckpt_types.specs.declared.calls.CallbackSet.{CallbackSet}
 use Rattle.ckpt_types.specs.declared.calls.Version.{Version}
@@ -15,7 +17,10 @@ use Rattle.cluster_record.specs.declared.calls.MarksMade.{MarksMade}
 use Rattle.weak_marks.specs.Marks.{Marked}
 use Rattle.cluster_record.specs.declared.calls.ActiveKind.{ActiveKind}
 use Rattle.cluster_record.specs.declared.entries.Entry.{Entry}
+use Rattle.cluster_record.specs.DueSync.{SyncState}
 use Rattle.cluster_record.specs.DueUpdate.{UpdateState}
+use Rattle.cluster_record.specs.declared.calls.PulledAt.{PulledAt}
+use Rattle.cluster_record.specs.declared.calls.SyncKind.TheVariants.{Synchronize}
 use Rattle.cluster_record.specs.declared.calls.UpdatePhase.TheVariants.{Staging, Committing}
 use Rattle.cluster_record.specs.Calls.{IsClient, client_of, same_call}
 use Rattle.ckpt_types.specs.declared.identities.CallId.{CallId}
@@ -26,9 +31,9 @@ use Rattle.cluster_record.specs.DueOnce as once
 use Rattle.ckpt_types.specs.Asks.{Ask, asked, IsBuilt}
 use Rattle.ckpt_types.specs.Asks as asking
 use Rattle.ckpt_machine.specs.Beginning.{name_is_bad}
-use Rattle.ckpt_machine.specs.Guards.{AsksToOpen}
+use Rattle.ckpt_machine.specs.Guards.{AsksToOpen, deadline_of, serves}
 use Rattle.ckpt_machine.specs.Tables.{choice_of}
-use Rattle.ckpt_machine.specs.Machine.{Machine, CallState}
+use Rattle.ckpt_machine.specs.Machine.{Machine, Snapshot, CallState}
 use Rattle.ckpt_machine.specs.Options.{is_all, is_weak}
 use Rattle.ckpt_machine.specs.Steps.{driver_of, IsDriven, rooms_of, asked_handle}
 use Rattle.section_iter.specs.Room.{room_declared}
@@ -147,6 +152,31 @@ pub record IsActiveIn (m : Machine) (shapes : ℕ → Shape) (s : CallState) (a 
   pub marks : (e : Entry) → entry_of a.ckpt m.cluster.entries ≡ Some e → is_marked_by s.call (shapes a.ckpt).marks ≡ is_some a.marks
   pub generation : (e : Entry) → entry_of a.ckpt m.cluster.entries ≡ Some e → IfSome a.marks (λ marks. marks.generation ≡ e.generation)
 
+-- what a call keeps of a pull: the generation of what it has pulled, and the count of its updates
+abbrev pub pulled_as : Snapshot → PulledAt
+pulled_as s = record { generation = s.generation; count = length s.effects }
+
+-- where it is of the present generation, the active was served
+abbrev pub HasServedActive : List Bool → Snapshot → Entry → Type 0
+HasServedActive served pulled e = pulled.generation ≡ e.generation → IsSomeAnd e.active (λ r. slice_get served r ≡ Some true)
+
+-- a synchronisation is of a checkpoint that was made, whose updates go to the active alone; it keeps of its pull what is in its hand, and which nodes its steps have served, and then the active is one of them
+pub record IsSyncIn (m : Machine) (s : CallState) (u : SyncState) : Type 0 where
+  pub call : u.call ≡ s.call
+  pub place : ℕ
+  pub timeout : ℤ
+  pub asks : asked s.op ≡ asking.Synchronize place timeout
+  pub kind : u.kind ≡ Synchronize (deadline_of s)
+  pub kept : s.kept.ckpt ≡ Some u.ckpt
+  pub made : WasMade m.cluster u.ckpt
+  pub alone : IfSome (entry_of u.ckpt m.cluster.entries) (λ e. is_all e.attributes ≡ false)
+  -- where its checkpoint is still there, it declares what it did at the beginning
+  pub declares : IfSome (entry_of u.ckpt m.cluster.entries) (λ e. s.kept.declares ≡ Some e.attributes)
+  pub pulled : u.pulled ≡ option_map pulled_as s.snapshot
+  pub nodes : length u.served ≡ nodes_max
+  pub served : (r : ℕ) → r < nodes_max → slice_get u.served r ≡ Some (list_any (serves r) s.steps)
+  pub led : IfSome s.snapshot (λ pulled. IfSome (entry_of u.ckpt m.cluster.entries) (HasServedActive u.served pulled))
+
 -- a client that is live leaves
 pub record IsLeaveAt (m : Machine) (s : CallState) : Type 0 where
   pub asks : asked s.op ≡ asking.Leave
@@ -180,6 +210,7 @@ IsInPlace m shapes s (drivers.Once x) = IsOnceAt m s x
 IsInPlace m shapes s (drivers.Open o) = IsOpenIn m s o
 IsInPlace m shapes s (drivers.Update u) = IsUpdateIn m shapes s u
 IsInPlace m shapes s (drivers.Active a) = IsActiveIn m shapes s a
+IsInPlace m shapes s (drivers.Sync u) = IsSyncIn m s u
 
 -- an Initialize becomes live, and all other calls of one step are of a client that is
 abbrev pub enters : OneStep → Bool
@@ -195,6 +226,7 @@ is_enter (drivers.Once x) = enters x
 is_enter (drivers.Open o) = false
 is_enter (drivers.Update u) = false
 is_enter (drivers.Active a) = false
+is_enter (drivers.Sync u) = false
 
 -- a call in hand is its actor's, a client; its number was given, it is built, what it asks for drives it, each but an Initialize is live, and it is where its steps have led it
 pub record IsInHand (m : Machine) (shapes : ℕ → Shape) (a : ActorName) (s : CallState) : Type 0 where

@@ -39,9 +39,14 @@ IsGoodIn m k sh e (Some call) = IsMakingEntry e × IsMaker m k call
 abbrev pub IsGoodClient : (ActorName → ℕ) → RecordState → ℕ → LiveClient → Type 0
 IsGoodClient next R c live = (live.initialize < next (Client c)) × (is_up live.node R ≡ true)
 
--- the checkpoint is there, and complete on the node
-abbrev pub IsCompleteAt : RecordState → ℕ → ℕ → Type 0
-IsCompleteAt R k r = IsSomeAnd (entry_of k R.entries) (λ e. IsCompleteOn e r)
+-- a handle is of a checkpoint that was made, with the creation flags that this has
+pub record IsGoodHandle (R : RecordState) (h : HandleView) : Type 0 where
+  pub made : WasMade R h.id
+  pub flags : IfSome (entry_of h.id R.entries) (λ e. h.creation_flags ≡ e.attributes.creation_flags)
+
+-- the checkpoint is there, complete on the node, and of this generation
+abbrev pub IsCompleteAt : RecordState → ℕ → ℕ → ℕ → Type 0
+IsCompleteAt R k r generation = IsSomeAnd (entry_of k R.entries) (λ e. IsCompleteOn e r × (generation ≡ e.generation))
 
 -- what holds in every state of a run, where the checkpoints have these shapes
 pub record InvariantIn (shapes : ℕ → Shape) (m : Machine) : Type 0 where
@@ -52,11 +57,11 @@ pub record InvariantIn (shapes : ℕ → Shape) (m : Machine) : Type 0 where
   pub up_to : AllUpTo m.cluster.last_identity m.cluster.entries
   pub swept : AllStay m.cluster.moment m.cluster.entries
   pub entries : (k : ℕ) (e : Entry) → entry_of k m.cluster.entries ≡ Some e → IsGoodIn m k (shapes k) e e.making
-  -- a replica is on a complete node of a checkpoint that is there
-  pub replicas : (k r : ℕ) (x : ReplicaState) → m.replicas k r ≡ Some x → IsCompleteAt m.cluster k r
+  -- a replica is on a complete node of a checkpoint that is there, and has its generation
+  pub replicas : (k r : ℕ) (x : ReplicaState) → m.replicas k r ≡ Some x → IsCompleteAt m.cluster k r x.generation
   -- what is reserved is for a checkpoint that is in the making
   pub reserves : (k r n : ℕ) → m.reserved k r ≡ Some n → IsSomeAnd (entry_of k m.cluster.entries) (λ e. IsSome e.making)
-  pub handles : (a : ActorName) (h : HandleView) → Contains (m.tables a).handles h → WasMade m.cluster h.id
+  pub handles : (a : ActorName) (h : HandleView) → Contains (m.tables a).handles h → IsGoodHandle m.cluster h
   -- no iteration is lent between two steps
   pub rest : (a : ActorName) → NoneLent (m.tables a)
   pub clients : (c : ℕ) → IfSome (find_key client_key c m.cluster.clients) (IsGoodClient m.next m.cluster c)

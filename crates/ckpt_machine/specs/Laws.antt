@@ -7,7 +7,7 @@ use Rattle.node_msgs.specs.declared.details.Details.{Details}
 use Rattle.run_labels.specs.declared.labels.Label.{Label}
 use Rattle.run_labels.specs.declared.labels.Label.TheVariants as labels
 use Rattle.ckpt_types.specs.declared.words.OpWord.{OpWord}
-use Rattle.cluster_record.specs.StepDone.{done_of}
+use Rattle.cluster_record.specs.StepDone.{done_of, counting}
 use Rattle.ckpt_machine.specs.Acknowledged.{AcknowledgedStay}
 use Rattle.ckpt_machine.specs.AllOrNone.{IsAllOrNoneThroughout}
 use Rattle.ckpt_machine.specs.Invariant.{Invariant}
@@ -19,8 +19,9 @@ use Rattle.ckpt_machine.specs.Left.{steps_left}
 use Rattle.ckpt_machine.specs.Machine.{Machine, CallState, empty_cluster}
 use Rattle.ckpt_machine.specs.Replays.{EffectsTellThroughout}
 use Rattle.ckpt_machine.specs.Refusals.{IsRefusal, LeavesBy, EachRefusalLeaves, unmade_swept}
+use Rattle.ckpt_machine.specs.Synchronized.{SynchronizedTell}
 use Rattle.ckpt_machine.specs.Runs.{last, IsRun, Counts}
-use Rattle.ckpt_machine.specs.Steps.{IsDue, after, driver_of}
+use Rattle.ckpt_machine.specs.Steps.{IsDue, after, driver_of, counted_at}
 
 -- the empty cluster has the invariant, and counts nothing
 abbrev pub Starts : Type 0
@@ -45,7 +46,7 @@ CountsUp = (m : Machine) (l : Label) (n : ℕ) → Invariant m → IsDue m l →
 -- a due step that does not end its call brings it nearer to its end
 abbrev pub BringsNearer : Type 0
 BringsNearer = (m : Machine) (call : CallId) (op : OpWord) (verb : Verb) (k r : Option ℕ) (reply : StepReply) (details : Details) (s : CallState) → Invariant m → IsDue m (labels.Stepped call op verb k r reply None details) → m.in_hand call.actor ≡ Some s
-    → let R = (after m (labels.Stepped call op verb k r reply None details)).cluster in steps_left R (driver_taken (done_of R verb k r reply) (driver_of s)) < steps_left m.cluster (driver_of s)
+    → let R = (after m (labels.Stepped call op verb k r reply None details)).cluster in steps_left R (driver_taken (counting (counted_at m verb k r reply) (done_of R verb k r reply)) (driver_of s)) < steps_left m.cluster (driver_of s)
 
 -- what is allowed and ends a call with a refusal leaves all as it was, but that its call has ended, and what it was making is undone
 abbrev pub RefusalsLeave : Type 0
@@ -70,3 +71,7 @@ AcknowledgedStays = (log : List Label) → IsRun log → AcknowledgedStay log
 -- at every time of a run, each replica is the replay of its effects, of each call one at most, and where updates go to the active alone, each has what the active has taken first
 abbrev pub RunEffectsTell : Type 0
 RunEffectsTell = (log : List Label) → IsRun log → EffectsTellThroughout log
+
+-- what was answered OK to a synchronisation is so: each complete replica has the checkpoint's generation, and first what the active had when it was pulled
+abbrev pub SynchronisationsTell : Type 0
+SynchronisationsTell = (log : List Label) → IsRun log → SynchronizedTell log

@@ -1,11 +1,13 @@
 -- How many steps are left of a call in hand, at most.
-use Rattle.std.specs.Prelude.{ℕ, ◌+◌, ◌*◌, List, [], ◌∷◌, Option, Some, None, if◌then◌else◌}
+use Rattle.std.specs.Prelude.{ℕ, ◌+◌, ◌*◌, List, [], ◌∷◌, Option, Some, None, Bool, if◌then◌else◌}
 use Rattle.ckpt_machine.specs.Drivers.{Driver}
 use Rattle.ckpt_machine.specs.Drivers as drivers
 use Rattle.cluster_record.specs.declared.calls.ActiveKind.{ActiveKind}
 use Rattle.cluster_record.specs.declared.calls.ActiveKind.TheVariants as kinds
 use Rattle.cluster_record.specs.declared.calls.Making.{Making}
 use Rattle.cluster_record.specs.declared.calls.MarksMade.{MarksMade}
+use Rattle.cluster_record.specs.declared.calls.PulledAt.{PulledAt}
+use Rattle.cluster_record.specs.DueSync.{SyncState, is_unserved}
 use Rattle.cluster_record.specs.declared.calls.UpdatePhase.{UpdatePhase}
 use Rattle.cluster_record.specs.declared.calls.UpdatePhase.TheVariants.{Staging, Committing}
 use Rattle.cluster_record.specs.RecordState.{RecordState, entry_of, complete_of}
@@ -39,9 +41,21 @@ active_left (kinds.Weak n) None = n + 2
 active_left kind None = 1
 active_left kind (Some marks) = marks.left + 1
 
+-- how many complete nodes are not served
+abbrev pub unserved : List ℕ → List Bool → ℕ
+unserved [] served = 0
+unserved (c ∷ cs) [] = 0
+unserved (c ∷ cs) (b ∷ bs) = (if is_unserved c b then 1 else 0) + unserved cs bs
+
+-- a synchronisation pulls and serves each node; ten steps are more than any takes
+abbrev pub sync_left : List ℕ → SyncState → Option PulledAt → ℕ
+sync_left complete s None = 10
+sync_left complete s (Some pulled) = unserved complete s.served + 1
+
 -- at most so many steps are left of a call
 abbrev pub steps_left : RecordState → Driver → ℕ
 steps_left R (drivers.Once x) = 1
 steps_left R (drivers.Open o) = making_left R o.making
 steps_left R (drivers.Update u) = update_left (complete_of (entry_of u.ckpt R.entries)) u.owned u.phase
 steps_left R (drivers.Active a) = active_left a.kind a.marks
+steps_left R (drivers.Sync s) = sync_left (complete_of (entry_of s.ckpt R.entries)) s s.pulled

@@ -24,4 +24,5 @@ pub mod Invariant
 pub mod Later
 pub mod AllOrNone
 pub mod Acknowledged
+pub mod Synchronized
 pub mod Laws

@@ -4,7 +4,7 @@ use Rattle.ckpt_types.specs.declared.identities.ActorName.{ActorName}
 use Rattle.run_labels.specs.declared.labels.Label.{Label}
 use Rattle.cluster_record.specs.declared.entries.Entry.{Entry}
 use Rattle.cluster_record.specs.RecordState.{entry_of}
-use Rattle.ckpt_machine.specs.Machine.{Machine, ReplicaState, Snapshot, empty_cluster}
+use Rattle.ckpt_machine.specs.Machine.{Machine, ReplicaState, Snapshot, CallState, empty_cluster}
 use Rattle.ckpt_machine.specs.Steps.{IsDue, after}
 use Rattle.ckpt_machine.specs.Guards.{Allowed}
 
@@ -35,5 +35,6 @@ pub record Counts (m : Machine) (n : ℕ) : Type 0 where
   pub last_iterations : (a : ActorName) → (m.tables a).last_iteration ≤ n
   pub effects : (k r : ℕ) (x : ReplicaState) → m.replicas k r ≡ Some x → length x.effects ≤ n
   pub snapshots : (k : ℕ) (s : Snapshot) → m.snapshots k ≡ Some s → length s.effects ≤ n
+  pub copies : (a : ActorName) (s : CallState) (x : Snapshot) → m.in_hand a ≡ Some s → s.snapshot ≡ Some x → length x.effects ≤ n
   pub identity : m.cluster.last_identity ≤ n
   pub references : (k : ℕ) (e : Entry) (c : ℕ) → entry_of k m.cluster.entries ≡ Some e → slice_index e.references c ≤ n

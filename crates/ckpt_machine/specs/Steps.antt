@@ -62,10 +62,11 @@ use Rattle.ckpt_machine.specs.Driving.{Kept, driver_start, driver_state, driver_
 use Rattle.ckpt_machine.specs.Listing.{listing_at}
 use Rattle.ckpt_machine.specs.Options.{is_all, is_weak, if_declared}
 use Rattle.ckpt_machine.specs.Machine.{Machine, Effect, Applied, Staged, ReplicaState, Snapshot, CallState}
-use Rattle.ckpt_machine.specs.Propagation.{source_at, target_at, pull_answer, put_answer, with_pulled, with_put}
+use Rattle.ckpt_machine.specs.Propagation.{source_at, target_at, pull_answer, put_answer, with_pulled, with_put, copied, replica_from}
 use Rattle.client_handles.specs.ClientState.{ClientState, emptied}
 use Rattle.cluster_record.specs.Makings.{making_of}
-use Rattle.cluster_record.specs.StepDone.{done_of, counting}
+use Rattle.cluster_record.specs.StepDone.{StepDone, done_of, counting}
+use Rattle.snap_copy.specs.Snapshots as copies
 use Rattle.ckpt_types.specs.Asks.{Ask, asked, update_of, elements_of, takes_room, IsBuilt}
 use Rattle.ckpt_types.specs.Asks as asks
 use Rattle.ckpt_machine.specs.Tables.{rooms_in, handle_asked, ckpt_of_handle, kept_asked, ids_of, handle_given, started, gone_on, closing, ended_at_once}
@@ -114,9 +115,15 @@ due m s = driver_next m.cluster (rooms_of m s) (driver_of s)
 abbrev pub ids_asked : Machine → CallState → List (List ℕ)
 ids_asked m s = ids_of (kept_asked (asked s.op) (m.tables s.call.actor))
 
+-- a snapshot as the code has it, reserved for what its checkpoint declares, and with a count in place of the effects
+abbrev pub seen_snapshot : Option CreationAttributes → Option Snapshot → Option copies.Snapshot
+seen_snapshot None s = None
+seen_snapshot (Some a) None = None
+seen_snapshot (Some a) (Some s) = Some (record { attributes = a; sections = s.sections; generation = s.generation; count = length s.effects })
+
 -- what travels beside a request of the call
 abbrev pub payload_due : Machine → CallState → Payload
-payload_due m s = record { update = update_of s.op; elements = elements_of s.op; ids = ids_asked m s }
+payload_due m s = record { update = update_of s.op; elements = elements_of s.op; ids = ids_asked m s; snapshot = seen_snapshot s.kept.declares s.snapshot }
 
 -- a reservation is done or refused for memory; every other answer is that of the one replica
 abbrev pub MayAnswer : Machine → CallState → Request → ℕ → Reply → Type 0
@@ -146,6 +153,21 @@ pub record Told : Type 0 where
   pub end : Option Outcome
   pub details : Details
 
+-- how many updates a replica has
+abbrev pub count_in : Option ReplicaState → ℕ
+count_in None = 0
+count_in (Some x) = length x.effects
+
+-- the count that a step tells which was done: of the replica of which a slot was claimed, or that was pulled; 0 by any other
+abbrev pub counted_at : Machine → Verb → Option ℕ → Option ℕ → StepReply → ℕ
+counted_at m verbs.Claim (Some k) (Some r) words.Ok = count_in (m.replicas k r)
+counted_at m verbs.Pull (Some k) (Some r) words.Ok = count_in (m.replicas k r)
+counted_at m verb k r reply = 0
+
+-- what a step at a node told its call
+abbrev pub step_told : Machine → Told → StepDone
+step_told m t = counting (counted_at m t.verb t.ckpt t.node t.reply) (done_of m.cluster t.verb t.ckpt t.node t.reply)
+
 -- a node has served this request
 pub record IsServed (m : Machine) (s : CallState) (r : ℕ) (request : Request) (t : Told) : Type 0 where
   pub answer : Reply
@@ -155,7 +177,7 @@ pub record IsServed (m : Machine) (s : CallState) (r : ℕ) (request : Request) 
   pub node : t.node ≡ Some r
   pub reply : t.reply ≡ word_of answer
   pub details : t.details ≡ ended_details t.end (details_due m s request r)
-  pub end : t.end ≡ (let done = done_of m.cluster t.verb t.ckpt t.node t.reply in driver_end s.op done answer (driver_taken done (driver_of s)))
+  pub end : t.end ≡ (let done = step_told m t in driver_end s.op done answer (driver_taken done (driver_of s)))
 
 -- what the record refuses ends its call so; any other step is done, or what takes memory is refused it and ends
 abbrev pub IsRecordAnswer : Option Outcome → RecordStep → Told → Type 0
@@ -205,9 +227,14 @@ abbrev pub declares_at : (CreationAttributes → Bool) → RecordState → Optio
 declares_at is R None = false
 declares_at is R (Some k) = if_declared is (declared_in (entry_of k R.entries))
 
+-- what the checkpoint that a call keeps declares; nothing where it is gone
+abbrev pub declared_at : RecordState → Option ℕ → Option CreationAttributes
+declared_at R None = None
+declared_at R (Some k) = declared_in (entry_of k R.entries)
+
 -- what a call keeps at its beginning
 abbrev pub kept_at_beginning : RecordState → ℕ → Option HandleView → Kept
-kept_at_beginning R c h = record { ckpt = ckpt_of_handle h; room = room_at R (ckpt_of_handle h); all = declares_at is_all R (ckpt_of_handle h); weak = declares_at is_weak R (ckpt_of_handle h); node = home_of c R; moment = R.moment }
+kept_at_beginning R c h = record { ckpt = ckpt_of_handle h; room = room_at R (ckpt_of_handle h); all = declares_at is_all R (ckpt_of_handle h); weak = declares_at is_weak R (ckpt_of_handle h); declares = declared_at R (ckpt_of_handle h); node = home_of c R; moment = R.moment }
 
 -- an Initialize begins for a client that is not live, on a node that is up
 abbrev pub MayBegin : RecordState → ℕ → Ask → Type 0
@@ -375,6 +402,11 @@ marks_ended x (Some marked) = record x {
 abbrev pub without_marks : ReplicaState → ReplicaState
 without_marks x = marks_ended x x.marks
 
+-- the replica has what a snapshot in hand has
+abbrev pub with_installed : Option Snapshot → ReplicaState → ReplicaState
+with_installed None x = x
+with_installed (Some s) x = replica_from s x
+
 -- one replica is changed, where the node has it
 abbrev pub change_replica : Machine → ℕ → ℕ → Option ReplicaState → (ReplicaState → ReplicaState) → Machine
 change_replica m k r None change = m
@@ -467,22 +499,13 @@ changed m s verbs.Apply k r reply = on_ok reply m (at_some k m (λ k. at_some r 
 changed m s verbs.Mark k r reply = on_ok reply m (at_some k m (λ k. at_some r m (λ r. change_replica m k r (m.replicas k r) (with_marks s.call (update_of s.op) m.cluster.moment))))
 changed m s verbs.Element k r reply = on_ok reply m (at_some k m (λ k. at_some r m (λ r. change_replica m k r (m.replicas k r) (with_next_element (entry_of k m.cluster.entries)))))
 changed m s verbs.Unmark k r reply = on_ok reply m (at_some k m (λ k. at_some r m (λ r. change_replica m k r (m.replicas k r) without_marks)))
+changed m s verbs.Install k r reply = on_ok reply m (at_some k m (λ k. at_some r m (λ r. change_replica m k r (m.replicas k r) (with_installed s.snapshot))))
 changed m s verbs.Iter k r reply = on_ok reply m (at_some k m (λ k. at_some r m (λ r. with_started s k r m)))
 changed m s verbs.Next k r reply = on_ok reply m (at_some k m (λ k. at_some r m (λ r. with_gone_on s k r m)))
 changed m s verbs.Look k r reply = on_look reply m (with_closed s m) (without_making (making_of s.call m.cluster) m)
 changed m s verb k r reply = m
 
 -- ---- what a call keeps of a step
-
--- how many updates a replica has
-abbrev pub count_in : Option ReplicaState → ℕ
-count_in None = 0
-count_in (Some x) = length x.effects
-
--- what a claim tells of the replica; 0 by any other step
-abbrev pub claimed_count : Machine → Verb → Option ℕ → Option ℕ → ℕ
-claimed_count m verbs.Claim (Some k) (Some r) = count_in (m.replicas k r)
-claimed_count m verb k r = 0
 
 -- the identifier that the commit of a staged creation makes; else the one that an earlier commit made
 abbrev pub made_by : Option (List ℕ) → List Section → Option Staged → Option (List ℕ)
@@ -499,9 +522,18 @@ abbrev pub created_by : Machine → CallState → Verb → Option ℕ → Option
 created_by m s verbs.Commit (Some k) (Some r) = made_on s.created (m.replicas k r)
 created_by m s verb k r = s.created
 
--- what a call keeps behind a step of what the state before it had: the count that was claimed, and what was created; the record is as it is after the step
+-- the snapshot that the call has in hand behind a step: of the replica that it has pulled
+abbrev pub pulled_by : Machine → CallState → Verb → Option ℕ → Option ℕ → StepReply → Option Snapshot
+pulled_by m s verbs.Pull (Some k) (Some r) words.Ok = option_map copied (m.replicas k r)
+pulled_by m s verb k r reply = s.snapshot
+
+-- what a call keeps behind a step of what the state before it had: the count that was told, what was created, and what was pulled; the record is as it is after the step
 abbrev pub kept_behind : Machine → CallState → RecordState → Verb → Option ℕ → Option ℕ → StepReply → CallState
-kept_behind m s R verb k r reply = record s { steps = counting (claimed_count m verb k r) (done_of R verb k r reply) ∷ s.steps; created = created_by m s verb k r }
+kept_behind m s R verb k r reply = record s {
+  steps = counting (counted_at m verb k r reply) (done_of R verb k r reply) ∷ s.steps;
+  created = created_by m s verb k r;
+  snapshot = pulled_by m s verb k r reply;
+}
 
 -- the call is in hand as it is behind the step, unless the step has ended it
 abbrev pub stepped : Machine → CallState → Option Outcome → Machine

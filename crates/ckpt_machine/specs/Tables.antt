@@ -1,5 +1,5 @@
 -- What a call finds in its client's tables, and what it makes of them, by what it asks for.
-use Rattle.std.specs.Prelude.{ℕ, ◌+◌, List, [], Option, Some, None, Result, Ok, Err, nat_le, if◌then◌else◌, ℤ, false}
+use Rattle.std.specs.Prelude.{ℕ, ◌+◌, List, [], Option, Some, None, Result, Ok, Err, Bool, true, nat_le, if◌then◌else◌, ℤ, false}
 use Rattle.ckpt_types.specs.declared.ais_error.AisError.{AisError}
 use Rattle.ckpt_types.specs.declared.answers.Outcome.{Outcome}
 use Rattle.ckpt_types.specs.declared.answers.Outcome.TheVariants.{Done}
@@ -33,6 +33,8 @@ handle_asked (asks.Next iteration) t = iterated_at iteration t
 handle_asked (asks.EndIteration iteration) t = iterated_at iteration t
 handle_asked (asks.Close place) t = handle_at place t
 handle_asked (asks.Retain place duration) t = handle_at place t
+handle_asked (asks.Synchronize place timeout) t = handle_at place t
+handle_asked (asks.SetActive place) t = handle_at place t
 handle_asked ask t = None
 
 -- the checkpoint of a handle
@@ -49,6 +51,12 @@ kept_asked ask t = None
 abbrev pub ids_of : Option KeptIds → List (List ℕ)
 ids_of None = []
 ids_of (Some kept) = kept.ids
+
+-- what brings the active's sections to other replicas has room for a copy of them in hand
+abbrev pub takes_copy : Ask → Bool
+takes_copy (asks.Synchronize place timeout) = true
+takes_copy (asks.SetActive place) = true
+takes_copy ask = false
 
 -- ---- what it makes of them
 

@@ -36,6 +36,10 @@ pub data Ask : Type 0 where
   Unlink : List ℕ → Ask
   -- to be live no more
   Leave : Ask
+  -- what the active has on each complete replica, with a timeout
+  Synchronize : ℕ → ℤ → Ask
+  -- the client's node as the active
+  SetActive : ℕ → Ask
   -- what is not built yet
   Unbuilt : Ask
 
@@ -57,6 +61,8 @@ asked (ops.Close place) = Close place
 asked (ops.Retain place duration) = Retain place duration
 asked (ops.Unlink name) = Unlink name
 asked ops.Finalize = Leave
+asked (ops.Sync place timeout) = Synchronize place timeout
+asked (ops.Active place) = SetActive place
 asked op = Unbuilt
 
 -- the update that is asked for
@@ -77,9 +83,11 @@ elements_asked ask = []
 abbrev pub elements_of : Op → List ReadElement
 elements_of op = elements_asked (asked op)
 
--- an iteration that is started takes room for the identifiers that it keeps
+-- an iteration that is started takes room for the identifiers that it keeps; a synchronisation and the setting of an active take it for a snapshot
 abbrev pub takes_room : Ask → Bool
 takes_room (Iterate iteration place chosen time) = true
+takes_room (Synchronize place timeout) = true
+takes_room (SetActive place) = true
 takes_room ask = false
 
 -- ---- the operations that are built
@@ -103,6 +111,8 @@ IsBuiltAsk (Close place) = place < places_max
 IsBuiltAsk (Retain place duration) = place < places_max
 IsBuiltAsk (Unlink name) = Unit {0}
 IsBuiltAsk Leave = Unit {0}
+IsBuiltAsk (Synchronize place timeout) = place < places_max
+IsBuiltAsk (SetActive place) = ⊥
 IsBuiltAsk Unbuilt = ⊥
 
 -- the operation is one that is built

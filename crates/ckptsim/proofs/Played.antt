@@ -9,10 +9,12 @@ use Rattle.ckpt_machine.specs.Acknowledged.{AcknowledgedStay}
 use Rattle.ckpt_machine.specs.AllOrNone.{IsAllOrNoneThroughout}
 use Rattle.ckpt_machine.specs.Refusals.{EachRefusalLeaves}
 use Rattle.ckpt_machine.specs.Replays.{EffectsTellThroughout}
+use Rattle.ckpt_machine.specs.Synchronized.{SynchronizedTell}
 use Rattle.ckpt_machine.specs.Runs.{IsRun}
 use Rattle.ckpt_machine.proofs.Acknowledged.{acknowledged_stay}
 use Rattle.ckpt_machine.proofs.AllOrNone.{on_all_or_none}
 use Rattle.ckpt_machine.proofs.EffectsTell.{effects_tell}
+use Rattle.ckpt_machine.proofs.Synchronized.{synchronisations_tell}
 use Rattle.ckpt_machine.proofs.RefusedRuns.{run_leaves}
 use Rattle.world_core.specs.declared.world.World.{World}
 use Rattle.world_core.specs.Runs.{IsNew, IsRunTo}
@@ -52,3 +54,6 @@ stays_of_none log none = acknowledged_stay log (subst IsRun (sym none) tt)
 
 pub tell_of_none : (log : List Label) → log ≡ [] → EffectsTellThroughout log
 tell_of_none log none = effects_tell log (subst IsRun (sym none) tt)
+
+pub synchronized_of_none : (log : List Label) → log ≡ [] → SynchronizedTell log
+synchronized_of_none log none = synchronisations_tell log (subst IsRun (sym none) tt)

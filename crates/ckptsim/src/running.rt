@@ -6,6 +6,7 @@ ghost use Rattle.script_lang.specs.Grammar.{script_of};
 ghost use Rattle.script_lang.specs.declared.faults.ScriptFault.{ScriptFault};
 ghost use Rattle.ckpt_machine.specs.Acknowledged.{AcknowledgedStay};
 ghost use Rattle.ckpt_machine.specs.Replays.{EffectsTellThroughout};
+ghost use Rattle.ckpt_machine.specs.Synchronized.{SynchronizedTell};
 ghost use Rattle.ckpt_machine.specs.AllOrNone.{IsAllOrNoneThroughout};
 ghost use Rattle.ckpt_machine.specs.Refusals.{EachRefusalLeaves};
 ghost use Rattle.world_core.specs.Runs.{IsNew, IsRunTo};
@@ -129,6 +130,10 @@ pub fn ckpt_run<R: Threads + Wait + Sync, S: Source, K: Sink, G: Gate>(
     // Each replica is the replay of the updates that it has taken, each once; of the active's first ones, where they go
     // to the active alone.
     ensures effects { EffectsTellThroughout log.new.labels }
+
+    // Behind a synchronisation that was answered OK each complete replica has the checkpoint's generation, and first what
+    // the active had when it was pulled.
+    ensures synchronized { SynchronizedTell log.new.labels }
 
     // The log follows the script that was read, all of it or a front; or nothing was played.
     ensures played { HasPlayed result (S.left source.old) (S.left source.new) log.new.labels }

@@ -1,6 +1,6 @@
 -- What is kept of each checkpoint is kept by each change of one.
-use Rattle.std.proofs.Common.{◌≡◌, ◌≢◌, ℕ, ◌+◌, ◌-◌, ◌<◌, ◌≤◌, zero, suc, List, [], ◌∷◌, length, replicate, Bool, true, false, cond, ◌==◌, refl, sym, ap, subst, ◌∙◌, arith}
-use Rattle.std.specs.Prelude.{Option, Some, None, IfSome, ℤ, pos, ◌≤ℤ◌, slice_set, slice_index}
+use Rattle.std.proofs.Common.{◌≡◌, ◌≢◌, ℕ, ◌+◌, ◌-◌, ◌<◌, ◌≤◌, zero, suc, List, [], ◌∷◌, length, replicate, Bool, true, false, not, cond, ◌==◌, refl, sym, ap, subst, ◌∙◌, arith}
+use Rattle.std.specs.Prelude.{Option, Some, None, is_some, IfSome, ℤ, pos, ◌≤ℤ◌, slice_set, slice_index}
 use Rattle.std.proofs.lemmas.Bool.{eqb-false, eqb-true, and_parts}
 use Rattle.std.proofs.lemmas.Int.{ints}
 use Rattle.std.proofs.lemmas.List.{length-set, get_or-set_other}
@@ -12,7 +12,7 @@ use Rattle.cluster_record.specs.declared.entries.Entry.{Entry}
 use Rattle.cluster_record.specs.Calls.{IsClient}
 use Rattle.cluster_record.specs.Kept.{IsName, IsMakingBy, IsComplete, IsKeptEntry}
 use Rattle.cluster_record.specs.Placement.{alone_on, is_collocated, targets, adds}
-use Rattle.cluster_record.specs.RecordState.{RecordState, first_active, first_complete, has_references, referred, opened_with, made_with, idle_from, unreferred, released_all, unnamed, retaining, new_entry}
+use Rattle.cluster_record.specs.RecordState.{RecordState, first_active, first_complete, has_references, referred, opened_with, made_with, idle_from, unreferred, released_all, unnamed, retaining, can_be_held, with_hold, can_lead, is_active, generation_under, with_active, new_entry}
 
 -- ---- what is in the making, or not
 
@@ -36,7 +36,27 @@ unopened e c call is making =
     let by : IsMakingBy call e = subst (λ o. IfSome o (λ call. IsMakingBy call e)) is making in
     ap (λ references. slice_index references c) by.references ∙ nothing_at client_numbers c
 
+-- and has no active
+unled : (e : Entry) → IfSome e.making (λ call. IsMakingBy call e) → is_some e.active ≡ true → e.making ≡ None
+unled e making led = by e.making making where
+  by : (o : Option CallId) → IfSome o (λ call. IsMakingBy call e) → o ≡ None
+  by None is = refl
+  by (Some call) is = absurd (let none : false ≡ true = sym (ap (λ (o : Option ℕ). is_some o) is.active) ∙ led in cc)
+
+-- nor is it complete anywhere
+incomplete : (e : Entry) (r : ℕ) → IfSome e.making (λ call. IsMakingBy call e) → 1 ≤ slice_index e.complete r → e.making ≡ None
+incomplete e r making some = by e.making making where
+  by : (o : Option CallId) → IfSome o (λ call. IsMakingBy call e) → o ≡ None
+  by None is = refl
+  by (Some call) is = absurd (let none : slice_index e.complete r ≡ 0 = ap (λ complete. slice_index complete r) is.complete ∙ nothing_at nodes_max r in omega (arith, none, some))
+
 -- ---- the lowest complete node is complete
+
+-- what has an incarnation is one of the nodes
+one_of : (cs : List ℕ) (r : ℕ) → 1 ≤ slice_index cs r → r < length cs
+one_of [] r some = absurd (omega (arith, some))
+one_of (c ∷ cs) zero some = omega arith
+one_of (c ∷ cs) (suc r) some = let more : r < length cs = one_of cs r some in omega (arith, more)
 
 first_from : (n : ℕ) (cs : List ℕ) (r : ℕ) → first_complete n cs ≡ Some r → (i : ℕ) × (r ≡ n + i) × (i < length cs) × (1 ≤ slice_index cs i)
 first_from n [] r e = absurd cc
@@ -181,6 +201,53 @@ module _ (t : ℤ) (e : Entry) (kept : IsKeptEntry t e) where
     generation = kept.generation;
     making = still e.making _ _ (λ call by. record { maker = by.maker; name = by.name; complete = by.complete; active = by.active; generation = by.generation; references = by.references; hold = by.hold }) kept.making;
   }
+
+  -- held by a call
+  pub with_hold-kept : (call : CallId) → IsKeptEntry t (with_hold call e)
+  with_hold-kept call = by (can_be_held e) refl where
+    by : (b : Bool) → can_be_held e ≡ b → IsKeptEntry t (cond b (record e { hold = Some call }) e)
+    by false is = kept
+    by true is = record {
+      identity = kept.identity;
+      name = kept.name;
+      attributes = kept.attributes;
+      retention = kept.retention;
+      made = kept.made;
+      idle = kept.idle;
+      past = kept.past;
+      complete = kept.complete;
+      references = kept.references;
+      active = kept.active;
+      generation = kept.generation;
+      making = unless_none e.making _ (unled e kept.making (and_parts (is_collocated e.attributes) (is_some e.active) is).1);
+    }
+
+  -- with this node as active
+  pub with_active-kept : (r : ℕ) → IsKeptEntry t (with_active r e)
+  with_active-kept r = by (can_lead r e) refl where
+    by : (b : Bool) → can_lead r e ≡ b → IsKeptEntry t (cond b (record e { active = Some r; generation = generation_under r e; hold = None }) e)
+    by false is = kept
+    by true is =
+        let some : 1 ≤ slice_index e.complete r = some_at (slice_index e.complete r) (and_parts (is_collocated e.attributes) (not (slice_index e.complete r == 0)) is).1 in
+        let within : r < length e.complete = one_of e.complete r some in
+        record {
+          identity = kept.identity;
+          name = kept.name;
+          attributes = kept.attributes;
+          retention = kept.retention;
+          made = kept.made;
+          idle = kept.idle;
+          past = kept.past;
+          complete = kept.complete;
+          references = kept.references;
+          active = record { node = omega (arith, within, kept.complete); incarnation = some };
+          generation = let least = kept.generation in elim (is_active r e.active) as (λ b. 1 ≤ cond b e.generation (e.generation + 1)) [ true ↦ least | false ↦ omega arith ];
+          making = unless_none e.making _ (incomplete e r kept.making some);
+        }
+      where
+        some_at : (n : ℕ) → not (n == 0) ≡ true → 1 ≤ n
+        some_at zero is = absurd cc
+        some_at (suc n) is = omega arith
 
   -- at a later moment
   pub later-kept : (later : ℤ) → t ≤ℤ later → IsKeptEntry later e

@@ -17,7 +17,7 @@ use Rattle.cluster_record.specs.NamesOf.{names_of, without_gone}
 use Rattle.cluster_record.specs.Places.{find_key, change_key}
 use Rattle.cluster_record.specs.LookUps.{identity_in}
 use Rattle.cluster_record.specs.Placement.{adds}
-use Rattle.cluster_record.specs.RecordState.{identity_of, entry_of, named, unnamed, has_references, idle_from, referred, opened_with, unreferred, released_all}
+use Rattle.cluster_record.specs.RecordState.{identity_of, entry_of, named, unnamed, has_references, idle_from, referred, opened_with, unreferred, released_all, can_be_held, with_hold, can_lead, generation_under, with_active}
 use Rattle.cluster_record.specs.RecordView.{AreKeptEntries, IsKept}
 use Rattle.cluster_record.specs.Makings.{making_call}
 use Rattle.cluster_record.specs.RecordReady.{CanRefer}
@@ -244,3 +244,16 @@ pub released_all-keeps : (c : ℕ) (t : ℤ) → Keeps (released_all c t)
 released_all-keeps c t =
     let none : Entry → Entry = λ e. record e { references = slice_set e.references c 0 } in
     unless-keeps (λ e. slice_index e.references c == 0) (λ e. idle_from t (none e)) (λ e. (idle_from-keeps t (none e)).0, λ e. (idle_from-keeps t (none e)).1)
+
+-- where the change is made only of some
+where-keeps : (g : Entry → Bool) (f : Entry → Entry) → Keeps f → Keeps (λ e. cond (g e) (f e) e)
+where-keeps g f keeps = (
+  λ e. elim (g e) as (λ b. (cond b (f e) e).name ≡ e.name) [ true ↦ keeps.0 e | false ↦ refl ],
+  λ e. elim (g e) as (λ b. (cond b (f e) e).identity ≡ e.identity) [ true ↦ keeps.1 e | false ↦ refl ],
+)
+
+pub with_hold-keeps : (call : CallId) → Keeps (with_hold call)
+with_hold-keeps call = where-keeps can_be_held (λ e. record e { hold = Some call }) (λ e. refl, λ e. refl)
+
+pub with_active-keeps : (r : ℕ) → Keeps (with_active r)
+with_active-keeps r = where-keeps (can_lead r) (λ e. record e { active = Some r; generation = generation_under r e; hold = None }) (λ e. refl, λ e. refl)

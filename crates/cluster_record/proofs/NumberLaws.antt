@@ -6,7 +6,7 @@ use Rattle.std.proofs.lemmas.Bool.{and_parts, ltb-true}
 use Rattle.cluster_record.specs.declared.entries.Entry.{Entry}
 use Rattle.cluster_record.specs.Numbers.{may_rise, entry_may_rise}
 use Rattle.cluster_record.specs.Places.{find_key}
-use Rattle.cluster_record.specs.RecordReady.{CanRefer, CanReferAt}
+use Rattle.cluster_record.specs.RecordReady.{CanRefer, CanReferAt, CanSetActive}
 use Rattle.cluster_record.specs.RecordState.{identity_of, entry_of}
 
 -- what holds of all holds of the one that is found
@@ -33,3 +33,10 @@ may_refer entries all client k = of_entry (entry_of k entries) (λ e. found_key_
 pub may_refer_at : (entries : List Entry) (client : ℕ) (o : Option ℕ) → ((client k : ℕ) → CanRefer client (entry_of k entries)) → CanReferAt client entries o
 may_refer_at entries client None can = tt
 may_refer_at entries client (Some k) can = can client k
+
+-- and the active of any checkpoint may be set
+pub may_set_active : (entries : List Entry) → list_all entry_may_rise entries ≡ true → (k : ℕ) → CanSetActive (entry_of k entries)
+may_set_active entries all k = of_entry (entry_of k entries) (λ e. found_key_passes entry_may_rise identity_of k entries e all) where
+  of_entry : (o : Option Entry) → ((e : Entry) → o ≡ Some e → entry_may_rise e ≡ true) → CanSetActive o
+  of_entry None passes = tt
+  of_entry (Some e) passes = ltb-true e.generation (2 ^ 64 - 1) (and_parts (nat_lt e.generation (2 ^ 64 - 1)) (list_all may_rise e.references) (passes e refl)).0

@@ -14,8 +14,8 @@ use Rattle.cluster_record.specs.DueOpen.{targets_of}
 use Rattle.cluster_record.specs.LookUps.{identity_in}
 use Rattle.cluster_record.specs.Makings.{making_finished}
 use Rattle.cluster_record.specs.Opening.{open_answer, after_open}
-use Rattle.cluster_record.specs.RecordState.{RecordState, empty_record, brought_up, entered, new_entry, entry_of, complete_of, identity_of, named, is_live, retained_until, swept, moved, opened, closed, unlinked, retained, departed}
-use Rattle.cluster_record.specs.Refusals.{enter_answer, all_taken, plainly, held_by, unlink_answer, retain_answer}
+use Rattle.cluster_record.specs.RecordState.{RecordState, empty_record, brought_up, entered, new_entry, entry_of, complete_of, identity_of, named, is_live, retained_until, swept, moved, opened, closed, unlinked, retained, hold_set, active_set, departed}
+use Rattle.cluster_record.specs.Refusals.{enter_answer, all_taken, plainly, held_by, unlink_answer, retain_answer, hold_answer}
 
 -- ---- the words of the examples
 
@@ -163,6 +163,61 @@ second_open_adds_none = refl
 
 pub open_of_what_is_not_collocated_adds_none : open_answer example_made (example_ask 1 ck None) ≡ Opened 1 false
 open_of_what_is_not_collocated_adds_none = refl
+
+-- ---- its active, set by c1 on n2 and then by c0 on n1
+
+-- what its active and its generation are, and who holds it
+abbrev example_led : RecordState → Option (Option ℕ × ℕ × Option CallId)
+example_led R = option_map (λ e. (e.active, e.generation, e.hold)) (entry_of 1 R.entries)
+
+-- without an active there is nothing to hold
+pub nothing_to_hold_without_an_active : (hold_answer (example_call 1 3) (entry_of 1 collocated_on_two.entries) ≡ Ok tt) × (hold_set 1 (example_call 1 3) collocated_on_two ≡ collocated_on_two)
+nothing_to_hold_without_an_active = (refl, refl)
+
+abbrev led_by_n2 : RecordState
+led_by_n2 = active_set 1 2 collocated_on_two
+
+pub first_active_is_of_the_next_generation : example_led led_by_n2 ≡ Some (Some 2, 2, None)
+first_active_is_of_the_next_generation = refl
+
+-- set once more it is of the same generation
+pub same_active_again_changes_nothing : active_set 1 2 led_by_n2 ≡ led_by_n2
+same_active_again_changes_nothing = refl
+
+-- n0 is not complete, and n8 is no node
+pub active_is_complete : (active_set 1 0 led_by_n2 ≡ led_by_n2) × (active_set 1 8 led_by_n2 ≡ led_by_n2)
+active_is_complete = (refl, refl)
+
+-- a call of c0 holds it, once or twice
+abbrev held_by_c0 : RecordState
+held_by_c0 = hold_set 1 (example_call 0 3) led_by_n2
+
+pub hold_leaves_the_active : example_led held_by_c0 ≡ Some (Some 2, 2, Some (example_call 0 3))
+hold_leaves_the_active = refl
+
+pub own_hold_again_changes_nothing : (hold_answer (example_call 0 3) (entry_of 1 held_by_c0.entries) ≡ Ok tt) × (hold_set 1 (example_call 0 3) held_by_c0 ≡ held_by_c0)
+own_hold_again_changes_nothing = (refl, refl)
+
+-- another is told to try again
+pub hold_of_another_refuses : hold_answer (example_call 1 4) (entry_of 1 held_by_c0.entries) ≡ Err (held_by (example_call 0 3))
+hold_of_another_refuses = refl
+
+-- the hold ends with the next active, and with the same one, which is of no other generation
+pub next_active_ends_the_hold : example_led (active_set 1 1 held_by_c0) ≡ Some (Some 1, 3, None)
+next_active_ends_the_hold = refl
+
+pub same_active_ends_the_hold : active_set 1 2 held_by_c0 ≡ led_by_n2
+same_active_ends_the_hold = refl
+
+-- what is not collocated is not held, and keeps its active
+pub another_is_not_held : (hold_answer (example_call 1 8) (entry_of 1 example_made.entries) ≡ Ok tt) × (hold_set 1 (example_call 1 8) example_made ≡ example_made)
+another_is_not_held = (refl, refl)
+
+abbrev made_on_three : RecordState
+made_on_three = making_finished 1 (after_open (example_call 0 2) (example_ask 0 ck (Some (example_sized 16 (pos 0)))) example_on_n1)
+
+pub another_keeps_its_active : (example_led made_on_three ≡ Some (Some 0, 1, None)) × (active_set 1 2 made_on_three ≡ made_on_three)
+another_keeps_its_active = (refl, refl)
 
 -- ---- attributes
 

@@ -36,3 +36,8 @@ CanRefer c (Some e) = slice_index e.references c < 2 ^ 32 - 1
 abbrev pub CanReferAt : ℕ → List Entry → Option ℕ → Type 0
 CanReferAt c entries None = Unit {0}
 CanReferAt c entries (Some k) = CanRefer c (entry_of k entries)
+
+-- the generation of a checkpoint that is there is not at its end
+abbrev pub CanSetActive : Option Entry → Type 0
+CanSetActive None = Unit {0}
+CanSetActive (Some e) = e.generation < 2 ^ 64 - 1

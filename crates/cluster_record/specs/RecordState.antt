@@ -256,6 +256,41 @@ departed c R = record R {
   entries = map (released_all c R.moment) (filter (λ e. not (is_call_of c e.making)) R.entries);
 }
 
+-- ---- the active of a collocated checkpoint
+
+-- a call can hold a checkpoint that is collocated and has an active
+abbrev pub can_be_held : Entry → Bool
+can_be_held e = is_collocated e.attributes && is_some e.active
+
+-- held by a call; nothing changes where it can't be held
+abbrev pub with_hold : CallId → Entry → Entry
+with_hold call e = if can_be_held e then record e { hold = Some call } else e
+
+-- a call's hold is set on a checkpoint
+abbrev pub hold_set : ℕ → CallId → RecordState → RecordState
+hold_set k call R = record R { entries = change_key identity_of k (with_hold call) R.entries }
+
+-- a node can be the active of a checkpoint that is collocated and complete there
+abbrev pub can_lead : ℕ → Entry → Bool
+can_lead r e = is_collocated e.attributes && not (slice_index e.complete r == 0)
+
+-- there is an active, and the node is it
+abbrev pub is_active : ℕ → Option ℕ → Bool
+is_active r None = false
+is_active r (Some q) = q == r
+
+-- its generation under this node as active: one more where another was the active before, or none
+abbrev pub generation_under : ℕ → Entry → ℕ
+generation_under r e = if is_active r e.active then e.generation else e.generation + 1
+
+-- a node is its active, and the hold on it ends; nothing changes where the node can't be that
+abbrev pub with_active : ℕ → Entry → Entry
+with_active r e = if can_lead r e then record e { active = Some r; generation = generation_under r e; hold = None } else e
+
+-- a node is set as the active of a checkpoint
+abbrev pub active_set : ℕ → ℕ → RecordState → RecordState
+active_set k r R = record R { entries = change_key identity_of k (with_active r) R.entries }
+
 -- ---- what is told of a checkpoint
 
 -- its attributes, with the retention as it is now

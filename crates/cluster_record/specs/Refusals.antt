@@ -7,7 +7,8 @@ use Rattle.ckpt_types.specs.declared.identities.CallId.{CallId}
 use Rattle.cluster_record.specs.declared.entries.Entry.{Entry}
 use Rattle.ckpt_types.specs.Limits.{clients_max}
 use Rattle.cluster_record.specs.declared.record.RecordRefused.{RecordRefused}
-use Rattle.cluster_record.specs.RecordState.{RecordState}
+use Rattle.cluster_record.specs.Calls.{same_call}
+use Rattle.cluster_record.specs.RecordState.{RecordState, can_be_held}
 
 -- all of so many places are taken
 abbrev pub all_taken : ℕ → RecordRefused
@@ -21,7 +22,7 @@ enter_answer R = if nat_le clients_max (length R.clients) then Err (all_taken cl
 abbrev pub plainly : AisError → RecordRefused
 plainly error = record { error = error; cause = Plain }
 
--- another call is making the checkpoint
+-- another call is making the checkpoint, or holds it
 abbrev pub held_by : CallId → RecordRefused
 held_by call = record { error = TryAgain; cause = Holder call }
 
@@ -44,3 +45,13 @@ unlink_answer (Some e) = unless_making e.making tt
 abbrev pub retain_answer : Option Entry → Result (Unit {0}) RecordRefused
 retain_answer None = Err (plainly NotExist)
 retain_answer (Some e) = if is_some e.name then Ok tt else Err (plainly BadOperation)
+
+-- a hold that stands is the call's own, or refuses it
+abbrev pub unless_another_holds : CallId → Option CallId → Result (Unit {0}) RecordRefused
+unless_another_holds call None = Ok tt
+unless_another_holds call (Some holder) = if same_call holder call then Ok tt else Err (held_by holder)
+
+-- what a hold by this call answers: that it is done, or which other call holds the checkpoint; what can't be held is done at once
+abbrev pub hold_answer : CallId → Option Entry → Result (Unit {0}) RecordRefused
+hold_answer call None = Ok tt
+hold_answer call (Some e) = if can_be_held e then unless_another_holds call e.hold else Ok tt

@@ -1,5 +1,8 @@
 -- What a call keeps of a step: the step with its reply, and what it read of the record.
 use Rattle.std.specs.Prelude.{ℕ, ◌+◌, List, [], ◌∷◌, Option, Some, None, Bool, false, not, ◌&&◌, ◌==◌, if◌then◌else◌, ℤ, slice_set, slice_index, ◌≡◌, ◌<◌}
+use Rattle.ckpt_types.specs.declared.answers.Answer.TheVariants as answers
+use Rattle.node_msgs.specs.declared.replies.Reply.{Reply}
+use Rattle.node_msgs.specs.declared.replies.Reply.TheVariants as replies
 use Rattle.node_msgs.specs.declared.steps.Verb.{Verb}
 use Rattle.node_msgs.specs.declared.steps.StepReply.{StepReply}
 use Rattle.node_msgs.specs.declared.steps.StepReply.TheVariants as words
@@ -12,7 +15,7 @@ pub record StepDone : Type 0 where
   pub ckpt : Option ℕ
   pub node : Option ℕ
   pub reply : StepReply
-  -- how many updates the replica has of which a slot was claimed; 0 at any other step
+  -- how many updates the replica has of which a slot was claimed, or that was pulled; 0 at any other step
   pub count : ℕ
   pub moment : ℤ
   -- the generation of the checkpoint, or 0
@@ -57,6 +60,12 @@ done_of R verb k r reply = record {
   complete = complete_at R k;
   live = names_live R reply;
 }
+
+-- the count that a reply tells: that of a slot that was claimed, or of what was pulled; 0 where it tells none
+abbrev pub count_told : Reply → ℕ
+count_told (replies.Claimed count) = count
+count_told (replies.Done (answers.Pulled count)) = count
+count_told reply = 0
 
 -- the same, of a claim that told so many updates
 abbrev pub counting : ℕ → StepDone → StepDone

@@ -7,9 +7,9 @@ ghost use Rattle.cluster_record.specs.Numbers.{may_rise, entry_may_rise};
 ghost use Rattle.cluster_record.specs.Changes.{changed_by, CanChange};
 ghost use Rattle.cluster_record.specs.NamesOf.{stays_by, without_name, without_gone};
 ghost use Rattle.cluster_record.specs.Places.{change_key, place_key};
-ghost use Rattle.cluster_record.specs.RecordState.{no_nodes, no_references, identity_of, entry_of, first_active, first_complete, stays, has_references, referred, joined, opened_with, made_with, idle_from, unreferred, released_all, is_call_of};
+ghost use Rattle.cluster_record.specs.RecordState.{no_nodes, no_references, identity_of, entry_of, first_active, first_complete, stays, has_references, referred, joined, opened_with, made_with, idle_from, unreferred, released_all, is_call_of, can_be_held, with_hold, can_lead, is_active, with_active};
 
-use crate::placement::{adds, is_collocated, targets};
+use crate::placement::{adds, incarnation_at, is_collocated, targets};
 use ckpt_types::{
     ActorName, Bytes, CHECKPOINTS_MAX, CLIENT_NUMBERS, CallId, CkptId, CreationAttributes, Moment,
     NODES_MAX, NodeId, SectionId,
@@ -120,6 +120,44 @@ impl Entry {
         }
     }
 
+    /// Whether a call can hold it.
+    pub(crate) fn can_be_held(&self) -> bool
+        ensures { result ≡ can_be_held self.now }
+    {
+        is_collocated(&self.attributes) && self.active.is_some()
+    }
+
+    // A call holds it, where it can be held.
+    fn put_on_hold(&mut self, call: CallId)
+        ensures { self.new ≡ with_hold call self.old }
+    {
+        if self.can_be_held() {
+            self.hold = Some(call);
+        }
+    }
+
+    // Whether the node can be its active.
+    fn can_lead(&self, node: NodeId) -> bool
+        ensures { result ≡ can_lead node self.now }
+    {
+        is_collocated(&self.attributes) && incarnation_at(&self.complete, node) != 0
+    }
+
+    // The node is its active, where it can be, and the hold ends.
+    fn set_active(&mut self, node: NodeId)
+        requires { self.old.generation < 2 ^ 64 - 1 }
+        ensures { self.new ≡ with_active node self.old }
+    {
+        if !self.can_lead(node) {
+            return;
+        }
+        if !is_active(node, &self.active) {
+            self.generation += 1;
+        }
+        self.active = Some(node);
+        self.hold = None;
+    }
+
     fn change(&mut self, change: Change)
         requires { CanChange change (Some self.old) }
         ensures { self.new ≡ changed_by change self.old }
@@ -130,6 +168,8 @@ impl Entry {
             Change::Released(client, now) => self.release(client, now),
             Change::Unnamed => self.name = None,
             Change::Retaining(duration) => self.retention = duration,
+            Change::OnHold(call) => self.put_on_hold(call),
+            Change::Active(node) => self.set_active(node),
         }
     }
 
@@ -288,6 +328,16 @@ fn first_active(attributes: &CreationAttributes, complete: &[u32; NODES_MAX]) ->
     }
 }
 
+// Whether there is an active, and the node is it.
+fn is_active(node: NodeId, active: &Option<NodeId>) -> bool
+    ensures { result ≡ is_active node active.now }
+{
+    match active {
+        None => false,
+        Some(active) => *active == node,
+    }
+}
+
 // The lowest node that is complete.
 fn first_complete(nodes: &[u32; NODES_MAX]) -> Option<NodeId>
     ensures { result ≡ first_complete 0 nodes.now }
@@ -336,6 +386,10 @@ pub(crate) enum Change {
     Unnamed,
     /// It stays so long after its last close.
     Retaining(i64),
+    /// The call holds it.
+    OnHold(CallId),
+    /// The node is its active.
+    Active(NodeId),
 }
 
 /// The entry of an identity is changed, where it is there.

@@ -50,8 +50,8 @@ pub(crate) fn adds(
     is_collocated(attributes) && incarnation_at(complete, opener) == 0
 }
 
-// The incarnation that such a list has of a node; 0 of one that is none of the cluster's.
-fn incarnation_at(nodes: &[u32; NODES_MAX], node: NodeId) -> u32
+/// The incarnation that such a list has of a node; 0 of one that is none of the cluster's.
+pub(crate) fn incarnation_at(nodes: &[u32; NODES_MAX], node: NodeId) -> u32
     ensures { result ≡ slice_index nodes.now node }
 {
     let place = node as usize;

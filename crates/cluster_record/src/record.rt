@@ -1,5 +1,5 @@
 //! The record: what all nodes agree on, and each step that may be made on it.
-ghost use Rattle.std.specs.Prelude.{◌≡◌, ℕ, List, ◌-◌, ◌^◌, ◌≤◌, ◌<◌, None, Some, true, slice_get, IfSome, IfOk, OnOk, OnErr, IfErr, MatchOption, length, nat_lt, pos, ◌≤ℤ◌, if◌then◌else◌};
+ghost use Rattle.std.specs.Prelude.{◌≡◌, ℕ, List, ◌-◌, ◌^◌, ◌≤◌, ◌<◌, None, Some, true, slice_get, IsSome, IfSome, IfOk, OnOk, OnErr, IfErr, MatchOption, length, nat_lt, pos, ◌≤ℤ◌, if◌then◌else◌};
 ghost use Rattle.moment_rules.specs.Times.{sum_until_end};
 ghost use Rattle.cluster_record.specs.LookUps.{node_in, life_of, up_as, declared_in, adds_in, identity_in, at_ckpt};
 ghost use Rattle.cluster_record.specs.DueOpen.{targets_by};
@@ -9,11 +9,11 @@ ghost use Rattle.cluster_record.specs.Kept.{IsKeptEntry, AreKeptClients};
 ghost use Rattle.cluster_record.specs.Makings.{making_call, making_finished, making_undone};
 ghost use Rattle.cluster_record.specs.Numbers.{numbers_left};
 ghost use Rattle.cluster_record.specs.Opening.{answer_free, answer_named, open_answer, after_open};
-ghost use Rattle.cluster_record.specs.Refusals.{enter_answer, all_taken, plainly, held_by, unlinkable, unlink_answer, retain_answer};
+ghost use Rattle.cluster_record.specs.Refusals.{enter_answer, all_taken, plainly, held_by, unlinkable, unlink_answer, retain_answer, unless_another_holds, hold_answer};
 ghost use Rattle.ckpt_types.specs.Limits.{nodes_max, client_numbers, clients_max, checkpoints_max};
 ghost use Rattle.cluster_record.specs.Places.{find_key};
-ghost use Rattle.cluster_record.specs.RecordReady.{CanBecomeLive, CanOpen, CanCreate, CanRefer, CanReferAt};
-ghost use Rattle.cluster_record.specs.RecordState.{empty_record, entry_of, named, complete_of, client_key, home_of, is_live_client, is_up, is_live, is_live_from, swept, first_nodes, brought_up, entered, created_by_ask, IsMomentFrom, moved, opened, closed, unlinked, retained, departed};
+ghost use Rattle.cluster_record.specs.RecordReady.{CanBecomeLive, CanOpen, CanCreate, CanRefer, CanReferAt, CanSetActive};
+ghost use Rattle.cluster_record.specs.RecordState.{empty_record, entry_of, named, complete_of, client_key, home_of, is_live_client, is_up, is_live, is_live_from, swept, first_nodes, brought_up, entered, created_by_ask, IsMomentFrom, moved, opened, closed, unlinked, retained, hold_set, active_set, departed};
 
 use crate::clients::{LiveClient, copy_clients, find_client, number_of, take_out};
 use crate::entries::{
@@ -303,6 +303,7 @@ impl Record {
         ensures exact { result ≡ numbers_left self.now }
         ensures identity { result ≡ true → self.now.last_identity < 2 ^ 32 - 1 }
         ensures references { result ≡ true → (client k : ℕ) → CanRefer client (entry_of k self.now.entries) }
+        ensures generations { result ≡ true → (k : ℕ) → CanSetActive (entry_of k self.now.entries) }
     {
         if !entries_may_rise(self.entries.as_slice()) {
             return false;
@@ -515,6 +516,41 @@ impl Record {
         Ok(())
     }
 
+    // Whether a call may hold a checkpoint.
+    fn may_hold(&self, identity: CkptId, call: CallId) -> Result<(), RecordRefused>
+        ensures { result ≡ hold_answer call (entry_of identity self.now.entries) }
+    {
+        match self.entry(identity) {
+            Some(entry) if entry.can_be_held() => unless_another_holds(call, &entry.hold),
+            _ => Ok(()),
+        }
+    }
+
+    /// A call holds a checkpoint that is collocated and has an active, until its active is set. TRY_AGAIN, with the
+    /// call, exactly where another call holds it; then nothing changes. Of any other checkpoint it is Ok, and nothing
+    /// changes either. It takes no memory.
+    pub fn hold(&mut self, identity: CkptId, call: CallId) -> Result<(), RecordRefused>
+        requires stands { IsSome (entry_of identity self.old.entries) }
+        ensures answer { result ≡ hold_answer call (entry_of identity self.old.entries) }
+        ensures ok { OnOk result (self.new ≡ hold_set identity call self.old) }
+        ensures err { OnErr result (self.new ≡ self.old) }
+    {
+        self.may_hold(identity, call)?;
+        change_entry(&mut self.entries, identity, Change::OnHold(call));
+        Ok(())
+    }
+
+    /// A node is the active of a checkpoint from now on, and the hold on it ends; the generation rises by one exactly
+    /// where another was the active, or none. Nothing changes where the checkpoint is not collocated, or the node is
+    /// not complete. It takes no memory.
+    pub fn set_active(&mut self, identity: CkptId, node: NodeId)
+        requires stands { IsSome (entry_of identity self.old.entries) }
+        requires generation { CanSetActive (entry_of identity self.old.entries) }
+        ensures { self.new ≡ active_set identity node self.old }
+    {
+        change_entry(&mut self.entries, identity, Change::Active(node));
+    }
+
     /// A client leaves: it is live no more, what it was making goes, and it has nothing open.
     pub fn leave(&mut self, client: u8)
         ensures { self.new ≡ departed client self.old }
@@ -573,13 +609,29 @@ pub(crate) fn plainly(error: AisError) -> RecordRefused
     }
 }
 
-// A refusal since another call is making the checkpoint.
+// A refusal since another call is making the checkpoint, or holds it.
 pub(crate) fn held_by(call: CallId) -> RecordRefused
     ensures { result ≡ held_by call }
 {
     RecordRefused {
         error: AisError::TryAgain,
         cause: Cause::Holder(call),
+    }
+}
+
+// A hold that stands is the call's own, or refuses it.
+fn unless_another_holds(call: CallId, hold: &Option<CallId>) -> Result<(), RecordRefused>
+    ensures { result ≡ unless_another_holds call hold.now }
+{
+    match hold {
+        None => Ok(()),
+        Some(holder) => {
+            if *holder == call {
+                Ok(())
+            } else {
+                Err(held_by(*holder))
+            }
+        }
     }
 }
 

@@ -134,12 +134,13 @@ impl SyncCall {
         }
     }
 
-    /// How it ends behind a node's answer: with the count that was pulled, where no node is left.
-    pub fn end(&self, cluster: &Record) -> Option<Outcome>
-        ensures { result ≡ sync_ended (complete_of (entry_of self.now.ckpt cluster.now.entries)) self.now.served self.now.pulled }
+    /// How it ends behind a node's answer to a request about its checkpoint: with the count that was pulled, where no
+    /// node is left.
+    pub fn end(&self, cluster: &Record, request: &Request) -> Option<Outcome>
+        ensures { result ≡ sync_ended (complete_of (entry_of (ckpt_of request.now) cluster.now.entries)) self.now.served self.now.pulled }
     {
         let pulled = self.pulled?;
-        match first_unserved(&cluster.complete(self.ckpt), &self.served) {
+        match first_unserved(&cluster.complete(request.ckpt()), &self.served) {
             None => Some(Outcome::Done(Answer::Pulled(pulled.count))),
             Some(_) => None,
         }

@@ -16,7 +16,7 @@ use Rattle.node_core.specs.Lending.{HasLent}
 use Rattle.node_core.specs.Nodes.{NodeState, replica_key, seen_from}
 use Rattle.node_core.specs.Seen.{is_complete}
 
--- what a request asks of a replica: a stage meets no marks, and an update in one step or a weak write no slot; a commit and a withdrawal are of what the call has staged, and an element and the end of a weak write of what it has marked; what is not built may not come
+-- what a request asks of a replica: a stage meets no marks, an update in one step or a weak write no slot, and an installation neither; a commit and a withdrawal are of what the call has staged, and an element and the end of a weak write of what it has marked; a reservation asks no replica
 abbrev pub IsReadyFor : Request → Replica → Type 0
 IsReadyFor (requests.Stage call k t) x = x.marks ≡ None
 IsReadyFor (requests.Claim call k owner) x = Unit {0}
@@ -30,6 +30,8 @@ IsReadyFor (requests.Read k) x = Unit {0}
 IsReadyFor (requests.Status k) x = Unit {0}
 IsReadyFor (requests.Iterate call k choice) x = Unit {0}
 IsReadyFor (requests.Next call k) x = Unit {0}
+IsReadyFor (requests.Pull call k) x = Unit {0}
+IsReadyFor (requests.Install call k) x = (x.slot ≡ None) × (x.marks ≡ None)
 IsReadyFor request x = ⊥
 
 -- an update can be counted where it is staged, applied or begun

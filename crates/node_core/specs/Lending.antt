@@ -7,6 +7,7 @@ use Rattle.ckpt_types.specs.declared.update.Update.{Update}
 use Rattle.ckpt_types.specs.declared.update.Update.TheVariants as updates
 use Rattle.ckpt_types.specs.Buffer.{Buffer}
 use Rattle.ckpt_types.specs.Limits.{generated_id_bytes}
+use Rattle.ckpt_types.specs.Sections.{Fits}
 use Rattle.section_iter.specs.Room.{IsRoomFor}
 use Rattle.node_msgs.specs.declared.requests.Request.{Request}
 use Rattle.node_msgs.specs.declared.requests.Request.TheVariants as requests
@@ -45,7 +46,7 @@ abbrev pub HasRoomToCommit : Option Slot → Buffer → Type 0
 HasRoomToCommit None read = Unit {0}
 HasRoomToCommit (Some slot) read = HasRoomToTell slot.update read
 
--- what a request to a replica uses is lent: the update of a stage, of an update in one step, or of a weak write, room for the identifier that one in one step or a commit tells, the elements and the buffer of a read, a place for a status, an iteration with room for all identifiers, and a place for the section that it gives
+-- what a request to a replica uses is lent: the update of a stage, of an update in one step, or of a weak write, room for the identifier that one in one step or a commit tells, the elements and the buffer of a read, a place for a status, an iteration with room for all identifiers, a place for the section that it gives, a snapshot with room for what is pulled, and one that keeps to what is declared where it is installed
 abbrev pub HasLent : Request → Lent → Replica → Type 0
 HasLent (requests.Stage call k t) lent x = IsSome lent.update
 HasLent (requests.Commit call k) lent x = HasRoomToCommit x.slot lent.read
@@ -55,4 +56,6 @@ HasLent (requests.Read k) lent x = IsSomeAnd lent.vector (λ elements. HasRoomTo
 HasLent (requests.Status k) lent x = IsSome lent.status
 HasLent (requests.Iterate call k choice) lent x = IsSomeAnd lent.iteration (λ kept. IsRoomFor x.attributes kept.room)
 HasLent (requests.Next call k) lent x = IsSome lent.iteration × IsSome lent.section
+HasLent (requests.Pull call k) lent x = IsSomeAnd lent.snap (λ s. Fits s.attributes x.sections)
+HasLent (requests.Install call k) lent x = IsSomeAnd lent.snap (λ s. Fits x.attributes s.sections)
 HasLent request lent x = Unit {0}

@@ -1,6 +1,7 @@
 pub mod Changing
 pub mod Details
 pub mod Fitting
+pub mod Keeping
 pub mod Lending
 pub mod NodeView
 pub mod Nodes

@@ -1,5 +1,5 @@
 -- What a node answers to a request, and what becomes of its one replica.
-use Rattle.std.specs.Prelude.{ℕ, List, [], ◌∷◌, Option, Some, None, Result, Ok, Err, Bool, if◌then◌else◌, ◌||◌, ℤ}
+use Rattle.std.specs.Prelude.{ℕ, List, [], ◌∷◌, Option, Some, None, Result, Ok, Err, Bool, if◌then◌else◌, ◌||◌, ◌==◌, ℤ}
 use Rattle.ckpt_types.specs.declared.ais_error.AisError.TheVariants.{NoSections}
 use Rattle.ckpt_types.specs.declared.answers.Answer.{Answer}
 use Rattle.ckpt_types.specs.declared.answers.Answer.TheVariants as answers
@@ -20,7 +20,9 @@ use Rattle.node_msgs.specs.declared.replies.Reply.{Reply}
 use Rattle.node_msgs.specs.declared.replies.Reply.TheVariants as replies
 use Rattle.stage_slot.specs.Slots.{Slot, owner_of}
 use Rattle.weak_marks.specs.Marks.{Marked, call_of}
-use Rattle.replica.specs.Replicas.{Replica, staged, committed, withdrawn, applied, begun, element_done, ended, outcome_on}
+use Rattle.snap_copy.specs.Snapshots.{Snapshot}
+use Rattle.replica.specs.declared.replica.Older.{Older}
+use Rattle.replica.specs.Replicas.{Replica, staged, committed, withdrawn, applied, begun, element_done, ended, outcome_on, pulled_unless, install_answer, installed}
 use Rattle.cluster_record.specs.Calls.{same_call}
 use Rattle.node_core.specs.Payloads.{Payload}
 use Rattle.node_core.specs.Seen.{EntrySeen, RecordSeen}
@@ -122,6 +124,33 @@ abbrev pub attributes_seen : Option EntrySeen → CreationAttributes → Creatio
 attributes_seen None own = own
 attributes_seen (Some e) own = e.attributes
 
+-- ---- snapshots
+
+-- marks hold a pull off; else it tells the count
+abbrev pub pull_reply : Option CallId → ℕ → Reply
+pull_reply (Some holder) count = replies.Held holder
+pull_reply None count = replies.Done (answers.Pulled count)
+
+-- the generation of the checkpoint as it is now; 0 where it is gone
+abbrev pub generation_seen : Option EntrySeen → ℕ
+generation_seen None = 0
+generation_seen (Some e) = e.generation
+
+-- a replica has taken the snapshot over, or tells its own generation and count
+abbrev pub older_reply : Result (Unit {0}) Older → Reply
+older_reply (Ok done) = replies.Done answers.Nothing
+older_reply (Err older) = replies.Older older.generation older.count
+
+-- a snapshot of another generation than the checkpoint is stale; else it is for a replica that is older
+abbrev pub install_reply : ℕ → Option Snapshot → Replica → Reply
+install_reply present None x = replies.NoReplica
+install_reply present (Some s) x = if s.generation == present then older_reply (install_answer x s) else replies.Stale s.generation present
+
+-- the replica behind its installation
+abbrev pub installed_of : ℕ → Option Snapshot → Replica → Replica
+installed_of present None x = x
+installed_of present (Some s) x = if s.generation == present then installed s x else x
+
 -- ---- a request to one replica
 
 -- the answer of a replica that is complete
@@ -138,6 +167,8 @@ reply_of (requests.Read k) p seen x = done_or_refused (replies.Done answers.Piec
 reply_of (requests.Status k) p seen x = replies.Done answers.Status
 reply_of (requests.Iterate call k choice) p seen x = replies.Done answers.Nothing
 reply_of (requests.Next call k) p seen x = next_reply (given p.ids seen.moment x.sections)
+reply_of (requests.Pull call k) p seen x = pull_reply (call_of x.marks) x.count
+reply_of (requests.Install call k) p seen x = install_reply (generation_seen seen.entry) p.snapshot x
 reply_of _ p seen x = replies.NoReplica
 
 -- and what the replica becomes
@@ -150,6 +181,7 @@ replica_after (requests.Apply call k) p seen x = applied p.update seen.moment x
 replica_after (requests.Mark call k) p seen x = begun call p.update seen.moment x
 replica_after (requests.Element call k) p seen x = element_done x x.marks
 replica_after (requests.Unmark call k) p seen x = ended x
+replica_after (requests.Install call k) p seen x = installed_of (generation_seen seen.entry) p.snapshot x
 replica_after _ p seen x = x
 
 -- what comes beside the answer: the pieces of a read, the identifier of a new section, the next section, or a status
@@ -166,6 +198,11 @@ abbrev pub iteration_of : Request → RecordSeen → Replica → KeptIds → Kep
 iteration_of (requests.Iterate call k choice) seen x kept = record kept { ids = chosen choice seen.moment x.sections }
 iteration_of (requests.Next call k) seen x kept = kept_after kept (given kept.ids seen.moment x.sections)
 iteration_of _ seen x kept = kept
+
+-- what a snapshot has behind the request: what the replica has, where it was pulled
+abbrev pub snapshot_after : Request → Replica → Snapshot → Snapshot
+snapshot_after (requests.Pull call k) x s = pulled_unless (call_of x.marks) x s
+snapshot_after _ x s = s
 
 -- ---- a request to a node, by the replica for which it is complete
 
@@ -184,3 +221,9 @@ abbrev pub iteration_behind : Request → RecordSeen → Option Replica → Opti
 iteration_behind request seen None kept = kept
 iteration_behind request seen (Some x) None = None
 iteration_behind request seen (Some x) (Some kept) = Some (iteration_of request seen x kept)
+
+-- what a snapshot has that is lent to it
+abbrev pub snapshot_behind : Request → Option Replica → Option Snapshot → Option Snapshot
+snapshot_behind request None s = s
+snapshot_behind request (Some x) None = None
+snapshot_behind request (Some x) (Some s) = Some (snapshot_after request x s)

@@ -108,7 +108,9 @@ fn is_ready(replica: &Replica, request: &Request) -> bool
         Request::Unmark(call, _) => is_through(replica.marks(), *call),
         Request::Commit(call, _) => owns(replica.slot(), *call),
         Request::Withdraw(call, _) => owns(replica.slot(), *call),
-        _ => false,
+        Request::Pull(_, _) => true,
+        Request::Install(_, _) => is_at_rest(replica),
+        Request::Reserve(_) => false,
     }
 }
 
@@ -119,6 +121,16 @@ fn owns(slot: &Slot, call: CallId) -> bool
         None => false,
         Some(staged) => staged.owner == call,
     }
+}
+
+// Whether neither a slot nor marks stand.
+fn is_at_rest(replica: &Replica) -> bool
+    ensures { Decides result ((replica.now.slot ≡ None) × (replica.now.marks ≡ None)) }
+{
+    if !is_free(replica.slot()) {
+        return false;
+    }
+    is_unmarked(replica.marks())
 }
 
 // Whether no marks stand.

@@ -1,9 +1,11 @@
 //! Whether what a request uses is lent.
 ghost use Rattle.std.specs.Prelude.{◌≡◌, ◌≤◌, ◌^◌, [], IsSome, IsSomeAnd, MatchOption, Decides, length};
+ghost use Rattle.ckpt_types.specs.Sections.{Fits};
 ghost use Rattle.section_iter.specs.Room.{IsRoomFor};
 ghost use Rattle.replica.specs.Replicas.{IsWrite};
 ghost use Rattle.node_core.specs.Lending.{bytes_asked, id_length, HasRoomToRead, HasRoomForId, HasRoomToTell, HasRoomToCommit, HasLent};
 
+use crate::keeping::keeps_to;
 use crate::lent::Lent;
 use ckpt_types::{CreationAttributes, GENERATED_ID_BYTES, NewId, ReadBuf, ReadElement, Update};
 use node_msgs::Request;
@@ -24,6 +26,8 @@ pub(crate) fn has_lent(replica: &Replica, request: &Request, lent: &Lent) -> boo
         Request::Status(_) => lent.status.is_some(),
         Request::Iterate(_, _, _) => has_iteration(replica, lent),
         Request::Next(_, _) => has_next(lent),
+        Request::Pull(_, _) => has_room_to_pull(replica, lent),
+        Request::Install(_, _) => has_snapshot(replica, lent),
         _ => true,
     }
 }
@@ -166,4 +170,24 @@ fn has_next(lent: &Lent) -> bool
         return false;
     }
     lent.section.is_some()
+}
+
+// ---- snapshots
+
+fn has_room_to_pull(replica: &Replica, lent: &Lent) -> bool
+    ensures { Decides result (IsSomeAnd lent.now.snap (λ s. Fits s.attributes replica.now.sections)) }
+{
+    match &lent.snap {
+        None => false,
+        Some(snap) => keeps_to(replica.store(), snap.attributes()),
+    }
+}
+
+fn has_snapshot(replica: &Replica, lent: &Lent) -> bool
+    ensures { Decides result (IsSomeAnd lent.now.snap (λ s. Fits replica.now.attributes s.sections)) }
+{
+    match &lent.snap {
+        None => false,
+        Some(snap) => keeps_to(snap, replica.store().attributes()),
+    }
 }

@@ -5,6 +5,7 @@ use ckpt_types::{
     Apart, CheckpointDescriptor, ReadBuf, SectionDescriptor, SharedReads, SharedUpdate,
 };
 use section_iter::Iteration;
+use snap_copy::Snap;
 use std::alloc::{AllocError, Global};
 
 /// What travels beside a request, and what comes beside its reply.
@@ -18,6 +19,8 @@ pub struct Lent {
     pub update: Option<SharedUpdate>,
     /// The iteration that starts or goes on.
     pub iteration: Option<Iteration>,
+    /// The snapshot that is pulled or installed.
+    pub snap: Option<Snap>,
     /// Where a status is told.
     pub status: Option<Apart<CheckpointDescriptor>>,
     /// Where the next section of an iteration is told.
@@ -30,12 +33,14 @@ impl Lent {
         ensures update { IfOk result (λ lent. lent.update ≡ None) }
         ensures vector { IfOk result (λ lent. lent.vector ≡ None) }
         ensures iteration { IfOk result (λ lent. lent.iteration ≡ None) }
+        ensures snap { IfOk result (λ lent. lent.snap ≡ None) }
     {
         Ok(Lent {
             read: ReadBuf::reserve(alloc, 0, 0)?,
             vector: None,
             update: None,
             iteration: None,
+            snap: None,
             status: None,
             section: None,
         })

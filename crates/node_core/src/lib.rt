@@ -3,6 +3,7 @@
 
 mod changing;
 mod fitting;
+mod keeping;
 mod lending;
 mod lent;
 mod node;
@@ -11,6 +12,7 @@ mod replicas;
 mod reserving;
 mod seen;
 mod serving;
+mod snapshots;
 mod updates;
 mod weak_writes;
 

@@ -11,7 +11,7 @@ ghost use Rattle.node_core.specs.Details.{details_told};
 ghost use Rattle.node_core.specs.Fitting.{RequestFits, TakesSnapshot, TakesUpdate};
 ghost use Rattle.node_core.specs.Nodes.{NodeState, replica_key, seen_from, replica_served, MayReply, node_after, freed_node};
 ghost use Rattle.node_core.specs.Payloads.{payload_of};
-ghost use Rattle.node_core.specs.Serving.{details_at, iteration_behind};
+ghost use Rattle.node_core.specs.Serving.{details_at, iteration_behind, snapshot_behind};
 
 use crate::changing::{break_at, lead_at, stage_at};
 use crate::fitting::{change_fits_in, fits_in};
@@ -57,8 +57,8 @@ impl Node {
 
     /// The answer to a request, by what the node sees of the record, and by its replica of the checkpoint alone. What
     /// travels beside the request is lent, and what comes beside the reply stands in it: the pieces of a read, the
-    /// identifier of a new section, a status, the next section of an iteration. `NoReplica` is answered exactly where
-    /// the record does not have the node complete for the checkpoint. A reservation takes memory, and may be refused
+    /// identifier of a new section, a status, the next section of an iteration, what was pulled. `NoReplica` is answered
+    /// exactly where the record does not have the node complete for the checkpoint. A reservation takes memory, and may be refused
     /// it; no other request takes any.
     pub fn serve(
         &mut self,
@@ -72,6 +72,7 @@ impl Node {
         ensures new { self.new ≡ node_after seen.now self.old request.now (payload_of lent.old) result }
         ensures details { details_told result lent.new ≡ details_at request.now (payload_of lent.old) (seen_from seen.now self.old (ckpt_of request.now)) (replica_served seen.now self.old (ckpt_of request.now)) }
         ensures iteration { lent.new.iteration ≡ iteration_behind request.now (seen_from seen.now self.old (ckpt_of request.now)) (replica_served seen.now self.old (ckpt_of request.now)) lent.old.iteration }
+        ensures snapshot { lent.new.snap ≡ snapshot_behind request.now (replica_served seen.now self.old (ckpt_of request.now)) lent.old.snap }
     {
         if let Request::Reserve(ckpt) = request {
             return reserve_in(&mut self.replicas, alloc, seen, *ckpt);

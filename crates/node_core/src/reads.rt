@@ -29,6 +29,7 @@ pub(crate) fn read_lent(replica: &Replica, seen: &Record, lent: &mut Lent) -> Re
     ensures reply { result ≡ done_or_refused (replies.Done answers.Pieces) (read (elements_or lent.old.vector) seen.now.moment replica.now.sections) }
     ensures details { details_told result lent.new ≡ read_details (read (elements_or lent.old.vector) seen.now.moment replica.now.sections) }
     ensures iteration { lent.new.iteration ≡ lent.old.iteration }
+    ensures snap { lent.new.snap ≡ lent.old.snap }
 {
     let Some(vector) = lent.vector.take() else {
         unreachable!()
@@ -45,6 +46,7 @@ fn read(store: &Store, elements: &[ReadElement], now: Moment, lent: &mut Lent) -
     ensures reply { result ≡ done_or_refused (replies.Done answers.Pieces) (read elements.now now store.now.sections) }
     ensures details { details_told result lent.new ≡ read_details (read elements.now now store.now.sections) }
     ensures iteration { lent.new.iteration ≡ lent.old.iteration }
+    ensures snap { lent.new.snap ≡ lent.old.snap }
 {
     if let Err(refused) = check_read(store, elements, now) {
         return Reply::Refused(refused.error, refused.index);
@@ -66,6 +68,7 @@ pub(crate) fn status_lent(replica: &Replica, ckpt: CkptId, seen: &Record, lent: 
     ensures reply { result ≡ replies.Done answers.Status }
     ensures details { (r : ℕ) → details_told result lent.new ≡ beside.Status (status (attributes_seen (entry_seen r (entry_of ckpt seen.now.entries)) replica.now.attributes) seen.now.moment replica.now.sections) }
     ensures iteration { lent.new.iteration ≡ lent.old.iteration }
+    ensures snap { lent.new.snap ≡ lent.old.snap }
 {
     let Some(place) = &mut lent.status else {
         unreachable!()
@@ -80,6 +83,7 @@ pub(crate) fn start_lent(replica: &Replica, choice: Choice, seen: &Record, lent:
     requires { IsSomeAnd lent.old.iteration (λ kept. IsRoomFor replica.now.attributes kept.room) }
     ensures reply { result ≡ replies.Done answers.Nothing }
     ensures iteration { MatchOption lent.old.iteration (lent.new.iteration ≡ None) (λ kept. lent.new.iteration ≡ Some (record kept { ids = chosen choice seen.now.moment replica.now.sections })) }
+    ensures snap { lent.new.snap ≡ lent.old.snap }
 {
     let Some(iteration) = &mut lent.iteration else {
         unreachable!()
@@ -112,6 +116,7 @@ pub(crate) fn next_lent(replica: &Replica, seen: &Record, lent: &mut Lent) -> Re
     ensures reply { result ≡ next_reply (given (ids_or lent.old.iteration) seen.now.moment replica.now.sections) }
     ensures details { details_told result lent.new ≡ next_details (given (ids_or lent.old.iteration) seen.now.moment replica.now.sections) }
     ensures iteration { MatchOption lent.old.iteration (lent.new.iteration ≡ None) (λ kept. lent.new.iteration ≡ Some (kept_after kept (given kept.ids seen.now.moment replica.now.sections))) }
+    ensures snap { lent.new.snap ≡ lent.old.snap }
 {
     let Some(iteration) = &mut lent.iteration else {
         unreachable!()

@@ -9,12 +9,13 @@ ghost use Rattle.node_core.specs.Fitting.{CanServe, ReplicaFits, TakesSnapshot, 
 ghost use Rattle.node_core.specs.Nodes.{replica_key, where_seen};
 ghost use Rattle.node_core.specs.Payloads.{payload_of};
 ghost use Rattle.node_core.specs.Seen.{record_seen, is_complete};
-ghost use Rattle.node_core.specs.Serving.{reply_of, reply_at, replica_after, details_of, details_at, iteration_behind};
+ghost use Rattle.node_core.specs.Serving.{reply_of, reply_at, replica_after, details_of, details_at, iteration_behind, snapshot_behind};
 
 use crate::lent::Lent;
 use crate::reads::{next_lent, read_lent, start_lent, status_lent};
 use crate::replicas::place_of;
 use crate::seen::is_complete;
+use crate::snapshots::{install_lent, pull_lent};
 use crate::updates::{apply_lent, claim, commit_lent, stage_lent, withdraw};
 use crate::weak_writes::{element, mark_lent, unmark};
 use ckpt_types::{CallId, CkptId, Moment, NodeId, SharedUpdate};
@@ -48,6 +49,7 @@ pub(crate) fn serve_in(
     ensures new { replicas.new ≡ (if is_complete (record_seen seen.now (ckpt_of request.now) number) then change_key replica_key (ckpt_of request.now) (replica_after request.now (payload_of lent.old) (record_seen seen.now (ckpt_of request.now) number)) replicas.old else replicas.old) }
     ensures details { details_told result lent.new ≡ details_at request.now (payload_of lent.old) (record_seen seen.now (ckpt_of request.now) number) (where_seen (is_complete (record_seen seen.now (ckpt_of request.now) number)) (find_key replica_key (ckpt_of request.now) replicas.old)) }
     ensures iteration { lent.new.iteration ≡ iteration_behind request.now (record_seen seen.now (ckpt_of request.now) number) (where_seen (is_complete (record_seen seen.now (ckpt_of request.now) number)) (find_key replica_key (ckpt_of request.now) replicas.old)) lent.old.iteration }
+    ensures snapshot { lent.new.snap ≡ snapshot_behind request.now (where_seen (is_complete (record_seen seen.now (ckpt_of request.now) number)) (find_key replica_key (ckpt_of request.now) replicas.old)) lent.old.snap }
 {
     let Some(i) = place_served(replicas, number, seen, request.ckpt()) else {
         return Reply::NoReplica;
@@ -115,6 +117,7 @@ fn answer(
     ensures new { replica.new ≡ replica_after request.now (payload_of lent.old) (record_seen seen.now (ckpt_of request.now) number) replica.old }
     ensures details { details_told result lent.new ≡ details_of request.now (payload_of lent.old) (record_seen seen.now (ckpt_of request.now) number) replica.old }
     ensures iteration { lent.new.iteration ≡ iteration_behind request.now (record_seen seen.now (ckpt_of request.now) number) (Some replica.old) lent.old.iteration }
+    ensures snapshot { lent.new.snap ≡ snapshot_behind request.now (Some replica.old) lent.old.snap }
 {
     match request {
         Request::Stage(call, _, moment) => stage_lent(replica, *call, *moment, lent),
@@ -129,6 +132,8 @@ fn answer(
         Request::Status(ckpt) => status_lent(replica, *ckpt, seen, lent),
         Request::Iterate(_, _, choice) => start_lent(replica, *choice, seen, lent),
         Request::Next(_, _) => next_lent(replica, seen, lent),
-        _ => Reply::NoReplica,
+        Request::Pull(_, _) => pull_lent(replica, lent),
+        Request::Install(_, ckpt) => install_lent(replica, *ckpt, seen, lent),
+        Request::Reserve(_) => Reply::NoReplica,
     }
 }

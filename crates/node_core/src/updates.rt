@@ -30,6 +30,7 @@ pub(crate) fn stage_lent(
     ensures reply { result ≡ stage_reply (outcome_on replica.old (update_or lent.old.update) moment) replica.old.slot }
     ensures new { replica.new ≡ staged call (update_or lent.old.update) moment replica.old }
     ensures iteration { lent.new.iteration ≡ lent.old.iteration }
+    ensures snap { lent.new.snap ≡ lent.old.snap }
 {
     let Some(update) = lent.update.take() else {
         unreachable!()
@@ -67,6 +68,7 @@ pub(crate) fn apply_lent(replica: &mut Replica, moment: Moment, lent: &mut Lent)
     ensures new { replica.new ≡ applied (update_or lent.old.update) moment replica.old }
     ensures details { details_told result lent.new ≡ applied_id replica.old.marks (outcome_on replica.old (update_or lent.old.update) moment) (told_id (update_or lent.old.update) moment replica.old.sections) }
     ensures iteration { lent.new.iteration ≡ lent.old.iteration }
+    ensures snap { lent.new.snap ≡ lent.old.snap }
 {
     let Some(update) = lent.update.take() else {
         unreachable!()
@@ -116,6 +118,7 @@ pub(crate) fn commit_lent(replica: &mut Replica, call: CallId, lent: &mut Lent) 
     ensures new { replica.new ≡ committed replica.old replica.old.slot }
     ensures details { details_told (replies.Done (commit_answer replica.old.slot)) lent.new ≡ slot_id replica.old.sections replica.old.slot }
     ensures iteration { lent.new.iteration ≡ lent.old.iteration }
+    ensures snap { lent.new.snap ≡ lent.old.snap }
 {
     tell_slot(replica, lent);
     let answer = commit_answer(replica.slot());
@@ -127,6 +130,7 @@ fn tell_slot(replica: &Replica, lent: &mut Lent)
     requires { HasRoomToCommit replica.now.slot lent.old.read }
     ensures details { details_told (replies.Done (commit_answer replica.now.slot)) lent.new ≡ slot_id replica.now.sections replica.now.slot }
     ensures iteration { lent.new.iteration ≡ lent.old.iteration }
+    ensures snap { lent.new.snap ≡ lent.old.snap }
 {
     if let Some(staged) = replica.slot().kept() {
         tell_id(replica.store(), staged.update.value(), staged.moment, lent);
@@ -138,6 +142,7 @@ fn tell_id(store: &Store, update: &Update, moment: Moment, lent: &mut Lent)
     requires { HasRoomToTell update.now lent.old.read }
     ensures details { details_told (replies.Done (update_answer update.now)) lent.new ≡ told_id update.now moment store.now.sections }
     ensures iteration { lent.new.iteration ≡ lent.old.iteration }
+    ensures snap { lent.new.snap ≡ lent.old.snap }
 {
     match update {
         Update::Create(NewId::Given(id), _, _) => lent.read.push(id.as_slice()),

@@ -87,6 +87,7 @@ line_built t (words.Op calls.EndIter) v f b n m h asked = (omega (arith, f.0), o
 line_built t (words.Op calls.Write) v f b n m h asked = (omega (arith, f.0.0), omega (arith, f.0.1.0), writes_built v.1 f.1 f.2 f.3)
 line_built t (words.Op calls.Over) v f b n m h asked = (omega (arith, f.0), omega (arith, f.1.0), f.1.1.0.1)
 line_built t (words.Op calls.Read) v f b n m h asked = (omega (arith, f.0.0), omega (arith, f.0.1.0), reads_built v.1 f.1 f.2 f.3 asked)
+line_built t (words.Op calls.Sync) v f b n m h asked = (omega (arith, f.0), omega (arith, f.1.0), f.1.1.0)
 line_built t words.Step v f b n m h asked = (f.0, omega (arith, f.1.0.0), f.1.0.1)
 line_built t words.Finish v f b n m h asked = f.0
 line_built t words.At v f b n m h asked = later_moment t v.0 f.0 m

@@ -79,6 +79,7 @@ HasValuesInRange (ops.Iter iteration place chosen time) = chosen < 2 ^ 64
 HasValuesInRange (ops.Write place update) = AreWrites update
 HasValuesInRange (ops.Over place update) = IsOverwriting update
 HasValuesInRange (ops.Read place elements) = AreReads elements
+HasValuesInRange (ops.Sync place timeout) = IsTime timeout
 HasValuesInRange _ = ⊤
 
 -- a call of a client, of an operation that is built, with its values in their ranges

@@ -4,6 +4,7 @@ ghost use Rattle.ckpt_types.specs.Limits.{built_line_labels, played_lines_max};
 ghost use Rattle.script_lang.specs.Grammar.{moment_behind};
 ghost use Rattle.ckpt_machine.specs.Acknowledged.{AcknowledgedStay};
 ghost use Rattle.ckpt_machine.specs.Replays.{EffectsTellThroughout};
+ghost use Rattle.ckpt_machine.specs.Synchronized.{SynchronizedTell};
 ghost use Rattle.ckpt_machine.specs.AllOrNone.{IsAllOrNoneThroughout};
 ghost use Rattle.ckpt_machine.specs.Refusals.{EachRefusalLeaves};
 ghost use Rattle.ckpt_machine.specs.Runs.{last};
@@ -55,6 +56,10 @@ pub fn session<R: Threads + Wait + Sync, G: Gate>(
     // Each replica is the replay of the updates that it has taken, each once; of the active's first ones, where they go
     // to the active alone.
     ensures effects { EffectsTellThroughout log.new.labels }
+
+    // Behind a synchronisation that was answered OK each complete replica has the checkpoint's generation, and first what
+    // the active had when it was pulled.
+    ensures synchronized { SynchronizedTell log.new.labels }
 {
     // Where room is refused at once, it is asked for again as it is needed.
     let _ = log.reserve(LABELS_A_LINE * script.as_slice().len());

@@ -1,3 +1,3 @@
 mod HeadLemmas
 mod PlaceLemmas
-mod TakenLemmas
+pub mod TakenLemmas

@@ -1,8 +1,12 @@
 -- A step of the call that a client has in hand: that it is due, and what the world shows behind it.
-use Rattle.std.proofs.Common.{◌≡◌, ℕ, ◌∷◌, refl, sym, ap, subst, ◌∙◌}
+use Rattle.std.proofs.Common.{◌≡◌, ℕ, List, ◌∷◌, refl, sym, ap, subst, ◌∙◌}
 use Rattle.std.specs.Prelude.{Option, Some}
 use Rattle.ckpt_types.specs.declared.answers.Outcome.{Outcome}
 use Rattle.node_msgs.specs.declared.next.Next.{Next}
+use Rattle.node_msgs.specs.declared.next.RecordStep.{RecordStep}
+use Rattle.node_msgs.specs.declared.next.RecordStep.TheVariants as events
+use Rattle.node_msgs.specs.Steps.{event_verb}
+use Rattle.ckpt_types.specs.declared.identities.ActorName.TheVariants.{Client}
 use Rattle.node_msgs.specs.declared.steps.Verb.{Verb}
 use Rattle.node_msgs.specs.declared.steps.StepReply.{StepReply}
 use Rattle.node_msgs.specs.declared.details.Details.{Details}
@@ -12,8 +16,9 @@ use Rattle.ckpt_types.specs.OpWord.{word_of_op}
 use Rattle.cluster_record.specs.StepDone.{StepDone, done_of, counting}
 use Rattle.ckpt_machine.specs.Driving.{driver_next}
 use Rattle.ckpt_machine.specs.Facts.{Facts}
-use Rattle.ckpt_machine.specs.Machine.{Machine, CallState}
-use Rattle.ckpt_machine.specs.Steps.{IsDue, IsDone, after, changed, claimed_count, created_by, step_of, stepped}
+use Rattle.ckpt_machine.specs.Machine.{Machine, CallState, Effect}
+use Rattle.snap_copy.specs.Snapshots as copies
+use Rattle.ckpt_machine.specs.Steps.{IsDue, IsDone, after, changed, counted_at, created_by, pulled_by, step_of, stepped}
 use Rattle.world_core.specs.declared.hands.InHand.{InHand}
 use Rattle.world_core.specs.declared.world.World.{World}
 use Rattle.world_core.specs.Happenings.{rooms_at}
@@ -21,7 +26,7 @@ use Rattle.world_core.specs.Backgrounds.{HaveRooms}
 use Rattle.world_core.specs.Holding.{HoldsOnlyWhatStands}
 use Rattle.world_core.specs.Shows.{Shows, IsShown, HistoryFits, History, machine_of, hand_at}
 use Rattle.world_core.proofs.Freeing.{DoesBefore}
-use Rattle.world_core.proofs.Held.{state_in, in_hand_at, actor_is, due_is}
+use Rattle.world_core.proofs.Held.{state_in, in_hand_at, actor_is, due_is, IsCopyBehind}
 use Rattle.world_core.proofs.Told.{with_step, told_world, told_is, told_fits}
 
 -- what is known of a world, and of a history with which it shows a state that has the facts
@@ -37,27 +42,64 @@ known_by w m s facts = record { facts = subst Facts s.same facts; fits = s.fits;
 pub known : (w : World) (shown : IsShown w) → IsKnown w shown.shows.history
 known w shown = known_by w shown.state shown.shows shown.facts
 
+-- what a client's call has pulled by this history
+abbrev pub pulled_by_client : ℕ → History → Option (List Effect)
+pulled_by_client c h = h.pulled (Client c)
+
+-- a step of the record tells no count
+pub event_counts : (m : Machine) (step : RecordStep) (k r : Option ℕ) (reply : StepReply) → counted_at m (event_verb step) k r reply ≡ 0
+event_counts m events.Enter k r reply = refl
+event_counts m events.Leave k r reply = refl
+event_counts m events.Open k r reply = refl
+event_counts m events.Create k r reply = refl
+event_counts m events.Finish k r reply = refl
+event_counts m events.Undo k r reply = refl
+event_counts m events.Close k r reply = refl
+event_counts m events.Unlink k r reply = refl
+event_counts m events.Retain k r reply = refl
+event_counts m (events.Hold q) k r reply = refl
+event_counts m (events.Activate q) k r reply = refl
+event_counts m (events.Complete j q t) k r reply = refl
+
+-- and pulls nothing
+pub event_pulls : (m : Machine) (s : CallState) (step : RecordStep) (k r : Option ℕ) (reply : StepReply) → pulled_by m s (event_verb step) k r reply ≡ s.snapshot
+event_pulls m s events.Enter k r reply = refl
+event_pulls m s events.Leave k r reply = refl
+event_pulls m s events.Open k r reply = refl
+event_pulls m s events.Create k r reply = refl
+event_pulls m s events.Finish k r reply = refl
+event_pulls m s events.Undo k r reply = refl
+event_pulls m s events.Close k r reply = refl
+event_pulls m s events.Unlink k r reply = refl
+event_pulls m s events.Retain k r reply = refl
+event_pulls m s (events.Hold q) k r reply = refl
+event_pulls m s (events.Activate q) k r reply = refl
+event_pulls m s (events.Complete j q t) k r reply = refl
+
 -- `behind` shows with the history `later` what the step changes, the call's own steps aside
-module _ (w : World) (c : ℕ) (hand : InHand) (held : hand_at w.hands c ≡ Some hand) (behind : World) (later : History → History) (verb : Verb) (k r : Option ℕ) (reply : StepReply) (end : Option Outcome) (details : Details) where
+-- and the call is told this count, has this copy in its hand, and has pulled these effects then
+module _ (w : World) (c : ℕ) (hand : InHand) (held : hand_at w.hands c ≡ Some hand) (behind : World) (later : History → History) (verb : Verb) (k r : Option ℕ) (reply : StepReply) (end : Option Outcome) (details : Details) (count : ℕ) (copy : Option copies.Snapshot) (pulled : History → Option (List Effect)) where
   abbrev label : Label
   label = Stepped hand.call (word_of_op hand.op) verb k r reply end details
 
   abbrev pub step_done : StepDone
-  step_done = done_of behind.cluster verb k r reply
+  step_done = counting count (done_of behind.cluster verb k r reply)
 
   -- the world in which the call is told of it
   abbrev pub behind_step : World
-  behind_step = told_world behind c hand step_done end
+  behind_step = told_world behind c hand copy step_done end
 
   -- with the history that the machine has then
   abbrev history_behind : History → History
-  history_behind h = let m = machine_of w h in let s = state_in h c hand in with_step (later h) c (counting (claimed_count m verb k r) step_done) (created_by m s verb k r)
+  history_behind h = let m = machine_of w h in let s = state_in h c hand in with_step (later h) c step_done (created_by m s verb k r) (pulled h)
 
   -- the step is the one that is next, and is so shown
   pub record IsShownBehind (next : Next) (h : History) : Type 0 where
     pub done : IsDone (machine_of w h) (state_in h c hand) next (record { verb = verb; ckpt = k; node = r; reply = reply; end = end; details = details })
     pub change : changed (machine_of w h) (state_in h c hand) verb k r reply ≡ machine_of behind (later h)
     pub fits : HistoryFits behind (later h)
+    pub count_is : counted_at (machine_of w h) verb k r reply ≡ count
+    pub copy_is : IsCopyBehind (later h) c hand (pulled_by (machine_of w h) (state_in h c hand) verb k r reply) (pulled h) copy
 
   module _ (next : Next) (next_is : driver_next w.cluster (rooms_at w c) hand.driver ≡ next) (still : hand_at behind.hands c ≡ Some hand) (same : (h : History) → state_in h c hand ≡ state_in (later h) c hand) where
     due_step : (h : History) → IsKnown w h → IsShownBehind next h → IsDue (machine_of w h) label
@@ -74,8 +116,8 @@ module _ (w : World) (c : ℕ) (hand : InHand) (held : hand_at w.hands c ≡ Som
         let m = machine_of w h in
         let s = state_in h c hand in
         ap (λ (p : Option CallState). step_of m p verb k r reply end) (in_hand_at w h c hand held is.facts)
-        ∙ (λ i. stepped (step.change i) (record (same h i) { steps = counting (claimed_count m verb k r) (done_of (step.change i).cluster verb k r reply) ∷ (same h i).steps; created = created_by m s verb k r }) end)
-        ∙ told_is behind (later h) c hand step_done (claimed_count m verb k r) (created_by m s verb k r) end (actor_is w h c hand held is.facts) step.fits still
+        ∙ (λ i. stepped (step.change i) (record (same h i) { steps = counting (step.count_is i) (done_of (step.change i).cluster verb k r reply) ∷ (same h i).steps; created = created_by m s verb k r; snapshot = pulled_by m s verb k r reply }) end)
+        ∙ told_is behind (later h) c hand step_done (created_by m s verb k r) (pulled_by m s verb k r reply) (pulled h) copy end (actor_is w h c hand held is.facts) step.fits still step.copy_is
 
     -- the step, before the nodes are freed
     pub step_before : ((h : History) → IsKnown w h → IsShownBehind next h) → DoesBefore w behind_step label
@@ -83,5 +125,5 @@ module _ (w : World) (c : ℕ) (hand : InHand) (held : hand_at w.hands c ≡ Som
       due_is = λ m s f. let is = known_by w m s f in subst (λ (m : Machine). IsDue m label) (sym s.same) (due_step s.history is (step s.history is));
       history = λ m s f. history_behind s.history;
       same = λ m s f. let is = known_by w m s f in ap (λ (m : Machine). after m label) s.same ∙ after_is s.history is (step s.history is);
-      fits = λ m s f. let is = known_by w m s f in told_fits behind (later s.history) c hand step_done _ _ end (actor_is w s.history c hand held is.facts) (step s.history is).fits still;
+      fits = λ m s f. let is = known_by w m s f in told_fits behind (later s.history) c hand step_done _ _ _ copy end (actor_is w s.history c hand held is.facts) (step s.history is).fits still (step s.history is).copy_is;
     }

@@ -3,7 +3,9 @@ use Rattle.std.proofs.Common.{◌≡◌, ℕ, ◌<◌, ◌==◌, Bool, true, fal
 use Rattle.std.specs.Prelude.{Option, Some, None, IsSome, IsSomeAnd, slice_index}
 use Rattle.std.specs.Option.{option_and_then}
 use Rattle.ckpt_types.specs.declared.identities.ActorName.TheVariants.{Client}
+use Rattle.ckpt_types.specs.declared.attributes.CreationAttributes.{CreationAttributes}
 use Rattle.ckpt_types.specs.declared.identities.CallId.{CallId}
+use Rattle.snap_copy.specs.Snapshots as copies
 use Rattle.node_msgs.specs.declared.requests.Request.{Request}
 use Rattle.node_msgs.specs.declared.requests.Request.TheVariants.{Reserve}
 use Rattle.node_msgs.specs.declared.requests.Request.TheVariants as requests
@@ -30,7 +32,7 @@ use Rattle.ckpt_machine.specs.Drivers as drivers
 use Rattle.ckpt_machine.specs.Driving.{driver_next}
 use Rattle.ckpt_machine.specs.Machine.{Machine, Effect, ReplicaState, CallState}
 use Rattle.ckpt_machine.specs.Tables.{handle_asked}
-use Rattle.ckpt_machine.specs.Steps.{seen_by, seen_at, seen_slot, due, room_in}
+use Rattle.ckpt_machine.specs.Steps.{seen_by, seen_at, seen_slot, seen_snapshot, due, payload_due, room_in}
 use Rattle.cluster_record.specs.LookUps.{declared_in}
 use Rattle.ckpt_types.specs.Asks.{asked, update_of}
 use Rattle.ckpt_types.specs.declared.update.Update.{Update}
@@ -40,11 +42,13 @@ use Rattle.section_iter.specs.KeptIds.{KeptIds}
 use Rattle.section_iter.specs.Room.{room_declared, IsRoomFor}
 use Rattle.world_core.specs.TableState.{kept_by}
 use Rattle.world_core.specs.Happenings.{rooms_at}
-use Rattle.ckpt_machine.specs.Facts.{Facts, IsServable}
-use Rattle.world_core.specs.Shows.{HistoryFits, FitsReplica, FitsSlot, History, machine_of, shown_replica, shown_slot, where_complete, complete_replica, room_for, tables_of, hand_at}
+use Rattle.ckpt_machine.specs.Facts.{Facts, HasCopyRoom, IsServable}
+use Rattle.world_core.specs.Shows.{HistoryFits, FitsReplica, FitsSlot, FitsCopy, IsRoomToCopy, History, machine_of, shown_replica, shown_slot, shown_copy, where_complete, complete_replica, tables_of, hand_at}
+use Rattle.world_core.specs.HandRooms.{room_for}
 use Rattle.ckpt_machine.proofs.NextOf.{OfAsked, next_of}
-use Rattle.world_core.proofs.Carrying.{GoesToReplica, IsOfCall}
-use Rattle.world_core.proofs.Held.{state_in, in_hand_is, actor_is, iteration_is, due_is}
+use Rattle.world_core.proofs.Carrying.{GoesToReplica, IsOfCall, IsSameCopy, payload_with}
+use Rattle.world_core.proofs.CopySteps.{HasRoomFor}
+use Rattle.world_core.proofs.Held.{state_in, in_hand_is, actor_is, iteration_is, due_is, copy_stays}
 use Rattle.world_core.proofs.IterationSteps.{TablesReady, goes_on_with, asked_is, room_for_declared}
 use Rattle.world_core.proofs.Recording.{zero_there}
 
@@ -80,6 +84,7 @@ asked_goes (drivers.Update u) = (λ r t. tt, λ r. tt)
 asked_goes (drivers.Active a) = λ r. kind_goes a.call a.ckpt a.kind a.marks
 asked_goes (drivers.Once x) = tt
 asked_goes (drivers.Open o) = tt
+asked_goes (drivers.Sync u) = (λ r. tt, λ r. tt)
 
 -- ---- the replica that is there
 
@@ -182,6 +187,20 @@ shown_update : (u : Update) (o : CallId) (p : Option Slot) → IsSomeAnd (shown_
 shown_update u o None own = absurd own
 shown_update u o (Some slot) own = own
 
+entry_with : (P : Entry → Type 0) (o : Option Entry) → IsSomeAnd o P → (e : Entry) × (o ≡ Some e) × P e
+entry_with P None some = absurd some
+entry_with P (Some e) some = (e, refl, some)
+
+some_there : (P : copies.Snapshot → Type 0) (o : Option copies.Snapshot) → IsSomeAnd o P → IsSome o
+some_there P None some = absurd some
+some_there P (Some s) some = refl
+
+-- the snapshot in a hand is seen as the code has it, once something was pulled
+copy_seen : (pulled : Option (List Effect)) (s : Option copies.Snapshot) (a : CreationAttributes) → IsSome (shown_copy pulled s) → IsSomeAnd s (λ s. s.attributes ≡ a) → FitsCopy pulled s → seen_snapshot (Some a) (shown_copy pulled s) ≡ s
+copy_seen None s a there room counts = absurd (cc there)
+copy_seen (Some E) None a there room counts = absurd room
+copy_seen (Some E) (Some s) a there room counts = λ i. Some (record s { attributes = sym room i; count = counts i })
+
 module _ (w : World) (h : History) (c r : ℕ) (hand : InHand) (facts : Facts (machine_of w h)) (fits : HistoryFits w h) (held : hand_at w.hands c ≡ Some hand) where
   abbrev M : Machine
   M = machine_of w h
@@ -205,6 +224,31 @@ module _ (w : World) (h : History) (c r : ℕ) (hand : InHand) (facts : Facts (m
       (facts.rest (Client c))
   tables_ready request is = tt
 
+  -- the room for what it copies is what its checkpoint declares
+  copy_room_is : (k : ℕ) → HasCopyRoom M s k → (e : Entry) → entry_of k w.cluster.entries ≡ Some e → IsSomeAnd hand.snapshot (λ s. s.attributes ≡ e.attributes)
+  copy_room_is k has e at =
+      let declares : s.kept.declares ≡ Some e.attributes = subst (λ (o : Option Entry). IsSomeAnd o (λ e. s.kept.declares ≡ Some e.attributes)) at has.declares in
+      subst (λ d. IsRoomToCopy (asked hand.op) d hand.snapshot) declares (copy_stays w h c hand held fits).room has.takes
+
+  copy_declared : (k : ℕ) → HasCopyRoom M s k → (x : Replica) (e : Entry) → entry_of k w.cluster.entries ≡ Some e → x.attributes ≡ e.attributes → IsSomeAnd hand.snapshot (λ s. s.attributes ≡ x.attributes)
+  copy_declared k has x e at same = subst (λ a. IsSomeAnd hand.snapshot (λ s. s.attributes ≡ a)) (sym same) (copy_room_is k has e at)
+
+  -- a call that pulls has room
+  pub copy_there : (request : Request) → due M s ≡ Serve r request → HasRoomFor request hand.snapshot
+  copy_there (requests.Pull call k) is =
+      let has = facts.pulls (Client c) s r call k (in_hand_is w h c hand held) is in
+      let (e, at, declares) = entry_with (λ e. s.kept.declares ≡ Some e.attributes) (entry_of k w.cluster.entries) has.declares in
+      some_there (λ s. s.attributes ≡ e.attributes) hand.snapshot (copy_room_is k has e at)
+  copy_there request is = tt
+
+  -- and one that installs has in hand what the machine's call has
+  pub copy_carried : (request : Request) → due M s ≡ Serve r request → IsSameCopy request (payload_with hand kept) (payload_due M s)
+  copy_carried (requests.Install call k) is =
+      let (has, there) = facts.installs (Client c) s r call k (in_hand_is w h c hand held) is in
+      let (e, at, declares) = entry_with (λ e. s.kept.declares ≡ Some e.attributes) (entry_of k w.cluster.entries) has.declares in
+      sym (ap (λ d. seen_snapshot d s.snapshot) declares ∙ copy_seen (h.pulled (Client c)) hand.snapshot e.attributes there (copy_room_is k has e at) (copy_stays w h c hand held fits).counts)
+  copy_carried request is = tt
+
   -- and what else of its own it uses at a replica
   pub of_call : (request : Request) → due M s ≡ Serve r request → (E : List Effect) (o : CallId) (x : Replica) (e : Entry) → entry_of (ckpt_of request) w.cluster.entries ≡ Some e → x.attributes ≡ e.attributes → M.replicas (ckpt_of request) r ≡ shown_replica E o (Some x) → IsOfCall request hand kept x
   of_call (requests.Commit call k) is E o x e at same is_shown =
@@ -218,4 +262,6 @@ module _ (w : World) (h : History) (c r : ℕ) (hand : InHand) (facts : Facts (m
   of_call (requests.Next call k) is E o x e at same is_shown =
       let ready = tables_ready (requests.Next call k) is in
       subst (λ (o : Option KeptIds). IsSome o) (sym (asked_is (asked hand.op) kept ready)) refl
+  of_call (requests.Pull call k) is E o x e at same is_shown = copy_declared k (facts.pulls (Client c) s r call k (in_hand_is w h c hand held) is) x e at same
+  of_call (requests.Install call k) is E o x e at same is_shown = copy_declared k (facts.installs (Client c) s r call k (in_hand_is w h c hand held) is).0 x e at same
   of_call request is E o x e at same is_shown = tt

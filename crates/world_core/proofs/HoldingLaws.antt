@@ -7,7 +7,7 @@ use Rattle.ckpt_types.specs.declared.answers.Answer.TheVariants as answers
 use Rattle.node_msgs.specs.declared.replies.Reply.{Reply}
 use Rattle.node_msgs.specs.declared.replies.Reply.TheVariants as replies
 use Rattle.node_msgs.specs.declared.requests.Request.{Request}
-use Rattle.node_msgs.specs.declared.requests.Request.TheVariants.{Apply, Commit, Element, Reserve}
+use Rattle.node_msgs.specs.declared.requests.Request.TheVariants.{Apply, Commit, Element, Install, Reserve}
 use Rattle.node_msgs.specs.Requests.{ckpt_of}
 use Rattle.cluster_record.specs.declared.entries.Entry.{Entry}
 use Rattle.cluster_record.specs.Places.{find_key, change_key, list_or}
@@ -17,10 +17,11 @@ use Rattle.world_core.specs.Holding.{replicas_on, IsReservation, IsHeld, HoldsOn
 use Rattle.node_core.specs.Nodes.{NodeState, replica_key, replicas_after, reserved_for, with_reserved, replicas_reserved}
 use Rattle.node_core.specs.Payloads.{Payload}
 use Rattle.node_core.specs.Seen.{RecordSeen, record_seen, entry_seen, is_complete, is_complete_in}
-use Rattle.node_core.specs.Serving.{replica_after}
+use Rattle.node_core.specs.Serving.{replica_after, generation_seen, installed_of}
+use Rattle.snap_copy.specs.Snapshots.{Snapshot}
 use Rattle.ckpt_machine.specs.Facts.{IsReservable}
 use Rattle.world_core.specs.Nodes.{node_at, nodes_after, replica_in}
-use Rattle.replica.specs.Replicas.{applied_by, committed, element_done, opened_replica, outcome_on}
+use Rattle.replica.specs.Replicas.{applied_by, committed, element_done, is_older, taken_from, opened_replica, outcome_on}
 use Rattle.stage_slot.specs.Slots.{Slot}
 use Rattle.weak_marks.specs.Marks.{Marked}
 use Rattle.ckpt_types.specs.Sections.{Section}
@@ -100,6 +101,15 @@ after_key (Element call k) p seen x = by_marks x.marks where
   by_marks : (o : Option Marked) → replica_key (element_done x o) ≡ replica_key x
   by_marks None = refl
   by_marks (Some marked) = refl
+after_key (Install call k) p seen x = by_snapshot p.snapshot where
+  by_tests : (s : Snapshot) (same older : Bool) → replica_key (cond same (cond older (taken_from s x) x) x) ≡ replica_key x
+  by_tests s false older = refl
+  by_tests s true false = refl
+  by_tests s true true = refl
+
+  by_snapshot : (o : Option Snapshot) → replica_key (installed_of (generation_seen seen.entry) o x) ≡ replica_key x
+  by_snapshot None = refl
+  by_snapshot (Some s) = by_tests s (s.generation == generation_seen seen.entry) (is_older x s)
 after_key request p seen x = refl
 
 -- what is no reservation changes the one replica, where the node is complete for it

@@ -1,7 +1,8 @@
 pub mod Adding
 pub mod Begin
 pub mod CallSteps
-pub mod Carrying
+pub mod Asking
+mod Carrying
 pub mod Events
 pub mod Finding
 pub mod Freeing
@@ -28,6 +29,8 @@ pub mod RecordEvent
 pub mod RecordSteps
 pub mod Recording
 pub mod RequestRows
+mod CopySteps
+mod Counted
 pub mod Reserve
 pub mod Rows
 pub mod Running

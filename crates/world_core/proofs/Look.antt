@@ -38,10 +38,10 @@ use Rattle.world_core.specs.Happenings.{rooms_at}
 use Rattle.world_core.specs.Settling.{looked, without_making_of}
 use Rattle.world_core.specs.Shows.{IsShown, Does, History, machine_of, hand_at}
 use Rattle.world_core.specs.TableState.{TableState}
-use Rattle.world_core.proofs.CallSteps.{IsKnown, known, known_by, behind_step, step_before}
+use Rattle.world_core.proofs.CallSteps.{pulled_by_client, IsKnown, known, known_by, behind_step, step_before}
 use Rattle.world_core.proofs.Freeing.{does_before, does_freed, holds_freed}
 use Rattle.world_core.proofs.Going.{unmade_goes}
-use Rattle.world_core.proofs.Held.{state_in, in_hand_is, driver_is, actor_is}
+use Rattle.world_core.proofs.Held.{copy_stays, state_in, in_hand_is, driver_is, actor_is}
 use Rattle.world_core.proofs.LiveRooms.{rooms_looked}
 use Rattle.world_core.proofs.RecordEvent.{closing-none, table_changes}
 use Rattle.world_core.proofs.Recording.{GoesAt, none_pulled, with_effects, record_is, record_fits}
@@ -89,11 +89,11 @@ module _ (w : World) (c : ℕ) (o : Outcome) (hand : InHand) (held : hand_at w.h
   look_changes h is none (Done answer) = table_changes w h c (state_in h c hand) (actor_is w h c hand held is.facts) (closing (asked hand.op)) (λ empty. closing-none (asked hand.op))
   look_changes h is none end = ap (λ (making : Option ℕ). without_making making (machine_of w h)) (makes h is ∙ none)
 
-  look_does : making_in hand.driver ≡ None → Does w (behind_step w c hand held (looked_world o) (λ h. h) verbs.Look None None (look_word o) (Some o) beside.Nothing) label
+  look_does : making_in hand.driver ≡ None → Does w (behind_step w c hand held (looked_world o) (λ h. h) verbs.Look None None (look_word o) (Some o) beside.Nothing 0 hand.snapshot (pulled_by_client c)) label
   look_does none =
-      does_before w (behind_step w c hand held (looked_world o) (λ h. h) verbs.Look None None (look_word o) (Some o) beside.Nothing) label
-      (step_before w c hand held (looked_world o) (λ h. h) verbs.Look None None (look_word o) (Some o) beside.Nothing (End o) next held (λ h. refl)
-      (λ h is. record { done = refl; change = look_changes h is none o; fits = let f = is.fits in record { replicas = f.replicas; copies = f.copies; hands = f.hands } }))
+      does_before w (behind_step w c hand held (looked_world o) (λ h. h) verbs.Look None None (look_word o) (Some o) beside.Nothing 0 hand.snapshot (pulled_by_client c)) label
+      (step_before w c hand held (looked_world o) (λ h. h) verbs.Look None None (look_word o) (Some o) beside.Nothing 0 hand.snapshot (pulled_by_client c) (End o) next held (λ h. refl)
+      (λ h is. record { done = refl; change = look_changes h is none o; fits = let f = is.fits in record { replicas = f.replicas; copies = f.copies; hands = f.hands }; count_is = refl; copy_is = copy_stays w h c hand held is.fits }))
       (λ m s f. s.holds) (λ m s f. s.keeps) (λ m s f. rooms_looked w w.cluster c o hand.op s.rooms)
 
   -- ---- where it is making a checkpoint
@@ -116,14 +116,16 @@ module _ (w : World) (c : ℕ) (o : Outcome) (hand : InHand) (held : hand_at w.h
     late_changes h is (Done answer) refused = absurd refused
     late_changes h is end refused = ap (λ (making : Option ℕ). without_making making (machine_of w h)) (makes h is ∙ making) ∙ record_is w h R (goes h is) refl (none_new h is)
 
-    late_does : Does w (freed_world (behind_step w c hand held (left_world o) (with_effects w) verbs.Look None None (look_word o) (Some o) beside.Nothing)) label
+    late_does : Does w (freed_world (behind_step w c hand held (left_world o) (with_effects w) verbs.Look None None (look_word o) (Some o) beside.Nothing 0 hand.snapshot (pulled_by_client c))) label
     late_does =
-        does_freed w (behind_step w c hand held (left_world o) (with_effects w) verbs.Look None None (look_word o) (Some o) beside.Nothing) label
-        (step_before w c hand held (left_world o) (with_effects w) verbs.Look None None (look_word o) (Some o) beside.Nothing (End o) next held (λ h. refl)
+        does_freed w (behind_step w c hand held (left_world o) (with_effects w) verbs.Look None None (look_word o) (Some o) beside.Nothing 0 hand.snapshot (pulled_by_client c)) label
+        (step_before w c hand held (left_world o) (with_effects w) verbs.Look None None (look_word o) (Some o) beside.Nothing 0 hand.snapshot (pulled_by_client c) (End o) next held (λ h. refl)
         (λ h is. record {
           done = refl;
           change = late_changes h is o (subst IsNoDone next (late_next w.cluster (rooms_at w c) hand.driver k making));
           fits = let f = record_fits w h R (goes h is) refl (none_new h is) is.fits in record { replicas = f.replicas; copies = f.copies; hands = f.hands };
+          count_is = refl;
+          copy_is = let stays = copy_stays w h c hand held is.fits in record { same = refl; room = stays.room; counts = stays.counts };
         }))
         (λ m s f. holds_freed w.cluster R w.nodes refl (goes s.history (known_by w m s f)) s.holds)
         (λ m s f. let is = known_by w m s f in unmade_has w.cluster w.snapshots is.keeps is.facts.rises is.facts.up_to k)

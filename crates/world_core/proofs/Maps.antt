@@ -133,29 +133,31 @@ none_case false p o = refl
 pub hand_set : (hands : List (Option InHand)) (c : ℕ) (h : InHand) (p : Option InHand) → hand_at hands c ≡ Some h → (d : ℕ) → hand_at (slice_set hands c p) d ≡ cond (d == c) p (hand_at hands d)
 hand_set hands c h p is d = let t = there_in_some (slice_get hands c) h is in ap or_none (get_set hands c p t.0 d t.1) ∙ none_case (d == c) p (slice_get hands d)
 
-hand_case : (b : Bool) (k l : Beginning) (new old : List StepDone) (made before : Option (List ℕ)) (p o : Option InHand) → (b ≡ true → k ≡ l) → cond b (shown_hand l new made p) (shown_hand k old before o) ≡ shown_hand k (cond b new old) (cond b made before) (cond b p o)
-hand_case true k l new old made before p o e = ap (λ k. shown_hand k new made p) (sym (e refl))
-hand_case false k l new old made before p o e = refl
+hand_case : (b : Bool) (k l : Beginning) (new old : List StepDone) (made before : Option (List ℕ)) (copy had : Option (List Effect)) (p o : Option InHand) → (b ≡ true → k ≡ l) →
+    cond b (shown_hand l new made copy p) (shown_hand k old before had o) ≡ shown_hand k (cond b new old) (cond b made before) (cond b copy had) (cond b p o)
+hand_case true k l new old made before copy had p o e = ap (λ k. shown_hand k new made copy p) (sym (e refl))
+hand_case false k l new old made before copy had p o e = refl
 
--- the history in which a client's call has these steps, and has created this
-abbrev pub with_steps : History → ℕ → List StepDone → Option (List ℕ) → History
-with_steps h c steps created = record h { steps = put_actor h.steps (Client c) steps; created = put_actor h.created (Client c) created }
+-- the history in which a client's call has these steps, has created this, and has pulled these effects
+abbrev pub with_steps : History → ℕ → List StepDone → Option (List ℕ) → Option (List Effect) → History
+with_steps h c steps created pulled = record h { steps = put_actor h.steps (Client c) steps; created = put_actor h.created (Client c) created; pulled = put_actor h.pulled (Client c) pulled }
 
 -- the calls in hand, where client c's is another now
-pub put_hand : (h : History) (hands : List (Option InHand)) (c : ℕ) (old : InHand) (p : Option InHand) (new : List StepDone) (made : Option (List ℕ)) → hand_at hands c ≡ Some old →
-    (a : ActorName) → put_actor (hand_of h hands) (Client c) (shown_hand (h.beginnings (Client c)) new made p) a ≡ hand_of (with_steps h c new made) (slice_set hands c p) a
-put_hand h hands c old p new made is (Client d) =
-    hand_case (d == c) (h.beginnings (Client d)) (h.beginnings (Client c)) new (h.steps (Client d)) made (h.created (Client d)) p (hand_at hands d) (λ e. ap (λ d. h.beginnings (Client d)) (eqb-true d c e))
-    ∙ ap (shown_hand (h.beginnings (Client d)) (put_actor h.steps (Client c) new (Client d)) (put_actor h.created (Client c) made (Client d))) (sym (hand_set hands c old p is d))
-put_hand h hands c old p new made is (Node r) = refl
+pub put_hand : (h : History) (hands : List (Option InHand)) (c : ℕ) (old : InHand) (p : Option InHand) (new : List StepDone) (made : Option (List ℕ)) (copy : Option (List Effect)) → hand_at hands c ≡ Some old →
+    (a : ActorName) → put_actor (hand_of h hands) (Client c) (shown_hand (h.beginnings (Client c)) new made copy p) a ≡ hand_of (with_steps h c new made copy) (slice_set hands c p) a
+put_hand h hands c old p new made copy is (Client d) =
+    hand_case (d == c) (h.beginnings (Client d)) (h.beginnings (Client c)) new (h.steps (Client d)) made (h.created (Client d)) copy (h.pulled (Client d)) p (hand_at hands d) (λ e. ap (λ d. h.beginnings (Client d)) (eqb-true d c e))
+    ∙ ap (shown_hand (h.beginnings (Client d)) (put_actor h.steps (Client c) new (Client d)) (put_actor h.created (Client c) made (Client d)) (put_actor h.pulled (Client c) copy (Client d))) (sym (hand_set hands c old p is d))
+put_hand h hands c old p new made copy is (Node r) = refl
 
-fits_hand_case : (b : Bool) (k l : Beginning) (new old : List StepDone) (p o : Option InHand) → (b ≡ true → k ≡ l) → FitsHand l new p → FitsHand k old o → FitsHand k (cond b new old) (cond b p o)
-fits_hand_case true k l new old p o e h g = subst (λ (k : Beginning). FitsHand k new p) (sym (e refl)) h
-fits_hand_case false k l new old p o e h g = g
+fits_hand_case : (b : Bool) (k l : Beginning) (new old : List StepDone) (copy had : Option (List Effect)) (p o : Option InHand) → (b ≡ true → k ≡ l) → FitsHand l new copy p → FitsHand k old had o → FitsHand k (cond b new old) (cond b copy had) (cond b p o)
+fits_hand_case true k l new old copy had p o e h g = subst (λ (k : Beginning). FitsHand k new copy p) (sym (e refl)) h
+fits_hand_case false k l new old copy had p o e h g = g
 
 -- and how they fit
-pub fits_hand : (h : History) (hands : List (Option InHand)) (c : ℕ) (old : InHand) (p : Option InHand) (new : List StepDone) → hand_at hands c ≡ Some old →
-    FitsHand (h.beginnings (Client c)) new p → ((d : ℕ) → FitsHand (h.beginnings (Client d)) (h.steps (Client d)) (hand_at hands d)) → (d : ℕ) → FitsHand (h.beginnings (Client d)) (put_actor h.steps (Client c) new (Client d)) (hand_at (slice_set hands c p) d)
-fits_hand h hands c old p new is one all d =
-    subst (FitsHand (h.beginnings (Client d)) (put_actor h.steps (Client c) new (Client d))) (sym (hand_set hands c old p is d))
-    (fits_hand_case (d == c) (h.beginnings (Client d)) (h.beginnings (Client c)) new (h.steps (Client d)) p (hand_at hands d) (λ e. ap (λ d. h.beginnings (Client d)) (eqb-true d c e)) one (all d))
+pub fits_hand : (h : History) (hands : List (Option InHand)) (c : ℕ) (old : InHand) (p : Option InHand) (new : List StepDone) (copy : Option (List Effect)) → hand_at hands c ≡ Some old →
+    FitsHand (h.beginnings (Client c)) new copy p → ((d : ℕ) → FitsHand (h.beginnings (Client d)) (h.steps (Client d)) (h.pulled (Client d)) (hand_at hands d)) →
+    (d : ℕ) → FitsHand (h.beginnings (Client d)) (put_actor h.steps (Client c) new (Client d)) (put_actor h.pulled (Client c) copy (Client d)) (hand_at (slice_set hands c p) d)
+fits_hand h hands c old p new copy is one all d =
+    subst (FitsHand (h.beginnings (Client d)) (put_actor h.steps (Client c) new (Client d)) (put_actor h.pulled (Client c) copy (Client d))) (sym (hand_set hands c old p is d))
+    (fits_hand_case (d == c) (h.beginnings (Client d)) (h.beginnings (Client c)) new (h.steps (Client d)) copy (h.pulled (Client d)) p (hand_at hands d) (λ e. ap (λ d. h.beginnings (Client d)) (eqb-true d c e)) one (all d))

@@ -136,6 +136,7 @@ changed-moment m s verbs.Apply k r reply = on_ok-moment m _ reply (at_some-momen
 changed-moment m s verbs.Mark k r reply = on_ok-moment m _ reply (at_some-moment m k _ (λ k. at_some-moment m r _ (λ r. change_replica-moment m k r (m.replicas k r) _)))
 changed-moment m s verbs.Element k r reply = on_ok-moment m _ reply (at_some-moment m k _ (λ k. at_some-moment m r _ (λ r. change_replica-moment m k r (m.replicas k r) _)))
 changed-moment m s verbs.Unmark k r reply = on_ok-moment m _ reply (at_some-moment m k _ (λ k. at_some-moment m r _ (λ r. change_replica-moment m k r (m.replicas k r) _)))
+changed-moment m s verbs.Install k r reply = on_ok-moment m _ reply (at_some-moment m k _ (λ k. at_some-moment m r _ (λ r. change_replica-moment m k r (m.replicas k r) _)))
 changed-moment m s verbs.Iter k r reply = on_ok-moment m _ reply (at_some-moment m k _ (λ k. at_some-moment m r _ (λ r. refl)))
 changed-moment m s verbs.Next k r reply = on_ok-moment m _ reply (at_some-moment m k _ (λ k. at_some-moment m r _ (λ r. refl)))
 changed-moment m s verbs.Look k r reply = on_look-moment m _ _ reply refl (without_making-moment m (making_of s.call m.cluster))

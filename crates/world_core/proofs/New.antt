@@ -23,10 +23,10 @@ abbrev no_call : CallId
 no_call = record { actor = Client 0; number = 0 }
 
 abbrev none_has_begun : Beginning
-none_has_begun = record { kept = record { ckpt = None; room = room_in None; all = false; weak = false; node = 0; moment = pos 0 }; driver = Once Leave }
+none_has_begun = record { kept = record { ckpt = None; room = room_in None; all = false; weak = false; declares = None; node = 0; moment = pos 0 }; driver = Once Leave }
 
 abbrev nothing : History
-nothing = record { effects = λ k r. []; origins = λ k r. no_call; copied = λ k. []; beginnings = λ a. none_has_begun; steps = λ a. []; created = λ a. None }
+nothing = record { effects = λ k r. []; origins = λ k r. no_call; copied = λ k. []; beginnings = λ a. none_has_begun; steps = λ a. []; created = λ a. None; pulled = λ a. None }
 
 module _ (w : World) (new : IsNew w) where
   no_replica : (k r : ℕ) → complete_replica w.cluster w.nodes k r ≡ None
@@ -41,7 +41,7 @@ module _ (w : World) (new : IsNew w) where
   nexts (Node r) = refl
 
   hands : (a : ActorName) → None ≡ hand_of nothing w.hands a
-  hands (Client c) = sym (ap (shown_hand none_has_begun [] None) (new.hands c))
+  hands (Client c) = sym (ap (shown_hand none_has_begun [] None None) (new.hands c))
   hands (Node r) = refl
 
   shows_nothing : empty_cluster ≡ machine_of w nothing
@@ -65,7 +65,7 @@ module _ (w : World) (new : IsNew w) where
   fits_nothing = record {
     replicas = λ k r. subst (FitsReplica k (entry_of k w.cluster.entries) []) (sym (no_replica k r)) tt;
     copies = λ k. subst (λ (backgrounds : List Background). FitsSnapshot [] (pulled_in backgrounds k)) (sym new.snapshots) tt;
-    hands = λ c. subst (FitsHand none_has_begun []) (sym (new.hands c)) tt;
+    hands = λ c. subst (FitsHand none_has_begun [] None) (sym (new.hands c)) tt;
   }
 
   none_live : (c : ℕ) → is_live_client c w.cluster ≡ true → ⊥

@@ -109,6 +109,7 @@ place_next R room (drivers.Once x) = open_place_of R room (drivers.Once x) tt
 place_next R room (drivers.Open o) = open_place_of R room (drivers.Open o) tt
 place_next R room (drivers.Update u) = open_place_of R room (drivers.Update u) (λ r t. tt, λ r. tt)
 place_next R room (drivers.Active a) = place_active room.iterations a (entry_of a.ckpt R.entries)
+place_next R room (drivers.Sync u) = open_place_of R room (drivers.Sync u) (λ r. tt, λ r. tt)
 
 pub iterate_room : (R : RecordState) (room : Rooms) (x : Driver) (r : ℕ) (call : CallId) (k : ℕ) (choice : Choice) → driver_next R room x ≡ Serve r (requests.Iterate call k choice) → room.iterations ≡ true
 iterate_room R room x r call k choice e = subst (HasPlaceFor room.iterations) e (place_next R room x)

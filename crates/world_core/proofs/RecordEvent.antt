@@ -30,7 +30,7 @@ use Rattle.ckpt_machine.specs.Drivers as drivers
 use Rattle.ckpt_machine.specs.Driving.{driver_next, event_ckpt, event_node, event_end, event_refusal}
 use Rattle.ckpt_machine.specs.Facts.{IsEventReady, IsFinishable}
 use Rattle.ckpt_machine.specs.Machine.{Machine, CallState, no_tables}
-use Rattle.ckpt_machine.specs.Steps.{Told, IsDone, IsRecordAnswer, at_some, changed, created_for, retained_for, driver_of, record_step, with_closed, with_given, with_record, with_tables}
+use Rattle.ckpt_machine.specs.Steps.{Told, IsDone, IsRecordAnswer, at_some, changed, pulled_by, created_for, retained_for, driver_of, record_step, with_closed, with_given, with_record, with_tables}
 use Rattle.replica.specs.Replicas.{Replica}
 use Rattle.world_core.specs.Nodes.{replica_in}
 use Rattle.ckpt_machine.specs.Tables.{handle_given, closing}
@@ -48,11 +48,11 @@ use Rattle.world_core.specs.RecordReady.{IsRefusedWith}
 use Rattle.world_core.specs.Settling.{tables_given, settled, CanSettle}
 use Rattle.world_core.specs.Shows.{Does, IsShown, History, machine_of, hand_at}
 use Rattle.world_core.specs.TableState.{with_client, at_client}
-use Rattle.world_core.proofs.CallSteps.{IsKnown, known, known_by, behind_step, IsShownBehind, step_before}
+use Rattle.world_core.proofs.CallSteps.{pulled_by_client, event_counts, event_pulls, IsKnown, known, known_by, behind_step, IsShownBehind, step_before}
 use Rattle.world_core.proofs.Freeing.{does_before, does_freed}
 use Rattle.world_core.proofs.Adding.{AddedAt, added_record, added_fits, holds_added}
 use Rattle.world_core.proofs.Going.{event_goes, event_adds, event_once, event_keeps}
-use Rattle.world_core.proofs.Held.{state_in, in_hand_is, driver_is, actor_is, due_is}
+use Rattle.world_core.proofs.Held.{copy_stays, IsCopyBehind, state_in, in_hand_is, driver_is, actor_is, due_is}
 use Rattle.world_core.proofs.LiveRooms.{EntersWithRoom, rooms_settled, rooms_after}
 use Rattle.world_core.proofs.Recording.{GoesAt, none_pulled, with_effects, record_is, record_fits}
 use Rattle.world_core.proofs.SnapshotRooms.{behind-pulled, event_has}
@@ -244,20 +244,28 @@ module _ (w : World) (c : ℕ) (step : RecordStep) (hand : InHand) (held : hand_
       answer = subst (λ o. IsRecordAnswer o step (parts reply end)) (ap (event_refusal w.cluster step) driver) answer;
     }
 
-    shown_done : length w.nodes ≡ 8 → event_refusal w.cluster step hand.driver ≡ None → CanSettle c hand.op step w.tables → IsShownBehind w c hand held (settled_world w c hand step) (with_effects w) verb k r words.Ok end beside.Nothing (Event step) h
+    -- it pulls nothing
+    stays : (reply : StepReply) → IsCopyBehind (with_effects w h) c hand (pulled_by m s verb k r reply) (h.pulled (Client c)) hand.snapshot
+    stays reply = let copy = copy_stays w h c hand held is.fits in record { same = event_pulls m s step k r reply; room = copy.room; counts = copy.counts }
+
+    shown_done : length w.nodes ≡ 8 → event_refusal w.cluster step hand.driver ≡ None → CanSettle c hand.op step w.tables → IsShownBehind w c hand held (settled_world w c hand step) (with_effects w) verb k r words.Ok end beside.Nothing 0 hand.snapshot (pulled_by_client c) (Event step) h
     shown_done eight granted can = record {
       done = told_so words.Ok end (subst (λ o. IsRecordAnswer o step (parts words.Ok end)) (sym granted) (inl (refl, refl)));
       change = change_done m s hand.driver step ready (subst (DrivesFor s.call (asked s.op)) (sym driver) (state_drives s (is.facts.driven (Client c) s (in_hand_is w h c hand held))))
           ∙ ap (tables_after s step k) (added_record w h R nodes (adds eight granted) backgrounds pulled ∙ record_is (record w { nodes = nodes; snapshots = backgrounds }) h R (goes eight granted) up none_new)
           ∙ settles (record w { cluster = R; nodes = nodes; snapshots = backgrounds }) (with_effects w h) c s (actor_is w h c hand held is.facts) step k can;
       fits = let f = record_fits (record w { nodes = nodes; snapshots = backgrounds }) h R (goes eight granted) up none_new (added_fits w h R nodes (adds eight granted) backgrounds pulled is.fits) in record { replicas = f.replicas; copies = f.copies; hands = f.hands };
+      count_is = event_counts m step k r words.Ok;
+      copy_is = stays words.Ok;
     }
 
-    shown_refused : (reply : StepReply) (end : Outcome) → IsRefusedWith (event_refusal w.cluster step hand.driver) step reply end → IsShownBehind w c hand held w (λ h. h) verb k r reply (Some end) beside.Nothing (Event step) h
+    shown_refused : (reply : StepReply) (end : Outcome) → IsRefusedWith (event_refusal w.cluster step hand.driver) step reply end → IsShownBehind w c hand held w (λ h. h) verb k r reply (Some end) beside.Nothing 0 hand.snapshot (pulled_by_client c) (Event step) h
     shown_refused reply end refused = record {
       done = told_so reply (Some end) (refused_answer (event_refusal w.cluster step hand.driver) step verb k r reply end refused);
       change = refused_leaves m s step k r reply (not_ok (event_refusal w.cluster step hand.driver) step reply end refused);
       fits = is.fits;
+      count_is = event_counts m step k r reply;
+      copy_is = let copy = stays reply in record { same = copy.same; room = copy.room; counts = copy.counts };
     }
 
   -- what a due step asks
@@ -280,11 +288,11 @@ module _ (w : World) (c : ℕ) (step : RecordStep) (hand : InHand) (held : hand_
 
   -- the step is done, and the nodes are freed of what is gone
   pub event_does : length w.nodes ≡ 8 → event_refusal w.cluster step hand.driver ≡ None → CanSettle c hand.op step w.tables → EntersWithRoom hand.call hand.driver w.tables →
-      Does w (freed_world (behind_step w c hand held (settled_world w c hand step) (with_effects w) verb k r words.Ok end beside.Nothing)) (told words.Ok end)
+      Does w (freed_world (behind_step w c hand held (settled_world w c hand step) (with_effects w) verb k r words.Ok end beside.Nothing 0 hand.snapshot (pulled_by_client c))) (told words.Ok end)
   event_does eight granted can enters =
       let behind = settled_world w c hand step in
-      does_freed w (behind_step w c hand held behind (with_effects w) verb k r words.Ok end beside.Nothing) (told words.Ok end)
-      (step_before w c hand held behind (with_effects w) verb k r words.Ok end beside.Nothing (Event step) next held (λ h. refl) (λ h is. shown_done h is eight granted can))
+      does_freed w (behind_step w c hand held behind (with_effects w) verb k r words.Ok end beside.Nothing 0 hand.snapshot (pulled_by_client c)) (told words.Ok end)
+      (step_before w c hand held behind (with_effects w) verb k r words.Ok end beside.Nothing 0 hand.snapshot (pulled_by_client c) (Event step) next held (λ h. refl) (λ h is. shown_done h is eight granted can))
       (λ m s f. holds_after s.history (known_by w m s f) eight granted)
       (λ m s f. let is = known_by w m s f in event_has w.cluster w.snapshots is.keeps is.facts.rises is.facts.up_to hand.call hand.driver step)
       (λ m s f. rooms_settled w R c R hand.op step k (rooms_after hand.call hand.driver step w.cluster w.tables enters s.rooms))
@@ -293,5 +301,5 @@ module _ (w : World) (c : ℕ) (step : RecordStep) (hand : InHand) (held : hand_
   pub refused_does : (reply : StepReply) (end : Outcome) → IsRefusedWith (event_refusal w.cluster step hand.driver) step reply end → Does w (record w { hands = slice_set w.hands c None }) (told reply (Some end))
   refused_does reply end refused =
       does_before w (record w { hands = slice_set w.hands c None }) (told reply (Some end))
-      (step_before w c hand held w (λ h. h) verb k r reply (Some end) beside.Nothing (Event step) next held (λ h. refl) (λ h is. shown_refused h is reply end refused))
+      (step_before w c hand held w (λ h. h) verb k r reply (Some end) beside.Nothing 0 hand.snapshot (pulled_by_client c) (Event step) next held (λ h. refl) (λ h is. shown_refused h is reply end refused))
       (λ m s f. s.holds) (λ m s f. s.keeps) (λ m s f. s.rooms)

@@ -1,7 +1,8 @@
 -- For each request that a node serves but a reservation: what its row changes in the machine is what the node changes.
 use Rattle.std.proofs.Common.{◌≡◌, ℕ, ◌+◌, ℤ, List, ◌∷◌, [], ◌++◌, length, refl, sym, ap, subst, ◌∙◌, length-append}
-use Rattle.std.specs.Prelude.{Option, Some, None, Result, Ok, Err}
+use Rattle.std.specs.Prelude.{Option, Some, None, Result, Ok, Err, Bool, true, false, cond, ◌==◌, if◌then◌else◌}
 use Rattle.ckpt_types.specs.declared.identities.CallId.{CallId}
+use Rattle.ckpt_types.specs.declared.attributes.CreationAttributes.{CreationAttributes}
 use Rattle.ckpt_types.specs.declared.update.Update.{Update}
 use Rattle.ckpt_types.specs.Sections.{Section}
 use Rattle.ckpt_types.specs.Updates.{Refusal}
@@ -11,25 +12,27 @@ use Rattle.ckpt_types.specs.Reads.{NextGiven, given, chosen}
 use Rattle.client_handles.specs.ClientState.{ClientState, kept_at}
 use Rattle.section_iter.specs.KeptIds.{KeptIds}
 use Rattle.node_msgs.specs.declared.requests.Request.{Request}
-use Rattle.node_msgs.specs.declared.requests.Request.TheVariants.{Reserve, Claim, Withdraw, Apply, Mark, Element, Unmark, Iterate, Next, Stage, Commit}
+use Rattle.node_msgs.specs.declared.requests.Request.TheVariants.{Reserve, Claim, Withdraw, Apply, Mark, Element, Unmark, Iterate, Next, Stage, Commit, Pull, Install}
 use Rattle.node_msgs.specs.declared.steps.Verb.TheVariants as verbs
 use Rattle.node_msgs.specs.declared.steps.StepReply.TheVariants as words
 use Rattle.cluster_record.specs.declared.entries.Entry.{Entry}
-use Rattle.replica.specs.Replicas.{Replica, committed, applied_by, or_same, standing_or, staged_by, marked_by, element_done, ended, outcome_on}
+use Rattle.node_msgs.specs.declared.replies.Reply.TheVariants as replies
+use Rattle.snap_copy.specs.Snapshots as copies
+use Rattle.replica.specs.Replicas.{Replica, is_older, taken_from, committed, applied_by, or_same, standing_or, staged_by, marked_by, element_done, ended, outcome_on}
 use Rattle.stage_slot.specs.Slots.{Slot, IsOwnedBy}
-use Rattle.weak_marks.specs.Marks.{Marked, IsMarkedBy, with_next_done}
+use Rattle.weak_marks.specs.Marks.{Marked, IsMarkedBy, call_of, with_next_done}
 use Rattle.cluster_record.specs.Places.{put2}
 use Rattle.cluster_record.specs.RecordState.{entry_of}
 use Rattle.node_msgs.specs.Requests.{ckpt_of}
 use Rattle.node_core.specs.Payloads.{Payload}
 use Rattle.node_core.specs.Seen.{RecordSeen, record_seen}
-use Rattle.node_core.specs.Serving.{reply_of, replica_after, stage_reply, apply_reply, mark_reply, next_reply}
+use Rattle.node_core.specs.Serving.{reply_of, replica_after, stage_reply, apply_reply, mark_reply, next_reply, pull_reply, generation_seen, older_reply, install_reply, installed_of}
 use Rattle.node_core.specs.Fitting.{IsReadyFor}
 use Rattle.node_msgs.specs.Steps.{verb_of, word_of}
-use Rattle.ckpt_machine.specs.Machine.{Machine, Effect, Applied, ReplicaState, CallState}
-use Rattle.ckpt_machine.specs.Steps.{changed, on_ok, change_replica, chosen_at, given_at, ids_asked, payload_due, seen_at, with_slot, with_committed, with_applied, with_marks, with_next_element, without_marks, having_taken, with_tables, staged_moment}
+use Rattle.ckpt_machine.specs.Machine.{Machine, Effect, Applied, ReplicaState, Snapshot, CallState}
+use Rattle.ckpt_machine.specs.Steps.{changed, on_ok, change_replica, chosen_at, given_at, ids_asked, payload_due, seen_at, with_slot, with_committed, with_applied, with_marks, with_next_element, without_marks, with_installed, seen_snapshot, having_taken, with_tables, staged_moment}
 use Rattle.ckpt_machine.specs.Tables.{started, with_next, gone_on}
-use Rattle.world_core.specs.Shows.{shown_replica, shown_slot, FitsReplica, FitsSlot}
+use Rattle.world_core.specs.Shows.{shown_replica, shown_slot, FitsReplica, FitsSlot, FitsSnapshot}
 use Rattle.ckpt_machine.proofs.Calls.{IsOwn}
 use Rattle.ckpt_machine.proofs.ClientTables.{same_tables}
 use Rattle.world_core.proofs.Carrying.{GoesToReplica, Carries}
@@ -52,16 +55,29 @@ abbrev pub effects_unmarked : Option Marked → List Effect → List Effect
 effects_unmarked None E = E
 effects_unmarked (Some marked) E = E ++ Applied marked.call marked.update marked.moment ∷ []
 
-abbrev pub effects_after : CallId → Request → Payload → RecordSeen → Option Replica → CallId → List Effect → List Effect
-effects_after by (Commit call k) p seen (Some x) o E = effects_with x.slot o E
-effects_after by (Apply call k) p seen (Some x) o E = effects_applied (Applied by p.update seen.moment) x.marks (outcome_on x p.update seen.moment) E
-effects_after by (Unmark call k) p seen (Some x) o E = effects_unmarked x.marks E
-effects_after by request p seen y o E = E
+-- the effects of what a call has pulled; none where it has pulled nothing
+abbrev pub effects_in : Option Snapshot → List Effect
+effects_in None = []
+effects_in (Some s) = s.effects
+
+-- and those of a snapshot where that is installed
+abbrev pub effects_installed : ℕ → Option copies.Snapshot → Replica → List Effect → List Effect → List Effect
+effects_installed present None x F E = E
+effects_installed present (Some s) x F E = if s.generation == present then if is_older x s then F else E else E
+
+-- F are the effects of the snapshot that travels beside the request
+abbrev pub effects_after : CallId → Request → Payload → RecordSeen → Option Replica → CallId → List Effect → List Effect → List Effect
+effects_after by (Commit call k) p seen (Some x) o F E = effects_with x.slot o E
+effects_after by (Apply call k) p seen (Some x) o F E = effects_applied (Applied by p.update seen.moment) x.marks (outcome_on x p.update seen.moment) E
+effects_after by (Unmark call k) p seen (Some x) o F E = effects_unmarked x.marks E
+effects_after by (Install call k) p seen (Some x) o F E = effects_installed (generation_seen seen.entry) p.snapshot x F E
+effects_after by request p seen y o F E = E
 
 -- what is the same of two payloads leaves the same effects
-pub effects_carried : (by : CallId) (request : Request) (p q : Payload) (seen : RecordSeen) (x : Replica) (o : CallId) (E : List Effect) → Carries request p q → effects_after by request p seen (Some x) o E ≡ effects_after by request q seen (Some x) o E
-effects_carried by (Apply call k) p q seen x o E same = λ i. effects_applied (Applied by (same i) seen.moment) x.marks (outcome_on x (same i) seen.moment) E
-effects_carried by request p q seen x o E same = refl
+pub effects_carried : (by : CallId) (request : Request) (p q : Payload) (seen : RecordSeen) (x : Replica) (o : CallId) (F E : List Effect) → Carries request p q → effects_after by request p seen (Some x) o F E ≡ effects_after by request q seen (Some x) o F E
+effects_carried by (Install call k) p q seen x o F E same = λ i. effects_installed (generation_seen seen.entry) (same i) x F E
+effects_carried by (Apply call k) p q seen x o F E same = λ i. effects_applied (Applied by (same i) seen.moment) x.marks (outcome_on x (same i) seen.moment) E
+effects_carried by request p q seen x o F E same = refl
 
 abbrev pub origin_with : CallId → CallId → Option Slot → CallId
 origin_with call o None = call
@@ -147,6 +163,27 @@ module _ (M : Machine) (s : CallState) (k r : ℕ) (E : List Effect) (o : CallId
   unmark_moves None call is by = absurd by
   unmark_moves (Some marked) call is by = ap (λ y. change_replica M k r y without_marks) is
 
+  -- a pull leaves the replica as it is
+  pull_stays : (holder : Option CallId) (count : ℕ) → M.replicas k r ≡ shown_replica E o (Some x) → changed M s verbs.Pull (Some k) (Some r) (word_of (pull_reply holder count)) ≡ with (shown_replica E o (Some x))
+  pull_stays (Some holder) count is = stays (shown_replica E o (Some x)) is
+  pull_stays None count is = stays (shown_replica E o (Some x)) is
+
+  -- a snapshot is installed where it is of the present generation and the replica older
+  install_moves : (present : ℕ) (declares : Option CreationAttributes) (taken : Option Snapshot) → M.replicas k r ≡ shown_replica E o (Some x) →
+      on_ok (word_of (install_reply present (seen_snapshot declares taken) x)) M (change_replica M k r (M.replicas k r) (with_installed taken)) ≡ with (shown_replica (effects_installed present (seen_snapshot declares taken) x (effects_in taken) E) o (Some (installed_of present (seen_snapshot declares taken) x)))
+  install_moves present None taken is = stays (shown_replica E o (Some x)) is
+  install_moves present (Some a) None is = stays (shown_replica E o (Some x)) is
+  install_moves present (Some a) (Some t) is = by_tests (t.generation == present) (is_older x copy) where
+    copy : copies.Snapshot
+    copy = record { attributes = a; sections = t.sections; generation = t.generation; count = length t.effects }
+
+    by_tests : (same older : Bool) →
+        on_ok (word_of (cond same (older_reply (cond older (Ok tt) (Err (record { generation = x.generation; count = x.count })))) (replies.Stale t.generation present))) M (change_replica M k r (M.replicas k r) (with_installed (Some t)))
+        ≡ with (shown_replica (cond same (cond older t.effects E) E) o (Some (cond same (cond older (taken_from copy x) x) x)))
+    by_tests false older = stays (shown_replica E o (Some x)) is
+    by_tests true false = stays (shown_replica E o (Some x)) is
+    by_tests true true = ap (λ y. change_replica M k r y (with_installed (Some t))) is
+
   module _ (is : M.replicas k r ≡ shown_replica E o (Some x)) (seen : seen_at M k r ≡ Some x) where
     abbrev whole : Machine
     whole = with (shown_replica E o (Some x))
@@ -166,7 +203,7 @@ module _ (M : Machine) (s : CallState) (k r : ℕ) (E : List Effect) (o : CallId
 pub row_moves : (M : Machine) (s : CallState) (r : ℕ) (E : List Effect) (o : CallId) (x : Replica) (e : Entry) (request : Request) → GoesToReplica request → entry_of (ckpt_of request) M.cluster.entries ≡ Some e → x.attributes ≡ e.attributes →
     M.replicas (ckpt_of request) r ≡ shown_replica E o (Some x) → seen_at M (ckpt_of request) r ≡ Some x → IsReadyFor request x → IsOwn s.call request → ((call : CallId) (k : ℕ) (t : ℤ) → request ≡ Stage call k t → x.slot ≡ None → staged_moment M k ≡ t) →
     changed M s (verb_of request) (Some (ckpt_of request)) (Some r) (word_of (reply_of request (payload_due M s) (record_seen M.cluster (ckpt_of request) r) x))
-    ≡ tables_moved request s (ids_asked M s) M.cluster.moment x.sections (record M { replicas = put2 M.replicas (ckpt_of request) r (shown_replica (effects_after s.call request (payload_due M s) (record_seen M.cluster (ckpt_of request) r) (Some x) o E) (origin_after request (Some x) o) (Some (replica_after request (payload_due M s) (record_seen M.cluster (ckpt_of request) r) x))) })
+    ≡ tables_moved request s (ids_asked M s) M.cluster.moment x.sections (record M { replicas = put2 M.replicas (ckpt_of request) r (shown_replica (effects_after s.call request (payload_due M s) (record_seen M.cluster (ckpt_of request) r) (Some x) o (effects_in s.snapshot) E) (origin_after request (Some x) o) (Some (replica_after request (payload_due M s) (record_seen M.cluster (ckpt_of request) r) x))) })
 row_moves M s r E o x e (Reserve k) goes at same is seen ready own moment = absurd goes
 row_moves M s r E o x e (Claim call k owner) goes at same is seen ready own moment = absurd goes
 row_moves M s r E o x e (Withdraw call k) goes at same is seen ready own moment = absurd goes
@@ -182,6 +219,8 @@ row_moves M s r E o x e (Iterate call k choice) goes at same is seen ready own m
 row_moves M s r E o x e (Next call k) goes at same is seen ready own moment = goes_on M s k r E o x is seen (given (ids_asked M s) M.cluster.moment x.sections) refl
 row_moves M s r E o x e (Stage call k t) goes at same is seen ready own moment = stage_moves M s k r E o x call t x.slot (outcome_on x (update_of s.op) t) is own (λ n. moment call k t refl n)
 row_moves M s r E o x e (Commit call k) goes at same is seen ready own moment = commit_moves M s k r E o x x.slot e call at same is ready
+row_moves M s r E o x e (Install call k) goes at same is seen ready own moment = install_moves M s k r E o x (generation_seen (record_seen M.cluster k r).entry) s.kept.declares s.snapshot is
+row_moves M s r E o x e (Pull call k) goes at same is seen ready own moment = pull_stays M s k r E o x (call_of x.marks) x.count is
 row_moves M s r E o x e request goes at same is seen ready own moment = stays M s (ckpt_of request) r E o x (shown_replica E o (Some x)) is
 
 -- and the replica still fits
@@ -237,15 +276,30 @@ fits_unmark k e E x call (Some marked) by fits = by_entry e fits where
   by_entry None fits = (fits.0, tt, count, slot)
   by_entry (Some e) fits = (fits.0, fits.1, count, slot)
 
-pub row_fits : (k : ℕ) (e : Option Entry) (E : List Effect) (o : CallId) (x : Replica) (by : CallId) (request : Request) (p : Payload) (seen : RecordSeen) → GoesToReplica request → IsReadyFor request x → FitsReplica k e E (Some x) → FitsReplica k e (effects_after by request p seen (Some x) o E) (Some (replica_after request p seen x))
-row_fits k e E o x by (Reserve j) p seen goes ready fits = absurd goes
-row_fits k e E o x by (Claim call j owner) p seen goes ready fits = absurd goes
-row_fits k e E o x by (Withdraw call j) p seen goes ready fits = absurd goes
-row_fits k e E o x by (Mark call j) p seen goes ready fits = fits_mark k e E x (standing_or x.marks (outcome_on x p.update seen.moment) (marked_by call p.update seen.moment x)) ready fits
-row_fits k e E o x by (Element call j) p seen goes ready fits = fits_element k e E x call x.marks ready.0 fits
-row_fits k e E o x by (Unmark call j) p seen goes ready fits = fits_unmark k e E x call x.marks ready.0 fits
-row_fits k None E o x by (Stage call j t) p seen goes ready fits = (fits.0, tt, fits.2, staged_fits call p.update t x (outcome_on x p.update t) x.slot ready fits.3)
-row_fits k (Some e) E o x by (Stage call j t) p seen goes ready fits = (fits.0, fits.1, fits.2, staged_fits call p.update t x (outcome_on x p.update t) x.slot ready fits.3)
-row_fits k e E o x by (Commit call j) p seen goes ready fits = fits_commit k e E o x x.slot fits
-row_fits k e E o x by (Apply call j) p seen goes ready fits = fits_apply k e E (Applied by p.update seen.moment) x x.marks (outcome_on x p.update seen.moment) ready fits
-row_fits k e E o x by request p seen goes ready fits = fits
+-- a snapshot that counts its effects, on a replica on which nothing is staged
+fits_installed : (k : ℕ) (e : Option Entry) (E F : List Effect) (x : Replica) (present : ℕ) (s : Option copies.Snapshot) → x.slot ≡ None → FitsSnapshot F s → FitsReplica k e E (Some x) → FitsReplica k e (effects_installed present s x F E) (Some (installed_of present s x))
+fits_installed k e E F x present None free counts fits = fits
+fits_installed k e E F x present (Some s) free counts fits = by_tests (s.generation == present) (is_older x s) where
+  taken : (e : Option Entry) → FitsReplica k e E (Some x) → FitsReplica k e F (Some (taken_from s x))
+  taken None fits = (fits.0, tt, counts, subst (FitsSlot s.count x.marks) (sym free) tt)
+  taken (Some e) fits = (fits.0, fits.1, counts, subst (FitsSlot s.count x.marks) (sym free) tt)
+
+  by_tests : (same older : Bool) → FitsReplica k e (cond same (cond older F E) E) (Some (cond same (cond older (taken_from s x) x) x))
+  by_tests false older = fits
+  by_tests true false = fits
+  by_tests true true = taken e fits
+
+pub row_fits : (k : ℕ) (e : Option Entry) (F E : List Effect) (o : CallId) (x : Replica) (by : CallId) (request : Request) (p : Payload) (seen : RecordSeen) → GoesToReplica request → IsReadyFor request x → FitsSnapshot F p.snapshot → FitsReplica k e E (Some x) →
+    FitsReplica k e (effects_after by request p seen (Some x) o F E) (Some (replica_after request p seen x))
+row_fits k e F E o x by (Reserve j) p seen goes ready counts fits = absurd goes
+row_fits k e F E o x by (Claim call j owner) p seen goes ready counts fits = absurd goes
+row_fits k e F E o x by (Withdraw call j) p seen goes ready counts fits = absurd goes
+row_fits k e F E o x by (Mark call j) p seen goes ready counts fits = fits_mark k e E x (standing_or x.marks (outcome_on x p.update seen.moment) (marked_by call p.update seen.moment x)) ready fits
+row_fits k e F E o x by (Element call j) p seen goes ready counts fits = fits_element k e E x call x.marks ready.0 fits
+row_fits k e F E o x by (Unmark call j) p seen goes ready counts fits = fits_unmark k e E x call x.marks ready.0 fits
+row_fits k None F E o x by (Stage call j t) p seen goes ready counts fits = (fits.0, tt, fits.2, staged_fits call p.update t x (outcome_on x p.update t) x.slot ready fits.3)
+row_fits k (Some e) F E o x by (Stage call j t) p seen goes ready counts fits = (fits.0, fits.1, fits.2, staged_fits call p.update t x (outcome_on x p.update t) x.slot ready fits.3)
+row_fits k e F E o x by (Commit call j) p seen goes ready counts fits = fits_commit k e E o x x.slot fits
+row_fits k e F E o x by (Apply call j) p seen goes ready counts fits = fits_apply k e E (Applied by p.update seen.moment) x x.marks (outcome_on x p.update seen.moment) ready fits
+row_fits k e F E o x by (Install call j) p seen goes ready counts fits = fits_installed k e E F x (generation_seen seen.entry) p.snapshot ready.0 counts fits
+row_fits k e F E o x by request p seen goes ready counts fits = fits

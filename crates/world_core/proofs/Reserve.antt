@@ -4,6 +4,7 @@ use Rattle.std.specs.Prelude.{Option, Some, None, ◌==◌, ◌&&◌, IsSomeAnd,
 use Rattle.std.proofs.lemmas.Bool.{eqb-true}
 use Rattle.ckpt_types.specs.declared.answers.Answer.TheVariants as answers
 use Rattle.ckpt_types.specs.declared.answers.Outcome.{Outcome}
+use Rattle.ckpt_types.specs.declared.identities.ActorName.TheVariants.{Client}
 use Rattle.node_msgs.specs.declared.requests.Request.TheVariants.{Reserve}
 use Rattle.node_msgs.specs.declared.replies.Reply.{Reply}
 use Rattle.node_msgs.specs.declared.replies.Reply.TheVariants.{Done, NoMemory}
@@ -20,7 +21,9 @@ use Rattle.node_core.specs.Payloads.{Payload}
 use Rattle.node_core.specs.Seen.{RecordSeen, record_seen}
 use Rattle.node_core.specs.Nodes.{replica_key, with_reserved, reserved_for}
 use Rattle.world_core.specs.Nodes.{nodes_after, replica_in}
-use Rattle.node_core.specs.Serving.{details_at}
+use Rattle.node_core.specs.Serving.{details_at, snapshot_behind}
+use Rattle.snap_copy.specs.Snapshots as copies
+use Rattle.cluster_record.specs.StepDone.{counting, count_told, done_of}
 use Rattle.replica.specs.Replicas.{opened_replica}
 use Rattle.node_msgs.specs.Steps.{word_of}
 use Rattle.ckpt_machine.specs.Driving.{driver_next, driver_taken, driver_end}
@@ -28,13 +31,13 @@ use Rattle.ckpt_machine.specs.Steps.{changed, ended_details, payload_due, seen_a
 use Rattle.world_core.specs.Happenings.{rooms_at}
 use Rattle.ckpt_machine.specs.Facts.{IsReservable, IsServable}
 use Rattle.world_core.specs.Shows.{Does, HistoryFits, FitsReplica, History, machine_of, shown_replica, where_complete, complete_replica, where_not_complete, shown_reservation, reserved_in, hand_at}
-use Rattle.world_core.proofs.Held.{state_in, driver_is}
+use Rattle.world_core.proofs.Held.{state_in, driver_is, IsCopyBehind, copy_stays}
 use Rattle.world_core.proofs.HoldingLaws.{opening_there, holds_served}
 use Rattle.world_core.proofs.Maps.{both_true, same_there, set_again, node_case}
 use Rattle.cluster_record.proofs.Places.{find_pushed, get_set, there_is}
 use Rattle.world_core.proofs.Finding as finding
-use Rattle.world_core.proofs.Serve.{behind, its_done, its_end, its_details, replica_there, served_world, served_label}
-use Rattle.world_core.proofs.CallSteps.{IsKnown, known_by, step_before}
+use Rattle.world_core.proofs.Serve.{behind, its_done, its_end, its_details, its_copy, replica_there, served_world, served_label}
+use Rattle.world_core.proofs.CallSteps.{IsKnown, known_by, pulled_by_client, step_before}
 use Rattle.world_core.proofs.Freeing.{does_before}
 
 -- ---- what a reservation makes of the nodes
@@ -111,12 +114,22 @@ entry_there : {P : Entry → Type 0} (o : Option Entry) → IsSomeAnd o P → (e
 entry_there None some = absurd some
 entry_there (Some e) some = (e, refl, some)
 
+-- nothing is pulled
+copy_kept : (k : ℕ) (x : Option Replica) (s : Option copies.Snapshot) → snapshot_behind (Reserve k) x s ≡ s
+copy_kept k None s = refl
+copy_kept k (Some x) None = refl
+copy_kept k (Some x) (Some s) = refl
+
 module _ (w : World) (c r k : ℕ) (hand : InHand) (p : Payload) (reply : Reply) (held : hand_at w.hands c ≡ Some hand) (next : driver_next w.cluster (rooms_at w c) hand.driver ≡ Serve r (Reserve k)) (may : (reply ≡ Done answers.Nothing) ⊎ (reply ≡ NoMemory)) (within : r < length w.nodes) where
   abbrev new : World
   new = behind w c r (Reserve k) hand p reply
 
   abbrev end : Option Outcome
   end = its_end w c r (Reserve k) hand p reply
+
+  -- neither answer tells a count
+  no_count : 0 ≡ count_told reply
+  no_count = elim may [ | inl done ↦ ap count_told (sym done) | inr refused ↦ ap count_told (sym refused) ]
 
   -- what the step has changed with this reply, where the nodes have this then
   record Reserves (answer : Reply) (nodes : List (List Replica)) (h : History) : Type 0 where
@@ -151,7 +164,7 @@ module _ (w : World) (c r k : ℕ) (hand : InHand) (p : Payload) (reply : Reply)
   pub reserve_does : Does w (served_world w c r (Reserve k) hand p reply) (served_label w c r (Reserve k) hand p reply)
   reserve_does =
       does_before w (served_world w c r (Reserve k) hand p reply) (served_label w c r (Reserve k) hand p reply)
-      (step_before w c hand held new (λ h. h) verbs.Reserve (Some k) (Some r) (word_of reply) end (ended_details end (its_details w c r (Reserve k) hand p reply)) (Serve r (Reserve k)) next held (λ h. refl) (λ h known. record {
+      (step_before w c hand held new (λ h. h) verbs.Reserve (Some k) (Some r) (word_of reply) end (ended_details end (its_details w c r (Reserve k) hand p reply)) (count_told reply) (its_copy w c r (Reserve k) hand p reply) (pulled_by_client c) (Serve r (Reserve k)) next held (λ h. refl) (λ h known. record {
         done = record {
           answer = reply;
           may = may;
@@ -160,10 +173,12 @@ module _ (w : World) (c r k : ℕ) (hand : InHand) (p : Payload) (reply : Reply)
           node = refl;
           reply = refl;
           details = ap (ended_details end) (none_read k p (record_seen w.cluster k r) (replica_there w c r (Reserve k) hand p reply) ∙ sym (none_read k (payload_due (machine_of w h) (state_in h c hand)) (record_seen w.cluster k r) (seen_at (machine_of w h) k r)));
-          end = let done = its_done w c r (Reserve k) hand p reply in ap (λ x. driver_end hand.op done reply (driver_taken done x)) (driver_is w h c hand held known.fits);
+          end = λ i. let done = counting (sym no_count i) (done_of w.cluster verbs.Reserve (Some k) (Some r) (word_of reply)) in driver_end hand.op done reply (driver_taken done (driver_is w h c hand held known.fits i));
         };
         change = (reserves h known).change;
         fits = (reserves h known).fits;
+        count_is = no_count;
+        copy_is = let copy = copy_stays w h c hand held known.fits in subst (IsCopyBehind h c hand (state_in h c hand).snapshot (h.pulled (Client c))) (sym (copy_kept k (replica_there w c r (Reserve k) hand p reply) hand.snapshot)) copy;
       }))
       (λ m s f. let is = known_by w m s f in holds_served w.cluster w.nodes r (Reserve k) p reply is.holds within (λ j e. subst (IsServable (machine_of w s.history) r) e (finding.ready w s.history c r (Reserve k) hand is.facts is.fits held next).1))
       (λ m s f. s.keeps)

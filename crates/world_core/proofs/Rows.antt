@@ -157,13 +157,13 @@ five_labels_are_a_run = (
   first_begins = record { client = omega arith; built = (omega arith, record { opens = refl; syncs = refl }); number = refl; none_in_hand = refl; may = (refl, refl); answer = inl refl }
 
   first_may_begin : Allowed (last (comes_up ∷ [])) (begins 1 starts)
-  first_may_begin = record { client = omega arith; built = (omega arith, record { opens = refl; syncs = refl }); number = refl; none_in_hand = refl; may = (refl, refl); row = (record { version = refl; handle = refl; flags = refl; arguments = refl; access = refl }, refl) }
+  first_may_begin = record { client = omega arith; built = (omega arith, record { opens = refl; syncs = refl }); number = refl; none_in_hand = refl; may = (refl, refl); row = (record { version = refl; handle = refl; flags = refl; arguments = refl; access = refl; operation = refl }, refl) }
 
   then_begins : IsDue (last (comes_up ∷ begins 1 starts ∷ example_enters ∷ [])) (begins 2 (ops.Unlink ck))
   then_begins = record { client = omega arith; built = tt; number = refl; none_in_hand = refl; may = tt; answer = inl refl }
 
   then_may_begin : Allowed (last (comes_up ∷ begins 1 starts ∷ example_enters ∷ [])) (begins 2 (ops.Unlink ck))
-  then_may_begin = record { client = omega arith; built = tt; number = refl; none_in_hand = refl; may = tt; row = (record { version = refl; handle = refl; flags = refl; arguments = refl; access = refl }, refl) }
+  then_may_begin = record { client = omega arith; built = tt; number = refl; none_in_hand = refl; may = tt; row = (record { version = refl; handle = refl; flags = refl; arguments = refl; access = refl; operation = refl }, refl) }
 
 -- with its step in front of its beginning
 pub a_step_before_its_call_is_no_run : IsRun (comes_up ∷ example_enters ∷ begins 1 starts ∷ begins 2 (ops.Unlink ck) ∷ example_refused ∷ []) → ⊥

@@ -19,14 +19,16 @@ use Rattle.cluster_record.specs.declared.calls.ActiveKind.{ActiveKind}
 use Rattle.cluster_record.specs.declared.calls.ActiveKind.TheVariants as kinds
 use Rattle.cluster_record.specs.declared.calls.Making.{Making}
 use Rattle.cluster_record.specs.declared.calls.MarksMade.{MarksMade}
+use Rattle.cluster_record.specs.declared.calls.PulledAt.{PulledAt}
+use Rattle.cluster_record.specs.DueSync.{SyncState, is_unserved}
 use Rattle.cluster_record.specs.declared.entries.Entry.{Entry}
 use Rattle.world_core.specs.declared.world.World.{World}
 use Rattle.cluster_record.specs.Calls.{same_actor, left}
 use Rattle.cluster_record.specs.RecordState.{RecordState, entry_of, complete_of}
 use Rattle.ckpt_machine.specs.Driving.{driver_taken}
-use Rattle.cluster_record.specs.StepDone.{done_of}
+use Rattle.cluster_record.specs.StepDone.{done_of, counting}
 use Rattle.ckpt_machine.specs.Machine.{Machine, CallState}
-use Rattle.ckpt_machine.specs.Steps.{driver_of, changed, claimed_count, kept_behind, step_of, after}
+use Rattle.ckpt_machine.specs.Steps.{driver_of, changed, counted_at, kept_behind, step_of, after}
 use Rattle.ckpt_machine.specs.Facts.{Facts}
 use Rattle.world_core.specs.Shows.{Does, Shows, History, HistoryFits, FitsReplica, IsShown, HasNumbersLeft, machine_of, shown_replica, hand_at}
 use Rattle.ckpt_machine.specs.Invariant.{InvariantIn, Invariant, IsGoodIn}
@@ -34,11 +36,11 @@ use Rattle.ckpt_machine.specs.Shape.{Shape}
 use Rattle.ckpt_machine.specs.Runs.{Counts, last}
 use Rattle.world_core.specs.Runs.{IsRunTo}
 use Rattle.ckpt_machine.specs.InHand.{MarksFit, IsInPlace}
-use Rattle.ckpt_machine.specs.Left.{lacking, having, making_left, active_left, steps_left, update_left}
+use Rattle.ckpt_machine.specs.Left.{lacking, having, unserved, making_left, active_left, steps_left, sync_left, update_left}
 use Rattle.cluster_record.specs.declared.calls.UpdatePhase.{UpdatePhase}
 use Rattle.cluster_record.specs.declared.calls.UpdatePhase.TheVariants.{Staging, Committing}
 use Rattle.world_core.specs.StepsLeft.{hand_left, left_of}
-use Rattle.world_core.proofs.Held.{state_in, in_hand_is, in_hand_at, driver_is, actor_is, taken-counting}
+use Rattle.world_core.proofs.Held.{state_in, in_hand_is, in_hand_at, driver_is, actor_is}
 use Rattle.ckpt_machine.proofs.Nearer.{step_nearer}
 use Rattle.ckpt_machine.proofs.Facts.{facts}
 use Rattle.ckpt_machine.proofs.Runs.{last-push}
@@ -74,12 +76,17 @@ active_left-from_one (kinds.Weak n) (Some marks) = from_one _
 active_left-from_one kind None = omega arith
 active_left-from_one kind (Some marks) = from_one _
 
+sync_left-from_one : (complete : List ℕ) (s : SyncState) (pulled : Option PulledAt) → 1 ≤ sync_left complete s pulled
+sync_left-from_one complete s None = omega arith
+sync_left-from_one complete s (Some pulled) = from_one _
+
 -- at least one step is left of a call in hand
 pub steps_left-from_one : (R : RecordState) (d : Driver) → 1 ≤ steps_left R d
 steps_left-from_one R (drivers.Once x) = omega arith
 steps_left-from_one R (drivers.Open o) = making_left-from_one R o.making
 steps_left-from_one R (drivers.Update u) = update_left-from_one (complete_of (entry_of u.ckpt R.entries)) u.owned u.phase
 steps_left-from_one R (drivers.Active a) = active_left-from_one a.kind a.marks
+steps_left-from_one R (drivers.Sync s) = sync_left-from_one (complete_of (entry_of s.ckpt R.entries)) s s.pulled
 
 -- after a step that does not end it a call is in hand with this step more
 step_of-in_hand : (m : Machine) (s : CallState) (c : ℕ) (verb : Verb) (k r : Option ℕ) (reply : StepReply) → s.call.actor ≡ Client c
@@ -103,15 +110,15 @@ nearer w w' log c hand next op verb k r reply None details to held does then =
     let m' = after m (Stepped hand.call op verb k r reply None details) in
     let goes : m'.in_hand (Client c) ≡ Some (kept_behind m s m'.cluster verb k r reply)
     = subst (λ o. let n = step_of m o verb k r reply None in n.in_hand (Client c) ≡ Some (kept_behind m s n.cluster verb k r reply)) (sym here) (step_of-in_hand m s c verb k r reply (actor_is w h c hand held its)) in
-    let driver : next.driver ≡ driver_taken (done_of m'.cluster verb k r reply) (driver_of s)
+    let told = counting (counted_at m verb k r reply) (done_of m'.cluster verb k r reply) in
+    let driver : next.driver ≡ driver_taken told (driver_of s)
     = driver_is w' new.history c next then new.fits
-    ∙ ap driver_of (same_Some (state_in new.history c next) (kept_behind m s m'.cluster verb k r reply) (sym (in_hand_is w' new.history c next then) ∙ sym (ap (λ (m : Machine). m.in_hand (Client c)) new.same) ∙ goes))
-    ∙ taken-counting (claimed_count m verb k r) (done_of m'.cluster verb k r reply) (driver_of s) in
-    let now : steps_left m'.cluster (driver_taken (done_of m'.cluster verb k r reply) (driver_of s)) ≡ left_of w' (Client c)
+    ∙ ap driver_of (same_Some (state_in new.history c next) (kept_behind m s m'.cluster verb k r reply) (sym (in_hand_is w' new.history c next then) ∙ sym (ap (λ (m : Machine). m.in_hand (Client c)) new.same) ∙ goes)) in
+    let now : steps_left m'.cluster (driver_taken told (driver_of s)) ≡ left_of w' (Client c)
     = ap (steps_left m'.cluster) (sym driver) ∙ ap (λ (m : Machine). steps_left m.cluster next.driver) new.same ∙ ap (hand_left w'.cluster) (sym then) in
     let before : steps_left m.cluster (driver_of s) ≡ left_of w (Client c)
     = ap (steps_left m.cluster) (sym (driver_is w h c hand held to.shows.fits)) ∙ ap (λ (m : Machine). steps_left m.cluster hand.driver) to.shows.same ∙ ap (hand_left w.cluster) (sym held) in
-    subst (λ n. n < left_of w (Client c)) now (subst (λ n. steps_left m'.cluster (driver_taken (done_of m'.cluster verb k r reply) (driver_of s)) < n) before (step_nearer m hand.call op verb k r reply details s (run_has log to.run).0 due here))
+    subst (λ n. n < left_of w (Client c)) now (subst (λ n. steps_left m'.cluster (driver_taken told (driver_of s)) < n) before (step_nearer m hand.call op verb k r reply details s (run_has log to.run).0 due here))
 
 -- ---- few steps are left of a call
 
@@ -169,6 +176,20 @@ active_few (kinds.Weak n) (Some marks) few = let elements = few.0 in let left = 
 active_few kind None few = omega arith
 active_few kind (Some marks) few = absurd few
 
+one_or_none : (b : Bool) (x n : ℕ) → x ≤ n → cond b 1 0 + x ≤ n + 1
+one_or_none true x n few = omega (arith, few)
+one_or_none false x n few = omega (arith, few)
+
+-- no more nodes are left to serve than there are
+unserved_few : (complete : List ℕ) (served : List Bool) → unserved complete served ≤ length complete
+unserved_few [] served = omega arith
+unserved_few (c ∷ cs) [] = omega arith
+unserved_few (c ∷ cs) (b ∷ bs) = let few = one_or_none (is_unserved c b) (unserved cs bs) (length cs) (unserved_few cs bs) in omega (arith, few)
+
+sync_few : (complete : List ℕ) (s : SyncState) (pulled : Option PulledAt) → length complete ≡ 8 → sync_left complete s pulled ≤ 66
+sync_few complete s None eight = omega arith
+sync_few complete s (Some pulled) eight = let few = unserved_few complete s.served in omega (arith, few, eight)
+
 -- what drives a call has few elements left
 abbrev HasFewLeft : Driver → Type 0
 HasFewLeft (drivers.Active a) = MarksFit a.kind a.marks
@@ -179,12 +200,14 @@ has_few m shapes s (drivers.Active a) here = here.fit
 has_few m shapes s (drivers.Once x) here = tt
 has_few m shapes s (drivers.Open o) here = tt
 has_few m shapes s (drivers.Update u) here = tt
+has_few m shapes s (drivers.Sync u) here = tt
 
 steps_left-few : (R : RecordState) (d : Driver) → length R.up ≡ 8 → ((k : ℕ) → length (complete_of (entry_of k R.entries)) ≡ 8) → HasFewLeft d → steps_left R d ≤ 66
 steps_left-few R (drivers.Once x) up complete few = omega arith
 steps_left-few R (drivers.Open o) up complete few = making_left-few R o.making up
 steps_left-few R (drivers.Update u) up complete few = update_few (complete_of (entry_of u.ckpt R.entries)) u.owned u.phase (complete u.ckpt)
 steps_left-few R (drivers.Active a) up complete few = active_few a.kind a.marks few
+steps_left-few R (drivers.Sync s) up complete few = sync_few (complete_of (entry_of s.ckpt R.entries)) s s.pulled (complete s.ckpt)
 
 hand_left-few : (R : RecordState) (hand : Option InHand) → length R.up ≡ 8 → ((k : ℕ) → length (complete_of (entry_of k R.entries)) ≡ 8) → IfSome hand (λ h. HasFewLeft h.driver) → hand_left R hand ≤ 66
 hand_left-few R None up complete few = omega arith

@@ -5,7 +5,7 @@ use Rattle.std.proofs.lemmas.Option.{slice_get_within}
 use Rattle.ckpt_types.specs.declared.answers.Outcome.{Outcome}
 use Rattle.ckpt_types.specs.declared.identities.ActorName.TheVariants.{Client}
 use Rattle.ckpt_types.specs.declared.identities.CallId.{CallId}
-use Rattle.ckpt_types.specs.Asks.{asked, update_of, elements_of}
+use Rattle.ckpt_types.specs.Asks.{asked}
 use Rattle.node_msgs.specs.declared.requests.Request.{Request}
 use Rattle.node_msgs.specs.declared.requests.Request.TheVariants.{Reserve, Stage}
 use Rattle.node_msgs.specs.declared.replies.Reply.{Reply}
@@ -20,13 +20,14 @@ use Rattle.replica.specs.Replicas.{Replica}
 use Rattle.world_core.specs.declared.world.World.{World}
 use Rattle.cluster_record.specs.Places.{find_key, change_key, list_or, put2}
 use Rattle.cluster_record.specs.RecordState.{RecordState, entry_of, complete_of}
-use Rattle.cluster_record.specs.StepDone.{StepDone}
+use Rattle.cluster_record.specs.StepDone.{StepDone, counting, count_told, done_of}
+use Rattle.snap_copy.specs.Snapshots as copies
 use Rattle.node_msgs.specs.Requests.{ckpt_of}
 use Rattle.node_msgs.specs.Steps.{verb_of, word_of}
 use Rattle.node_core.specs.Nodes.{NodeState, MayReply, replica_key, replica_served, seen_from}
 use Rattle.node_core.specs.Payloads.{Payload}
 use Rattle.node_core.specs.Seen.{RecordSeen, record_seen, is_complete}
-use Rattle.node_core.specs.Serving.{reply_at, reply_of, details_at, iteration_behind, replica_after}
+use Rattle.node_core.specs.Serving.{reply_at, reply_of, details_at, iteration_behind, snapshot_behind, replica_after}
 use Rattle.node_core.specs.Fitting.{IsReadyFor}
 use Rattle.world_core.specs.Nodes.{node_at, nodes_after, replica_in}
 use Rattle.world_core.specs.Holding.{HoldsOnlyWhatStands}
@@ -36,19 +37,20 @@ use Rattle.world_core.specs.Happenings.{rooms_at}
 use Rattle.world_core.specs.TableState.{kept_by}
 use Rattle.ckpt_machine.specs.Driving.{driver_next, driver_taken, driver_end}
 use Rattle.ckpt_machine.specs.Machine.{Machine, Effect, ReplicaState, CallState}
-use Rattle.ckpt_machine.specs.Steps.{due, ended_details, ids_asked, payload_due, MayAnswer, changed, seen_at, staged_moment}
+use Rattle.ckpt_machine.specs.Steps.{due, driver_of, ended_details, ids_asked, payload_due, MayAnswer, changed, counted_at, pulled_by, seen_at, staged_moment}
 use Rattle.ckpt_machine.specs.Tables.{ids_of, kept_asked}
 use Rattle.ckpt_machine.specs.Facts.{HasNoSlot, IsServable}
-use Rattle.world_core.specs.Shows.{Does, HistoryFits, History, machine_of, tables_of, shown_replica, shown_slot, complete_replica, hand_at}
+use Rattle.world_core.specs.Shows.{Does, HistoryFits, History, machine_of, tables_of, shown_replica, shown_slot, complete_replica, hand_at, FitsReplica, IsRoomToCopy}
 use Rattle.ckpt_machine.proofs.Calls.{IsOwn, own_request}
-use Rattle.world_core.proofs.Carrying.{GoesToReplica, reserves_none, Carries, payload_with, reply_carried, details_carried, replica_carried}
+use Rattle.world_core.proofs.Carrying.{GoesToReplica, reserves_none, Carries, payload_with, reply_carried, details_carried, replica_carried, carried_on}
 use Rattle.world_core.proofs.Finding.{There}
 use Rattle.world_core.proofs.Finding as finding
-use Rattle.world_core.proofs.Held.{state_in, in_hand_is, actor_is, driver_is}
+use Rattle.world_core.proofs.Held.{state_in, in_hand_is, actor_is, driver_is, IsCopyBehind, copy_stays}
+use Rattle.world_core.proofs.CopySteps.{counts_effects, counts_seen, counts_told, pulled_after, room_alike, copy_behind}
 use Rattle.world_core.proofs.IterationSteps.{tables_move, rooms_moved}
 use Rattle.world_core.proofs.HoldingLaws.{after_key, replicas_served, holds_served}
 use Rattle.world_core.proofs.Maps.{changed_here, slice_there, complete_at_node, put_replica, fits_replica, reserved_same}
-use Rattle.world_core.proofs.RequestRows.{effects_after, effects_carried, origin_after, row_moves, row_fits, tables_moved}
+use Rattle.world_core.proofs.RequestRows.{effects_in, effects_after, effects_carried, origin_after, row_moves, row_fits, tables_moved}
 use Rattle.world_core.proofs.Told.{told_world}
 use Rattle.world_core.proofs.CallSteps.{IsKnown, known_by, IsShownBehind, step_before}
 use Rattle.world_core.proofs.Freeing.{does_before}
@@ -100,12 +102,16 @@ module _ (w : World) (c r : ℕ) (request : Request) (hand : InHand) (p : Payloa
   abbrev pub its_iteration : Option KeptIds
   its_iteration = iteration_behind request sight replica_there (iteration_lent request hand (kept_by w.tables c))
 
+  -- the room that the call has for a snapshot, with what it has pulled then
+  abbrev pub its_copy : Option copies.Snapshot
+  its_copy = snapshot_behind request replica_there hand.snapshot
+
   -- the world in which the node has served it, the call being in hand still
   abbrev pub behind : World
   behind = record w { nodes = nodes_after w.cluster w.nodes r request p reply; tables = tables_keeping request c hand.op reply its_iteration (tables_lending request c hand.op w.tables) }
 
   abbrev pub served_world : World
-  served_world = told_world behind c hand its_done its_end
+  served_world = told_world behind c hand its_copy its_done its_end
 
   abbrev pub served_label : Label
   served_label = Stepped hand.call (word_of_op hand.op) (verb_of request) (Some (ckpt_of request)) (Some r) (word_of reply) its_end (ended_details its_end its_details)
@@ -127,9 +133,17 @@ module _ (w : World) (c r : ℕ) (request : Request) (hand : InHand) (p : Payloa
   abbrev seen : RecordSeen
   seen = record_seen w.cluster k r
 
+  -- the effects of what the call has pulled
+  abbrev had : History → List Effect
+  had h = effects_in (state_in h c hand).snapshot
+
   -- its history, where the node has this replica
   abbrev later : Option Replica → History → History
-  later y h = record h { effects = put2 h.effects k r (effects_after hand.call request p seen y (h.origins k r) (h.effects k r)); origins = put2 h.origins k r (origin_after request y (h.origins k r)) }
+  later y h = record h { effects = put2 h.effects k r (effects_after hand.call request p seen y (h.origins k r) (had h) (h.effects k r)); origins = put2 h.origins k r (origin_after request y (h.origins k r)) }
+
+  -- and the effects that the call has pulled then
+  abbrev then_pulled : History → Option (List Effect)
+  then_pulled h = pulled_after request y (h.effects k r) (h.pulled (Client c))
 
   module _ (h : History) (known : IsKnown w h) where
     abbrev m : Machine
@@ -170,7 +184,9 @@ module _ (w : World) (c r : ℕ) (request : Request) (hand : InHand) (p : Payloa
 
     -- what travels beside the request is what the machine's call has
     carried : Carries request p q
-    carried = subst (Carries request p) (λ i. record { update = update_of hand.op; elements = elements_of hand.op; ids = ids_of (kept_asked (asked hand.op) (tables_of w.tables (sym actor i))) }) carries
+    carried =
+        carried_on request p (payload_with hand (kept_by w.tables c)) q carries refl refl (λ i. ids_of (kept_asked (asked hand.op) (tables_of w.tables (sym actor i))))
+        (finding.copy_carried w h c r hand known.facts known.fits held request due_here)
 
     reply_is : reply ≡ reply_of request q seen x
     reply_is = replied w.cluster (node_at w.nodes r) request p reply goes may ∙ ap (reply_at request p seen) served_is ∙ reply_carried request p q seen (Some x) carried
@@ -197,7 +213,7 @@ module _ (w : World) (c r : ℕ) (request : Request) (hand : InHand) (p : Payloa
     with E' x' = record m { replicas = put2 m.replicas k r (shown_replica E' (origin_after request (Some x) o) (Some x')) }
 
     abbrev E' : List Effect
-    E' = effects_after hand.call request p seen (Some x) o E
+    E' = effects_after hand.call request p seen (Some x) o (had h) E
 
     abbrev served_nodes : World
     served_nodes = record w { nodes = new.nodes }
@@ -212,21 +228,44 @@ module _ (w : World) (c r : ℕ) (request : Request) (hand : InHand) (p : Payloa
     change =
         ap (λ a. changed m s (verb_of request) (Some k) (Some r) (word_of a)) reply_is
         ∙ row_moves m s r E o x found.entry request goes found.at found.attributes shown found.seen found.holds own moment
-        ∙ sym (λ i. tables_moved request s (ids_asked m s) w.cluster.moment x.sections (with (effects_carried hand.call request p q seen x o E carried i) (replica_carried request p q seen x carried i)))
+        ∙ sym (λ i. tables_moved request s (ids_asked m s) w.cluster.moment x.sections (with (effects_carried hand.call request p q seen x o (had h) E carried i) (replica_carried request p q seen x carried i)))
         ∙ ap (tables_moved request s (ids_asked m s) w.cluster.moment x.sections) with_is
         ∙ tables_move served_nodes (later (Some x) h) m s c hand actor refl (ids_asked m s) seen x request q reply (finding.tables_ready w h c r hand known.facts known.fits held request due_here) valid
         (λ i. ids_of (kept_asked (asked hand.op) (tables_of w.tables (actor i)))) reply_is
         ∙ ap (λ it. machine_of (record new { tables = tables_keeping request c hand.op reply (iteration_behind request seen it (iteration_lent request hand (kept_by w.tables c))) (tables_lending request c hand.op w.tables) }) (later (Some x) h)) (sym served_is)
         ∙ ap (λ (y : Option Replica). machine_of new (later y h)) (sym found.is)
 
+    -- the replica that is served counts its effects
+    row_there : FitsReplica k (entry_of k w.cluster.entries) E' (Some x')
+    row_there =
+        subst (λ (z : List Effect × Replica). FitsReplica k (entry_of k w.cluster.entries) z.0 (Some z.1)) (λ i. (sym (effects_carried hand.call request p q seen x o (had h) E carried) i, sym (replica_carried request p q seen x carried) i))
+        (row_fits k (entry_of k w.cluster.entries) (had h) E o x hand.call request q seen goes found.holds (counts_seen s.kept.declares s.snapshot) found.fits)
+
     fits_behind : HistoryFits new (later y h)
     fits_behind = subst (λ (y : Option Replica). HistoryFits new (later y h)) (sym found.is) (record {
-      replicas = fits_replica w.cluster h.effects (complete_replica w.cluster w.nodes) (complete_replica w.cluster new.nodes) k r E' x' complete_each (row_fits k (entry_of k w.cluster.entries) E o x hand.call request p seen goes found.holds found.fits) known.fits.replicas;
+      replicas = fits_replica w.cluster h.effects (complete_replica w.cluster w.nodes) (complete_replica w.cluster new.nodes) k r E' x' complete_each row_there known.fits.replicas;
       copies = known.fits.copies;
       hands = known.fits.hands;
     })
 
-    is_served : IsShownBehind w c hand held new (later y) (verb_of request) (Some k) (Some r) (word_of reply) end (ended_details end (its_details w c r request hand p reply)) (Serve r request) h
+    -- the count that it is told is that of the replica
+    count_here : counted_at m (verb_of request) (Some k) (Some r) (word_of reply) ≡ count_told reply
+    count_here = subst (λ a. counted_at m (verb_of request) (Some k) (Some r) (word_of a) ≡ count_told a) (sym reply_is) (counts_told m r E o x request q seen goes shown (counts_effects k E x (entry_of k w.cluster.entries) found.fits))
+
+    -- so it ends as the machine's call does
+    its_end_is : end ≡ (let done = counting (counted_at m (verb_of request) (Some k) (Some r) (word_of reply)) (done_of w.cluster (verb_of request) (Some k) (Some r) (word_of reply)) in driver_end hand.op done reply (driver_taken done (driver_of s)))
+    its_end_is = λ i. let done = counting (sym count_here i) (done_of w.cluster (verb_of request) (Some k) (Some r) (word_of reply)) in driver_end hand.op done reply (driver_taken done (driver_is w h c hand held known.fits i))
+
+    -- and what is in its hand then
+    copy_here : IsCopyBehind (later y h) c hand (pulled_by m s (verb_of request) (Some k) (Some r) (word_of reply)) (then_pulled h) (its_copy w c r request hand p reply)
+    copy_here =
+        let found_copy = copy_behind m s r E o x request q seen hand.snapshot (h.pulled (Client c)) refl shown (finding.copy_there w h c r hand known.facts known.fits held request due_here) (counts_effects k E x (entry_of k w.cluster.entries) found.fits)
+        (λ a. IsRoomToCopy (asked hand.op) (h.beginnings (Client c)).kept.declares a) (λ s t attributes. room_alike (asked hand.op) (h.beginnings (Client c)).kept.declares s t attributes) (copy_stays w h c hand held known.fits).room (copy_stays w h c hand held known.fits).counts in
+        let same = ap (λ a. pulled_by m s (verb_of request) (Some k) (Some r) (word_of a)) reply_is ∙ found_copy.same in
+        subst (λ (z : Option Replica × Option Replica). IsCopyBehind (later y h) c hand (pulled_by m s (verb_of request) (Some k) (Some r) (word_of reply)) (pulled_after request z.0 E (h.pulled (Client c))) (snapshot_behind request z.1 hand.snapshot))
+        (λ i. (sym found.is i, sym served_is i)) (record { same = same; room = found_copy.room; counts = found_copy.counts })
+
+    is_served : IsShownBehind w c hand held new (later y) (verb_of request) (Some k) (Some r) (word_of reply) end (ended_details end (its_details w c r request hand p reply)) (count_told reply) (its_copy w c r request hand p reply) then_pulled (Serve r request) h
     is_served = record {
       done = record {
         answer = reply;
@@ -236,10 +275,12 @@ module _ (w : World) (c r : ℕ) (request : Request) (hand : InHand) (p : Payloa
         node = refl;
         reply = refl;
         details = ap (ended_details end) (details_carried request p q seen (replica_there w c r request hand p reply) carried ∙ ap (details_at request q seen) (served_is ∙ sym found.seen));
-        end = let done = its_done w c r request hand p reply in ap (λ x. driver_end hand.op done reply (driver_taken done x)) (driver_is w h c hand held known.fits);
+        end = its_end_is;
       };
       change = change;
       fits = fits_behind;
+      count_is = count_here;
+      copy_is = copy_here;
     }
 
     holds_behind : HoldsOnlyWhatStands w.cluster new.nodes
@@ -249,7 +290,7 @@ module _ (w : World) (c r : ℕ) (request : Request) (hand : InHand) (p : Payloa
   -- the node serves the request
   pub serve_does : Does w (served_world w c r request hand p reply) (served_label w c r request hand p reply)
   serve_does = does_before w (served_world w c r request hand p reply) (served_label w c r request hand p reply)
-      (step_before w c hand held new (later y) (verb_of request) (Some k) (Some r) (word_of reply) end (ended_details end (its_details w c r request hand p reply)) (Serve r request) next held (λ h. refl) is_served)
+      (step_before w c hand held new (later y) (verb_of request) (Some k) (Some r) (word_of reply) end (ended_details end (its_details w c r request hand p reply)) (count_told reply) (its_copy w c r request hand p reply) then_pulled (Serve r request) next held (λ h. refl) is_served)
       (λ m s f. holds_behind s.history (known_by w m s f))
       (λ m s f. s.keeps)
       (λ m s f. rooms_moved w w.cluster c hand.op request reply (its_iteration w c r request hand p reply) s.rooms)

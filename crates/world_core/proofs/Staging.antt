@@ -39,7 +39,7 @@ use Rattle.node_core.specs.Fitting.{TakesUpdate}
 use Rattle.node_core.specs.Nodes.{MayReply, replica_served}
 use Rattle.node_core.specs.Payloads.{Payload, no_payload, update_alone}
 use Rattle.node_core.specs.Seen.{RecordSeen, record_seen}
-use Rattle.node_core.specs.Serving.{reply_at, details_at, commit_answer, slot_id, stage_reply}
+use Rattle.node_core.specs.Serving.{snapshot_after, snapshot_behind, reply_at, details_at, commit_answer, slot_id, stage_reply}
 use Rattle.node_core.specs.StageReplies.{reply_refused, reply_told}
 use Rattle.world_core.specs.declared.hands.InHand.{InHand}
 use Rattle.world_core.specs.declared.world.World.{World}
@@ -51,7 +51,9 @@ use Rattle.world_core.specs.Shows.{IsShown, HasNumbersLeft, hand_at}
 use Rattle.world_core.specs.TableState.{kept_by}
 use Rattle.world_core.specs.UpdateSteps.{IsUpdate, is_creation, ended_unless}
 use Rattle.world_core.proofs.Carrying.{GoesToReplica, Carries, payload_with}
-use Rattle.world_core.proofs.Serve.{its_end, its_details, its_iteration, served_world}
+use Rattle.world_core.proofs.Serve.{its_copy, its_end, its_details, its_iteration, served_world}
+use Rattle.world_core.proofs.Held.{with_copy}
+use Rattle.snap_copy.specs.Snapshots.{Snapshot}
 use Rattle.world_core.proofs.Stepping.{its_nodes, its_own, its_ready, its_replica, its_room, its_served, its_there, answered_is}
 
 -- ---- what is answered, and told beside it
@@ -90,15 +92,21 @@ stage_goes_on : (R : RecordState) (k r : Option ℕ) (a : Answer) (x : Driver) �
 stage_goes_on R k r a (drivers.Update u) is = refl
 stage_goes_on R k r a x is = absurd is
 
+-- what pulls nothing leaves the copy in the hand
+copy_kept : (request : Request) → ((x : Replica) (s : Snapshot) → snapshot_after request x s ≡ s) → (y : Option Replica) (s : Option Snapshot) → snapshot_behind request y s ≡ s
+copy_kept request same None s = refl
+copy_kept request same (Some x) None = refl
+copy_kept request same (Some x) (Some s) = ap Some (same x s)
+
 -- ---- the steps
 
 -- what is told beside an update on its own is nothing
 module _ (w : World) (c r : ℕ) (request : Request) (hand : InHand) (held : hand_at w.hands c ≡ Some hand) (next : IsNext w c (Serve r request)) (shown : IsShown w) (goes : GoesToReplica request) (p : Payload) (carries : Carries request p (payload_with hand (kept_by w.tables c))) (valid : IsValidFor request (kept_by w.tables c)) (nodes : List (List Replica)) (word : OpWord) (word_is : word ≡ word_of_op hand.op) where
   named_is : (reply : Reply) (hands : List (Option InHand)) (end : Option Outcome) → MayReply w.cluster (node_at w.nodes r) request p reply → beside.Nothing ≡ its_details w c r request hand p reply → nodes ≡ nodes_after w.cluster w.nodes r request p reply →
-      tables_keeping request c hand.op reply (its_iteration w c r request hand p reply) (tables_lending request c hand.op w.tables) ≡ w.tables → end ≡ its_end w c r request hand p reply → hands ≡ slice_set w.hands c (left end (hand_taken (served_done w.cluster request r reply) hand)) →
+      tables_keeping request c hand.op reply (its_iteration w c r request hand p reply) (tables_lending request c hand.op w.tables) ≡ w.tables → end ≡ its_end w c r request hand p reply → hands ≡ slice_set w.hands c (left end (hand_taken (served_done w.cluster request r reply) hand)) → its_copy w c r request hand p reply ≡ hand.snapshot →
       IsStep c w (record w { nodes = nodes; hands = hands }) (Stepped hand.call word (verb_of request) (Some (ckpt_of request)) (Some r) (word_of reply) end beside.Nothing)
-  named_is reply hands end may details nodes_are tables end_is hands_are =
-      let then_hands = hands_are ∙ ap (λ end. slice_set w.hands c (left end (hand_taken (served_done w.cluster request r reply) hand))) end_is in
+  named_is reply hands end may details nodes_are tables end_is hands_are copy =
+      let then_hands = hands_are ∙ (λ i. slice_set w.hands c (left (end_is i) (hand_taken (served_done w.cluster request r reply) (with_copy hand (sym copy i))))) in
       let new_is : record w { nodes = nodes; hands = hands } ≡ served_world w c r request hand p reply = λ i. record w { nodes = nodes_are i; tables = sym tables i; hands = then_hands i } in
       let told : beside.Nothing ≡ ended_details (its_end w c r request hand p reply) (its_details w c r request hand p reply) = ended_none (its_end w c r request hand p reply) ∙ ap (ended_details (its_end w c r request hand p reply)) details in
       subst (λ (z : World × OpWord × Option Outcome × Details). IsStep c w z.0 (Stepped hand.call z.1 (verb_of request) (Some (ckpt_of request)) (Some r) (word_of reply) z.2 z.3)) (λ i. (sym new_is i, sym word_is i, sym end_is i, sym told i))
@@ -133,7 +141,7 @@ module _ (w : World) (c r : ℕ) (call : CallId) (k : ℕ) (t : ℤ) (hand : InH
     told_so : (reply : Reply) (hands : List (Option InHand)) (end : Option Outcome) → reply_told answers.Nothing told ≡ reply → end ≡ its_end w c r stage hand lent reply → hands ≡ slice_set w.hands c (left end (hand_taken (served_done w.cluster stage r reply) hand)) →
         IsStep c w (record w { nodes = nodes; hands = hands }) (Stepped hand.call word verbs.Stage (Some k) (Some r) (word_of reply) end beside.Nothing)
     told_so reply hands end so end_is hands_are =
-        named_is w c r stage hand held next shown tt lent update_is tt nodes word word_is reply hands end (answered reply so) (nothing reply) (nodes_are ∙ its_nodes w c r stage hand held next shown tt lent reply) refl end_is hands_are
+        named_is w c r stage hand held next shown tt lent update_is tt nodes word word_is reply hands end (answered reply so) (nothing reply) (nodes_are ∙ its_nodes w c r stage hand held next shown tt lent reply) refl end_is hands_are (copy_kept stage (λ x s. refl) (replica_served w.cluster (node_at w.nodes r) k) hand.snapshot)
 
     -- it is staged
     pub stage_is : (taken : InHand) (label : Label) → IsUpdate hand.driver → reply_told answers.Nothing told ≡ replies.Done answers.Nothing →
@@ -182,4 +190,4 @@ module _ (w : World) (c r : ℕ) (call : CallId) (k : ℕ) (hand : InHand) (held
         let d = done_of w.cluster verbs.Commit (Some k) (Some r) words.Ok in
         subst (IsStep c w (record w { nodes = nodes; hands = slice_set w.hands c place })) (sym label_is)
         (named_is w c r commit hand held next shown tt no_payload tt tt nodes word word_is done (slice_set w.hands c place) (ended_unless goes_on) done_by none_told (nodes_are ∙ its_nodes w c r commit hand held next shown tt no_payload done) refl
-        (end_is ∙ ap (hand_end d (replies.Done answers.Nothing)) taken_is) (ap (slice_set w.hands c) (place_is ∙ ap (left (ended_unless goes_on)) taken_is)))
+        (end_is ∙ ap (hand_end d (replies.Done answers.Nothing)) taken_is) (ap (slice_set w.hands c) (place_is ∙ ap (left (ended_unless goes_on)) taken_is)) (copy_kept commit (λ x s. refl) (replica_served w.cluster (node_at w.nodes r) k) hand.snapshot))

@@ -34,7 +34,8 @@ use Rattle.cluster_record.specs.StepDone.{StepDone}
 use Rattle.node_msgs.specs.Requests.{ckpt_of}
 use Rattle.node_msgs.specs.Steps.{verb_of, word_of}
 use Rattle.node_core.specs.declared.lent.Lent.{Lent}
-use Rattle.node_core.specs.Fitting.{HasCountLeft, RequestFits, ReplicaFits, IsReadyFor}
+use Rattle.node_core.specs.Fitting.{HasCountLeft, IsReadyFor}
+use Rattle.world_core.specs.Asking.{ReplicaMayBeAsked, MayCome}
 use Rattle.node_core.specs.Nodes.{NodeState, MayReply, replica_key, replica_served, seen_from}
 use Rattle.node_core.specs.Payloads.{Payload}
 use Rattle.node_core.specs.Seen.{record_seen, is_complete}
@@ -53,16 +54,16 @@ use Rattle.world_core.specs.TableState.{TableState, kept_by}
 use Rattle.world_core.specs.Shows.{Does, IsShown, HasNumbersLeft, History, HistoryFits, machine_of, hand_at}
 use Rattle.world_core.specs.Happenings.{rooms_at, IsNext, IsStep}
 use Rattle.world_core.proofs.CallSteps.{IsKnown, known}
-use Rattle.world_core.proofs.Carrying.{GoesToReplica, Carries, IsOfCall, payload_with, has_lent, reserves_none}
+use Rattle.world_core.proofs.Carrying.{GoesToReplica, Carries, IsOfCall, lent_with, payload_with, has_lent, reserves_none}
 use Rattle.world_core.proofs.Finding.{IsReservationOr}
 use Rattle.world_core.proofs.Finding as finding
-use Rattle.world_core.proofs.Held.{state_in, in_hand_is, driver_is, next_for}
+use Rattle.world_core.proofs.Held.{state_in, in_hand_is, driver_is, next_for, with_copy}
 use Rattle.world_core.proofs.HoldingLaws.{replicas_served}
 use Rattle.world_core.proofs.IterationSteps.{TablesReady, HasIterationRoom, EndsIts, can_lend, can_keep}
 use Rattle.world_core.proofs.Look.{look_done}
 use Rattle.world_core.proofs.OpenRoom.{iterate_room}
 use Rattle.world_core.proofs.Reserve.{reserve_does}
-use Rattle.world_core.proofs.Serve.{its_done, its_end, its_details, served_world, served_label, serve_does}
+use Rattle.world_core.proofs.Serve.{its_copy, its_done, its_end, its_details, served_world, served_label, serve_does}
 
 -- the calls in hand are as they were where a making is undone
 unmade_hands : (making : Option ℕ) (w : World) → (without_making_of making w).hands ≡ w.hands
@@ -105,7 +106,7 @@ well_formed_there R r None can = absurd can
 well_formed_there R r (Some e) can = can.well_formed
 
 fits_by : (request : Request) (m : Machine) (r : ℕ) (n : NodeState) (lent : Lent) → IsReservationOr request → IsServable m r request →
-    (GoesToReplica request → ReplicaFits (is_complete (seen_from m.cluster n (ckpt_of request))) request lent (find_key replica_key (ckpt_of request) n.replicas)) → RequestFits m.cluster n request lent
+    (GoesToReplica request → ReplicaMayBeAsked (is_complete (seen_from m.cluster n (ckpt_of request))) request lent (find_key replica_key (ckpt_of request) n.replicas)) → MayCome m.cluster n request lent
 fits_by (Reserve k) m r n lent goes servable fits = well_formed_there m.cluster r (entry_of k m.cluster.entries) servable
 fits_by request m r n lent goes servable fits = fits goes
 
@@ -125,6 +126,7 @@ active_ends op d answer (drivers.Active a) iterates is = subst (λ verb. IsSome 
 active_ends op d answer (drivers.Once x) iterates is = absurd is
 active_ends op d answer (drivers.Open o) iterates is = absurd is
 active_ends op d answer (drivers.Update u) iterates is = absurd is
+active_ends op d answer (drivers.Sync u) iterates is = absurd is
 
 -- so one that starts an iteration has ended
 ends_by : (request : Request) (w : World) (h : History) (c r : ℕ) (hand : InHand) (p : Payload) (reply : Reply) (known_is : IsKnown w h) (held : hand_at w.hands c ≡ Some hand) → driver_next w.cluster (rooms_at w c) hand.driver ≡ Serve r request → MayReply w.cluster (node_at w.nodes r) request p reply → EndsIts request (its_end w c r request hand p reply)
@@ -151,9 +153,9 @@ module _ (w : World) (c r : ℕ) (request : Request) (hand : InHand) (held : han
   abbrev its_next : driver_next w.cluster (rooms_at w c) hand.driver ≡ Serve r request
   its_next = next_for w c (Serve r request) hand held next
 
-  -- what is lent, with the iteration that goes with the request
-  abbrev pub with_iteration : Lent → Lent
-  with_iteration lent = record lent { iteration = iteration_lent request hand kept }
+  -- what is lent, with the call's own
+  abbrev pub with_own : Lent → Lent
+  with_own lent = lent_with request hand kept lent
 
   module _ (shown : IsShown w) where
     abbrev h : History
@@ -195,7 +197,7 @@ module _ (w : World) (c r : ℕ) (request : Request) (hand : InHand) (held : han
     -- THE STEP
     told_so : (p : Payload) (reply : Reply) → Does w (served_world w c r request hand p reply) (served_label w c r request hand p reply) → IsStep c w (served_world w c r request hand p reply) (served_label w c r request hand p reply)
     told_so p reply does =
-        step_told c w (served_world w c r request hand p reply) hand (hand_taken (its_done w c r request hand p reply) hand) (word_of_op hand.op) (verb_of request) (Some (ckpt_of request)) (Some r) (word_of reply) (its_end w c r request hand p reply) (ended_details (its_end w c r request hand p reply) (its_details w c r request hand p reply))
+        step_told c w (served_world w c r request hand p reply) hand (hand_taken (its_done w c r request hand p reply) (with_copy hand (its_copy w c r request hand p reply))) (word_of_op hand.op) (verb_of request) (Some (ckpt_of request)) (Some r) (word_of reply) (its_end w c r request hand p reply) (ended_details (its_end w c r request hand p reply) (its_details w c r request hand p reply))
         held refl refl refl does
 
     pub serve_is : (p : Payload) (reply : Reply) → Carries request p (payload_with hand kept) → MayReply w.cluster (node_at w.nodes r) request p reply → IsValidFor request kept → r < length w.nodes →
@@ -243,11 +245,11 @@ module _ (w : World) (c r : ℕ) (request : Request) (hand : InHand) (held : han
       answered_is p reply carries may valid = told_so p reply (serve_does w c r request hand p reply to held its_next carries may valid)
 
     -- the request may come, with what is lent
-    pub fits_lent : HasNumbersLeft w → (lent : Lent) → IsLentBy hand.op request lent → RequestFits w.cluster (node_at w.nodes r) request (with_iteration lent)
-    fits_lent room lent is = fits_by request m r (node_at w.nodes r) (with_iteration lent) goes (finding.ready w h c r request hand facts fitting held its_next).1 to_replica where
-      to_replica : GoesToReplica request → ReplicaFits (is_complete (record_seen w.cluster (ckpt_of request) r)) request (with_iteration lent) (replica_in w.nodes (ckpt_of request) r)
+    pub fits_lent : HasNumbersLeft w → (lent : Lent) → IsLentBy hand.op request lent → MayCome w.cluster (node_at w.nodes r) request (with_own lent)
+    fits_lent room lent is = fits_by request m r (node_at w.nodes r) (with_own lent) goes (finding.ready w h c r request hand facts fitting held its_next).1 to_replica where
+      to_replica : GoesToReplica request → ReplicaMayBeAsked (is_complete (record_seen w.cluster (ckpt_of request) r)) request (with_own lent) (replica_in w.nodes (ckpt_of request) r)
       to_replica to =
-          subst (λ (z : Bool × Option Replica). ReplicaFits z.0 request (with_iteration lent) z.1)
+          subst (λ (z : Bool × Option Replica). ReplicaMayBeAsked z.0 request (with_own lent) z.1)
           (λ i. (sym (finding.seen_complete w h c r request hand facts fitting held its_next to) i, sym (its_there to) i)) (record {
             ready = its_ready to;
             room = count_left request (its_replica to) (its_room to room);

@@ -20,10 +20,10 @@ use Rattle.world_core.proofs.HoldingLaws.{held_by_none}
 
 -- a client's call in hand, as the machine has it: none where there is none
 pub none_in_hand : (w : World) (h : History) (c : ℕ) → hand_at w.hands c ≡ None → (machine_of w h).in_hand (Client c) ≡ None
-none_in_hand w h c free = ap (shown_hand (h.beginnings (Client c)) (h.steps (Client c)) (h.created (Client c))) free
+none_in_hand w h c free = ap (shown_hand (h.beginnings (Client c)) (h.steps (Client c)) (h.created (Client c)) (h.pulled (Client c))) free
 
 -- and else one
-pub words_in_hand : (h : History) (c : ℕ) (o : Option InHand) → o ≢ None → shown_hand (h.beginnings (Client c)) (h.steps (Client c)) (h.created (Client c)) o ≢ None
+pub words_in_hand : (h : History) (c : ℕ) (o : Option InHand) → o ≢ None → shown_hand (h.beginnings (Client c)) (h.steps (Client c)) (h.created (Client c)) (h.pulled (Client c)) o ≢ None
 words_in_hand h c None held none = held refl
 words_in_hand h c (Some hand) held none = absurd (cc none)
 

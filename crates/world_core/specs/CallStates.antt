@@ -21,3 +21,4 @@ driver_in (kinds.Once step) = drivers.Once (step_in step)
 driver_in (kinds.Open o) = drivers.Open o
 driver_in (kinds.Update u) = drivers.Update u
 driver_in (kinds.Active a) = drivers.Active a
+driver_in (kinds.Sync s) = drivers.Sync s

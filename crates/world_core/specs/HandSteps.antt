@@ -7,7 +7,7 @@ use Rattle.node_msgs.specs.declared.requests.Request.{Request}
 use Rattle.node_msgs.specs.Requests.{ckpt_of}
 use Rattle.node_msgs.specs.Steps.{verb_of, word_of}
 use Rattle.cluster_record.specs.RecordState.{RecordState}
-use Rattle.cluster_record.specs.StepDone.{StepDone, done_of}
+use Rattle.cluster_record.specs.StepDone.{StepDone, done_of, counting, count_told}
 use Rattle.ckpt_machine.specs.Driving.{driver_taken, driver_end}
 
 -- a call in hand behind a step: its driver keeps what it needs of it
@@ -20,7 +20,7 @@ hand_end d reply h = driver_end h.op d reply h.driver
 
 -- what a call keeps of a step that a node served
 abbrev pub served_done : RecordState → Request → ℕ → Reply → StepDone
-served_done R request r reply = done_of R (verb_of request) (Some (ckpt_of request)) (Some r) (word_of reply)
+served_done R request r reply = counting (count_told reply) (done_of R (verb_of request) (Some (ckpt_of request)) (Some r) (word_of reply))
 
 -- how a call ends by a node's reply, being as it was before the step
 abbrev pub end_by : StepDone → Reply → InHand → Option Outcome

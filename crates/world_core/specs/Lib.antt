@@ -12,8 +12,10 @@ pub mod Holding
 pub mod CallStates
 pub mod IterationPlaces
 pub mod Lending
+pub mod Asking
 pub mod HandsView
 pub mod HandLending
+pub mod HandRooms
 pub mod HandSteps
 pub mod Shows
 pub mod Propagating

@@ -1,10 +1,9 @@
 -- How the world shows the machine's state.
-use Rattle.std.specs.Prelude.{◌≡◌, ℕ, ◌-◌, ◌^◌, ◌<◌, List, [], length, Option, Some, None, ◌==◌, if◌then◌else◌, slice_get, slice_index}
+use Rattle.std.specs.Prelude.{◌≡◌, ℕ, ◌-◌, ◌^◌, ◌<◌, List, [], length, Option, Some, None, IsSomeAnd, true, ◌==◌, if◌then◌else◌, slice_get, slice_index}
 use Rattle.ckpt_types.specs.declared.identities.ActorName.{ActorName}
 use Rattle.ckpt_types.specs.declared.identities.ActorName.TheVariants.{Client, Node}
 use Rattle.ckpt_types.specs.declared.identities.CallId.{CallId}
-use Rattle.section_iter.specs.KeptIds.{KeptIds}
-use Rattle.section_iter.specs.declared.room.Room.{Room}
+use Rattle.ckpt_types.specs.declared.attributes.CreationAttributes.{CreationAttributes}
 use Rattle.run_labels.specs.declared.labels.Label.{Label}
 use Rattle.client_handles.specs.ClientState.{ClientState}
 use Rattle.world_core.specs.declared.hands.InHand.{InHand}
@@ -27,7 +26,8 @@ use Rattle.cluster_record.specs.StepDone.{StepDone}
 use Rattle.ckpt_machine.specs.Driving.{Kept, driver_state}
 use Rattle.ckpt_machine.specs.Facts.{Facts}
 use Rattle.ckpt_types.specs.Asks.{Ask, asked}
-use Rattle.ckpt_types.specs.Asks as asks
+use Rattle.ckpt_machine.specs.Tables.{takes_copy}
+use Rattle.world_core.specs.HandRooms.{room_for}
 use Rattle.ckpt_machine.specs.Machine.{Machine, Effect, Staged, ReplicaState, CallState, no_tables}
 use Rattle.ckpt_machine.specs.Machine as snapshots
 use Rattle.ckpt_machine.specs.Steps.{IsDue, after, snapshot_under}
@@ -39,7 +39,7 @@ pub record Beginning : Type 0 where
   pub kept : Kept
   pub driver : Driver
 
--- the effects and the origins of replicas, the effects of snapshots, and the beginning and the steps of each call in hand, with the identifier that its commits have made
+-- the effects and the origins of replicas, the effects of snapshots, and the beginning and the steps of each call in hand, with the identifier that its commits have made, and the effects that it has pulled
 pub record History : Type 0 where
   -- by checkpoint and node
   pub effects : ℕ → ℕ → List Effect
@@ -50,6 +50,7 @@ pub record History : Type 0 where
   pub beginnings : ActorName → Beginning
   pub steps : ActorName → List StepDone
   pub created : ActorName → Option (List ℕ)
+  pub pulled : ActorName → Option (List Effect)
 
 -- ---- the replicas
 
@@ -114,14 +115,19 @@ next_of tables (Node r) = 1
 abbrev pub hand_at : List (Option InHand) → ℕ → Option InHand
 hand_at hands c = or_none (slice_get hands c)
 
--- a call in hand as the machine has it: with what it kept of its beginning, and with its steps
-abbrev pub shown_hand : Beginning → List StepDone → Option (List ℕ) → Option InHand → Option CallState
-shown_hand began steps created None = None
-shown_hand began steps created (Some h) = Some (record { call = h.call; op = h.op; kept = began.kept; begun = began.driver; steps = steps; created = created; snapshot = None })
+-- the snapshot in a hand, once something was pulled into its room
+abbrev pub shown_copy : Option (List Effect) → Option Snapshot → Option snapshots.Snapshot
+shown_copy None s = None
+shown_copy (Some effects) s = shown_snapshot effects s
+
+-- a call in hand as the machine has it: with what it kept of its beginning, with its steps, and with what it has pulled
+abbrev pub shown_hand : Beginning → List StepDone → Option (List ℕ) → Option (List Effect) → Option InHand → Option CallState
+shown_hand began steps created pulled None = None
+shown_hand began steps created pulled (Some h) = Some (record { call = h.call; op = h.op; kept = began.kept; begun = began.driver; steps = steps; created = created; snapshot = shown_copy pulled h.snapshot })
 
 -- the call that an actor has in hand, as the machine has it; no node has one yet
 abbrev pub hand_of : History → List (Option InHand) → ActorName → Option CallState
-hand_of h hands (Client c) = shown_hand (h.beginnings (Client c)) (h.steps (Client c)) (h.created (Client c)) (hand_at hands c)
+hand_of h hands (Client c) = shown_hand (h.beginnings (Client c)) (h.steps (Client c)) (h.created (Client c)) (h.pulled (Client c)) (hand_at hands c)
 hand_of h hands (Node r) = None
 
 -- ---- the machine's state, as the world shows it with a history
@@ -160,21 +166,33 @@ abbrev pub FitsSnapshot : List Effect → Option Snapshot → Type 0
 FitsSnapshot effects None = Unit {0}
 FitsSnapshot effects (Some s) = length effects ≡ s.count
 
--- the room that a call has in hand for an iteration
-abbrev pub room_for : Ask → Room → Option KeptIds
-room_for (asks.Iterate iteration place chosen time) room = Some (record { ids = []; room = room })
-room_for ask room = None
+-- the room for a copy was taken for what the checkpoint declared when the call began
+abbrev pub IsRoomToCopy : Ask → Option CreationAttributes → Option Snapshot → Type 0
+IsRoomToCopy ask (Some a) s = takes_copy ask ≡ true → IsSomeAnd s (λ s. s.attributes ≡ a)
+IsRoomToCopy ask None s = Unit {0}
 
--- a call is where its steps have led it
-abbrev pub FitsHand : Beginning → List StepDone → Option InHand → Type 0
-FitsHand began steps None = Unit {0}
-FitsHand began steps (Some h) = (h.driver ≡ driver_state began.driver steps) × (h.iteration ≡ room_for (asked h.op) began.kept.room)
+-- what was pulled into it counts its effects
+abbrev pub FitsCopy : Option (List Effect) → Option Snapshot → Type 0
+FitsCopy None s = Unit {0}
+FitsCopy (Some effects) s = FitsSnapshot effects s
+
+-- a call is where its steps have led it, and has the room that it took
+pub record IsWhereLed (began : Beginning) (steps : List StepDone) (pulled : Option (List Effect)) (h : InHand) : Type 0 where
+  pub driver : h.driver ≡ driver_state began.driver steps
+  pub iteration : h.iteration ≡ room_for (asked h.op) began.kept.room
+  pub room : IsRoomToCopy (asked h.op) began.kept.declares h.snapshot
+  pub copy : FitsCopy pulled h.snapshot
+
+-- so it is where one is in hand
+abbrev pub FitsHand : Beginning → List StepDone → Option (List Effect) → Option InHand → Type 0
+FitsHand began steps pulled None = Unit {0}
+FitsHand began steps pulled (Some h) = IsWhereLed began steps pulled h
 
 -- the history fits the world: replicas and snapshots have as many effects as they count, and calls are where their steps have led them
 pub record HistoryFits (w : World) (h : History) : Type 0 where
   pub replicas : (k r : ℕ) → FitsReplica k (entry_of k w.cluster.entries) (h.effects k r) (complete_replica w.cluster w.nodes k r)
   pub copies : (k : ℕ) → FitsSnapshot (h.copied k) (pulled_in w.snapshots k)
-  pub hands : (c : ℕ) → FitsHand (h.beginnings (Client c)) (h.steps (Client c)) (hand_at w.hands c)
+  pub hands : (c : ℕ) → FitsHand (h.beginnings (Client c)) (h.steps (Client c)) (h.pulled (Client c)) (hand_at w.hands c)
 
 -- the machine's state is the world's, with some history that fits; the nodes have no other replicas, and the checkpoints have the room for their snapshots, and the live clients theirs
 pub record Shows (w : World) (m : Machine) : Type 0 where

@@ -2,7 +2,7 @@
 use Rattle.std.specs.Prelude.{Option, Some, None, Bool, true, false, if◌then◌else◌}
 use Rattle.ckpt_types.specs.declared.ais_error.AisError.TheVariants.{NotExist, TryAgain}
 use Rattle.ckpt_types.specs.declared.answers.Answer.TheVariants as answers
-use Rattle.ckpt_types.specs.declared.answers.Cause.TheVariants.{Plain, Holder}
+use Rattle.ckpt_types.specs.declared.answers.Cause.TheVariants.{Plain, Holder, Generations}
 use Rattle.ckpt_types.specs.declared.answers.Outcome.{Outcome}
 use Rattle.ckpt_types.specs.declared.answers.Outcome.TheVariants.{Done, Refused}
 use Rattle.ckpt_types.specs.declared.operation.Op.{Op}
@@ -31,6 +31,7 @@ abbrev pub end_of_refused : Op → Bool → Reply → Option Outcome
 end_of_refused op live (replies.Held by) = if live then Some (Refused TryAgain (Holder by)) else None
 end_of_refused op live (replies.Refused error index) = Some (Refused error (refused_cause op index))
 end_of_refused op live replies.NoReplica = Some (Refused NotExist Plain)
+end_of_refused op live (replies.Stale old present) = Some (Refused TryAgain (Generations old present))
 end_of_refused op live reply = None
 
 -- an update that makes a section

@@ -69,7 +69,7 @@ fn change(
         DriverKind::Open(open_call) => {
             change_by_open(alloc, cluster, nodes, snapshots, call, open_call, step)
         }
-        DriverKind::Update(_) | DriverKind::Active(_) => Ok(()),
+        DriverKind::Update(_) | DriverKind::Active(_) | DriverKind::Sync(_) => Ok(()),
     }
 }
 

@@ -3,14 +3,14 @@ ghost use Rattle.std.specs.Prelude.{◌≡◌, None, false, not, if◌then◌els
 ghost use Rattle.ckpt_types.specs.declared.ais_error.AisError.TheVariants as errors;
 ghost use Rattle.ckpt_types.specs.Attributes.{has_flag, has_bad_open_flags, is_malformed};
 ghost use Rattle.ckpt_types.specs.Asks.{asked, takes_room};
-ghost use Rattle.ckpt_machine.specs.Beginning.{refused, if_live, version_is_bad, name_is_bad, attributes_are_bad, open_begin, vector_is_bad, update_is_bad, on_handle, may_write, may_read, may_always, choice_is_bad, end_iteration, update_begin, begin_end};
+ghost use Rattle.ckpt_machine.specs.Beginning.{refused, if_live, version_is_bad, name_is_bad, attributes_are_bad, open_begin, vector_is_bad, update_is_bad, on_handle, may_write, may_read, may_always, choice_is_bad, end_iteration, update_begin, are_of_all, are_not_collocated, sync_begin, begin_end};
 ghost use Rattle.ckpt_machine.specs.Tables.{ckpt_of_handle, choice_of};
 ghost use Rattle.world_core.specs.IterationPlaces.{gone_on_place};
 
 use ckpt_types::{
-    AisError, Answer, Bytes, CHECKPOINT_CREATE, Cause, Choice, CkptId, CreationAttributes,
+    AisError, Answer, Bytes, CHECKPOINT_COLLOCATED, CHECKPOINT_CREATE, Cause, Choice, CkptId, CreationAttributes,
     MAJOR_MAX, MAJOR_MIN, Moment, NAME_MAX, OPEN_FLAGS_ALL, Op, Outcome, RELEASE, SECTIONS_ANY,
-    Update, VECTOR_MAX, Version,
+    Update, VECTOR_MAX, Version, WR_ALL_REPLICAS,
 };
 use client_handles::HandleView;
 
@@ -41,6 +41,8 @@ pub fn begin_end(live: bool, handle: &Option<HandleView>, op: &Op) -> Option<Out
         Op::EndIter(_) => if_live(live, end_iteration(handle)),
         Op::Retain(_, duration) => if_live(live, retain_begin(handle, *duration)),
         Op::Unlink(_) | Op::Finalize => if_live(live, None),
+        Op::Sync(_, timeout) => if_live(live, synchronize_begin(handle, *timeout)),
+        Op::Active(_) => if_live(live, set_active_begin(handle)),
         _ => None,
     }
 }
@@ -66,12 +68,12 @@ pub fn gone_on_place(op: &Op) -> Option<u8>
     }
 }
 
-/// Whether an operation takes room for an iteration.
+/// Whether an operation takes room for an iteration or a snapshot.
 pub fn takes_room(op: &Op) -> bool
     ensures { result ≡ takes_room (asked op.now) }
 {
     match op {
-        Op::Iter(_, _, _, _) => true,
+        Op::Iter(_, _, _, _) | Op::Sync(_, _) | Op::Active(_) => true,
         _ => false,
     }
 }
@@ -226,6 +228,40 @@ fn retain_begin(handle: &Option<HandleView>, duration: i64) -> Option<Outcome>
     match handle {
         None => refused(AisError::BadHandle),
         Some(_) => may_begin(duration < 0, true),
+    }
+}
+
+fn synchronize_begin(handle: &Option<HandleView>, timeout: Moment) -> Option<Outcome>
+    ensures { result ≡ sync_begin handle.now (int_lt timeout (pos 0)) are_of_all }
+{
+    let Some(handle) = handle else {
+        return refused(AisError::BadHandle);
+    };
+    if let Some(end) = may_begin(timeout < 0, handle.flags.write) {
+        return Some(end);
+    }
+    unless_forbidden(handle.creation_flags == WR_ALL_REPLICAS)
+}
+
+fn set_active_begin(handle: &Option<HandleView>) -> Option<Outcome>
+    ensures { result ≡ sync_begin handle.now false are_not_collocated }
+{
+    let Some(handle) = handle else {
+        return refused(AisError::BadHandle);
+    };
+    if let Some(end) = may_begin(false, handle.flags.write) {
+        return Some(end);
+    }
+    unless_forbidden(!has_flag(handle.creation_flags, CHECKPOINT_COLLOCATED))
+}
+
+fn unless_forbidden(forbidden: bool) -> Option<Outcome>
+    ensures { result ≡ (if forbidden then refused errors.BadOperation else None) }
+{
+    if forbidden {
+        refused(AisError::BadOperation)
+    } else {
+        None
     }
 }
 

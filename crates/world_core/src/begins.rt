@@ -5,36 +5,26 @@ ghost use Rattle.ckpt_types.specs.declared.identities.Who.TheVariants.{Actor};
 ghost use Rattle.ckpt_types.specs.Limits.{client_numbers, nodes_max};
 ghost use Rattle.run_labels.specs.declared.words.LineWord.TheVariants as linewords;
 ghost use Rattle.run_labels.specs.declared.labels.Label.TheVariants as labels;
-ghost use Rattle.section_iter.specs.Room.{room_declared};
 ghost use Rattle.cluster_record.specs.RecordState.{empty_record};
 ghost use Rattle.ckpt_types.specs.Asks.{asked, IsBuilt};
 ghost use Rattle.cluster_record.specs.Calls.{client_of};
 ghost use Rattle.ckpt_machine.specs.Driving.{driver_start};
-ghost use Rattle.ckpt_machine.specs.Steps.{MayBegin, IsBeginEnd, kept_at_beginning, room_at};
+ghost use Rattle.ckpt_machine.specs.Steps.{MayBegin, IsBeginEnd, kept_at_beginning, declared_at, room_at};
 ghost use Rattle.ckpt_machine.specs.Tables.{ckpt_of_handle};
-ghost use Rattle.world_core.specs.Shows.{IsShown, HasNumbersLeft, hand_at, room_for};
+ghost use Rattle.world_core.specs.HandRooms.{room_for, copy_room_for};
+ghost use Rattle.world_core.specs.Shows.{IsShown, HasNumbersLeft, hand_at};
 ghost use Rattle.world_core.specs.Happenings.{Adds, BringsUp, Begins};
 
 use crate::beginning::{begin_end, ckpt_of_handle, takes_room};
 use crate::drivers::Driver;
+use crate::hand_rooms::HandRooms;
 use crate::hands::InHand;
 use crate::world::World;
-use ckpt_types::{ActorName, CallId, CkptId, CreationAttributes, Op, Outcome, Who};
+use ckpt_types::{ActorName, CallId, Op, Outcome, Who};
 use client_handles::HandleView;
 use cluster_record::Record;
 use run_labels::{Label, LineWord, OpWord, RunLog, Said};
-use section_iter::Iteration;
 use std::alloc::{AllocError, Global};
-
-/// What is declared where no checkpoint is.
-pub(crate) const DECLARES_NOTHING: CreationAttributes = CreationAttributes {
-    creation_flags: 0,
-    checkpoint_size: 0,
-    retention_duration: 0,
-    max_sections: 0,
-    max_section_size: 0,
-    max_section_id_size: 0,
-};
 
 impl World {
     /// The first nodes come up.
@@ -107,13 +97,13 @@ impl World {
         };
         let handle = self.tables.handle_asked(c, &op);
         let due = begin_end(self.cluster.is_live_client(c), &handle, &op);
-        let (end, iteration) = take_room(alloc, &op, &self.cluster, &handle, due);
+        let (end, rooms) = take_room(alloc, &op, &self.cluster, &handle, due);
         if end.is_some() {
             self.tables.begin(c, &op, &end);
             log.push(Label::Began { call, op, end });
             return Ok(());
         }
-        let hand = in_hand(call, &op, &handle, &self.cluster, iteration)?;
+        let hand = in_hand(call, &op, &handle, &self.cluster, rooms)?;
         self.tables.begin(c, &op, &None);
         *slot = Some(hand);
         log.push(Label::Began {
@@ -125,37 +115,25 @@ impl World {
     }
 }
 
-// What a checkpoint declares; one that is gone declares nothing.
-fn declared_by(cluster: &Record, ckpt: Option<CkptId>) -> CreationAttributes
-    ensures { room_declared result ≡ room_at cluster.now ckpt }
-{
-    let Some(ckpt) = ckpt else {
-        return DECLARES_NOTHING;
-    };
-    match cluster.declared(ckpt) {
-        None => DECLARES_NOTHING,
-        Some(attributes) => attributes,
-    }
-}
-
-// An operation that starts an iteration and goes on takes the room for it; where the memory is refused, it ends.
+// An operation that starts an iteration, or copies what the active has, takes the room for it where it goes on; where
+// the memory is refused, it ends.
 fn take_room(
     alloc: Global,
     op: &Op,
     cluster: &Record,
     handle: &Option<HandleView>,
     due: Option<Outcome>,
-) -> (Option<Outcome>, Option<Iteration>)
+) -> (Option<Outcome>, HandRooms)
     ensures end { IsBeginEnd (asked op.now) due result.0 }
-    ensures room { result.0 ≡ None → result.1 ≡ room_for (asked op.now) (room_at cluster.now (ckpt_of_handle handle.now)) }
+    ensures iteration { result.0 ≡ None → result.1.iteration ≡ room_for (asked op.now) (room_at cluster.now (ckpt_of_handle handle.now)) }
+    ensures snapshot { result.0 ≡ None → result.1.snapshot ≡ copy_room_for (asked op.now) (declared_at cluster.now (ckpt_of_handle handle.now)) }
 {
     if !takes_room(op) || due.is_some() {
-        return (due, None);
+        return (due, HandRooms::none());
     }
-    let declared = declared_by(cluster, ckpt_of_handle(handle));
-    match Iteration::reserve(alloc, &declared) {
-        Ok(iteration) => (None, Some(iteration)),
-        Err(AllocError) => (Some(Outcome::NoMemory), None),
+    match HandRooms::reserve(alloc, op, cluster, ckpt_of_handle(handle)) {
+        Ok(rooms) => (None, rooms),
+        Err(AllocError) => (Some(Outcome::NoMemory), HandRooms::none()),
     }
 }
 
@@ -171,10 +149,10 @@ fn in_hand(
     op: &Op,
     handle: &Option<HandleView>,
     cluster: &Record,
-    iteration: Option<Iteration>,
+    rooms: HandRooms,
 ) -> Result<InHand, AllocError>
     requires goes_on { IsSome (driver_start call (asked op.now) (kept_at_beginning cluster.now (client_of call) handle.now)) }
-    ensures hand { IfOk result (λ hand. hand ≡ record hand { call = call; op = op.now; iteration = iteration }) }
+    ensures hand { IfOk result (λ hand. hand ≡ record hand { call = call; op = op.now; iteration = rooms.iteration; snapshot = rooms.snapshot }) }
     ensures driver { IfOk result (λ hand. driver_start call (asked op.now) (kept_at_beginning cluster.now (client_of call) handle.now) ≡ Some hand.driver) }
 {
     let driver = Driver::start(call, op, handle, cluster)?;
@@ -183,7 +161,8 @@ fn in_hand(
         call,
         op,
         driver,
-        iteration,
+        iteration: rooms.iteration,
+        snapshot: rooms.snapshot,
     })
 }
 

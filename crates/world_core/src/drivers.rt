@@ -3,8 +3,10 @@ ghost use Rattle.std.specs.Prelude.{◌≡◌, ℕ, ◌-◌, ◌^◌, ◌<◌, S
 ghost use Rattle.ckpt_types.specs.Limits.{client_numbers, nodes_max};
 ghost use Rattle.node_msgs.specs.Requests.{ckpt_of};
 ghost use Rattle.node_msgs.specs.Steps.{verb_of, word_of, event_verb};
-ghost use Rattle.ckpt_machine.specs.Driving.{driver_next, driver_taken, driver_end, driver_start, on_kept, kind_of_change, change_start, active_start, done_end, event_ckpt, event_node, event_end, event_refusal, making_in, opened_end, refusal_in, takes_memory, refused_cause};
-ghost use Rattle.cluster_record.specs.StepDone.{done_of, names_live};
+ghost use Rattle.ckpt_machine.specs.Driving.{driver_next, driver_taken, driver_end, driver_start, on_kept, kind_of_change, change_start, active_start, sync_start, done_end, event_ckpt, event_node, event_end, event_refusal, making_in, opened_end, refusal_in, takes_memory, refused_cause};
+ghost use Rattle.cluster_record.specs.StepDone.{done_of, names_live, count_told};
+ghost use Rattle.cluster_record.specs.DueSync.{sync_taken};
+ghost use Rattle.world_core.specs.HandSteps.{served_done};
 ghost use Rattle.cluster_record.specs.DueActive.{active_taken, active_end};
 ghost use Rattle.cluster_record.specs.DueUpdate.{update_taken};
 ghost use Rattle.cluster_record.specs.Calls.{client_of};
@@ -32,9 +34,10 @@ use ckpt_types::{
     Update,
 };
 use client_handles::HandleView;
-use cluster_record::{ActiveKind, OpenAnswer, Record, number_of};
+use cluster_record::{ActiveKind, OpenAnswer, Record, SyncKind, number_of};
 use drive_active::ActiveCall;
 use drive_open::{OpenCall, SharedAsk};
+use drive_sync::SyncCall;
 use drive_update::UpdateCall;
 use node_msgs::{Next, RecordStep, Reply, Request, StepReply};
 use std::alloc::AllocError;
@@ -68,6 +71,8 @@ pub enum DriverKind {
     Update(UpdateCall),
     /// A call to the active replica.
     Active(ActiveCall),
+    /// A call that brings what the active has to other replicas.
+    Sync(SyncCall),
 }
 
 impl Driver {
@@ -120,6 +125,15 @@ impl Driver {
             Op::Retain(_, duration) => Ok(retain_start(*duration, ckpt_of_handle(handle))),
             Op::Unlink(name) => Ok(Driver::once(OneStep::Unlink(name.share()?))),
             Op::Finalize => Ok(Driver::once(OneStep::Leave)),
+            Op::Sync(_, timeout) => {
+                let deadline = cluster.moment_after(*timeout);
+                let kind = SyncKind::Synchronize(Some(deadline));
+                Ok(sync_start(call, kind, ckpt_of_handle(handle)))
+            }
+            Op::Active(_) => {
+                let node = node_of(cluster, number_of(&call.actor));
+                Ok(sync_start(call, SyncKind::ActiveSet(node), ckpt_of_handle(handle)))
+            }
             _ => unreachable!(),
         }
     }
@@ -144,6 +158,7 @@ impl Driver {
             DriverKind::Open(open_call) => open_call.next(cluster, tables.has_room(c)),
             DriverKind::Update(update) => update.next(cluster),
             DriverKind::Active(active) => active.next(cluster, tables.has_iteration_room(c)),
+            DriverKind::Sync(sync) => sync.next(cluster),
         }
     }
 
@@ -157,17 +172,18 @@ impl Driver {
         reply: &Reply,
     ) -> Option<Outcome>
         requires { r < nodes_max }
-        ensures new { self.new ≡ driver_taken (done_of cluster.now (verb_of request.now) (Some (ckpt_of request.now)) (Some r) (word_of reply.now)) self.old }
-        ensures end { result ≡ driver_end op.now (done_of cluster.now (verb_of request.now) (Some (ckpt_of request.now)) (Some r) (word_of reply.now)) reply.now self.new }
+        ensures new { self.new ≡ driver_taken (served_done cluster.now request.now r reply.now) self.old }
+        ensures end { result ≡ driver_end op.now (served_done cluster.now request.now r reply.now) reply.now self.new }
     {
         match &mut self.kind {
             DriverKind::Update(update) => take_update(update, op, cluster, r, request, reply),
             DriverKind::Active(active) => take_active(active, op, cluster, request, reply),
+            DriverKind::Sync(sync) => take_sync(sync, op, cluster, r, request, reply),
             DriverKind::Open(open_call) => {
                 open_call.take(cluster, r, request, reply.word());
                 end_of_refused(op, cluster, reply)
             }
-            _ => end_of_refused(op, cluster, reply),
+            DriverKind::Once(_) => end_of_refused(op, cluster, reply),
         }
     }
 
@@ -242,8 +258,8 @@ fn take_update(
     reply: &Reply,
 ) -> Option<Outcome>
     requires { r < nodes_max }
-    ensures new { update.new ≡ update_taken (done_of cluster.now (verb_of request.now) (Some (ckpt_of request.now)) (Some r) (word_of reply.now)) update.old }
-    ensures end { result ≡ driver_end op.now (done_of cluster.now (verb_of request.now) (Some (ckpt_of request.now)) (Some r) (word_of reply.now)) reply.now (kinds.Update update.new) }
+    ensures new { update.new ≡ update_taken (served_done cluster.now request.now r reply.now) update.old }
+    ensures end { result ≡ driver_end op.now (served_done cluster.now request.now r reply.now) reply.now (kinds.Update update.new) }
 {
     match reply {
         Reply::Done(answer) => update.take(cluster, r, request, *answer),
@@ -264,13 +280,47 @@ fn take_active(
     request: &Request,
     reply: &Reply,
 ) -> Option<Outcome>
-    ensures new { (r : ℕ) → active.new ≡ active_taken (done_of cluster.now (verb_of request.now) (Some (ckpt_of request.now)) (Some r) (word_of reply.now)) active.old }
-    ensures end { (r : ℕ) → result ≡ driver_end op.now (done_of cluster.now (verb_of request.now) (Some (ckpt_of request.now)) (Some r) (word_of reply.now)) reply.now (kinds.Active active.new) }
+    ensures new { (r : ℕ) → active.new ≡ active_taken (served_done cluster.now request.now r reply.now) active.old }
+    ensures end { (r : ℕ) → result ≡ driver_end op.now (served_done cluster.now request.now r reply.now) reply.now (kinds.Active active.new) }
 {
     active.take(cluster, request, reply.word());
     match reply {
         Reply::Done(answer) => end_of_done(request, *answer),
         _ => end_of_refused(op, cluster, reply),
+    }
+}
+
+// A call that brings what the active has to other replicas takes a node's answer. What its operation ends with, if it
+// ends.
+fn take_sync(
+    sync: &mut SyncCall,
+    op: &Op,
+    cluster: &Record,
+    r: NodeId,
+    request: &Request,
+    reply: &Reply,
+) -> Option<Outcome>
+    requires { r < nodes_max }
+    ensures new { sync.new ≡ sync_taken (served_done cluster.now request.now r reply.now) sync.old }
+    ensures end { result ≡ driver_end op.now (served_done cluster.now request.now r reply.now) reply.now (kinds.Sync sync.new) }
+{
+    sync.take(cluster, r, request, reply.word(), count_told(reply));
+    match reply {
+        Reply::Done(_) | Reply::Older(_, _) => sync.end(cluster, request),
+        Reply::Held(_) | Reply::Refused(_, _) | Reply::NoReplica | Reply::Stale(_, _) => {
+            end_of_refused(op, cluster, reply)
+        }
+        Reply::Claimed(_) | Reply::Free(_) | Reply::NoMemory => None,
+    }
+}
+
+// The count that a reply tells; 0 where it tells none.
+fn count_told(reply: &Reply) -> u64
+    ensures { result ≡ count_told reply.now }
+{
+    match reply {
+        Reply::Claimed(count) | Reply::Done(Answer::Pulled(count)) => *count,
+        _ => 0,
     }
 }
 
@@ -298,6 +348,10 @@ fn end_of_refused(op: &Op, cluster: &Record, reply: &Reply) -> Option<Outcome>
         }
         Reply::Refused(error, index) => Some(Outcome::Refused(*error, refused_cause(op, *index))),
         Reply::NoReplica => Some(Outcome::Refused(AisError::NotExist, Cause::Plain)),
+        Reply::Stale(old, present) => {
+            let generations = Cause::Generations(*old, *present);
+            Some(Outcome::Refused(AisError::TryAgain, generations))
+        }
         _ => None,
     }
 }
@@ -375,6 +429,14 @@ fn active_start(call: CallId, kind: ActiveKind, ckpt: Option<CkptId>) -> Driver
 {
     let Some(ckpt) = ckpt else { unreachable!() };
     Driver::by(DriverKind::Active(ActiveCall::begin(call, ckpt, kind)))
+}
+
+fn sync_start(call: CallId, kind: SyncKind, ckpt: Option<CkptId>) -> Driver
+    requires { IsSome (sync_start call kind ckpt) }
+    ensures { sync_start call kind ckpt ≡ Some result }
+{
+    let Some(ckpt) = ckpt else { unreachable!() };
+    Driver::by(DriverKind::Sync(SyncCall::begin(call, ckpt, kind)))
 }
 
 fn close_start(ckpt: Option<CkptId>) -> Driver

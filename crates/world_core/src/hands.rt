@@ -3,17 +3,16 @@ ghost use Rattle.std.specs.Prelude.{◌≡◌, ◌<◌, length, replicate, Some,
 ghost use Rattle.std.specs.Borrow.{sem};
 ghost use Rattle.std.specs.Option.{option_and_then};
 ghost use Rattle.ckpt_types.specs.OpWord.{word_of_op};
-ghost use Rattle.node_msgs.specs.Requests.{ckpt_of};
 ghost use Rattle.ckpt_types.specs.declared.answers.Answer.TheVariants as answers;
 ghost use Rattle.node_msgs.specs.declared.replies.Reply.TheVariants as replies;
 ghost use Rattle.node_msgs.specs.declared.steps.StepReply.TheVariants as words;
 ghost use Rattle.node_msgs.specs.declared.steps.Verb.TheVariants as verbs;
 ghost use Rattle.world_core.specs.UpdateSteps.{IsUpdate, ended_unless};
 ghost use Rattle.ckpt_types.specs.Limits.{client_numbers, nodes_max};
-ghost use Rattle.node_msgs.specs.Steps.{verb_of, word_of, event_verb};
+ghost use Rattle.node_msgs.specs.Steps.{event_verb};
 ghost use Rattle.cluster_record.specs.Calls.{left};
 ghost use Rattle.cluster_record.specs.StepDone.{done_of};
-ghost use Rattle.world_core.specs.HandSteps.{hand_taken, hand_end};
+ghost use Rattle.world_core.specs.HandSteps.{hand_taken, hand_end, served_done};
 ghost use Rattle.world_core.specs.HandLending.{LendsHand};
 ghost use Rattle.world_core.specs.Shows.{hand_at};
 
@@ -23,6 +22,7 @@ use cluster_record::Record;
 use node_msgs::{RecordStep, Reply, Request, StepReply};
 use run_labels::OpWord;
 use section_iter::Iteration;
+use snap_copy::Snap;
 use std::alloc::{AllocError, Global};
 use std::marker::Model;
 
@@ -37,6 +37,8 @@ pub struct InHand {
     pub driver: Driver,
     /// The room that it took for an iteration.
     pub iteration: Option<Iteration>,
+    /// The room that it took for a snapshot, with what it has pulled.
+    pub snapshot: Option<Snap>,
 }
 
 /// The call in hand of each client, c0 to c99.
@@ -76,8 +78,8 @@ impl InHand {
         reply: &Reply,
     ) -> Option<Outcome>
         requires { r < nodes_max }
-        ensures new { self.new ≡ hand_taken (done_of cluster.now (verb_of request.now) (Some (ckpt_of request.now)) (Some r) (word_of reply.now)) self.old }
-        ensures end { result ≡ hand_end (done_of cluster.now (verb_of request.now) (Some (ckpt_of request.now)) (Some r) (word_of reply.now)) reply.now self.new }
+        ensures new { self.new ≡ hand_taken (served_done cluster.now request.now r reply.now) self.old }
+        ensures end { result ≡ hand_end (served_done cluster.now request.now r reply.now) reply.now self.new }
     {
         self.driver.take(&self.op, cluster, r, request, reply)
     }
@@ -115,6 +117,14 @@ impl InHand {
         ensures { self.new ≡ hand_taken (done_of cluster.now (event_verb step.now) ckpt node word) self.old }
     {
         self.driver.told(cluster, step, ckpt, node, word);
+    }
+
+    /// The room that it has for a snapshot is taken out of it, with what it has pulled.
+    pub fn lend_snapshot(&mut self) -> Option<Snap>
+        ensures lent { result ≡ self.old.snapshot }
+        ensures new { self.new ≡ record self.old { snapshot = None } }
+    {
+        self.snapshot.take()
     }
 
     /// The room that it has for an iteration is taken out of it.

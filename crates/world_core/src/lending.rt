@@ -6,7 +6,7 @@ ghost use Rattle.node_core.specs.Lending.{bytes_asked, HasRoomToTell};
 ghost use Rattle.world_core.specs.Lending.{IsLentBy, IsLentUpdate, IsLentRead};
 ghost use Rattle.world_core.specs.UpdateSteps.{is_creation};
 
-use crate::begins::DECLARES_NOTHING;
+use crate::hand_rooms::DECLARES_NOTHING;
 use ckpt_types::{
     Apart, CheckpointDescriptor, GENERATED_ID_BYTES, NewId, Op, ReadBuf, ReadElement, ReadVector,
     SectionDescriptor, SectionId, SectionState, SharedReads, SharedUpdate, Update,

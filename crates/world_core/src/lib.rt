@@ -7,6 +7,7 @@ mod begins;
 mod details;
 mod drivers;
 mod gone;
+mod hand_rooms;
 mod hands;
 mod iterating;
 mod kept_client;

@@ -112,6 +112,7 @@ impl World {
         let op = hand.word();
         let mut lent = lent_by(alloc, &hand.op, request)?;
         lent.iteration = lend_iteration(&mut self.tables, c, hand, request);
+        lent.snap = hand.lend_snapshot();
         let reply = self
             .nodes
             .serve(alloc, r, &self.cluster, request, &mut lent);
@@ -123,6 +124,7 @@ impl World {
             &reply,
             lent.iteration.take(),
         );
+        hand.snapshot = lent.snap.take();
         let end = hand.take(&self.cluster, r, request, &reply);
         let_go(slot, &end);
         let details = told_details(&end, &reply, lent);

@@ -134,7 +134,9 @@ impl Table {
             | Op::Status(place)
             | Op::Iter(_, place, _, _)
             | Op::Close(place)
-            | Op::Retain(place, _) => self.handle(*place),
+            | Op::Retain(place, _)
+            | Op::Sync(place, _)
+            | Op::Active(place) => self.handle(*place),
             Op::Next(iteration) | Op::EndIter(iteration) => self.iteration_handle(*iteration),
             _ => None,
         }

@@ -6,6 +6,7 @@ ghost use Rattle.world_core.specs.Happenings.{Adds, ComesNow, IsAnswered};
 ghost use Rattle.world_core.specs.Runs.{IsNew, IsRunTo, MayHappen, Happens};
 ghost use Rattle.ckpt_machine.specs.Acknowledged.{AcknowledgedStay};
 ghost use Rattle.ckpt_machine.specs.Replays.{EffectsTellThroughout};
+ghost use Rattle.ckpt_machine.specs.Synchronized.{SynchronizedTell};
 ghost use Rattle.ckpt_machine.specs.AllOrNone.{IsAllOrNoneThroughout};
 ghost use Rattle.ckpt_machine.specs.Refusals.{EachRefusalLeaves};
 ghost use Rattle.world_core.specs.StepsLeft.{ComesNearer};
@@ -105,6 +106,10 @@ impl World {
         // Each replica is the replay of the updates that it has taken, each once; of the active's first ones, where they
         // go to the active alone.
         ensures effects { EffectsTellThroughout log.new.labels }
+
+        // Behind a synchronisation that was answered OK each complete replica has the checkpoint's generation, and first what
+        // the active had when it was pulled.
+        ensures synchronized { SynchronizedTell log.new.labels }
         ensures err { OnErr result ((self.new ≡ self.old) × (log.new.labels ≡ log.old.labels)) }
 
         // For whoever steps a call to its end.

@@ -10,6 +10,7 @@ use Rattle.ckpt_machine.proofs.Refusing.{refusal_leaves}
 use Rattle.ckpt_machine.proofs.RunLaws.{run_has}
 use Rattle.ckpt_machine.proofs.Start.{invariant_empty}
 use Rattle.ckpt_machine.proofs.AllOrNone.{on_all_or_none}
+use Rattle.ckpt_machine.proofs.Synchronized.{synchronisations_tell}
 use Rattle.ckpt_machine.proofs.machine_law.Goals as goal
 
 pub returns-clause-starts : goal.returns-clause-starts
@@ -47,3 +48,6 @@ returns-clause-acknowledged c = acknowledged_stay
 
 pub returns-clause-effects : goal.returns-clause-effects
 returns-clause-effects c = effects_tell
+
+pub returns-clause-synchronized : goal.returns-clause-synchronized
+returns-clause-synchronized c = synchronisations_tell

@@ -4,7 +4,7 @@ use Rattle.run_labels.specs.declared.labels.Label.{Label}
 use Rattle.session_run.proofs.Playable.{playable}
 use Rattle.ckptsim.specs.Headline.{asks_steps, printed}
 use Rattle.ckptsim.specs.Reading.{HasRead}
-use Rattle.ckptsim.proofs.Played.{read_too_long, none_refused, all_of_none, stays_of_none, tell_of_none}
+use Rattle.ckptsim.proofs.Played.{read_too_long, none_refused, all_of_none, stays_of_none, tell_of_none, synchronized_of_none}
 use Rattle.ckptsim.proofs.Written.{part_of_all}
 use Rattle.ckptsim.proofs.running.ckpt_run.Goals as goal
 
@@ -106,3 +106,21 @@ returns-in-Err-Fault-clause-effects g c = tell_of_none c.args.log.now.labels c.r
 
 pub returns-in-Err-NoMemory-clause-effects : goal.returns-in-Err-NoMemory-clause-effects
 returns-in-Err-NoMemory-clause-effects g c = tell_of_none c.args.log.now.labels c.requires.log
+
+pub returns-then-not-is_command-clause-synchronized : goal.returns-then-not-is_command-clause-synchronized
+returns-then-not-is_command-clause-synchronized g c = synchronized_of_none c.args.log.now.labels c.requires.log
+
+pub returns-in-Err-Failed-clause-synchronized : goal.returns-in-Err-Failed-clause-synchronized
+returns-in-Err-Failed-clause-synchronized g c = synchronized_of_none c.args.log.now.labels c.requires.log
+
+pub returns-in-Err-Memory-clause-synchronized : goal.returns-in-Err-Memory-clause-synchronized
+returns-in-Err-Memory-clause-synchronized g c = synchronized_of_none c.args.log.now.labels c.requires.log
+
+pub returns-in-TooLong-clause-synchronized : goal.returns-in-TooLong-clause-synchronized
+returns-in-TooLong-clause-synchronized g c = synchronized_of_none c.args.log.now.labels c.requires.log
+
+pub returns-in-Err-Fault-clause-synchronized : goal.returns-in-Err-Fault-clause-synchronized
+returns-in-Err-Fault-clause-synchronized g c = synchronized_of_none c.args.log.now.labels c.requires.log
+
+pub returns-in-Err-NoMemory-clause-synchronized : goal.returns-in-Err-NoMemory-clause-synchronized
+returns-in-Err-NoMemory-clause-synchronized g c = synchronized_of_none c.args.log.now.labels c.requires.log

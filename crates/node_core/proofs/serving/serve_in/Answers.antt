@@ -2,7 +2,7 @@ use Rattle.std.proofs.Common.{sym, ap, ◌∙◌}
 use Rattle.node_msgs.specs.Requests.{ckpt_of}
 use Rattle.node_core.specs.Payloads.{payload_of}
 use Rattle.node_core.specs.Seen.{record_seen, is_complete}
-use Rattle.node_core.specs.Serving.{reply_at, details_at, iteration_behind, replica_after}
+use Rattle.node_core.specs.Serving.{reply_at, details_at, iteration_behind, snapshot_behind, replica_after}
 use Rattle.node_core.proofs.AtPlaces.{place_served, served_at, served_none, served_changes, served_same, fits_at}
 use Rattle.node_core.proofs.serving.serve_in.Goals as goal
 
@@ -33,6 +33,13 @@ returns-in_default-clause-iteration c =
     let seen = record_seen c.args.seen.now k c.args.number in
     let from = c.place_served.ensures.place ∙ ap (λ k. place_served (is_complete (record_seen c.args.seen.now k c.args.number)) k c.args.replicas.now) c.ckpt.ensures in
     ap (λ x. iteration_behind c.args.request.now seen x c.args.lent.now.iteration) (sym (served_none (is_complete seen) k c.args.replicas.now c.place_served.result from c.in_default.is))
+
+pub returns-in_default-clause-snapshot : goal.returns-in_default-clause-snapshot
+returns-in_default-clause-snapshot c =
+    let k = ckpt_of c.args.request.now in
+    let seen = record_seen c.args.seen.now k c.args.number in
+    let from = c.place_served.ensures.place ∙ ap (λ k. place_served (is_complete (record_seen c.args.seen.now k c.args.number)) k c.args.replicas.now) c.ckpt.ensures in
+    ap (λ x. snapshot_behind c.args.request.now x c.args.lent.now.snap) (sym (served_none (is_complete seen) k c.args.replicas.now c.place_served.result from c.in_default.is))
 
 pub answer-requires : goal.answer-requires
 answer-requires c =
@@ -71,3 +78,11 @@ returns-clause-iteration c =
     let from = c.place_served.ensures.place ∙ ap (λ k. place_served (is_complete (record_seen c.args.seen.now k c.args.number)) k c.args.replicas.now) c.ckpt.ensures in
     c.answer.ensures.iteration
     ∙ ap (λ x. iteration_behind c.args.request.now seen x c.args.lent.now.iteration) (sym (served_at (is_complete seen) k c.args.replicas.now c.place_served.result from c.in-Some.i c.index-replicas-i.result c.in-Some.is))
+
+pub returns-clause-snapshot : goal.returns-clause-snapshot
+returns-clause-snapshot c =
+    let k = ckpt_of c.args.request.now in
+    let seen = record_seen c.args.seen.now k c.args.number in
+    let from = c.place_served.ensures.place ∙ ap (λ k. place_served (is_complete (record_seen c.args.seen.now k c.args.number)) k c.args.replicas.now) c.ckpt.ensures in
+    c.answer.ensures.snapshot
+    ∙ ap (λ x. snapshot_behind c.args.request.now x c.args.lent.now.snap) (sym (served_at (is_complete seen) k c.args.replicas.now c.place_served.result from c.in-Some.i c.index-replicas-i.result c.in-Some.is))

@@ -1,17 +1,19 @@
 use Rattle.std.proofs.Common.{sym, ap, subst, ◌∙◌}
 use Rattle.std.specs.Prelude.{slice_set}
 use Rattle.node_msgs.specs.Requests.{ckpt_of}
-use Rattle.node_core.specs.Fitting.{RequestFits}
+use Rattle.world_core.specs.Asking.{MayCome}
+use Rattle.world_core.proofs.Asking.{fits_that_comes}
 use Rattle.node_core.specs.Nodes.{NodeState, MayReply, replica_served, replicas_after, seen_from}
 use Rattle.node_core.specs.Payloads.{payload_of}
-use Rattle.node_core.specs.Serving.{details_at, iteration_behind}
+use Rattle.node_core.specs.Serving.{details_at, iteration_behind, snapshot_behind}
 use Rattle.world_core.specs.Nodes.{nodes_shown, StandByNumber}
 use Rattle.world_core.proofs.Numbered.{node_is, numbered_set, shown_set}
 use Rattle.world_core.proofs.nodes.serve_node.Goals as goal
 
 pub serve-requires : goal.serve-requires
 serve-requires c =
-    record { fits = subst (λ (n : NodeState). RequestFits c.args.seen.now n c.args.request.now c.args.lent.now) (node_is c.args.nodes.now c.requires.numbered c.args.r c.index-nodes-r.result c.requires.node) c.requires.fits }
+    let may = subst (λ (n : NodeState). MayCome c.args.seen.now n c.args.request.now c.args.lent.now) (node_is c.args.nodes.now c.requires.numbered c.args.r c.index-nodes-r.result c.requires.node) c.requires.may in
+    record { fits = fits_that_comes c.args.seen.now _ c.args.request.now c.args.lent.now may c.see_declared.ensures }
 
 pub returns-clause-numbered : goal.returns-clause-numbered
 returns-clause-numbered c =
@@ -36,3 +38,8 @@ pub returns-clause-iteration : goal.returns-clause-iteration
 returns-clause-iteration c =
     c.serve.ensures.iteration
     ∙ ap (λ (n : NodeState). iteration_behind c.args.request.now (seen_from c.args.seen.now n (ckpt_of c.args.request.now)) (replica_served c.args.seen.now n (ckpt_of c.args.request.now)) c.args.lent.now.iteration) (sym (node_is c.args.nodes.now c.requires.numbered c.args.r c.index-nodes-r.result c.requires.node))
+
+pub returns-clause-snapshot : goal.returns-clause-snapshot
+returns-clause-snapshot c =
+    c.serve.ensures.snapshot
+    ∙ ap (λ (n : NodeState). snapshot_behind c.args.request.now (replica_served c.args.seen.now n (ckpt_of c.args.request.now)) c.args.lent.now.snap) (sym (node_is c.args.nodes.now c.requires.numbered c.args.r c.index-nodes-r.result c.requires.node))

@@ -22,7 +22,7 @@ returns-then-is_some-clause-ok c =
     let handle = c.handle_asked-handle.result in
     let end = c.take_room-end.result.0 in
     let driver : Driver = Once Leave in
-    let hand : InHand = record { call = call; op = c.args.op; driver = driver; iteration = c.take_room-end.result.1 } in
+    let hand : InHand = record { call = call; op = c.args.op; driver = driver; iteration = c.take_room-end.result.1.iteration; snapshot = c.take_room-end.result.1.snapshot } in
     let hands = slice_set w.hands c.args.c c.at-slot.result.now in
     let hands_are : hands ≡ slice_set w.hands c.args.c (left end hand) = ap (slice_set w.hands c.args.c) (sym c.at-slot.ensures.value ∙ c.requires.none ∙ sym (ended_left end hand (sym c.is_some.ensures ∙ c.if-is_some.true))) in
     record {
@@ -30,10 +30,10 @@ returns-then-is_some-clause-ok c =
       labels = c.push.ensures.labels;
       is = record {
         begins = record { actor = refl; op_is = refl; hand = hand; same_call = refl; same_op = refl; within = c.at-slot.ensures.there; hands = hands_are };
-        does = begin_done w c.args.c c.args.op c.args.op c.args.op c.number.result handle c.is_live_client.result c.begin_end-due.result end (room_at w.cluster (ckpt_of_handle handle)) c.take_room-end.result.1 c.begin.new.self driver hands
+        does = begin_done w c.args.c c.args.op c.args.op c.args.op c.number.result handle c.is_live_client.result c.begin_end-due.result end (room_at w.cluster (ckpt_of_handle handle)) c.take_room-end.result.1.iteration c.take_room-end.result.1.snapshot c.begin.new.self driver hands
             c.requires.client c.number.ensures.within c.at-slot.ensures.there c.requires.none c.requires.built c.requires.may
             refl refl c.number.ensures.value c.handle_asked-handle.ensures
-            c.is_live_client.ensures c.begin_end-due.ensures c.take_room-end.ensures.end refl c.take_room-end.ensures.room c.begin.ensures
+            c.is_live_client.ensures c.begin_end-due.ensures c.take_room-end.ensures.end refl c.take_room-end.ensures.iteration c.take_room-end.ensures.snapshot c.begin.ensures
             (λ goes. absurd (none_is_not_some end (sym c.is_some.ensures ∙ c.if-is_some.true) goes)) hands_are;
       };
     }
@@ -53,10 +53,10 @@ returns-clause-ok c =
       labels = c.push-2.ensures.labels;
       is = record {
         begins = record { actor = refl; op_is = refl; hand = hand; same_call = ap (λ (h : InHand). h.call) is; same_op = ap (λ (h : InHand). h.op) is; within = c.at-slot.ensures.there; hands = refl };
-        does = begin_done w c.args.c c.args.op c.args.op c.args.op c.number.result handle c.is_live_client.result c.begin_end-due.result None (room_at w.cluster (ckpt_of_handle handle)) c.take_room-end.result.1 c.begin-2.new.self hand.driver (slice_set w.hands c.args.c (Some hand))
+        does = begin_done w c.args.c c.args.op c.args.op c.args.op c.number.result handle c.is_live_client.result c.begin_end-due.result None (room_at w.cluster (ckpt_of_handle handle)) c.take_room-end.result.1.iteration c.take_room-end.result.1.snapshot c.begin-2.new.self hand.driver (slice_set w.hands c.args.c (Some hand))
             c.requires.client c.number.ensures.within c.at-slot.ensures.there c.requires.none c.requires.built c.requires.may
             refl refl c.number.ensures.value c.handle_asked-handle.ensures
-            c.is_live_client.ensures c.begin_end-due.ensures (subst (λ (o : Option Outcome). IsBeginEnd (asked c.args.op) c.begin_end-due.result o) goes c.take_room-end.ensures.end) refl (λ none. c.take_room-end.ensures.room goes) c.begin-2.ensures
+            c.is_live_client.ensures c.begin_end-due.ensures (subst (λ (o : Option Outcome). IsBeginEnd (asked c.args.op) c.begin_end-due.result o) goes c.take_room-end.ensures.end) refl (λ none. c.take_room-end.ensures.iteration goes) (λ none. c.take_room-end.ensures.snapshot goes) c.begin-2.ensures
             (λ none. c.in_ok-hand.ensures.driver) (ap (λ (h : InHand). slice_set w.hands c.args.c (Some h)) is);
       };
     }

@@ -3,10 +3,12 @@ use Rattle.ckpt_machine.specs.Acknowledged.{AcknowledgedStay}
 use Rattle.ckpt_machine.specs.AllOrNone.{IsAllOrNoneThroughout}
 use Rattle.ckpt_machine.specs.Refusals.{EachRefusalLeaves}
 use Rattle.ckpt_machine.specs.Replays.{EffectsTellThroughout}
+use Rattle.ckpt_machine.specs.Synchronized.{SynchronizedTell}
 use Rattle.world_core.proofs.Events.{run_with, happens_with, nearer_with}
 use Rattle.ckpt_machine.proofs.Acknowledged.{acknowledged_stay}
 use Rattle.ckpt_machine.proofs.AllOrNone.{on_all_or_none}
 use Rattle.ckpt_machine.proofs.EffectsTell.{effects_tell}
+use Rattle.ckpt_machine.proofs.Synchronized.{synchronisations_tell}
 use Rattle.ckpt_machine.proofs.RefusedRuns.{run_leaves}
 use Rattle.world_core.proofs.Running.{shown, roomy}
 use Rattle.world_core.proofs.world.World.event.Goals as goal
@@ -43,6 +45,9 @@ returns-clause-acknowledged c = acknowledged_stay c.happen.new.log.labels (retur
 pub returns-clause-effects : goal.returns-clause-effects
 returns-clause-effects c = effects_tell c.happen.new.log.labels (returns-clause-run c).run
 
+pub returns-clause-synchronized : goal.returns-clause-synchronized
+returns-clause-synchronized c = synchronisations_tell c.happen.new.log.labels (returns-clause-run c).run
+
 -- what is not done leaves the log as it was
 pub returns-in_err-reserve-clause-refused : goal.returns-in_err-reserve-clause-refused
 returns-in_err-reserve-clause-refused c = subst EachRefusalLeaves (sym c.reserve.ensures.labels) (run_leaves c.args.log.now.labels c.requires.run.run)
@@ -56,6 +61,9 @@ returns-in_err-reserve-clause-acknowledged c = subst AcknowledgedStay (sym c.res
 pub returns-in_err-reserve-clause-effects : goal.returns-in_err-reserve-clause-effects
 returns-in_err-reserve-clause-effects c = subst EffectsTellThroughout (sym c.reserve.ensures.labels) (effects_tell c.args.log.now.labels c.requires.run.run)
 
+pub returns-in_err-reserve-clause-synchronized : goal.returns-in_err-reserve-clause-synchronized
+returns-in_err-reserve-clause-synchronized c = subst SynchronizedTell (sym c.reserve.ensures.labels) (synchronisations_tell c.args.log.now.labels c.requires.run.run)
+
 pub returns-in_err-happen-clause-refused : goal.returns-in_err-happen-clause-refused
 returns-in_err-happen-clause-refused c = subst EachRefusalLeaves (sym (c.in_err-happen.ensures.err.1 ∙ c.reserve.ensures.labels)) (run_leaves c.args.log.now.labels c.requires.run.run)
 
@@ -67,6 +75,9 @@ returns-in_err-happen-clause-acknowledged c = subst AcknowledgedStay (sym (c.in_
 
 pub returns-in_err-happen-clause-effects : goal.returns-in_err-happen-clause-effects
 returns-in_err-happen-clause-effects c = subst EffectsTellThroughout (sym (c.in_err-happen.ensures.err.1 ∙ c.reserve.ensures.labels)) (effects_tell c.args.log.now.labels c.requires.run.run)
+
+pub returns-in_err-happen-clause-synchronized : goal.returns-in_err-happen-clause-synchronized
+returns-in_err-happen-clause-synchronized c = subst SynchronizedTell (sym (c.in_err-happen.ensures.err.1 ∙ c.reserve.ensures.labels)) (synchronisations_tell c.args.log.now.labels c.requires.run.run)
 
 pub returns-clause-nearer : goal.returns-clause-nearer
 returns-clause-nearer c =

@@ -1,0 +1,299 @@
+-- No step takes away what a replica of the present generation has: it stays, and goes on from that.
+use Rattle.std.proofs.Common.{◌≡◌, ◌⊎◌, ℕ, ◌<◌, ◌≤◌, inl, inr, List, [], ◌∷◌, length, Option, Some, None, Bool, true, false, cond, not, ◌==◌, ◌&&◌, ◌||◌, nat_lt, ℤ, refl, sym, ap, subst, ◌∙◌, arith}
+use Rattle.std.specs.Prelude.{IsSome, IsSomeAnd, slice_index}
+use Rattle.std.proofs.lemmas.Bool.{eqb-true, eq-eqb, and_parts, ltb-true, ltb-false}
+use Rattle.std.proofs.lemmas.Option.{same_Some}
+use Rattle.ckpt_types.specs.declared.identities.CallId.{CallId}
+use Rattle.ckpt_types.specs.declared.update.Update.{Update}
+use Rattle.ckpt_types.specs.Asks.{asked, update_of}
+use Rattle.weak_marks.specs.Marks.{Marked}
+use Rattle.node_msgs.specs.declared.steps.Verb.{Verb}
+use Rattle.node_msgs.specs.declared.steps.Verb.TheVariants as verbs
+use Rattle.node_msgs.specs.declared.steps.StepReply.{StepReply}
+use Rattle.node_msgs.specs.declared.steps.StepReply.TheVariants as words
+use Rattle.run_labels.specs.declared.labels.Label.{Label}
+use Rattle.run_labels.specs.declared.labels.Label.TheVariants as labels
+use Rattle.cluster_record.specs.declared.entries.Entry.{Entry}
+use Rattle.cluster_record.specs.Calls.{client_of}
+use Rattle.cluster_record.specs.Makings.{making_of}
+use Rattle.cluster_record.specs.Places.{put2}
+use Rattle.cluster_record.specs.RecordState.{RecordState, entry_of, complete_of, stays, swept, moved, entered, finished, home_of, opened_with, opened, closed, unlinked, unreferred, unnamed, departed, undone}
+use Rattle.cluster_record.proofs.IdentityLaws.{IdentitiesRise-filter}
+use Rattle.ckpt_machine.specs.Guards.{IsOnOwn, Row, Allowed}
+use Rattle.ckpt_machine.specs.Invariant.{Invariant}
+use Rattle.ckpt_machine.specs.Machine.{Machine, Applied, ReplicaState, Snapshot, CallState}
+use Rattle.ckpt_machine.specs.Propagation.{is_behind, replica_from}
+use Rattle.ckpt_machine.specs.Replays.{IsPrefix}
+use Rattle.ckpt_machine.specs.Shape.{IsCompleteOn}
+use Rattle.ckpt_machine.specs.Steps.{Told, with_record, record_step, created_for, retained_for, change_replica, with_committed, with_applied, with_slot, with_marks, with_next_element, without_marks, marks_ended, changed, on_ok, on_look, without_making, at_some, replica_under, opened_state, step_of, staged_moment, after}
+use Rattle.ckpt_machine.proofs.ActiveNode.{active_complete}
+use Rattle.ckpt_machine.proofs.Copying.{IsSource, TakesOver, after_pull, after_put_over}
+use Rattle.ckpt_machine.proofs.EachReplica.{Each, PulledInHand, IsAhead, committed_generation, element_generation, committed_more, made_where_complete}
+use Rattle.ckpt_machine.proofs.Entries.{ComesOf-filter}
+use Rattle.ckpt_machine.proofs.Follows.{IsBare, element_effects}
+use Rattle.ckpt_machine.proofs.Installed.{after_install}
+use Rattle.ckpt_machine.proofs.Joining.{opened_with-identity}
+use Rattle.ckpt_machine.proofs.OptionLemmas.{IsSomeAnd-at, IsSomeAnd-from, IfSome-at}
+use Rattle.ckpt_machine.proofs.Prefixes.{prefix_same, prefix_of_same, prefix_longer}
+use Rattle.ckpt_machine.proofs.Propagated.{complete_there}
+use Rattle.ckpt_machine.proofs.References.{released-identity}
+use Rattle.ckpt_machine.proofs.StaysMade.{StaysMade, StaysMade-same, StaysMade-kept, MadeOn, MadeOn-swept, released_made, opened_made, same_on, changed_on, filter_on, departed_on, finished_on, created_for_on, retained_for_on, StepNeeds, row_needs}
+
+-- ---- what one replica becomes
+
+-- the second replica is of the first one's generation, and has its effects first
+abbrev pub GrowsTo : ReplicaState → ReplicaState → Type 0
+GrowsTo x y = (y.generation ≡ x.generation) × IsPrefix x.effects y.effects
+
+-- a replica that stays as it is grows so
+pub grows_to_same : (x : ReplicaState) → GrowsTo x x
+grows_to_same x = (refl, prefix_same x.effects)
+
+-- a replica grows by a commit
+committed_grows : (o : Option Entry) (x : ReplicaState) → GrowsTo x (with_committed o x)
+committed_grows o x = (committed_generation o x, committed_more o x)
+
+-- a replica grows by an update in one step
+applied_grows : (o : Option Entry) (call : CallId) (update : Update) (t : ℤ) (x : ReplicaState) → GrowsTo x (with_applied call update t o x)
+applied_grows None call update t x = grows_to_same x
+applied_grows (Some e) call update t x = (refl, (Applied call update t ∷ [], refl))
+
+-- a replica grows by an element of a weak write, which is no effect yet
+element_grows : (o : Option Entry) (x : ReplicaState) → GrowsTo x (with_next_element o x)
+element_grows o x = (element_generation o x, prefix_of_same x.effects (with_next_element o x).effects (element_effects o x))
+
+-- a replica grows by the end of a weak write
+unmarked_grows : (x : ReplicaState) → GrowsTo x (without_marks x)
+unmarked_grows x = by_marks x.marks
+  where
+    by_marks : (o : Option Marked) → GrowsTo x (marks_ended x o)
+    by_marks None = grows_to_same x
+    by_marks (Some marks) = (refl, (Applied marks.call marks.update marks.moment ∷ [], refl))
+
+-- ---- what becomes of a checkpoint
+
+-- a checkpoint that is there was there, and stays made; and each replica of its generation is there still, and has its effects first
+pub record GoesOnIn (m : Machine) (k : ℕ) (entries : List Entry) (replicas : ℕ → ℕ → Option ReplicaState) : Type 0 where
+  pub made : (f : Entry) → entry_of k entries ≡ Some f → (e : Entry) × (entry_of k m.cluster.entries ≡ Some e) × StaysMade e f
+  pub replica : (r : ℕ) (x : ReplicaState) (e f : Entry) → entry_of k m.cluster.entries ≡ Some e → entry_of k entries ≡ Some f → m.replicas k r ≡ Some x → x.generation ≡ e.generation → IsSomeAnd (replicas k r) (GrowsTo x)
+
+-- what becomes of a checkpoint from one state to another
+abbrev pub GoesOn : Machine → ℕ → Machine → Type 0
+GoesOn m k n = GoesOnIn m k n.cluster.entries n.replicas
+
+-- ---- behind, and not behind
+
+-- a replica of the generation of a snapshot is behind it just where it has fewer effects
+behind_fewer : (x : ReplicaState) (s : Snapshot) (b : Bool) → x.generation ≡ s.generation → is_behind x s ≡ b → nat_lt (length x.effects) (length s.effects) ≡ b
+behind_fewer x s b same is = by_test (nat_lt x.generation s.generation) refl is
+  where
+    by_test : (c : Bool) → nat_lt x.generation s.generation ≡ c → (c || ((x.generation == s.generation) && nat_lt (length x.effects) (length s.effects))) ≡ b → nat_lt (length x.effects) (length s.effects) ≡ b
+    by_test true below is = absurd (let under : x.generation < s.generation = ltb-true x.generation s.generation below in let equal = same in omega (arith, under, equal))
+    by_test false other is = ap (λ c. c && nat_lt (length x.effects) (length s.effects)) (sym (eq-eqb x.generation s.generation same)) ∙ is
+
+module _ (m : Machine) (inv : Invariant m) (bare : IsBare m) (each : Each (λ o r x. Unit {0}) (λ e s. Unit {0}) m) where
+  -- the active of a checkpoint that is made has a replica
+  active_there : (k r : ℕ) (e : Entry) → entry_of k m.cluster.entries ≡ Some e → e.making ≡ None → e.active ≡ Some r → (y : ReplicaState) × (m.replicas k r ≡ Some y)
+  active_there k r e found made active = by_replica (m.replicas k r) refl (complete_there m inv.shapes inv.holds k r e found (active_complete m inv.shapes k e r inv.holds found made active))
+    where
+      by_replica : (o : Option ReplicaState) → m.replicas k r ≡ o → IsSome o → (y : ReplicaState) × (m.replicas k r ≡ Some y)
+      by_replica None is none = absurd (cc none)
+      by_replica (Some y) is some = (y, is)
+
+  -- a snapshot is the background one of the checkpoint, or was pulled there by a call in hand
+  abbrev pub IsCopyOf : ℕ → Snapshot → Type 0
+  IsCopyOf k s = (m.snapshots k ≡ Some s) ⊎ PulledInHand m.in_hand k s
+
+  -- the checkpoint of such a snapshot, where it is there, is made, and its updates go to an active alone
+  copy_source : (k : ℕ) (s : Snapshot) (e : Entry) → entry_of k m.cluster.entries ≡ Some e → IsCopyOf k s → IsSource e
+  copy_source k s e found (inl is) =
+      let (f, there, is_so) = IsSomeAnd-at (entry_of k m.cluster.entries) (λ e. IsSource e × Unit {0}) (each.snapshot k s is) in
+      subst IsSource (same_Some f e (sym there ∙ found)) is_so.0
+  copy_source k s e found (inr has) = (IfSome-at (entry_of k m.cluster.entries) (λ e. IsSource e × Unit {0}) (each.in_hand k s has).1 e found).0
+
+  -- no such snapshot of this generation is ahead of the active
+  copy_first : (k g : ℕ) (s : Snapshot) (y : ReplicaState) → IsAhead k g m.replicas m.snapshots m.in_hand y → IsCopyOf k s → s.generation ≡ g → IsPrefix s.effects y.effects
+  copy_first k g s y ahead (inl is) present = ahead.snapshot s is present
+  copy_first k g s y ahead (inr has) present = ahead.in_hand s has present
+
+  module _ (k r : ℕ) (e : Entry) (s : Snapshot) (x : ReplicaState) (found : entry_of k m.cluster.entries ≡ Some e) (copy : IsCopyOf k s) (there : m.replicas k r ≡ Some x) (own : x.generation ≡ e.generation) (present : s.generation ≡ e.generation) where
+    -- a snapshot and a replica of the present generation are both first parts of what the active has
+    both_first : (y : ReplicaState) × IsPrefix x.effects y.effects × IsPrefix s.effects y.effects
+    both_first =
+        let source = copy_source k s e found copy in
+        let (q, active) = led e.active refl source.led in
+        let (y, at) = active_there k q e found source.made active in
+        let ahead = each.ahead k q e y found source.alone active at in
+        (y, ahead.replica r x there own, copy_first k e.generation s y ahead copy present)
+      where
+        led : (o : Option ℕ) → e.active ≡ o → IsSome o → (q : ℕ) × (e.active ≡ Some q)
+        led None is none = absurd (cc none)
+        led (Some q) is some = (q, is)
+
+    -- a replica of the present generation that is behind such a snapshot has the first of its effects
+    behind_first : is_behind x s ≡ true → IsPrefix x.effects s.effects
+    behind_first is =
+        let (y, one, two) = both_first in
+        let fewer : length x.effects < length s.effects = ltb-true (length x.effects) (length s.effects) (behind_fewer x s true (own ∙ sym present) is) in
+        prefix_longer x.effects s.effects y.effects one two (omega (arith, fewer))
+
+    -- a replica of the present generation that is not behind such a snapshot has its effects first
+    pub other_first : is_behind x s ≡ false → IsPrefix s.effects x.effects
+    other_first is =
+        let (y, one, two) = both_first in
+        let fewer : length s.effects ≤ length x.effects = ltb-false (length x.effects) (length s.effects) (behind_fewer x s false (own ∙ sym present) is) in
+        prefix_longer s.effects x.effects y.effects two one fewer
+
+  -- a replica of the present generation grows by such a snapshot that it takes over
+  taken_grows : (k r : ℕ) (s : Snapshot) (x : ReplicaState) → IsCopyOf k s → (over : TakesOver m k r s x) → x.generation ≡ over.on.entry.generation → GrowsTo x (replica_from s x)
+  taken_grows k r s x copy over own = (over.present ∙ sym own, behind_first k r over.on.entry s x over.on.found copy over.on.there own over.present over.behind)
+
+  -- ---- a step
+
+  module _ (k : ℕ) (given : k ≤ m.cluster.last_identity) where
+    -- a checkpoint goes on where nothing changes
+    goes_on_same : GoesOn m k m
+    goes_on_same = record {
+      made = λ f found. (f, found, StaysMade-same f);
+      replica = λ r x e f there found at present. IsSomeAnd-from (m.replicas k r) (GrowsTo x) x at (grows_to_same x);
+    }
+
+    -- a checkpoint goes on by a step of the record
+    record_goes : (R : RecordState) → MadeOn k m.cluster R → GoesOn m k (with_record m R)
+    record_goes R on = record { made = on.made; replica = replica }
+      where
+        -- the replica of a node that stays complete is as it was
+        stays_there : (f : Entry) (before r : ℕ) (old : Option ReplicaState) → IsCompleteOn f r → (before == 0) ≡ false → replica_under (Some f) before r old ≡ old
+        stays_there f before r old complete was = ap (λ b. cond b None (cond (before == 0) (Some (opened_state f)) old)) complete ∙ ap (λ b. cond b (Some (opened_state f)) old) was
+
+        replica : (r : ℕ) (x : ReplicaState) (e f : Entry) → entry_of k m.cluster.entries ≡ Some e → entry_of k R.entries ≡ Some f → m.replicas k r ≡ Some x → x.generation ≡ e.generation → IsSomeAnd ((with_record m R).replicas k r) (GrowsTo x)
+        replica r x e f there found at present =
+            let (g, is, complete_at) = IsSomeAnd-at (entry_of k m.cluster.entries) (λ e. IsCompleteOn e r) (bare.complete k r x at) in
+            let complete : IsCompleteOn e r = subst (λ e. IsCompleteOn e r) (same_Some g e (sym is ∙ there)) complete_at in
+            let (h, before, keeps) = on.made f found in
+            let still = (subst (λ e. StaysMade e f) (same_Some h e (sym before ∙ there)) keeps).made (made_where_complete m inv k r e there complete) in
+            let was : (slice_index (complete_of (entry_of k m.cluster.entries)) r == 0) ≡ false = subst (λ o. (slice_index (complete_of o) r == 0) ≡ false) (sym there) complete in
+            let stays : (with_record m R).replicas k r ≡ m.replicas k r = ap (λ o. replica_under o (slice_index (complete_of (entry_of k m.cluster.entries)) r) r (m.replicas k r)) found ∙ stays_there f (slice_index (complete_of (entry_of k m.cluster.entries)) r) r (m.replicas k r) (still.remains r complete) was in
+            IsSomeAnd-from ((with_record m R).replicas k r) (GrowsTo x) x (stays ∙ at) (grows_to_same x)
+
+    -- and where what is over is swept away behind it
+    step_goes : (step : RecordState → RecordState) → MadeOn k m.cluster (step m.cluster) → GoesOn m k (record_step step m)
+    step_goes step on = record_goes (swept (step m.cluster)) (MadeOn-swept k m.cluster (step m.cluster) on)
+
+    -- a checkpoint goes on where one replica changes that grows, if it is of the present generation
+    put_goes : (j q : ℕ) (y z : ReplicaState) → m.replicas j q ≡ Some y → ((e : Entry) → entry_of j m.cluster.entries ≡ Some e → y.generation ≡ e.generation → GrowsTo y z) → GoesOn m k (record m { replicas = put2 m.replicas j q (Some z) })
+    put_goes j q y z there grows = record {
+      made = goes_on_same.made;
+      replica = λ r x e f was found at present. elim ((k == j) && (r == q)) as (λ b. ((k == j) && (r == q)) ≡ b → IsSomeAnd (cond b (Some z) (m.replicas k r)) (GrowsTo x)) [
+        | true ↦ λ here.
+            let (ckpt, node) = and_parts (k == j) (r == q) here in
+            let k_is : k ≡ j = eqb-true k j ckpt in
+            let r_is : r ≡ q = eqb-true r q node in
+            let same : y ≡ x = same_Some y x (sym there ∙ (λ i. m.replicas (sym k_is i) (sym r_is i)) ∙ at) in
+            subst (λ x. GrowsTo x z) same (grows e (ap (λ j. entry_of j m.cluster.entries) (sym k_is) ∙ was) (ap (λ (x : ReplicaState). x.generation) same ∙ present))
+        | false ↦ λ other. IsSomeAnd-from (m.replicas k r) (GrowsTo x) x at (grows_to_same x)
+      ] refl;
+    }
+
+    -- a checkpoint goes on where a replica is changed, if there is one, that grows
+    replica_goes : (j q : ℕ) (o : Option ReplicaState) → m.replicas j q ≡ o → (change : ReplicaState → ReplicaState) → ((x : ReplicaState) → GrowsTo x (change x)) → GoesOn m k (change_replica m j q o change)
+    replica_goes j q None there change grows = goes_on_same
+    replica_goes j q (Some x) there change grows = put_goes j q x (change x) there (λ e found own. grows x)
+
+    -- a checkpoint goes on where a making is undone
+    undone_goes : (j : ℕ) → GoesOn m k (record_step (undone j) m)
+    undone_goes j = step_goes (undone j) (filter_on k m.cluster given inv.holds.rises inv.holds.up_to (λ e. not (e.identity == j)))
+
+    making_goes : (j : Option ℕ) → GoesOn m k (without_making j m)
+    making_goes None = goes_on_same
+    making_goes (Some j) = undone_goes j
+
+    -- what is done on OK alone, and at a checkpoint and a node that are named
+    ok_goes : (reply : StepReply) (n : Machine) → GoesOn m k n → GoesOn m k (on_ok reply m n)
+    ok_goes words.Ok n then = then
+    ok_goes reply n then = goes_on_same
+
+    look_goes : (reply : StepReply) (done refused : Machine) → GoesOn m k done → GoesOn m k refused → GoesOn m k (on_look reply m done refused)
+    look_goes words.Done done refused after_done after_refused = after_done
+    look_goes words.Refused done refused after_done after_refused = after_refused
+    look_goes reply done refused after_done after_refused = goes_on_same
+
+    one_goes : (j : Option ℕ) (change : ℕ → Machine) → ((j : ℕ) → GoesOn m k (change j)) → GoesOn m k (at_some j m change)
+    one_goes None change then = goes_on_same
+    one_goes (Some j) change then = then j
+
+    both_go : (j q : Option ℕ) (change : ℕ → ℕ → Machine) → ((j q : ℕ) → GoesOn m k (change j q)) → GoesOn m k (at_some j m (λ j. at_some q m (change j)))
+    both_go j q change then = one_goes j _ (λ j. one_goes q (change j) (then j))
+
+    -- one replica changed by a step that is done
+    changed_goes : (j q : Option ℕ) (reply : StepReply) (change : ℕ → ReplicaState → ReplicaState) → ((j : ℕ) (x : ReplicaState) → GrowsTo x (change j x)) → GoesOn m k (on_ok reply m (at_some j m (λ j. at_some q m (λ q. change_replica m j q (m.replicas j q) (change j)))))
+    changed_goes j q reply change grows = ok_goes reply _ (both_go j q _ (λ j q. replica_goes j q (m.replicas j q) refl (change j) (grows j)))
+
+    -- one entry changed, that stays made
+    entry_goes : (step : ℕ → RecordState → RecordState) → ((j : ℕ) → MadeOn k m.cluster (step j m.cluster)) → (j : Option ℕ) (reply : StepReply) → GoesOn m k (on_ok reply m (at_some j m (λ j. record_step (step j) m)))
+    entry_goes step on j reply = ok_goes reply _ (one_goes j _ (λ j. step_goes (step j) (on j)))
+
+    -- a checkpoint goes on where a making is finished
+    finished_goes : (s : CallState) (j q : Option ℕ) (reply : StepReply) → StepNeeds m.cluster s.call verbs.Finish j reply → GoesOn m k (changed m s verbs.Finish j q reply)
+    finished_goes s (Some j) q words.Ok by = step_goes (finished j (client_of s.call)) (finished_on k m.cluster given inv.holds.rises inv.holds.up_to s.call j (client_of s.call) by)
+    finished_goes s None q words.Ok by = goes_on_same
+    finished_goes s j q reply by = goes_on_same
+
+    -- what an installation leaves
+    abbrev Installs : CallState → Verb → Option ℕ → Option ℕ → StepReply → Type 0
+    Installs s verbs.Install j q reply = GoesOn m k (changed m s verbs.Install j q reply)
+    Installs s verb j q reply = Unit {0}
+
+    -- a checkpoint goes on where a call installs what it has pulled there
+    installs : (s : CallState) → m.in_hand s.call.actor ≡ Some s → (verb : Verb) (j q : Option ℕ) (reply : StepReply) (t : Told) → IsOnOwn verb j s.kept.ckpt → Row m s verb (record t { verb = verb; ckpt = j; node = q; reply = reply }) → Installs s verb j q reply
+    installs s held verbs.Install j q reply t own row = after_install (GoesOn m k) m s t j q reply row goes_on_same (λ i r z x is in_hand over. (
+        let has : PulledInHand m.in_hand i z = record { actor = s.call.actor; state = s; in_hand = held; ckpt = sym own ∙ is; snapshot = in_hand } in
+        put_goes i r x (replica_from z x) over.on.there (λ e found present. taken_grows i r z x (inr has) over (present ∙ ap (λ (e : Entry). e.generation) (same_Some e over.on.entry (sym found ∙ over.on.found))))))
+    installs s held verb j q reply t own row = tt
+
+    -- a checkpoint goes on by any step
+    steps_go : (s : CallState) (verb : Verb) (j q : Option ℕ) (reply : StepReply) → StepNeeds m.cluster s.call verb j reply → Installs s verb j q reply → GoesOn m k (changed m s verb j q reply)
+    steps_go s verbs.Enter j q reply needs done = ok_goes reply _ (one_goes q _ (λ q. step_goes (entered (client_of s.call) q s.call.number) (record { last = omega arith; rises = inv.holds.rises; made = (same_on k m.cluster given inv.holds.rises inv.holds.up_to).made })))
+    steps_go s verbs.Open j q reply needs done = ok_goes reply _ (one_goes j _ (λ j. step_goes (opened j (client_of s.call))
+        (changed_on k m.cluster given inv.holds.rises inv.holds.up_to j (opened_with (home_of (client_of s.call) m.cluster) m.cluster.up (client_of s.call)) (opened_with-identity (home_of (client_of s.call) m.cluster) m.cluster.up (client_of s.call)) (opened_made (home_of (client_of s.call) m.cluster) m.cluster.up (client_of s.call)))))
+    steps_go s verbs.Create j q reply needs done = ok_goes reply _ (step_goes (created_for s.call (asked s.op)) (created_for_on k m.cluster given inv.holds.rises inv.holds.up_to s.call (asked s.op)))
+    steps_go s verbs.Reserve j q reply needs done = ok_goes reply _ (both_go j q _ (λ j q. goes_on_same))
+    steps_go s verbs.Finish j q reply needs done = finished_goes s j q reply needs
+    steps_go s verbs.Undo j q reply needs done = ok_goes reply _ (one_goes j _ undone_goes)
+    steps_go s verbs.Stage j q reply needs done = changed_goes j q reply (λ j. with_slot s.call (update_of s.op) (staged_moment m j)) (λ j x. grows_to_same x)
+    steps_go s verbs.Commit j q reply needs done = changed_goes j q reply (λ j. with_committed (entry_of j m.cluster.entries)) (λ j x. committed_grows (entry_of j m.cluster.entries) x)
+    steps_go s verbs.Apply j q reply needs done = changed_goes j q reply (λ j. with_applied s.call (update_of s.op) m.cluster.moment (entry_of j m.cluster.entries)) (λ j x. applied_grows (entry_of j m.cluster.entries) s.call (update_of s.op) m.cluster.moment x)
+    steps_go s verbs.Mark j q reply needs done = changed_goes j q reply (λ j. with_marks s.call (update_of s.op) m.cluster.moment) (λ j x. grows_to_same x)
+    steps_go s verbs.Element j q reply needs done = changed_goes j q reply (λ j. with_next_element (entry_of j m.cluster.entries)) (λ j x. element_grows (entry_of j m.cluster.entries) x)
+    steps_go s verbs.Unmark j q reply needs done = changed_goes j q reply (λ j. without_marks) (λ j x. unmarked_grows x)
+    steps_go s verbs.Install j q reply needs done = done
+    steps_go s verbs.Iter j q reply needs done = ok_goes reply _ (both_go j q _ (λ j q. goes_on_same))
+    steps_go s verbs.Next j q reply needs done = ok_goes reply _ (both_go j q _ (λ j q. goes_on_same))
+    steps_go s verbs.Leave j q reply needs done = ok_goes reply _ (step_goes (departed (client_of s.call)) (departed_on k m.cluster given inv.holds.rises inv.holds.up_to (client_of s.call)))
+    steps_go s verbs.Close j q reply needs done = ok_goes reply _ (one_goes j _ (λ j. step_goes (closed j (client_of s.call))
+        (changed_on k m.cluster given inv.holds.rises inv.holds.up_to j (unreferred (client_of s.call) m.cluster.moment) (released-identity (client_of s.call) m.cluster.moment) (released_made (client_of s.call) m.cluster.moment))))
+    steps_go s verbs.Unlink j q reply needs done = entry_goes unlinked (λ j. changed_on k m.cluster given inv.holds.rises inv.holds.up_to j unnamed (λ e. refl) (λ e. StaysMade-kept e (unnamed e) refl refl refl refl refl refl)) j reply
+    steps_go s verbs.Retain j q reply needs done = entry_goes (retained_for (asked s.op)) (retained_for_on k m.cluster given inv.holds.rises inv.holds.up_to (asked s.op)) j reply
+    steps_go s verbs.Look j q reply needs done = look_goes reply _ _ goes_on_same (making_goes (making_of s.call m.cluster))
+    steps_go s verb j q reply needs done = goes_on_same
+
+    -- a checkpoint goes on by a step of a call in hand that its row allows
+    pub stepped_goes : (s : CallState) → m.in_hand s.call.actor ≡ Some s → (t : Told) → IsOnOwn t.verb t.ckpt s.kept.ckpt → Row m s t.verb t → GoesOn m k (changed m s t.verb t.ckpt t.node t.reply)
+    stepped_goes s held t own row = steps_go s t.verb t.ckpt t.node t.reply (row_needs m inv s t.verb t.ckpt t.node t.reply t.end t.details row) (installs s held t.verb t.ckpt t.node t.reply t own row)
+
+    -- a checkpoint goes on by any label that is allowed
+    pub after_goes : (l : Label) → Allowed m l → GoesOn m k (after m l)
+    after_goes (labels.Began d op end) allowed = goes_on_same
+    after_goes (labels.Stepped d op verb j q reply end details) allowed =
+        let s = allowed.state in
+        let t : Told = record { verb = verb; ckpt = j; node = q; reply = reply; end = end; details = details } in
+        let held : m.in_hand s.call.actor ≡ Some s = ap (λ (c : CallId). m.in_hand c.actor) allowed.call_is ∙ allowed.in_hand in
+        subst (λ o. GoesOn m k (step_of m o verb j q reply end)) (sym allowed.in_hand) (stepped_goes s held t allowed.own allowed.row)
+    after_goes (labels.Word who line said) allowed = goes_on_same
+    after_goes (labels.Nodes n) allowed = goes_on_same
+    after_goes (labels.Moved t) allowed = record_goes (moved t m.cluster) (record { last = omega arith; rises = IdentitiesRise-filter (stays t) m.cluster.entries inv.holds.rises; made = ComesOf-filter StaysMade StaysMade-same (stays t) m.cluster.entries inv.holds.rises k })
+    after_goes (labels.Shown j replicas) allowed = goes_on_same
+    after_goes (labels.Pulled j reply) allowed = after_pull (GoesOn m k) m j reply allowed goes_on_same (λ x from none. goes_on_same)
+    after_goes (labels.Put j q reply) allowed = after_put_over (GoesOn m k) m j q reply allowed goes_on_same (λ s x at over. put_goes j q x (replica_from s x) over.on.there (λ e found present. (
+        taken_grows j q s x (inl at) over (present ∙ ap (λ (e : Entry). e.generation) (same_Some e over.on.entry (sym found ∙ over.on.found))))))
+    after_goes l allowed = absurd allowed

@@ -1,0 +1,338 @@
+-- What is so behind a label that answers OK to a synchronisation: the call has pulled what the active had, and each complete replica of the checkpoint has that first.
+use Rattle.std.proofs.Common.{◌≡◌, ℕ, ◌+◌, ◌≤◌, inl, inr, List, [], ◌∷◌, ◌++◌, length, Option, Some, None, Bool, true, false, cond, ℤ, refl, sym, ap, subst, ◌∙◌, append_assoc, arith}
+use Rattle.std.specs.List.{list_any}
+use Rattle.std.specs.Option.{option_map}
+use Rattle.std.specs.Prelude.{IsSome, IsSomeAnd}
+use Rattle.std.proofs.lemmas.List.{append-nil}
+use Rattle.std.proofs.lemmas.Option.{same_Some}
+use Rattle.ckpt_types.specs.declared.answers.Answer.TheVariants as answers
+use Rattle.ckpt_types.specs.declared.answers.Outcome.{Outcome}
+use Rattle.ckpt_types.specs.declared.answers.Outcome.TheVariants.{Done}
+use Rattle.ckpt_types.specs.declared.identities.ActorName.{ActorName}
+use Rattle.ckpt_types.specs.declared.identities.CallId.{CallId}
+use Rattle.ckpt_types.specs.declared.operation.Op.{Op}
+use Rattle.ckpt_types.specs.declared.words.OpWord.TheVariants as opwords
+use Rattle.ckpt_types.specs.Asks.{Ask, asked}
+use Rattle.ckpt_types.specs.Asks as asks
+use Rattle.node_msgs.specs.declared.details.Details.{Details}
+use Rattle.node_msgs.specs.declared.steps.StepReply.{StepReply}
+use Rattle.node_msgs.specs.declared.steps.StepReply.TheVariants as words
+use Rattle.node_msgs.specs.declared.steps.Verb.{Verb}
+use Rattle.node_msgs.specs.declared.steps.Verb.TheVariants as verbs
+use Rattle.run_labels.specs.declared.labels.Label.{Label}
+use Rattle.run_labels.specs.declared.labels.Label.TheVariants as labels
+use Rattle.cluster_record.specs.declared.entries.Entry.{Entry}
+use Rattle.cluster_record.specs.Calls.{left}
+use Rattle.cluster_record.specs.RecordState.{entry_of}
+use Rattle.cluster_record.specs.StepDone.{done_of, counting}
+use Rattle.ckpt_machine.specs.Acknowledged.{HasBegun}
+use Rattle.ckpt_machine.specs.Driving.{Kept}
+use Rattle.ckpt_machine.specs.Guards.{PullOk, PullHeld, InstallOk, SyncDone, OnLed, LookDone, LookRow, IsOnOwn, Row, Allowed, serves, all_served, steps_with}
+use Rattle.ckpt_machine.specs.Laws.{SynchronisationsTell}
+use Rattle.ckpt_machine.specs.Machine.{Machine, ReplicaState, Snapshot, CallState, empty_cluster}
+use Rattle.ckpt_machine.specs.Propagation.{copied}
+use Rattle.ckpt_machine.specs.Replays.{IsPrefix}
+use Rattle.ckpt_machine.specs.Runs.{last, IsRun}
+use Rattle.ckpt_machine.specs.Shape.{IsCompleteOn}
+use Rattle.ckpt_machine.specs.Steps.{Told, IsDue, due, change_replica, with_installed, changed, counted_at, kept_behind, stepped, step_of, call_begun, after}
+use Rattle.ckpt_machine.specs.Synchronized.{Synchronizes, HaveFirst, IsSynchronized}
+use Rattle.ckpt_machine.proofs.BegunBefore.{begun_longer, all_began}
+use Rattle.ckpt_machine.proofs.Bringing.{HasPulledIn, HasFirst, IsBringing, stays_bringing, step_brings}
+use Rattle.ckpt_machine.proofs.Copying.{after_pull, after_put}
+use Rattle.ckpt_machine.proofs.EachReplica.{left_as, run_copies}
+use Rattle.ckpt_machine.proofs.Follows.{IsBare}
+use Rattle.ckpt_machine.proofs.Generations.{run_generation}
+use Rattle.ckpt_machine.proofs.Growing.{GoesOn, after_goes, stepped_goes}
+use Rattle.ckpt_machine.proofs.Histories.{follows, on_replica-there, run_history}
+use Rattle.ckpt_machine.proofs.OptionLemmas.{IsSomeAnd-at}
+use Rattle.ckpt_machine.proofs.Refusing.{row_at_ckpt, at_node, at_none, at_node_alone}
+use Rattle.ckpt_machine.proofs.ReplicaSteps.{put_actor-cases}
+use Rattle.ckpt_machine.proofs.Runs.{last-push, run_before, run_front, run_more, IsRunFrom-front, IsRunFrom-back}
+use Rattle.ckpt_machine.proofs.Starting.{first_kept, begun_as}
+use Rattle.ckpt_machine.proofs.SyncSteps.{served_as, served_each, asks_sync}
+
+-- ---- in every state of a run
+
+-- each call that this state has in hand brings what it has pulled in the log
+abbrev AllBring : List Label → Machine → Type 0
+AllBring log m = (a : ActorName) (s : CallState) → m.in_hand a ≡ Some s → IsBringing log m.cluster.entries m.replicas s
+
+-- a call that begins has nothing in hand, and has served no node
+begun_bringing : (log : List Label) (entries : List Entry) (replicas : ℕ → ℕ → Option ReplicaState) (end : Option Outcome) (call : CallId) (op : Op) (kept : Kept) (s : CallState) → call_begun end call op kept ≡ Some s → IsBringing log entries replicas s
+begun_bringing log entries replicas end call op kept s is =
+    let (d, driven, same) = begun_as end call op kept s is in
+    subst (IsBringing log entries replicas) same (record {
+      none = λ none r. refl;
+      pulled = λ k z ckpt has. absurd (cc has);
+      served = λ k z ckpt has. absurd (cc has);
+    })
+
+module _ (log : List Label) (run : IsRun log) (all : AllBring log (last log)) where
+  abbrev m : Machine
+  m = last log
+
+  -- each checkpoint goes on by a label that is allowed
+  goes_by : (l : Label) → Allowed m l → (k : ℕ) → k ≤ m.cluster.last_identity → GoesOn m k (after m l)
+  goes_by l allowed k given = let (inv, history) = run_history log run in after_goes m inv history.bare (run_copies log run) k given l allowed
+
+  -- a call that takes no step brings what it has pulled
+  other_brings : (l : Label) (allowed : Allowed m l) (a : ActorName) (s : CallState) → m.in_hand a ≡ Some s → IsBringing (log ++ l ∷ []) (after m l).cluster.entries (after m l).replicas s
+  other_brings l allowed a s held = let (inv, history) = run_history log run in stays_bringing log l inv history (run_copies log run) s a held (all a s held) (after m l).cluster.entries (after m l).replicas (goes_by l allowed)
+
+  -- each call in hand brings what it has pulled, behind any label that is allowed and due
+  after_brings : (l : Label) → Allowed m l → IsDue m l → AllBring (log ++ l ∷ []) (after m l)
+  after_brings (labels.Began call op end) allowed due a s held = elim (put_actor-cases m.in_hand call.actor (call_begun end call op (first_kept m call op)) a s held) [
+    | inl own ↦ begun_bringing (log ++ labels.Began call op end ∷ []) m.cluster.entries m.replicas end call op (first_kept m call op) s own.1
+    | inr other ↦ other_brings (labels.Began call op end) allowed a s other.1
+  ]
+  after_brings (labels.Stepped call op verb j q reply end details) allowed due a z in_hand =
+      let l : Label = labels.Stepped call op verb j q reply end details in
+      let t : Told = record { verb = verb; ckpt = j; node = q; reply = reply; end = end; details = details } in
+      let s = due.state in
+      let held : m.in_hand s.call.actor ≡ Some s = ap (λ (c : CallId). m.in_hand c.actor) due.call_is ∙ due.in_hand in
+      let same : allowed.state ≡ s = same_Some allowed.state s (sym allowed.in_hand ∙ due.in_hand) in
+      let row = subst (λ z. Row m z verb t) same allowed.row in
+      let own = subst (λ (z : CallState). IsOnOwn verb j z.kept.ckpt) same allowed.own in
+      let (inv, history) = run_history log run in
+      let n : Machine = changed m s verb j q reply in
+      let behind : CallState = kept_behind m s n.cluster verb j q reply in
+      let goes : (k : ℕ) → k ≤ m.cluster.last_identity → GoesOn m k n = λ k given. stepped_goes m inv history.bare (run_copies log run) k given s held t own row in
+      let there = subst (λ o. (step_of m o verb j q reply end).in_hand a ≡ Some z) due.in_hand in_hand in
+      subst (λ o. IsBringing (log ++ l ∷ []) (step_of m o verb j q reply end).cluster.entries (step_of m o verb j q reply end).replicas z) (sym due.in_hand) (elim (put_actor-cases n.in_hand s.call.actor (left end behind) a z there) [
+        | inl here ↦ subst (IsBringing (log ++ l ∷ []) n.cluster.entries n.replicas) (left_as end behind z here.1) (step_brings log inv history (run_copies log run) s held (all s.call.actor s held) (run_generation log run) call due.call_is op end details verb j q reply goes due.done own row)
+        | inr other ↦ (
+            let was : m.in_hand a ≡ Some z = sym ((follows m inv history s held t row).in_hand a) ∙ other.1 in
+            stays_bringing log l inv history (run_copies log run) z a was (all a z was) n.cluster.entries n.replicas goes)
+      ])
+  after_brings (labels.Word who line said) allowed due a s held = other_brings (labels.Word who line said) allowed a s held
+  after_brings (labels.Nodes n) allowed due a s held = other_brings (labels.Nodes n) allowed a s held
+  after_brings (labels.Moved t) allowed due a s held = other_brings (labels.Moved t) allowed a s held
+  after_brings (labels.Shown k replicas) allowed due a s held = other_brings (labels.Shown k replicas) allowed a s held
+  after_brings (labels.Pulled k reply) allowed due a s held = other_brings (labels.Pulled k reply) allowed a s (after_pull (λ (n : Machine). n.in_hand a ≡ Some s → m.in_hand a ≡ Some s) m k reply due (λ held. held) (λ x from none held. held) held)
+  after_brings (labels.Put k r reply) allowed due a s held = other_brings (labels.Put k r reply) allowed a s (after_put (λ (n : Machine). n.in_hand a ≡ Some s → m.in_hand a ≡ Some s) m k r reply (λ held. held) (λ z x is on held. held) held)
+  after_brings l allowed due a s held = absurd due
+
+bring_from : (front more : List Label) → IsRun (front ++ more) → AllBring front (last front) → AllBring (front ++ more) (last (front ++ more))
+bring_from front [] run all = subst (λ (log : List Label). AllBring log (last log)) (sym (append-nil front)) all
+bring_from front (l ∷ more) run all =
+    let before : IsRun front = IsRunFrom-front empty_cluster front (l ∷ more) run in
+    let there = IsRunFrom-back empty_cluster front (l ∷ more) run in
+    let then = after_brings front before all l there.0 there.1 in
+    let longer = append_assoc front (l ∷ []) more in
+    subst (λ (log : List Label). AllBring log (last log)) longer (bring_from (front ++ l ∷ []) more (subst IsRun (sym longer) run) (subst (AllBring (front ++ l ∷ [])) (sym (last-push front l)) then))
+
+all_bring : (log : List Label) → IsRun log → AllBring log (last log)
+all_bring log run = bring_from [] log run (λ a s held. absurd (cc held))
+
+-- ---- the label that answers OK
+
+-- where a synchronisation is answered OK the test for that was met, and the count is the one that was pulled
+ends_if : (b : Bool) (count n : ℕ) → Some (Done (answers.Pulled count)) ≡ cond b (Some (Done (answers.Pulled n))) None → (b ≡ true) × (n ≡ count)
+ends_if true count n is = (refl, (let same : n ≡ count = cc is in same))
+ends_if false count n is = absurd (cc is)
+
+-- a call has in hand a snapshot of the present generation of its checkpoint, with so many effects, and its steps have served each complete node
+record HasServedAll (entries : List Entry) (s : CallState) (count : ℕ) : Type 0 where
+  ckpt : ℕ
+  kept : s.kept.ckpt ≡ Some ckpt
+  entry : Entry
+  found : entry_of ckpt entries ≡ Some entry
+  pulled : Snapshot
+  in_hand : s.snapshot ≡ Some pulled
+  present : pulled.generation ≡ entry.generation
+  count_is : length pulled.effects ≡ count
+  all : (r : ℕ) → IsCompleteOn entry r → list_any (serves r) s.steps ≡ true
+
+-- what is asked for is a synchronisation
+abbrev IsSynchronize : Ask → Type 0
+IsSynchronize (asks.Synchronize place timeout) = Unit {0}
+IsSynchronize ask = ⊥
+
+module _ (m : Machine) (generations : (k r : ℕ) (e : Entry) (x : ReplicaState) → entry_of k m.cluster.entries ≡ Some e → m.replicas k r ≡ Some x → x.generation ≡ e.generation)
+    (s : CallState) (place : ℕ) (timeout : ℤ) (asks_is : asked s.op ≡ asks.Synchronize place timeout) (count : ℕ) (details : Details) where
+  -- the parts of the label that answers OK
+  abbrev t_of : Verb → Option ℕ → Option ℕ → StepReply → Told
+  t_of verb j q reply = record { verb = verb; ckpt = j; node = q; reply = reply; end = Some (Done (answers.Pulled count)); details = details }
+
+  -- a call has served all complete nodes behind a step of its own
+  abbrev ServesAllBy : Verb → Option ℕ → Option ℕ → StepReply → Type 0
+  ServesAllBy verb j q reply = HasServedAll (changed m s verb j q reply).cluster.entries (kept_behind m s (changed m s verb j q reply).cluster verb j q reply) count
+
+  -- where the test for the end is met, each complete node is served by one of the steps
+  each_served : (t : Told) (e : Entry) → all_served (steps_with m s t) 0 e.complete ≡ true → (r : ℕ) → IsCompleteOn e r → list_any (serves r) (steps_with m s t) ≡ true
+  each_served t e all r complete = let same : 0 + r ≡ r = omega arith in subst (λ r. list_any (serves r) (steps_with m s t) ≡ true) same (served_each (steps_with m s t) 0 e.complete all r complete)
+
+  -- a call that ends by its pull has served all complete nodes, of which there is the active alone
+  by_pull : (j q : ℕ) (reply : StepReply) → Some j ≡ s.kept.ckpt → Row m s verbs.Pull (t_of verbs.Pull (Some j) (Some q) reply) → ServesAllBy verbs.Pull (Some j) (Some q) reply
+  by_pull j q words.Ok own row =
+      let t = t_of verbs.Pull (Some j) (Some q) words.Ok in
+      let (e, x, found, there, ok) = on_replica-there m j q (PullOk m s q t) row.0.3 in
+      let (all, n) = ends_if (all_served (steps_with m s t) 0 e.complete) count (length x.effects) ok.answer in
+      record { ckpt = j; kept = sym own; entry = e; found = found; pulled = copied x; in_hand = ap (option_map copied) there; present = generations j q e x found there; count_is = n; all = each_served t e all }
+  by_pull j q (words.Held by) own row =
+      let (e, x, found, there, held) = on_replica-there m j q (PullHeld m s q by (t_of verbs.Pull (Some j) (Some q) (words.Held by))) row.0.3 in
+      absurd (let is = held.held.answer in cc is)
+  by_pull j q reply own row = absurd row.0.3
+
+  -- a call that ends by an installation has served all complete nodes, whether that replica was behind or not
+  by_install : (j q : ℕ) (reply : StepReply) → Some j ≡ s.kept.ckpt → Row m s verbs.Install (t_of verbs.Install (Some j) (Some q) reply) → ServesAllBy verbs.Install (Some j) (Some q) reply
+  by_install j q words.Ok own row =
+      let t = t_of verbs.Install (Some j) (Some q) words.Ok in
+      let (e, x, found, there, ok) = on_replica-there m j q (InstallOk m s q t true) row.0.3 in
+      let (all, n) = ends_if (all_served (steps_with m s t) 0 e.complete) count (length ok.pulled.effects) ok.answer in
+      let found_then : entry_of j (changed m s verbs.Install (Some j) (Some q) words.Ok).cluster.entries ≡ Some e = ap (λ o. entry_of j (change_replica m j q o (with_installed s.snapshot)).cluster.entries) there ∙ found in
+      record { ckpt = j; kept = sym own; entry = e; found = found_then; pulled = ok.pulled; in_hand = ok.in_hand; present = ok.present; count_is = n; all = each_served t e all }
+  by_install j q words.Older own row =
+      let t = t_of verbs.Install (Some j) (Some q) words.Older in
+      let (e, x, found, there, ok) = on_replica-there m j q (InstallOk m s q t false) row.0.3 in
+      let (all, n) = ends_if (all_served (steps_with m s t) 0 e.complete) count (length ok.pulled.effects) ok.answer in
+      record { ckpt = j; kept = sym own; entry = e; found = found; pulled = ok.pulled; in_hand = ok.in_hand; present = ok.present; count_is = n; all = each_served t e all }
+  by_install j q reply own row = absurd row.0.3
+
+  -- a call that ends by a look had served all complete nodes
+  by_look : (j q : Option ℕ) (reply : StepReply) → LookRow m s reply (Some (Done (answers.Pulled count))) → ServesAllBy verbs.Look j q reply
+  by_look j q words.Done row = led s.kept.ckpt refl (subst (λ ask. LookDone m s ask (answers.Pulled count)) asks_is row).0
+    where
+      led : (o : Option ℕ) → s.kept.ckpt ≡ o → OnLed m o (λ e. IsSomeAnd s.snapshot (SyncDone m s count e)) → ServesAllBy verbs.Look j q words.Done
+      led None kept none = absurd none
+      led (Some k) kept on =
+          let (e, found, both) = IsSomeAnd-at (entry_of k m.cluster.entries) (λ e. IsSome e.active × IsSomeAnd s.snapshot (SyncDone m s count e)) on in
+          let (pulled, in_hand, ok) = IsSomeAnd-at s.snapshot (SyncDone m s count e) both.1 in
+          let d = counting (counted_at m verbs.Look j q words.Done) (done_of m.cluster verbs.Look j q words.Done) in
+          record {
+            ckpt = k;
+            kept = kept;
+            entry = e;
+            found = found;
+            pulled = pulled;
+            in_hand = in_hand;
+            present = ok.0;
+            count_is = ok.1;
+            all = λ r complete. (let same : 0 + r ≡ r = omega arith in served_as r d s.steps refl ∙ subst (λ r. list_any (serves r) s.steps ≡ true) same (served_each s.steps 0 e.complete ok.2 r complete));
+          }
+  by_look j q reply row = absurd row
+
+  -- a synchronisation asks for nothing else
+  no_other : (ask : Ask) → asked s.op ≡ ask → IsSynchronize ask
+  no_other ask is = subst IsSynchronize (sym asks_is ∙ is) tt
+
+  -- a synchronisation that is answered OK has served all complete nodes, whichever step ends it
+  all_by : (verb : Verb) (j q : Option ℕ) (reply : StepReply) → IsOnOwn verb j s.kept.ckpt → Row m s verb (t_of verb j q reply) → ServesAllBy verb j q reply
+  all_by verbs.Pull (Some j) (Some q) reply own row = by_pull j q reply own row
+  all_by verbs.Pull (Some j) None reply own row = absurd row.0
+  all_by verbs.Pull None q reply own row = absurd row.0
+  all_by verbs.Install (Some j) (Some q) reply own row = by_install j q reply own row
+  all_by verbs.Install (Some j) None reply own row = absurd row.0
+  all_by verbs.Install None q reply own row = absurd row.0
+  all_by verbs.Look j q reply own row = by_look j q reply row.2
+  all_by verbs.Enter j q reply own row = absurd (at_node_alone j q _ row.0 (λ q p. no_other _ p.2))
+  all_by verbs.Open j q reply own row = absurd (row_at_ckpt j q _ row.0 (λ k p. no_other _ p.2.asks))
+  all_by verbs.Create j q reply own row = absurd (row_at_ckpt j q _ row.0 (λ k p. no_other _ p.2.asks))
+  all_by verbs.Reserve j q reply own row = absurd (at_node j q _ row.0 (λ k r p. no_other _ p.2.asks))
+  all_by verbs.Finish j q reply own row = absurd (row_at_ckpt j q _ row.0 (λ k p. no_other _ p.2.asks))
+  all_by verbs.Undo j q reply own row = absurd (row_at_ckpt j q _ row.0 (λ k p. no_other _ p.2.asks))
+  all_by verbs.Stage j q reply own row = absurd (at_node j q _ row.0 (λ k r p. no_other _ p.2))
+  all_by verbs.Commit j q reply own row = absurd (at_node j q _ row (λ k r p. no_other _ p.2))
+  all_by verbs.Apply j q reply own row = absurd (at_node j q _ row (λ k r p. no_other _ p.2))
+  all_by verbs.Mark j q reply own row = absurd (at_node j q _ row (λ k r p. no_other _ p.2))
+  all_by verbs.Element j q reply own row = absurd (at_node j q _ row (λ k r p. no_other _ p.2))
+  all_by verbs.Unmark j q reply own row = absurd (at_node j q _ row (λ k r p. no_other _ p.2))
+  all_by verbs.Read j q reply own row = absurd (at_node j q _ row (λ k r p. no_other _ p.2))
+  all_by verbs.Status j q reply own row = absurd (at_node j q _ row (λ k r p. no_other _ p.1))
+  all_by verbs.Iter j q reply own row = absurd (at_node j q _ row.0 (λ k r p. no_other _ p.4))
+  all_by verbs.Next j q reply own row = absurd (at_node j q _ row (λ k r p. no_other _ p.1))
+  all_by verbs.Leave j q reply own row = absurd (at_none j q _ row.0 (λ p. no_other _ p.0))
+  all_by verbs.Close j q reply own row = absurd (row_at_ckpt j q _ row.0 (λ k p. no_other _ p.1))
+  all_by verbs.Unlink j q reply own row = absurd (row_at_ckpt j q _ row.0 (λ k p. no_other _ p.1))
+  all_by verbs.Retain j q reply own row = absurd (row_at_ckpt j q _ row.0 (λ k p. no_other _ p.2))
+  all_by verb j q reply own row = absurd row
+
+-- where a call has served all complete nodes, each complete replica has first what it has in hand
+have_first : (log : List Label) (n : Machine) (s : CallState) (count : ℕ) → IsBare n → IsBringing log n.cluster.entries n.replicas s → (all : HasServedAll n.cluster.entries s count) → HaveFirst n all.ckpt all.pulled.effects
+have_first log n s count bare brings all e r x found there =
+    let same : all.entry ≡ e = same_Some all.entry e (sym all.found ∙ found) in
+    let (f, is, complete_at) = IsSomeAnd-at (entry_of all.ckpt n.cluster.entries) (λ e. IsCompleteOn e r) (bare.complete all.ckpt r x there) in
+    let complete : IsCompleteOn all.entry r = subst (λ e. IsCompleteOn e r) (same_Some f all.entry (sym is ∙ all.found)) complete_at in
+    let (y, at, first) = IsSomeAnd-at (n.replicas all.ckpt r) (HasFirst all.pulled) (brings.served all.ckpt all.pulled all.kept all.in_hand all.entry r all.found all.present (all.all r complete)) in
+    let x_is : y ≡ x = same_Some y x (sym at ∙ there) in
+    subst (λ (x : ReplicaState). (x.generation ≡ e.generation) × IsPrefix all.pulled.effects x.effects) x_is (first.0 ∙ all.present ∙ ap (λ (e : Entry). e.generation) same, first.1)
+
+-- a label that answers OK to a synchronisation tells what is so behind it
+tells : (log : List Label) → IsRun log → (l : Label) → Allowed (last log) l → IsDue (last log) l → (call : CallId) (count : ℕ) → Synchronizes l call count → IsSynchronized (log ++ l ∷ []) call count
+tells log run (labels.Stepped d opwords.Sync verb j q reply (Some (Done (answers.Pulled n))) details) allowed due call count is =
+    subst (λ call. IsSynchronized (log ++ l ∷ []) call count) (due.call_is ∙ is.0) (record {
+      op = s.op;
+      ckpt = all.ckpt;
+      begun = begun_longer log l s.call s.op (Some all.ckpt) (subst (HasBegun log s.call s.op) all.kept (all_began log run s held));
+      before = from.before;
+      behind = from.behind;
+      pull = from.pull;
+      node = from.node;
+      log_is = from.log_is;
+      pull_is = from.pull_is;
+      active = from.active;
+      source = from.source;
+      there = from.there;
+      count_is = ap length from.effects ∙ all.count_is ∙ is.1;
+      have = subst (HaveFirst (last (log ++ l ∷ [])) all.ckpt) (sym from.effects) (subst (λ m. HaveFirst m all.ckpt all.pulled.effects) (sym then_is) (have_first (log ++ l ∷ []) then_machine behind n (subst IsBare then_is bare) (record { none = brings.none; pulled = brings.pulled; served = brings.served }) all));
+    })
+  where
+    end : Option Outcome
+    end = Some (Done (answers.Pulled n))
+
+    l : Label
+    l = labels.Stepped d opwords.Sync verb j q reply end details
+
+    t : Told
+    t = record { verb = verb; ckpt = j; node = q; reply = reply; end = end; details = details }
+
+    s : CallState
+    s = due.state
+
+    held : (last log).in_hand s.call.actor ≡ Some s
+    held = ap (λ (c : CallId). (last log).in_hand c.actor) due.call_is ∙ due.in_hand
+
+    same : allowed.state ≡ s
+    same = same_Some allowed.state s (sym allowed.in_hand ∙ due.in_hand)
+
+    row : Row (last log) s verb t
+    row = subst (λ z. Row (last log) z verb t) same allowed.row
+
+    own : IsOnOwn verb j s.kept.ckpt
+    own = subst (λ (z : CallState). IsOnOwn verb j z.kept.ckpt) same allowed.own
+
+    changed_machine : Machine
+    changed_machine = changed (last log) s verb j q reply
+
+    behind : CallState
+    behind = kept_behind (last log) s changed_machine.cluster verb j q reply
+
+    then_machine : Machine
+    then_machine = stepped changed_machine behind end
+
+    then_is : last (log ++ l ∷ []) ≡ then_machine
+    then_is = last-push log l ∙ ap (λ o. step_of (last log) o verb j q reply end) due.in_hand
+
+    bare : IsBare (last (log ++ l ∷ []))
+    bare = (run_history (log ++ l ∷ []) (run_more log l run allowed due)).1.bare
+
+    brings : IsBringing (log ++ l ∷ []) changed_machine.cluster.entries changed_machine.replicas behind
+    brings =
+        let (inv, history) = run_history log run in
+        step_brings log inv history (run_copies log run) s held (all_bring log run s.call.actor s held) (run_generation log run) d due.call_is opwords.Sync end details verb j q reply
+        (λ k given. stepped_goes (last log) inv history.bare (run_copies log run) k given s held t own row) due.done own row
+
+    all : HasServedAll changed_machine.cluster.entries behind n
+    all =
+        let (place, timeout, asks_is) = asks_sync s.op due.word in
+        all_by (last log) (run_generation log run) s place timeout asks_is n details verb j q reply own row
+
+    from : HasPulledIn (log ++ l ∷ []) s.call all.ckpt all.pulled
+    from = brings.pulled all.ckpt all.pulled all.kept all.in_hand
+tells log run l allowed due call count is = absurd is
+
+-- THE LAW: what a synchronisation that was answered OK promises
+pub synchronisations_tell : SynchronisationsTell
+synchronisations_tell log run front back l call count is answers =
+    let (before, allowed, due) = run_before empty_cluster front l (run_front log (front ++ l ∷ []) back (is ∙ sym (append_assoc front (l ∷ []) back)) run) in
+    tells front before l allowed due call count answers
