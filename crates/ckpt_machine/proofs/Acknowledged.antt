@@ -1,6 +1,6 @@
 -- What was answered OK is on every complete replica of its checkpoint, or where updates go to the active alone, on the active's; and it stays there.
 use Rattle.std.proofs.Common.{◌≡◌, ◌⊎◌, ℕ, zero, suc, ◌+◌, ◌≤◌, inl, inr, List, [], ◌∷◌, ◌++◌, Option, Some, None, Bool, true, false, cond, not, ◌==◌, ◌&&◌, ℤ, refl, sym, ap, subst, ◌∙◌, append_assoc, arith}
-use Rattle.std.specs.Prelude.{IsSomeAnd, slice_index}
+use Rattle.std.specs.Prelude.{is_some, IsSome, IsSomeAnd, slice_index}
 use Rattle.std.proofs.lemmas.Bool.{eqb-true, and_parts}
 use Rattle.std.proofs.lemmas.Option.{same_Some}
 use Rattle.ckpt_types.specs.declared.answers.Answer.{Answer}
@@ -25,13 +25,13 @@ use Rattle.cluster_record.specs.Calls.{client_of}
 use Rattle.cluster_record.specs.Makings.{making_of}
 use Rattle.cluster_record.specs.Identities.{IdentitiesRise, AllUpTo}
 use Rattle.cluster_record.specs.Places.{put2}
-use Rattle.cluster_record.specs.RecordState.{RecordState, entry_of, complete_of, stays, swept, moved, entered, finished, home_of, opened_with, opened, closed, unlinked, unreferred, unnamed, departed, undone}
+use Rattle.cluster_record.specs.RecordState.{RecordState, entry_of, complete_of, stays, swept, moved, entered, finished, home_of, opened_with, opened, closed, unlinked, unreferred, unnamed, departed, undone, with_hold, hold_set, active_set}
 use Rattle.cluster_record.proofs.IdentityLaws.{IdentitiesRise-filter}
 use Rattle.ckpt_machine.specs.Acknowledged.{IsUpdateWord, Acknowledges, ckpt_named, HasBegun, IsUpdateBy, HasUpdate, IsToHave, IsOnItsReplicas}
 use Rattle.ckpt_machine.specs.AllOrNone.{OneUpdate, IsOfOne}
 use Rattle.ckpt_types.specs.Asks.{asked, update_asked, update_of}
 use Rattle.ckpt_machine.specs.Complete.{with_replica, replicas_from, complete_replicas}
-use Rattle.ckpt_machine.specs.Guards.{OnEach, OnAll, CommitOk, ApplyOk, AreMarksOf, Row, Allowed, ends_update}
+use Rattle.ckpt_machine.specs.Guards.{OnEach, OnAll, CommitOk, ApplyOk, AreMarksOf, IsOnOwn, Row, Allowed, ends_update}
 use Rattle.ckpt_machine.specs.Invariant.{Invariant}
 use Rattle.ckpt_machine.specs.Laws.{AcknowledgedStays}
 use Rattle.ckpt_machine.specs.Listing.{is_active}
@@ -42,17 +42,17 @@ use Rattle.ckpt_machine.specs.Propagation.{replica_from}
 use Rattle.ckpt_machine.specs.Runs.{last_from, last, IsRunFrom, IsRun}
 use Rattle.node_core.specs.Serving.{update_answer}
 use Rattle.ckpt_machine.specs.Shape.{IsCompleteOn}
-use Rattle.ckpt_machine.specs.Steps.{Told, IsDue, with_record, record_step, created_for, retained_for, change_replica, with_committed, committed_slot, with_applied, having_taken, with_marks, with_next_element, without_marks, marks_ended, with_slot, effect_of, changed, on_ok, on_look, without_making, at_some, replica_under, opened_state, stepped, step_of, staged_moment, after}
+use Rattle.ckpt_machine.specs.Steps.{Told, IsDue, with_record, record_step, created_for, retained_for, change_replica, with_committed, committed_slot, with_applied, having_taken, with_marks, with_next_element, without_marks, marks_ended, with_slot, effect_of, with_lead, changed, on_ok, on_look, without_making, at_some, replica_under, opened_state, stepped, step_of, staged_moment, after}
+use Rattle.ckpt_machine.proofs.Activating.{made_where_complete, led_by, LeadsFrom, Leads, leader, with_leader, leader-cases, found_led, led_made, led_entry, after_activate}
 use Rattle.ckpt_machine.proofs.ActiveNode.{active_complete}
 use Rattle.ckpt_machine.proofs.AllOrNone.{all_or_none}
 use Rattle.ckpt_machine.proofs.Copying.{IsPutOn, not_active, after_pull, after_put, put2-here, put2-cases}
 use Rattle.ckpt_machine.proofs.Entries.{ComesOf-filter}
-use Rattle.ckpt_machine.proofs.EachReplica.{made_where_complete}
 use Rattle.ckpt_machine.proofs.EntryLists.{entry_of-given}
 use Rattle.ckpt_machine.proofs.Follows.{IsBare, element_effects}
 use Rattle.ckpt_machine.proofs.Histories.{HasHistory, slot_owned, on_replica-there, on_active-there, keeps_history, run_history}
 use Rattle.ckpt_machine.proofs.Installed.{after_install}
-use Rattle.ckpt_machine.proofs.Joining.{opened_with-identity}
+use Rattle.ckpt_machine.proofs.Joining.{collocated_apart, opened_with-identity}
 use Rattle.ckpt_machine.proofs.Lawful.{lawful}
 use Rattle.ckpt_machine.proofs.OptionLemmas.{IsSomeAnd-at}
 use Rattle.ckpt_machine.proofs.Actors.{same_call-true}
@@ -63,7 +63,7 @@ use Rattle.ckpt_machine.proofs.BegunBefore.{all_began}
 use Rattle.ckpt_machine.proofs.BegunOnce.{begins_once}
 use Rattle.ckpt_machine.proofs.UpdateAnswers.{begin_not_done, IsTakenOn, done_by_taking}
 use Rattle.ckpt_machine.proofs.ReplicaSteps.{put_actor-here}
-use Rattle.ckpt_machine.proofs.StaysMade.{IsMadeAs, StaysMade, StaysMade-same, StaysMade-kept, MadeOn, MadeOn-swept, released_made, opened_made, same_on, changed_on, filter_on, departed_on, finished_on, created_for_on, retained_for_on, StepNeeds, row_needs}
+use Rattle.ckpt_machine.proofs.StaysMade.{IsMadeAs, StaysMade, StaysMade-same, StaysMade-kept, held_made, held-identity, MadeOn, MadeOn-swept, released_made, opened_made, same_on, changed_on, filter_on, departed_on, finished_on, created_for_on, retained_for_on, StepNeeds, row_needs}
 use Rattle.ckpt_machine.proofs.Runs.{last_from-append, run_before, run_front, IsRunFrom-back}
 
 -- ---- effects
@@ -118,12 +118,18 @@ complete_before : (e f : Entry) → IsMadeAs e f → (r : ℕ) → (e.active ≡
 complete_before e f still r led (inl all) complete = subst (λ (nodes : List ℕ). (slice_index nodes r == 0) ≡ false) (still.complete all) complete
 complete_before e f still r led (inr active) complete = led active
 
+-- a checkpoint has its updates on all replicas, or has an active, as it did before
+some_still : (e f : Entry) → IsMadeAs e f → (is_all e.attributes ≡ true) ⊎ IsSome e.active → (is_all f.attributes ≡ true) ⊎ IsSome f.active
+some_still e f same (inl all) = inl (ap is_all same.attributes ∙ all)
+some_still e f same (inr led) = inr (subst IsSome (sym same.active) led)
+
 -- ---- the update stays
 
--- the checkpoint was given and, if it is there, is made, and on its active, if it has one, complete; and each of its replicas that is to have the update has it
+-- the checkpoint was given and, if it is there, is made, has its updates on all replicas or an active, and is complete on that; and each of its replicas that is to have the update has it
 record StaysIn (k : ℕ) (call : CallId) (update : Update) (R : RecordState) (replicas : ℕ → ℕ → Option ReplicaState) : Type 0 where
   given : k ≤ R.last_identity
   made : (e : Entry) → entry_of k R.entries ≡ Some e → e.making ≡ None
+  some : (e : Entry) → entry_of k R.entries ≡ Some e → (is_all e.attributes ≡ true) ⊎ IsSome e.active
   led : (e : Entry) → entry_of k R.entries ≡ Some e → (r : ℕ) → e.active ≡ Some r → IsCompleteOn e r
   its : (r : ℕ) (x : ReplicaState) → replicas k r ≡ Some x → IsToHave (entry_of k R.entries) r → HasUpdate call update x.effects
 
@@ -142,6 +148,7 @@ module _ (k : ℕ) (call : CallId) (update : Update) (m : Machine) (stay : Stays
   record_stays R on = record {
     given = (let a = on.last in let b = stay.given in omega (arith, a, b));
     made = λ f found. (let (e, was, keeps) = on.made f found in (keeps.made (stay.made e was)).made);
+    some = λ f found. (let (e, was, keeps) = on.made f found in some_still e f (keeps.made (stay.made e was)) (stay.some e was));
     led = λ f found r active. (let (e, was, keeps) = on.made f found in let still = keeps.made (stay.made e was) in still.remains r (stay.led e was r (sym still.active ∙ active)));
     its = λ r y is to_have. had (entry_of k R.entries) refl r y is to_have;
   }
@@ -159,7 +166,7 @@ module _ (k : ℕ) (call : CallId) (update : Update) (m : Machine) (stay : Stays
   -- one replica changed, whose effects stay
   replica_stays : (j q : ℕ) (o : Option ReplicaState) → m.replicas j q ≡ o → (change : ReplicaState → ReplicaState) → ((x : ReplicaState) → HasUpdate call update x.effects → HasUpdate call update (change x).effects) → Stays k call update (change_replica m j q o change)
   replica_stays j q None there change more = stay
-  replica_stays j q (Some x) there change more = record { given = stay.given; made = stay.made; led = stay.led; its = its }
+  replica_stays j q (Some x) there change more = record { given = stay.given; made = stay.made; some = stay.some; led = stay.led; its = its }
     where
       its : (r : ℕ) (y : ReplicaState) → put2 m.replicas j q (Some (change x)) k r ≡ Some y → IsToHave (entry_of k m.cluster.entries) r → HasUpdate call update y.effects
       its r y is to_have = elim ((k == j) && (r == q)) as (λ b. ((k == j) && (r == q)) ≡ b → cond b (Some (change x)) (m.replicas k r) ≡ Some y → HasUpdate call update y.effects) [
@@ -176,6 +183,7 @@ module _ (k : ℕ) (call : CallId) (update : Update) (m : Machine) (stay : Stays
   put_stays j q s x on = record {
     given = stay.given;
     made = stay.made;
+    some = stay.some;
     led = stay.led;
     its = λ r y is to_have. elim (put2-cases m.replicas j q (replica_from s x) k r y is) [
       | inl here ↦ absurd (not_its r (subst (λ o. IsToHave o r) (ap (λ k. entry_of k m.cluster.entries) (sym here.0) ∙ on.found) to_have) (subst (λ r. is_active on.entry.active r ≡ false) here.1 on.other))
@@ -186,6 +194,49 @@ module _ (k : ℕ) (call : CallId) (update : Update) (m : Machine) (stay : Stays
       not_its : (r : ℕ) → IsToHave (Some on.entry) r → is_active on.entry.active r ≡ false → ⊥
       not_its r (inl all) other = let w : true ≡ false = sym all ∙ on.alone in cc w
       not_its r (inr active) other = not_active on.entry.active r other active
+
+  -- a node that leads anew has what the active had
+  leads_stay : Invariant m → (s : CallState) (j q : ℕ) (lead : Leads m s j q) → Stays k call update (with_leader m s j q lead)
+  leads_stay inv s j q lead = record {
+    given = stay.given;
+    made = λ g found. (let (e, was, goes) = led_made m inv s j q lead k g found in (goes.made (stay.made e was)).made);
+    some = λ g found. elim (found_led m inv s j q lead k g found) [ inl here ↦ inr (subst (λ (o : Option ℕ). IsSome o) (sym (ap (λ (e : Entry). e.active) here.1)) refl) | inr was ↦ stay.some g was.1 ];
+    led = λ g found r active. elim (found_led m inv s j q lead k g found) [
+      | inl here ↦ (
+          let node : q ≡ r = same_Some q r (sym (ap (λ (e : Entry). e.active) here.1) ∙ active) in
+          subst (λ (g : Entry). IsCompleteOn g r) (sym here.1) (subst (IsCompleteOn lead.entry) node lead.complete))
+      | inr was ↦ stay.led g was.1 r active
+    ];
+    its = λ r y is to_have. (
+        let (g, found) = led_entry m inv s j q lead k r y is in
+        by_place r y g found is (subst (λ o. IsToHave o r) found to_have));
+  }
+    where
+      -- where there was an active, which has the update, what is in hand has it
+      from_active : j ≡ k → LeadsFrom m s j lead.entry → HasUpdate call update (leader m s j q lead).effects
+      from_active here (inl none) = absurd (by_some (stay.some lead.entry (ap (λ k. entry_of k m.cluster.entries) (sym here) ∙ lead.found)))
+        where
+          by_some : (is_all lead.entry.attributes ≡ true) ⊎ IsSome lead.entry.active → ⊥
+          by_some (inl all) = let w : true ≡ false = sym all ∙ collocated_apart lead.entry.attributes lead.collocated in cc w
+          by_some (inr led) = let w : is_some {T = ℕ} None ≡ true = subst (λ (o : Option ℕ). IsSome o) none.0 led in cc w
+      from_active here (inr copy) =
+          let at : entry_of k m.cluster.entries ≡ Some lead.entry = ap (λ k. entry_of k m.cluster.entries) (sym here) ∙ lead.found in
+          let has : HasUpdate call update copy.source.effects = stay.its copy.node copy.source (subst (λ k. m.replicas k copy.node ≡ Some copy.source) here copy.there) (subst (λ o. IsToHave o copy.node) (sym at) (inr copy.active)) in
+          subst (λ o. HasUpdate call update (with_lead o (lead.entry.generation + 1) lead.replica).effects) (sym copy.in_hand) has
+
+      -- the replica that leads, or another one
+      by_place : (r : ℕ) (y : ReplicaState) (g : Entry) → entry_of k (with_leader m s j q lead).cluster.entries ≡ Some g → (with_leader m s j q lead).replicas k r ≡ Some y → IsToHave (Some g) r → HasUpdate call update y.effects
+      by_place r y g found is to_have = elim (leader-cases m inv s j q lead k r y is) [
+        | inl here ↦ subst (λ (z : ReplicaState). HasUpdate call update z.effects) here.2 (from_active here.0 lead.from)
+        | inr was ↦ elim (found_led m inv s j q lead k g found) [
+          | inl at ↦ absurd (not_led r (subst (λ g. IsToHave (Some g) r) at.1 to_have) (λ node. was.1 (sym at.0) node))
+          | inr other ↦ stay.its r y was.0 (subst (λ o. IsToHave o r) (sym other.1) to_have)
+        ]
+      ]
+        where
+          not_led : (r : ℕ) → IsToHave (Some (led_by q lead.entry)) r → ((q ≡ r) → ⊥) → ⊥
+          not_led r (inl all) apart = let w : true ≡ false = sym all ∙ collocated_apart lead.entry.attributes lead.collocated in cc w
+          not_led r (inr active) apart = apart (same_Some q r active)
 
   module _ (rises : IdentitiesRise m.cluster.entries) (up_to : AllUpTo m.cluster.last_identity m.cluster.entries) where
     step_stays : (step : RecordState → RecordState) → MadeOn k m.cluster (step m.cluster) → Stays k call update (record_step step m)
@@ -215,14 +266,16 @@ module _ (k : ℕ) (call : CallId) (update : Update) (m : Machine) (stay : Stays
     both_stay : (j q : Option ℕ) (change : ℕ → ℕ → Machine) → ((j q : ℕ) → Stays k call update (change j q)) → Stays k call update (at_some j m (λ j. at_some q m (change j)))
     both_stay j q change each = one_stays j _ (λ j. one_stays q (change j) (each j))
 
-    -- what an installation leaves
+    -- what an installation and the setting of an active leave
     abbrev Installs : CallState → Verb → Option ℕ → Option ℕ → StepReply → Type 0
     Installs s verbs.Install j q reply = Stays k call update (changed m s verbs.Install j q reply)
+    Installs s verbs.Activate j q reply = Stays k call update (changed m s verbs.Activate j q reply)
     Installs s verb j q reply = Unit {0}
 
-    installs : (s : CallState) (verb : Verb) (j q : Option ℕ) (reply : StepReply) (t : Told) → Row m s verb (record t { verb = verb; ckpt = j; node = q; reply = reply }) → Installs s verb j q reply
-    installs s verbs.Install j q reply t row = after_install (Stays k call update) m s t j q reply row stay (λ i r z x is in_hand over. put_stays i r z x over.on)
-    installs s verb j q reply t row = tt
+    installs : Invariant m → IsBare m → (s : CallState) → m.in_hand s.call.actor ≡ Some s → (verb : Verb) (j q : Option ℕ) (reply : StepReply) (t : Told) → IsOnOwn verb j s.kept.ckpt → Row m s verb (record t { verb = verb; ckpt = j; node = q; reply = reply }) → Installs s verb j q reply
+    installs inv bare s held verbs.Install j q reply t own row = after_install (Stays k call update) m s t j q reply row stay (λ i r z x is in_hand over. put_stays i r z x over.on)
+    installs inv bare s held verbs.Activate j q reply t own row = after_activate (Stays k call update) m inv bare s held t j q reply own row stay (λ i r on. record_stays (swept (active_set i r m.cluster)) (on k)) (leads_stay inv s)
+    installs inv bare s held verb j q reply t own row = tt
 
     finished_stays : (s : CallState) (j q : Option ℕ) (reply : StepReply) → StepNeeds m.cluster s.call verbs.Finish j reply → Stays k call update (changed m s verbs.Finish j q reply)
     finished_stays s (Some j) q words.Ok by = step_stays (finished j (client_of s.call)) (finished_on k m.cluster stay.given rises up_to s.call j (client_of s.call) by)
@@ -234,7 +287,7 @@ module _ (k : ℕ) (call : CallId) (update : Update) (m : Machine) (stay : Stays
     changed_stays s verbs.Enter j q reply needs done = ok_stays reply _ (one_stays q _ (λ q. step_stays (entered (client_of s.call) q s.call.number) (record { last = omega arith; rises = rises; made = (same_on k m.cluster stay.given rises up_to).made })))
     changed_stays s verbs.Open j q reply needs done = ok_stays reply _ (one_stays j _ (λ j. step_stays (opened j (client_of s.call)) (changed_on k m.cluster stay.given rises up_to j (opened_with (home_of (client_of s.call) m.cluster) m.cluster.up (client_of s.call)) (opened_with-identity (home_of (client_of s.call) m.cluster) m.cluster.up (client_of s.call)) (opened_made (home_of (client_of s.call) m.cluster) m.cluster.up (client_of s.call)))))
     changed_stays s verbs.Create j q reply needs done = ok_stays reply _ (step_stays (created_for s.call (asked s.op)) (created_for_on k m.cluster stay.given rises up_to s.call (asked s.op)))
-    changed_stays s verbs.Reserve j q reply needs done = ok_stays reply _ (both_stay j q _ (λ j q. record { given = stay.given; made = stay.made; led = stay.led; its = stay.its }))
+    changed_stays s verbs.Reserve j q reply needs done = ok_stays reply _ (both_stay j q _ (λ j q. record { given = stay.given; made = stay.made; some = stay.some; led = stay.led; its = stay.its }))
     changed_stays s verbs.Finish j q reply needs done = finished_stays s j q reply needs
     changed_stays s verbs.Undo j q reply needs done = ok_stays reply _ (one_stays j _ undone_stays)
     changed_stays s verbs.Stage j q reply needs done = ok_stays reply _ (both_stay j q _ (λ j q. replica_stays j q (m.replicas j q) refl (with_slot s.call (update_of s.op) (staged_moment m j)) (λ x has. has)))
@@ -253,27 +306,30 @@ module _ (k : ℕ) (call : CallId) (update : Update) (m : Machine) (stay : Stays
     changed_stays s verbs.Retain j q reply needs done = ok_stays reply _ (one_stays j _ (λ j. step_stays (retained_for (asked s.op) j) (retained_for_on k m.cluster stay.given rises up_to (asked s.op) j)))
     changed_stays s verbs.Look j q reply needs done = look_stays reply _ _ stay (making_stays (making_of s.call m.cluster))
     changed_stays s verbs.Install j q reply needs done = done
+    changed_stays s verbs.Hold j q reply needs done = ok_stays reply _ (one_stays j _ (λ j. step_stays (hold_set j s.call) (changed_on k m.cluster stay.given rises up_to j (with_hold s.call) (held-identity s.call) (held_made s.call))))
+    changed_stays s verbs.Activate j q reply needs done = done
     changed_stays s verb j q reply needs done = stay
 
   -- any label that is allowed
-  after_stays : Invariant m → (l : Label) → Allowed m l → Stays k call update (after m l)
-  after_stays inv (labels.Began d op end) allowed = record { given = stay.given; made = stay.made; led = stay.led; its = stay.its }
-  after_stays inv (labels.Stepped d op verb j q reply end details) allowed =
+  after_stays : Invariant m → IsBare m → (l : Label) → Allowed m l → Stays k call update (after m l)
+  after_stays inv bare (labels.Began d op end) allowed = record { given = stay.given; made = stay.made; some = stay.some; led = stay.led; its = stay.its }
+  after_stays inv bare (labels.Stepped d op verb j q reply end details) allowed =
       let s = allowed.state in
-      let then = changed_stays inv.holds.rises inv.holds.up_to s verb j q reply (row_needs m inv s verb j q reply end details allowed.row) (installs inv.holds.rises inv.holds.up_to s verb j q reply (record { verb = verb; ckpt = j; node = q; reply = reply; end = end; details = details }) allowed.row) in
-      subst (λ o. Stays k call update (step_of m o verb j q reply end)) (sym allowed.in_hand) (record { given = then.given; made = then.made; led = then.led; its = then.its })
-  after_stays inv (labels.Word who line said) allowed = stay
-  after_stays inv (labels.Nodes n) allowed = record { given = stay.given; made = stay.made; led = stay.led; its = stay.its }
-  after_stays inv (labels.Moved t) allowed = record_stays (moved t m.cluster) (record { last = omega arith; rises = IdentitiesRise-filter (stays t) m.cluster.entries inv.holds.rises; made = ComesOf-filter StaysMade StaysMade-same (stays t) m.cluster.entries inv.holds.rises k })
-  after_stays inv (labels.Shown j replicas) allowed = stay
-  after_stays inv (labels.Pulled j reply) allowed = after_pull (Stays k call update) m j reply allowed stay (λ x from none. stay)
-  after_stays inv (labels.Put j q reply) allowed = after_put (Stays k call update) m j q reply stay (λ s x copied on. put_stays j q s x on)
-  after_stays inv l allowed = absurd allowed
+      let held : m.in_hand s.call.actor ≡ Some s = ap (λ (c : CallId). m.in_hand c.actor) allowed.call_is ∙ allowed.in_hand in
+      let then = changed_stays inv.holds.rises inv.holds.up_to s verb j q reply (row_needs m inv s verb j q reply end details allowed.row) (installs inv.holds.rises inv.holds.up_to inv bare s held verb j q reply (record { verb = verb; ckpt = j; node = q; reply = reply; end = end; details = details }) allowed.own allowed.row) in
+      subst (λ o. Stays k call update (step_of m o verb j q reply end)) (sym allowed.in_hand) (record { given = then.given; made = then.made; some = then.some; led = then.led; its = then.its })
+  after_stays inv bare (labels.Word who line said) allowed = stay
+  after_stays inv bare (labels.Nodes n) allowed = record { given = stay.given; made = stay.made; some = stay.some; led = stay.led; its = stay.its }
+  after_stays inv bare (labels.Moved t) allowed = record_stays (moved t m.cluster) (record { last = omega arith; rises = IdentitiesRise-filter (stays t) m.cluster.entries inv.holds.rises; made = ComesOf-filter StaysMade StaysMade-same (stays t) m.cluster.entries inv.holds.rises k })
+  after_stays inv bare (labels.Shown j replicas) allowed = stay
+  after_stays inv bare (labels.Pulled j reply) allowed = after_pull (Stays k call update) m j reply allowed stay (λ x from none. stay)
+  after_stays inv bare (labels.Put j q reply) allowed = after_put (Stays k call update) m j q reply stay (λ s x copied on. put_stays j q s x on)
+  after_stays inv bare l allowed = absurd allowed
 
 -- and at every time from then on
-stays_from : (k : ℕ) (call : CallId) (update : Update) (m : Machine) (log : List Label) → Invariant m → IsRunFrom m log → Stays k call update m → Stays k call update (last_from m log)
-stays_from k call update m [] inv run stay = stay
-stays_from k call update m (l ∷ log) inv run stay = stays_from k call update (after m l) log (lawful m l inv run.1).1 run.2 (after_stays k call update m stay inv l run.0)
+stays_from : (k : ℕ) (call : CallId) (update : Update) (m : Machine) (log : List Label) → Invariant m → HasHistory m → IsRunFrom m log → Stays k call update m → Stays k call update (last_from m log)
+stays_from k call update m [] inv history run stay = stay
+stays_from k call update m (l ∷ log) inv history run stay = stays_from k call update (after m l) log (lawful m l inv run.1).1 (keeps_history m l inv history run.0 run.1) run.2 (after_stays k call update m stay inv history.bare l run.0)
 
 -- ---- the label that answers OK
 
@@ -368,10 +424,11 @@ module _ (m : Machine) (inv : Invariant m) (history : HasHistory m) (d : CallId)
       update ∙ owner_update m j (inv.shapes j) slot.owner by ∙ ap (λ (z : CallState). update_of z.op) state
 
   -- it stays from a step on that leaves it on the replicas that are to have it
-  ended_stays : (s : CallState) (e : Entry) (x y : ReplicaState) → entry_of j m.cluster.entries ≡ Some e → m.replicas j r ≡ Some x → IsOnItsReplicas (ended s y) j s.call (update_of s.op) → Stays j s.call (update_of s.op) (ended s y)
-  ended_stays s e x y found there its = record {
+  ended_stays : (s : CallState) (e : Entry) (x y : ReplicaState) → entry_of j m.cluster.entries ≡ Some e → m.replicas j r ≡ Some x → (is_all e.attributes ≡ true) ⊎ IsSome e.active → IsOnItsReplicas (ended s y) j s.call (update_of s.op) → Stays j s.call (update_of s.op) (ended s y)
+  ended_stays s e x y found there some its = record {
     given = entry_of-given m.cluster.last_identity j m.cluster.entries e inv.holds.up_to found;
     made = λ f at. subst (λ (z : Entry). z.making ≡ None) (same_Some e f (sym found ∙ at)) made;
+    some = λ f at. subst (λ (z : Entry). (is_all z.attributes ≡ true) ⊎ IsSome z.active) (same_Some e f (sym found ∙ at)) some;
     led = λ f at q active. active_complete m inv.shapes j f q inv.holds at (subst (λ (z : Entry). z.making ≡ None) (same_Some e f (sym found ∙ at)) made) active;
     its = its;
   }
@@ -404,7 +461,7 @@ module _ (m : Machine) (inv : Invariant m) (history : HasHistory m) (d : CallId)
       let has : HasUpdate s.call u y.effects = subst (λ (z : ReplicaState). HasUpdate s.call u z.effects) (sym y_is) (committed_new e.attributes x x.slot ok.slot s.call u ok.staged origin (own_update s held x ok.slot there ok.staged ok.owner)) in
       let made = is_made m inv history.bare j r e x found there in
       let every = on_every n inv_n bare_n j r s.call u e found made row_of.0 y (put2-here m.replicas j r (Some y)) free has owns in
-      subst (λ c. Stays j c u (after m l)) allowed.call_is (subst (Stays j s.call u) (sym is) (ended_stays s e x y found there (λ q z at to_have. every q z at)))
+      subst (λ c. Stays j c u (after m l)) allowed.call_is (subst (Stays j s.call u) (sym is) (ended_stays s e x y found there (inl row_of.0) (λ q z at to_have. every q z at)))
 
   -- where updates are on the active alone, which is this node, no other is to have it
   active_alone : (e : Entry) → is_all e.attributes ≡ false → e.active ≡ Some r → (q : ℕ) → IsToHave (Some e) q → r ≡ q
@@ -424,7 +481,7 @@ module _ (m : Machine) (inv : Invariant m) (history : HasHistory m) (d : CallId)
       let node : r ≡ q = active_alone e none active q (subst (λ o. IsToHave o q) found to_have) in
       let same : y ≡ z = same_Some y z (sym (put2-here m.replicas j r (Some y)) ∙ ap (λ q. put2 m.replicas j r (Some y) j q) node ∙ at) in
       subst (λ (z : ReplicaState). HasUpdate s.call u z.effects) same has in
-      subst (λ c. Stays j c u (after m l)) allowed.call_is (subst (Stays j s.call u) (sym is) (ended_stays s e x y found there its))
+      subst (λ c. Stays j c u (after m l)) allowed.call_is (subst (Stays j s.call u) (sym is) (ended_stays s e x y found there (inr (subst IsSome (sym active) refl)) its))
 
   -- an update in one step
   applied_stays : (allowed : Allowed m (label verbs.Apply)) → Stays j d (update_of allowed.state.op) (after m (label verbs.Apply))
@@ -498,7 +555,7 @@ acknowledged_stay log run front more back l call is acks =
     let (inv, history) = run_history front before in
     let first = acknowledged front before inv history l allowed due call acks in
     let then = IsRunFrom-back _ front (l ∷ more) (run_front log (front ++ l ∷ more) back (is ∙ sym (append_assoc front (l ∷ more) back)) run) in
-    let all = stays_from first.ckpt call (update_of first.op) (after (last front) l) more (lawful (last front) l inv due).1 then.2 first.stay in
+    let all = stays_from first.ckpt call (update_of first.op) (after (last front) l) more (lawful (last front) l inv due).1 (keeps_history (last front) l inv history allowed due) then.2 first.stay in
     record {
       op = first.op;
       asks = first.asks;

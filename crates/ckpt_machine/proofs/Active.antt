@@ -1,10 +1,11 @@
 -- The calls to the active: a read, a status, and iterations, each answered by it in one step; and updates.
 use Rattle.std.proofs.Common.{◌≡◌, ℕ, inl, inr, List, Option, Some, None, Result, Ok, Err, Bool, true, false, cond, not, ◌&&◌, ◌==◌, refl, sym, ap, subst, ◌∙◌}
-use Rattle.std.specs.Prelude.{is_some, IfSome}
+use Rattle.std.proofs.lemmas.Option.{same_Some}
+use Rattle.std.specs.Prelude.{IsSome, is_some, IfSome}
 use Rattle.std.proofs.lemmas.Bool.{eq-eqb}
 use Rattle.ckpt_types.specs.declared.ais_error.AisError.TheVariants.{NoResources, NoSections, NotExist, TryAgain}
 use Rattle.ckpt_types.specs.declared.answers.Answer.TheVariants as answers
-use Rattle.ckpt_types.specs.declared.answers.Cause.TheVariants.{Plain, Index, Count, Generations}
+use Rattle.ckpt_types.specs.declared.answers.Cause.TheVariants.{Plain, Index, Count, Holder, Generations}
 use Rattle.ckpt_types.specs.declared.answers.Outcome.TheVariants.{Done, Refused}
 use Rattle.ckpt_types.specs.declared.identities.CallId.{CallId}
 use Rattle.ckpt_types.specs.declared.operation.Op.{Op}
@@ -14,6 +15,7 @@ use Rattle.ckpt_types.specs.Updates.{Refusal}
 use Rattle.ckpt_types.specs.Reads.{read, status, NextGiven, given}
 use Rattle.node_msgs.specs.declared.requests.Request.TheVariants as requests
 use Rattle.node_msgs.specs.declared.replies.Reply.TheVariants as replies
+use Rattle.node_msgs.specs.declared.next.Next.{Next}
 use Rattle.node_msgs.specs.declared.next.Next.TheVariants.{Serve, End}
 use Rattle.node_msgs.specs.declared.steps.StepReply.TheVariants as words
 use Rattle.section_iter.specs.declared.room.Room.{Room}
@@ -21,13 +23,13 @@ use Rattle.cluster_record.specs.declared.calls.ActiveKind.{ActiveKind}
 use Rattle.cluster_record.specs.declared.calls.ActiveKind.TheVariants as kinds
 use Rattle.cluster_record.specs.declared.entries.Entry.{Entry}
 use Rattle.cluster_record.specs.Calls.{put_actor}
-use Rattle.cluster_record.specs.DueActive.{unless_changed, on_active, active_on, request_by, starts_iteration}
+use Rattle.cluster_record.specs.DueActive.{unless_changed, unless_on_hold, is_update, on_active, active_on, request_by, starts_iteration}
 use Rattle.cluster_record.specs.declared.calls.MarksMade.{MarksMade}
 use Rattle.cluster_record.specs.RecordState.{entry_of, attributes_now}
 use Rattle.node_msgs.specs.declared.details.Details.TheVariants as beside
 use Rattle.ckpt_types.specs.Asks.{Ask, asked, elements_asked, elements_of}
 use Rattle.ckpt_types.specs.Asks as asks
-use Rattle.ckpt_machine.specs.Tables.{started, gone_on}
+use Rattle.ckpt_machine.specs.Tables.{choice_of, started, gone_on}
 use Rattle.ckpt_machine.specs.Drivers.{Driver, Rooms}
 use Rattle.ckpt_machine.specs.Drivers as drivers
 use Rattle.ckpt_machine.specs.Driving.{driver_next, kind_of_change, making_in, refused_cause}
@@ -38,13 +40,14 @@ use Rattle.ckpt_machine.specs.Machine.{Machine, CallState}
 use Rattle.node_core.specs.Serving.{read_details, reply_at, details_at, done_or_refused, next_reply, next_details}
 use Rattle.node_core.specs.Seen.{record_seen, entry_seen}
 use Rattle.ckpt_machine.specs.Steps.{Told, IsDone, IsServed, driver_of, seen, seen_at, rooms_of, ids_asked, payload_due, details_due, with_tables, given_at, chosen_at}
-use Rattle.ckpt_machine.specs.Guards.{IterOk, NextAnswer, LookRefused, ChangeLook, HasNoActive, NoActiveLook}
+use Rattle.ckpt_machine.specs.Guards.{IterOk, NextAnswer, LookRefused, ChangeLook, HasNoActive, NoActiveLook, OnHeldBy}
 use Rattle.ckpt_machine.specs.Shape.{Shape, IsSpread}
 use Rattle.ckpt_machine.proofs.ActiveNode.{AsksOf, by_kind, ActiveOf, active_of, active_seen, on_its_replica, active_next-there}
 use Rattle.ckpt_machine.proofs.ActiveSteps.{gone_ends}
 use Rattle.ckpt_machine.proofs.Apply.{apply_goes}
 use Rattle.ckpt_machine.proofs.EndedTables.{started_keeps, gone_on_keeps}
 use Rattle.ckpt_machine.proofs.ReplicaSteps.{put_actor-here}
+use Rattle.ckpt_machine.proofs.HeldBy.{its_hold, held_by}
 use Rattle.ckpt_machine.proofs.PlainCalls.{is_plain, plain_ends, look_ends, look_goes}
 use Rattle.ckpt_machine.proofs.DueStep.{Goes}
 use Rattle.ckpt_machine.proofs.OptionLemmas.{IsSomeAnd-from}
@@ -66,7 +69,7 @@ next_cause weak op index is = refl
 LookRefused-active : (m : Machine) (s : CallState) (kind : ActiveKind) (ask : Ask) → active_kind s.kept.all s.kept.weak ask ≡ Some kind → NoActiveLook m s.kept.ckpt NotExist Plain → LookRefused m s ask NotExist Plain
 LookRefused-active m s kind (asks.Change place update) is gone = by_all s.kept.all is gone
   where
-    by_all : (all : Bool) → change_kind all (kind_of_change s.kept.weak update) ≡ Some kind → NoActiveLook m s.kept.ckpt NotExist Plain → ChangeLook all m s.kept.ckpt NotExist Plain
+    by_all : (all : Bool) → change_kind all (kind_of_change s.kept.weak update) ≡ Some kind → NoActiveLook m s.kept.ckpt NotExist Plain → ChangeLook all m s NotExist Plain
     by_all true is gone = absurd (cc is)
     by_all false is gone = gone
 LookRefused-active m s kind (asks.Read place elements) is gone = gone
@@ -74,6 +77,19 @@ LookRefused-active m s kind (asks.Status place) is gone = gone
 LookRefused-active m s kind (asks.Iterate iteration place chosen time) is gone = gone
 LookRefused-active m s kind (asks.Next iteration) is gone = gone
 LookRefused-active m s kind ask is gone = absurd (cc is)
+
+-- an update of the active alone is refused where another call holds its checkpoint
+LookRefused-held : (m : Machine) (s : CallState) (kind : ActiveKind) (ask : Ask) (by : CallId) → is_update kind ≡ true → active_kind s.kept.all s.kept.weak ask ≡ Some kind → OnHeldBy m s by (λ e. IsSome e.active) → LookRefused m s ask TryAgain (Holder by)
+LookRefused-held m s kind (asks.Change place update) by updates is look = by_all s.kept.all is
+  where
+    by_all : (all : Bool) → change_kind all (kind_of_change s.kept.weak update) ≡ Some kind → ChangeLook all m s TryAgain (Holder by)
+    by_all true is = absurd (cc is)
+    by_all false is = look
+LookRefused-held m s kind (asks.Read place elements) by updates is look = absurd (let w : false ≡ true = ap is_update (same_Some kinds.Read kind is) ∙ updates in cc w)
+LookRefused-held m s kind (asks.Status place) by updates is look = absurd (let w : false ≡ true = ap is_update (same_Some kinds.Status kind is) ∙ updates in cc w)
+LookRefused-held m s kind (asks.Iterate iteration place chosen time) by updates is look = absurd (let w : false ≡ true = ap is_update (same_Some (kinds.Iterate (choice_of chosen time)) kind is) ∙ updates in cc w)
+LookRefused-held m s kind (asks.Next iteration) by updates is look = absurd (let w : false ≡ true = ap is_update (same_Some kinds.Next kind is) ∙ updates in cc w)
+LookRefused-held m s kind ask by updates is look = absurd (cc is)
 
 -- ---- any of them
 
@@ -91,7 +107,7 @@ module _ (m : Machine) (shapes : ℕ → Shape) (inv : InvariantIn shapes m) (s 
 
     -- it ends, and all else is as it was
     ends : Invariant (record m { in_hand = put_actor m.in_hand s.call.actor None })
-    ends = record { shapes = shapes; holds = plain_ends m shapes inv s held (ap is_plain is) }
+    ends = record { shapes = shapes; holds = plain_ends m shapes inv s held (ap (λ d. is_plain d s.snapshot) is) }
 
     -- its call is in hand no more
     gone : put_actor m.in_hand s.call.actor None s.call.actor ≡ None
@@ -99,10 +115,10 @@ module _ (m : Machine) (shapes : ℕ → Shape) (inv : InvariantIn shapes m) (s 
 
     -- an iteration is started, or goes on
     ends_started : (room : Room) (chosen_by : Choice → List (List ℕ)) → Invariant (record (with_tables s.call.actor (started (asked s.op) room chosen_by) m) { in_hand = put_actor m.in_hand s.call.actor None })
-    ends_started room chosen_by = record { shapes = shapes; holds = started_keeps (record m { in_hand = put_actor m.in_hand s.call.actor None }) shapes (plain_ends m shapes inv s held (ap is_plain is)) s.call.actor gone (asked s.op) room chosen_by }
+    ends_started room chosen_by = record { shapes = shapes; holds = started_keeps (record m { in_hand = put_actor m.in_hand s.call.actor None }) shapes (plain_ends m shapes inv s held (ap (λ d. is_plain d s.snapshot) is)) s.call.actor gone (asked s.op) room chosen_by }
 
     ends_next : (next : Option NextGiven) → Invariant (record (with_tables s.call.actor (gone_on (asked s.op) next) m) { in_hand = put_actor m.in_hand s.call.actor None })
-    ends_next next = record { shapes = shapes; holds = gone_on_keeps (record m { in_hand = put_actor m.in_hand s.call.actor None }) shapes (plain_ends m shapes inv s held (ap is_plain is)) s.call.actor gone (asked s.op) next }
+    ends_next next = record { shapes = shapes; holds = gone_on_keeps (record m { in_hand = put_actor m.in_hand s.call.actor None }) shapes (plain_ends m shapes inv s held (ap (λ d. is_plain d s.snapshot) is)) s.call.actor gone (asked s.op) next }
 
     -- what it asks for
     pub asks_of : AsksOf s.kept.weak kind (asked s.op)
@@ -174,7 +190,7 @@ module _ (m : Machine) (shapes : ℕ → Shape) (inv : InvariantIn shapes m) (s 
 
       -- or its client has as many as it may have
       iterate_full : (t : Told) → (rooms_of m s).iterations ≡ false → IsDone m s (End (Refused NoResources (Count 8))) t → Goes m s (driver_of s) t
-      iterate_full t full done = look_goes m shapes inv s held (ap is_plain is) NoResources (Count 8) t
+      iterate_full t full done = look_goes m shapes inv s held (ap (λ d. is_plain d s.snapshot) is) NoResources (Count 8) t
           (subst (λ (a : Ask). LookRefused m s a NoResources (Count 8)) (sym (asks_of (kinds.Iterate choice) is).4) (
             IsSomeAnd-from s.kept.ckpt _ k (at_active (kinds.Iterate choice) is).kept (IsSomeAnd-from (entry_of k m.cluster.entries) _ at.entry at.found (ap is_some at.active)),
             full,
@@ -235,15 +251,41 @@ module _ (m : Machine) (shapes : ℕ → Shape) (inv : InvariantIn shapes m) (s 
     fit_of : (kind : ActiveKind) (made : Option MarksMade) → driver_of s ≡ drivers.Active (record { call = call; ckpt = k; kind = kind; marks = made }) → MarksFit kind made
     fit_of kind made is = (at_made kind made is).fit
 
+    -- no call holds a checkpoint on which marks stand
+    pub marked_free : (kind : ActiveKind) (w : MarksMade) → driver_of s ≡ drivers.Active (record { call = call; ckpt = k; kind = kind; marks = Some w }) → (hold : Option CallId) → at.entry.hold ≡ hold → at.entry.hold ≡ None
+    marked_free kind w is None free = free
+    marked_free kind w is (Some by) holds = absurd (let v : false ≡ true = sym (ap (is_marked_by s.call) (its_hold m shapes inv k at.entry at.found at.made by holds).unmarked) ∙ (at_made kind (Some w) is).marks at.entry at.found in cc v)
+
+    -- an update that has made no marks meets a hold
+    on_hold_goes : (kind : ActiveKind) → driver_of s ≡ drivers.Active (record { call = call; ckpt = k; kind = kind; marks = None }) → is_update kind ≡ true → (by : CallId) → at.entry.hold ≡ Some by → (t : Told) → IsDone m s (End (Refused TryAgain (Holder by))) t → Goes m s (driver_of s) t
+    on_hold_goes kind is updates by holds t done =
+        let plain : is_plain (driver_of s) s.snapshot ≡ true = ap (λ d. is_plain d s.snapshot) is in
+        look_goes m shapes inv s held plain TryAgain (Holder by) t
+        (LookRefused-held m s kind (asked s.op) by updates (at_active kind is).kind (held_by m shapes inv k at.entry at.found at.made by holds s held plain (at_active kind is).kept (λ e. IsSome e.active) (ap is_some at.active))) done
+
+    by_hold : (kind : ActiveKind) → driver_of s ≡ drivers.Active (record { call = call; ckpt = k; kind = kind; marks = None }) → is_update kind ≡ true → (next : Next) (t : Told) → (at.entry.hold ≡ None → IsDone m s next t → Goes m s (driver_of s) t)
+        → (hold : Option CallId) → at.entry.hold ≡ hold → IsDone m s (unless_on_hold kind hold next) t → Goes m s (driver_of s) t
+    by_hold kind is updates next t goes None free done = goes free done
+    by_hold kind is updates next t goes (Some by) holds done = on_hold_goes kind is updates by holds t (subst (λ b. IsDone m s (cond b (End (Refused TryAgain (Holder by))) next) t) updates done)
+
+    -- what is no update goes on beside a hold
+    not_held : (kind : ActiveKind) (hold : Option CallId) (next : Next) → is_update kind ≡ false → unless_on_hold kind hold next ≡ next
+    not_held kind None next no_update = refl
+    not_held kind (Some by) next no_update = ap (λ b. cond b (End (Refused TryAgain (Holder by))) next) no_update
+
     there_goes : (kind : ActiveKind) (made : Option MarksMade) → driver_of s ≡ drivers.Active (record { call = call; ckpt = k; kind = kind; marks = made }) → (rooms : Rooms) (t : Told) → rooms_of m s ≡ rooms
-        → IsDone m s (cond (starts_iteration kind && not rooms.iterations) (End (Refused NoResources (Count 8))) (unless_changed made at.entry.generation (Serve at.node (request_by call k kind made)))) t → Goes m s (driver_of s) t
-    there_goes kinds.Read None is rooms t has done = read_by is t done (read (elements_of s.op) m.cluster.moment at.replica.sections) refl
-    there_goes kinds.Status None is rooms t has done = status_goes is t done
-    there_goes (kinds.Iterate choice) None is rooms t has done = iterate_by choice is rooms.iterations t (ap (λ (r : Rooms). r.iterations) has) done
-    there_goes kinds.Next None is rooms t has done = next_by is t done (given (ids_asked m s) m.cluster.moment at.replica.sections) refl
-    there_goes kinds.Apply None is rooms t has done = apply_goes m shapes inv s call k held at is t done
-    there_goes (kinds.Weak n) None is rooms t has done = mark_goes m shapes inv s call k n None held at is refl t done
-    there_goes (kinds.Weak n) (Some w) is rooms t has done = marked_goes m shapes inv s call k n (Some w) held at is w refl t (subst (λ b. IsDone m s (cond b (Serve at.node (request_by call k (kinds.Weak n) (Some w))) (End (Refused TryAgain (Generations w.generation at.entry.generation)))) t) (same_generation (kinds.Weak n) w is) done)
+        → IsDone m s (cond (starts_iteration kind && not rooms.iterations) (End (Refused NoResources (Count 8))) (unless_on_hold kind at.entry.hold (unless_changed made at.entry.generation (Serve at.node (request_by call k kind made))))) t → Goes m s (driver_of s) t
+    there_goes kinds.Read None is rooms t has done = read_by is t (subst (λ next. IsDone m s next t) (not_held kinds.Read at.entry.hold _ refl) done) (read (elements_of s.op) m.cluster.moment at.replica.sections) refl
+    there_goes kinds.Status None is rooms t has done = status_goes is t (subst (λ next. IsDone m s next t) (not_held kinds.Status at.entry.hold _ refl) done)
+    there_goes (kinds.Iterate choice) None is rooms t has done = iterate_by choice is rooms.iterations t (ap (λ (r : Rooms). r.iterations) has) (subst (λ next. IsDone m s (cond (not rooms.iterations) (End (Refused NoResources (Count 8))) next) t) (not_held (kinds.Iterate choice) at.entry.hold _ refl) done)
+    there_goes kinds.Next None is rooms t has done = next_by is t (subst (λ next. IsDone m s next t) (not_held kinds.Next at.entry.hold _ refl) done) (given (ids_asked m s) m.cluster.moment at.replica.sections) refl
+    there_goes kinds.Apply None is rooms t has done = by_hold kinds.Apply is refl _ t (λ free done. apply_goes m shapes inv s call k held at free is t done) at.entry.hold refl done
+    there_goes (kinds.Weak n) None is rooms t has done = by_hold (kinds.Weak n) is refl _ t (λ free done. mark_goes m shapes inv s call k n None held at free is refl t done) at.entry.hold refl done
+    there_goes (kinds.Weak n) (Some w) is rooms t has done =
+        let free = marked_free (kinds.Weak n) w is at.entry.hold refl in
+        marked_goes m shapes inv s call k n (Some w) held at free is w refl t
+        (subst (λ b. IsDone m s (cond b (Serve at.node (request_by call k (kinds.Weak n) (Some w))) (End (Refused TryAgain (Generations w.generation at.entry.generation)))) t) (same_generation (kinds.Weak n) w is)
+        (subst (λ hold. IsDone m s (unless_on_hold (kinds.Weak n) hold (unless_changed (Some w) at.entry.generation (Serve at.node (request_by call k (kinds.Weak n) (Some w))))) t) free done))
     there_goes kind (Some w) is rooms t has done = absurd (fit_of kind (Some w) is)
 
   no_active : (ckpt : Option ℕ) → ckpt ≡ Some k → HasNoActive (entry_of k m.cluster.entries) → NoActiveLook m ckpt NotExist Plain
@@ -259,7 +301,7 @@ module _ (m : Machine) (shapes : ℕ → Shape) (inv : InvariantIn shapes m) (s 
   unled_goes : (kind : ActiveKind) (made : Option MarksMade) → driver_of s ≡ drivers.Active (record { call = call; ckpt = k; kind = kind; marks = made }) → (e : Entry) → entry_of k m.cluster.entries ≡ Some e → e.active ≡ None → (t : Told) → IsDone m s (End (Refused NotExist Plain)) t → Goes m s (driver_of s) t
   unled_goes kind None is e found none t done =
       let at = at_made kind None is in
-      look_goes m shapes inv s held (ap is_plain is) NotExist Plain t (LookRefused-active m s kind (asked s.op) at.kind (no_active s.kept.ckpt at.kept (subst (λ o. HasNoActive o) (sym found) none))) done
+      look_goes m shapes inv s held (ap (λ d. is_plain d s.snapshot) is) NotExist Plain t (LookRefused-active m s kind (asked s.op) at.kind (no_active s.kept.ckpt at.kept (subst (λ o. HasNoActive o) (sym found) none))) done
   unled_goes kind (Some w) is e found none t done =
       let at = at_made kind (Some w) is in
       let made_is : e.making ≡ None = subst (λ o. IfSome o (λ (e : Entry). e.making ≡ None)) found at.made.made in
@@ -278,6 +320,6 @@ module _ (m : Machine) (shapes : ℕ → Shape) (inv : InvariantIn shapes m) (s 
       by_entry : (o : Option Entry) → entry_of k m.cluster.entries ≡ o → Goes m s (driver_of s) t
       by_entry None gone = gone_goes kind made is gone t (subst (λ next. IsDone m s next t) (ap (active_on rooms.iterations (record { call = call; ckpt = k; kind = kind; marks = made })) gone) done)
       by_entry (Some e) found = elim (active_of m shapes k e inv (at_made kind made is).made found) [
-        | inl none ↦ unled_goes kind made is e found none t (subst (λ next. IsDone m s next t) (ap (active_on rooms.iterations (record { call = call; ckpt = k; kind = kind; marks = made })) found ∙ ap (on_active rooms.iterations (record { call = call; ckpt = k; kind = kind; marks = made }) e.generation) none) done)
+        | inl none ↦ unled_goes kind made is e found none t (subst (λ next. IsDone m s next t) (ap (active_on rooms.iterations (record { call = call; ckpt = k; kind = kind; marks = made })) found ∙ ap (on_active rooms.iterations (record { call = call; ckpt = k; kind = kind; marks = made }) e.generation e.hold) none) done)
         | inr at ↦ there_goes at kind made is rooms t has (subst (λ next. IsDone m s next t) (active_next-there m (shapes k).marks k at call kind made rooms) done)
       ]

@@ -1,6 +1,6 @@
 -- What is asked of the active, by the kind of the call; and the active of a checkpoint that is made.
-use Rattle.std.proofs.Common.{◌≡◌, ◌⊎◌, ℕ, inl, inr, suc, ◌+◌, ◌<◌, List, [], ◌∷◌, length, Option, Some, None, Bool, true, false, cond, not, ◌&&◌, ◌==◌, refl, sym, ap, subst, ◌∙◌, arith, ℤ}
-use Rattle.std.specs.Prelude.{is_some, IsSomeAnd, IfSome, slice_index}
+use Rattle.std.proofs.Common.{◌≡◌, ◌⊎◌, ℕ, inl, inr, ◌<◌, List, length, Option, Some, None, Bool, true, false, cond, not, ◌&&◌, refl, ap, subst, ◌∙◌, ℤ}
+use Rattle.std.specs.Prelude.{IsSomeAnd, IfSome}
 use Rattle.std.proofs.lemmas.Option.{same_Some}
 use Rattle.ckpt_types.specs.declared.ais_error.AisError.TheVariants.{NoResources}
 use Rattle.ckpt_types.specs.declared.answers.Cause.TheVariants.{Count}
@@ -11,11 +11,11 @@ use Rattle.ckpt_types.specs.declared.update.ReadElement.{ReadElement}
 use Rattle.cluster_record.specs.declared.calls.ActiveKind.{ActiveKind}
 use Rattle.cluster_record.specs.declared.calls.ActiveKind.TheVariants as kinds
 use Rattle.cluster_record.specs.declared.entries.Entry.{Entry}
-use Rattle.cluster_record.specs.DueActive.{unless_changed, active_on, on_active, request_by, starts_iteration}
+use Rattle.cluster_record.specs.DueActive.{unless_changed, unless_on_hold, active_on, on_active, request_by, starts_iteration}
 use Rattle.cluster_record.specs.declared.calls.MarksMade.{MarksMade}
 use Rattle.weak_marks.specs.Marks.{Marked}
 use Rattle.cluster_record.specs.Placement.{is_collocated}
-use Rattle.cluster_record.specs.RecordState.{entry_of, first_complete}
+use Rattle.cluster_record.specs.RecordState.{entry_of}
 use Rattle.ckpt_types.specs.Asks.{Ask}
 use Rattle.ckpt_types.specs.Asks as asks
 use Rattle.ckpt_machine.specs.Tables.{choice_of}
@@ -24,7 +24,7 @@ use Rattle.ckpt_machine.specs.Drivers as drivers
 use Rattle.ckpt_machine.specs.Driving.{kind_of_change, driver_next}
 use Rattle.ckpt_machine.specs.Entries.{WasMade}
 use Rattle.ckpt_machine.specs.InHand.{active_kind}
-use Rattle.ckpt_machine.specs.Invariant.{IsGoodIn, InvariantIn}
+use Rattle.ckpt_machine.specs.Invariant.{IsGoodIn, IsOfGeneration, InvariantIn}
 use Rattle.ckpt_types.specs.declared.update.IoElement.{IoElement}
 use Rattle.ckpt_types.specs.declared.update.Update.{Update}
 use Rattle.ckpt_types.specs.declared.update.Update.TheVariants as updates
@@ -33,6 +33,7 @@ use Rattle.ckpt_machine.specs.Machine.{Machine, ReplicaState}
 use Rattle.ckpt_machine.specs.Steps.{seen, seen_at, seen_by}
 use Rattle.ckpt_machine.specs.Guards.{OnReplica}
 use Rattle.ckpt_machine.specs.Shape.{Shape, IsCompleteOn, IsApart, IsShapedBy, IsSpread}
+use Rattle.ckpt_machine.proofs.ActiveBy.{active_by-complete}
 use Rattle.ckpt_machine.proofs.MarksAt.{marks_here}
 use Rattle.ckpt_machine.proofs.NodeLists.{index-within}
 use Rattle.ckpt_machine.proofs.OptionLemmas.{IsSomeAnd-at, IsSomeAnd-from}
@@ -83,30 +84,9 @@ none_all true weak ask kind change is = absurd (cc is)
 
 -- ---- the active of a checkpoint that is made
 
--- the lowest complete node is complete
-pub first_complete-node : (n : ℕ) (cs : List ℕ) (r : ℕ) → first_complete n cs ≡ Some r → (d : ℕ) × (r ≡ n + d) × ((slice_index cs d == 0) ≡ false)
-first_complete-node n [] r is = absurd (cc is)
-first_complete-node n (c ∷ cs) r is = elim (c == 0) as (λ b. (c == 0) ≡ b → cond b (first_complete (n + 1) cs) (Some n) ≡ Some r → (d : ℕ) × (r ≡ n + d) × ((slice_index (c ∷ cs) d == 0) ≡ false)) [
-  | true ↦ λ none later. (let (d, at, there) = first_complete-node (n + 1) cs r later in (suc d, omega (arith, at), there))
-  | false ↦ λ some here. (0, (let same : n ≡ r = same_Some n r here in omega (arith, same)), some)
-] refl is
-
-lowest_complete : (e : Entry) (r : ℕ) → first_complete 0 e.complete ≡ Some r → IsCompleteOn e r
-lowest_complete e r first =
-    let at_r = first_complete-node 0 e.complete r first in
-    let is : r ≡ 0 + at_r.0 = at_r.1 in
-    subst (λ (q : ℕ). (slice_index e.complete q == 0) ≡ false) (omega (arith, is)) at_r.2
-
 -- the active is complete
 pub active_complete : (m : Machine) (shapes : ℕ → Shape) (k : ℕ) (e : Entry) (r : ℕ) → InvariantIn shapes m → entry_of k m.cluster.entries ≡ Some e → e.making ≡ None → e.active ≡ Some r → IsCompleteOn e r
-active_complete m shapes k e r inv found made active = by_kind (is_collocated e.attributes) (sym spread.active ∙ active)
-  where
-    spread : IsSpread m k (shapes k) e
-    spread = subst (IsGoodIn m k (shapes k) e) made (inv.entries k e found)
-
-    by_kind : (b : Bool) → cond b None (first_complete 0 e.complete) ≡ Some r → IsCompleteOn e r
-    by_kind true none = absurd (cc none)
-    by_kind false first = lowest_complete e r first
+active_complete m shapes k e r inv found made active = active_by-complete (is_collocated e.attributes) e.complete e.active (subst (IsGoodIn m k (shapes k) e) made (inv.entries k e found)).active r active
 
 -- its entry, and its replica on its active, where these marks stand if updates go there alone
 pub record ActiveOf (m : Machine) (marks : Option Marked) (k : ℕ) : Type 0 where
@@ -124,7 +104,7 @@ pub record ActiveOf (m : Machine) (marks : Option Marked) (k : ℕ) : Type 0 whe
 
 -- a collocated one may have none
 pub active_of : (m : Machine) (shapes : ℕ → Shape) (k : ℕ) (e : Entry) → InvariantIn shapes m → WasMade m.cluster k → entry_of k m.cluster.entries ≡ Some e → (e.active ≡ None) ⊎ ActiveOf m (shapes k).marks k
-active_of m shapes k e inv made found = by_kind (is_collocated e.attributes) spread.active
+active_of m shapes k e inv made found = by_active e.active refl
   where
     was_made : e.making ≡ None
     was_made = subst (λ o. IfSome o (λ (e : Entry). e.making ≡ None)) found made.made
@@ -132,27 +112,23 @@ active_of m shapes k e inv made found = by_kind (is_collocated e.attributes) spr
     spread : IsSpread m k (shapes k) e
     spread = subst (IsGoodIn m k (shapes k) e) was_made (inv.entries k e found)
 
-    by_node : e.active ≡ first_complete 0 e.complete → (o : Option ℕ) → first_complete 0 e.complete ≡ o → is_some o ≡ true → ActiveOf m (shapes k).marks k
-    by_node active None none some = absurd (cc some)
-    by_node active (Some r) first some =
-        let there : IsCompleteOn e r = lowest_complete e r first in
+    by_active : (o : Option ℕ) → e.active ≡ o → (e.active ≡ None) ⊎ ActiveOf m (shapes k).marks k
+    by_active None none = inl none
+    by_active (Some r) active =
+        let there : IsCompleteOn e r = active_complete m shapes k e r inv found was_made active in
         let (x, here, shaped) = IsSomeAnd-at (m.replicas k r) (IsShapedBy (is_all e.attributes) (shapes k) e.active r) (spread.replicas r there) in
-        record {
+        inr (record {
           entry = e;
           found = found;
           made = was_made;
           node = r;
           within = subst (λ (n : ℕ). r < n) spread.nodes (index-within e.complete r there);
-          active = active ∙ first;
+          active = active;
           replica = x;
           there = here;
-          generation = (subst (λ o. IsSomeAnd o (λ (e : Entry). IsCompleteOn e r × (x.generation ≡ e.generation))) found (inv.replicas k r x here)).1;
-          apart = λ alone. subst (λ marks. IsApart marks x) (marks_here e.active (shapes k).marks r (active ∙ first)) (subst (λ b. IsShapedBy b (shapes k) e.active r x) alone shaped);
-        }
-
-    by_kind : (b : Bool) → e.active ≡ cond b None (first_complete 0 e.complete) → (e.active ≡ None) ⊎ ActiveOf m (shapes k).marks k
-    by_kind true none = inl none
-    by_kind false active = inr (by_node active (first_complete 0 e.complete) refl spread.some)
+          generation = (subst (λ o. IsSomeAnd o (λ (e : Entry). IsCompleteOn e r × IsOfGeneration e r x.generation)) found (inv.replicas k r x here)).1.led active;
+          apart = λ alone. subst (λ marks. IsApart marks x) (marks_here e.active (shapes k).marks r active) (subst (λ b. IsShapedBy b (shapes k) e.active r x) alone shaped);
+        })
 
 module _ (m : Machine) (marks : Option Marked) (k : ℕ) (at : ActiveOf m marks k) where
   -- what the code sees of the replica
@@ -163,9 +139,9 @@ module _ (m : Machine) (marks : Option Marked) (k : ℕ) (at : ActiveOf m marks 
   pub on_its_replica : (P : Entry → ReplicaState → Type 0) → P at.entry at.replica → OnReplica m k at.node P
   on_its_replica P p = IsSomeAnd-from (entry_of k m.cluster.entries) _ at.entry at.found (IsSomeAnd-from (m.replicas k at.node) (P at.entry) at.replica at.there p)
 
-  -- it is asked, where there is room for what the call starts, and the generation has not changed since it made its marks
+  -- it is asked, where there is room for what the call starts, an update meets no hold, and the generation has not changed since it made its marks
   pub active_next-there : (call : CallId) (kind : ActiveKind) (made : Option MarksMade) (rooms : Rooms)
-      → driver_next m.cluster rooms (drivers.Active (record { call = call; ckpt = k; kind = kind; marks = made })) ≡ cond (starts_iteration kind && not rooms.iterations) (End (Refused NoResources (Count 8))) (unless_changed made at.entry.generation (Serve at.node (request_by call k kind made)))
+      → driver_next m.cluster rooms (drivers.Active (record { call = call; ckpt = k; kind = kind; marks = made })) ≡ cond (starts_iteration kind && not rooms.iterations) (End (Refused NoResources (Count 8))) (unless_on_hold kind at.entry.hold (unless_changed made at.entry.generation (Serve at.node (request_by call k kind made))))
   active_next-there call kind made rooms =
       ap (active_on rooms.iterations (record { call = call; ckpt = k; kind = kind; marks = made })) at.found
-      ∙ ap (on_active rooms.iterations (record { call = call; ckpt = k; kind = kind; marks = made }) at.entry.generation) at.active
+      ∙ ap (on_active rooms.iterations (record { call = call; ckpt = k; kind = kind; marks = made }) at.entry.generation at.entry.hold) at.active

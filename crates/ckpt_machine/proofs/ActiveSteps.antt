@@ -15,16 +15,16 @@ use Rattle.cluster_record.specs.Places.{put, put2}
 use Rattle.cluster_record.specs.RecordState.{entry_of}
 use Rattle.ckpt_machine.specs.Drivers as drivers
 use Rattle.ckpt_machine.specs.InHand.{is_marked_by, IsInHand}
-use Rattle.ckpt_machine.specs.Invariant.{IsMaker, IsGoodIn, InvariantIn}
+use Rattle.ckpt_machine.specs.Invariant.{IsMaker, IsGoodIn, IsOfGeneration, InvariantIn}
 use Rattle.ckpt_machine.specs.Machine.{Machine, ReplicaState, CallState}
 use Rattle.ckpt_machine.specs.Options.{is_all}
-use Rattle.ckpt_machine.specs.Shape.{Shape, IsCompleteOn, IsApart, IsShapedBy, PhaseFits, is_owner, IsOwner, IsMarker, IsSpread}
+use Rattle.ckpt_machine.specs.Shape.{Shape, IsCompleteOn, IsApart, IsShapedBy, PhaseFits, is_owner, IsOwner, IsMarker, IsHolder, IsSpread}
 use Rattle.ckpt_machine.specs.Steps.{driver_of}
 use Rattle.ckpt_machine.proofs.ActiveNode.{active_complete}
 use Rattle.ckpt_machine.proofs.Actors.{same_actor-true}
-use Rattle.ckpt_machine.proofs.OnComplete.{put_complete}
+use Rattle.ckpt_machine.proofs.OnComplete.{present_generation, put_complete}
 use Rattle.ckpt_machine.proofs.OptionLemmas.{IsSomeAnd-from}
-use Rattle.ckpt_machine.proofs.OtherCalls.{LooksAlike, making_still, IsInHand-alike, IsIn-apart, IsOwner-alike, IsGoodIn-alike}
+use Rattle.ckpt_machine.proofs.OtherCalls.{LooksAlike, LooksLater-refl, making_still, IsInHand-alike, IsIn-apart, IsOwner-alike, IsGoodIn-alike}
 use Rattle.ckpt_machine.proofs.ReplicaSteps.{put_actor-cases, put_actor-other}
 
 -- the same checkpoint with other marks
@@ -56,6 +56,9 @@ module _ (m : Machine) (shapes : ℕ → Shape) (inv : InvariantIn shapes m) (s 
   maker_other : (j : ℕ) (d : CallId) → IsMaker m j d → same_actor d.actor s.call.actor ≡ false
   maker_other j d own = other_by_driver d own.state own.in_hand (λ same. let w : drivers.Open own.driver ≡ drivers.Active a = sym own.driver_is ∙ same in cc w)
 
+  holder_other : (j : ℕ) (active : Option ℕ) (d : CallId) → IsHolder m j active d → same_actor d.actor s.call.actor ≡ false
+  holder_other j active d own = other_by_driver d own.state own.in_hand (λ same. let w : drivers.Sync own.driver ≡ drivers.Active a = sym own.driver_is ∙ same in cc w)
+
   -- so are the marks on another checkpoint
   marker_other : (j : ℕ) (marks : Marked) → (j == a.ckpt) ≡ false → IsMarker m j marks → same_actor marks.call.actor s.call.actor ≡ false
   marker_other j marks other own = other_by_driver marks.call own.state own.in_hand (λ same.
@@ -73,7 +76,7 @@ module _ (m : Machine) (shapes : ℕ → Shape) (inv : InvariantIn shapes m) (s 
   -- another checkpoint is as it was
   IsGoodIn-other : (f : ℕ → ℕ → Option ReplicaState) (o : Option CallState) → ((j q : ℕ) → (j == a.ckpt) ≡ false → f j q ≡ m.replicas j q) → (j : ℕ) (sh : Shape) (e : Entry) (maker : Option CallId) → (j == a.ckpt) ≡ false → IsGoodIn m j sh e maker → IsGoodIn (with_step f o) j sh e maker
   IsGoodIn-other f o stays j sh e maker other good = IsGoodIn-alike m (with_step f o) j sh e (λ q there. stays j q other)
-      (λ d own. put_actor-other m.in_hand s.call.actor o d.actor (owner_other j sh d own)) (λ marks own. put_actor-other m.in_hand s.call.actor o marks.call.actor (marker_other j marks other own)) (λ d own. put_actor-other m.in_hand s.call.actor o d.actor (maker_other j d own)) maker good
+      (λ d own. put_actor-other m.in_hand s.call.actor o d.actor (owner_other j sh d own)) (λ marks own. put_actor-other m.in_hand s.call.actor o marks.call.actor (marker_other j marks other own)) (λ active d own. put_actor-other m.in_hand s.call.actor o d.actor (holder_other j active d own)) (λ d own. put_actor-other m.in_hand s.call.actor o d.actor (maker_other j d own)) maker good
 
   -- ---- its checkpoint is gone, and it ends
 
@@ -102,7 +105,7 @@ module _ (m : Machine) (shapes : ℕ → Shape) (inv : InvariantIn shapes m) (s 
 
   -- ---- its checkpoint is there
 
-  module _ (r : ℕ) (e : Entry) (found : entry_of a.ckpt m.cluster.entries ≡ Some e) (made : e.making ≡ None) (alone : is_all e.attributes ≡ false) (active : e.active ≡ Some r)
+  module _ (r : ℕ) (e : Entry) (found : entry_of a.ckpt m.cluster.entries ≡ Some e) (made : e.making ≡ None) (alone : is_all e.attributes ≡ false) (active : e.active ≡ Some r) (no_hold : e.hold ≡ None)
       (y : ReplicaState) (marks : Option Marked) (apart : IsApart marks y) (generation : y.generation ≡ e.generation) (o : Option CallState) where
     abbrev pub then_machine : Machine
     then_machine = record m { replicas = put2 m.replicas a.ckpt r (Some y); in_hand = put_actor m.in_hand s.call.actor o }
@@ -143,6 +146,7 @@ module _ (m : Machine) (shapes : ℕ → Shape) (inv : InvariantIn shapes m) (s 
           IsOwner-alike m then_machine a.ckpt (marked_so (shapes a.ckpt) marks) d (put_actor-other m.in_hand s.call.actor o d.actor (owner_other a.ckpt (shapes a.ckpt) d own)) (IsOwner-marked m a.ckpt (shapes a.ckpt) marks d own);
       led = λ w same. ap is_some active;
       marked = marked;
+      held = λ d is. absurd (let w : Some d ≡ None = sym is ∙ no_hold in cc w);
     }
 
     -- the marks of other calls are what they were
@@ -156,7 +160,7 @@ module _ (m : Machine) (shapes : ℕ → Shape) (inv : InvariantIn shapes m) (s 
       tables = refl;
       making = λ v at. making_still m then_machine z v (λ w at. record { there = at.there; declares = at.declares; nodes = at.nodes; reserved = at.reserved; only = at.only; within = at.within }) at;
       made = λ k was. was;
-      later = λ k was e found. (e, found, λ all. refl, refl, refl, refl);
+      later = λ k was e found. (e, found, LooksLater-refl z (shapes k).marks e);
       owners = λ j was q. elim (j == a.ckpt) as (λ b. (j == a.ckpt) ≡ b → is_owner z.call ((cond b (marked_so (shapes a.ckpt) marks) (shapes j)).owners q) ≡ is_owner z.call ((shapes j).owners q)) [
         | true ↦ λ same. ap (λ n. is_owner z.call ((shapes n).owners q)) (sym (eqb-true j a.ckpt same))
         | false ↦ λ same. refl
@@ -176,7 +180,7 @@ module _ (m : Machine) (shapes : ℕ → Shape) (inv : InvariantIn shapes m) (s 
       up_to = inv.up_to;
       swept = inv.swept;
       entries = λ j f there. by_test j f there (j == a.ckpt) refl;
-      replicas = put_complete m.cluster m.replicas a.ckpt r y (IsSomeAnd-from (entry_of a.ckpt m.cluster.entries) (λ e. IsCompleteOn e r × (y.generation ≡ e.generation)) e found (active_complete m shapes a.ckpt e r inv found made active, generation)) inv.replicas;
+      replicas = put_complete m.cluster m.replicas a.ckpt r y (IsSomeAnd-from (entry_of a.ckpt m.cluster.entries) (λ e. IsCompleteOn e r × IsOfGeneration e r y.generation) e found (active_complete m shapes a.ckpt e r inv found made active, present_generation e r y.generation generation)) inv.replicas;
       reserves = inv.reserves;
       handles = inv.handles;
       rest = inv.rest;

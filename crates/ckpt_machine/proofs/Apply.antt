@@ -33,7 +33,7 @@ use Rattle.ckpt_machine.proofs.DueStep.{Goes}
 use Rattle.ckpt_machine.proofs.OnTheActive.{apart, alone, asks_own, on_active, ends, refused_row, holder_live, held_row}
 use Rattle.ckpt_machine.proofs.StepLabels.{IsServed-told}
 
-module _ (m : Machine) (shapes : ℕ → Shape) (inv : InvariantIn shapes m) (s : CallState) (call : CallId) (k : ℕ) (held : m.in_hand s.call.actor ≡ Some s) (at : ActiveOf m (shapes k).marks k) (is : driver_of s ≡ drivers.Active (record { call = call; ckpt = k; kind = kinds.Apply; marks = None })) where
+module _ (m : Machine) (shapes : ℕ → Shape) (inv : InvariantIn shapes m) (s : CallState) (call : CallId) (k : ℕ) (held : m.in_hand s.call.actor ≡ Some s) (at : ActiveOf m (shapes k).marks k) (no_hold : at.entry.hold ≡ None) (is : driver_of s ≡ drivers.Active (record { call = call; ckpt = k; kind = kinds.Apply; marks = None })) where
   abbrev request : Request
   request = requests.Apply call k
 
@@ -66,7 +66,7 @@ module _ (m : Machine) (shapes : ℕ → Shape) (inv : InvariantIn shapes m) (s 
   holds_taken : (shapes k).marks ≡ None → Invariant (record m { replicas = put2 m.replicas k at.node (Some taken); in_hand = put_actor m.in_hand s.call.actor None })
   holds_taken unmarked = record {
     shapes = _;
-    holds = active_keeps m shapes inv s _ held is at.node at.entry at.found at.made (alone m shapes inv s call k kinds.Apply None held at refl is) at.active taken None (record { free = (apart m shapes inv s call k kinds.Apply None held at refl is).free; marks_are = marks_are ∙ unmarked }) at.generation None
+    holds = active_keeps m shapes inv s _ held is at.node at.entry at.found at.made (alone m shapes inv s call k kinds.Apply None held at refl is) at.active no_hold taken None (record { free = (apart m shapes inv s call k kinds.Apply None held at refl is).free; marks_are = marks_are ∙ unmarked }) at.generation None
         (λ d other. sym (ap (is_marked_by d) unmarked)) (λ marks none. absurd (cc none)) (λ z there. absurd (cc there));
   }
 
@@ -91,13 +91,13 @@ module _ (m : Machine) (shapes : ℕ → Shape) (inv : InvariantIn shapes m) (s 
       _,
       update_of s.op,
       asks_own m shapes inv s call k kinds.Apply None held at refl is,
-      on_active m shapes inv s call k kinds.Apply None held at refl is _ (record { unmarked = marks_are ∙ stand; fits = subst IsOk (sym gives) refl; answer = refl; told = details None (Ok sections) stand gives }),
+      on_active m shapes inv s call k kinds.Apply None held at refl is no_hold _ (record { unmarked = marks_are ∙ stand; fits = subst IsOk (sym gives) refl; answer = refl; told = details None (Ok sections) stand gives }),
     );
     holds = holds_applied stand;
     nearer = λ none. absurd (cc none);
   })
   apply_by t served None stand (Err why) gives = subst (Goes m s (driver_of s)) (sym (IsServed-told m s at.node request t _ (replies.Refused why.error why.index) served is (answered t served None (Err why) stand gives))) (record {
-    row = (_, update_of s.op, asks_own m shapes inv s call k kinds.Apply None held at refl is, refused_row m shapes inv s call k kinds.Apply None held at refl is refl _ why stand gives refl (details None (Err why) stand gives));
+    row = (_, update_of s.op, asks_own m shapes inv s call k kinds.Apply None held at refl is, refused_row m shapes inv s call k kinds.Apply None held at refl is refl no_hold _ why stand gives refl (details None (Err why) stand gives));
     holds = ends m shapes inv s call k kinds.Apply None held at refl is refl;
     nearer = λ none. absurd (cc none);
   })
@@ -106,7 +106,7 @@ module _ (m : Machine) (shapes : ℕ → Shape) (inv : InvariantIn shapes m) (s 
       let live = holder_live m shapes inv s call k kinds.Apply None held at refl is refl marks stand in
       let nothing = details (Some marks) r stand gives in
       subst (Goes m s (driver_of s)) (sym (told ∙ (λ i. record { verb = verbs.Apply; ckpt = Some k; node = Some at.node; reply = words.Held marks.call; end = cond (live i) (Some (Refused TryAgain (Holder marks.call))) None; details = ended_details (cond (live i) (Some (Refused TryAgain (Holder marks.call))) None) (nothing i) }))) (record {
-        row = (_, update_of s.op, asks_own m shapes inv s call k kinds.Apply None held at refl is, held_row m shapes inv s call k kinds.Apply None held at refl is refl _ marks stand refl refl);
+        row = (_, update_of s.op, asks_own m shapes inv s call k kinds.Apply None held at refl is, held_row m shapes inv s call k kinds.Apply None held at refl is refl no_hold _ marks stand refl refl);
         holds = ends m shapes inv s call k kinds.Apply None held at refl is refl;
         nearer = λ none. absurd (cc none);
       })

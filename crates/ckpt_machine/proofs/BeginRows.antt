@@ -78,7 +78,7 @@ first_refusal_is false h asks.Leave built = refl
 first_refusal_is true None asks.Leave built = refl
 first_refusal_is true (Some h) asks.Leave built = refl
 first_refusal_is live h (asks.Synchronize place timeout) built = by_flags live h (int_lt timeout (pos 0)) (asks.Synchronize place timeout)
-first_refusal_is live h (asks.SetActive place) built = absurd built
+first_refusal_is live h (asks.SetActive place) built = by_flags live h false (asks.SetActive place)
 first_refusal_is live h asks.Unbuilt built = absurd built
 
 -- ---- a beginning

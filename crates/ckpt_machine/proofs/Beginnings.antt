@@ -1,8 +1,8 @@
 -- Where each operation begins, with any calls of others in hand.
 use Rattle.std.proofs.Common.{◌≡◌, ℕ, ◌<◌, List, [], ◌∷◌, length, Option, Some, None, is_some, Bool, true, false, cond, ◌==◌, ◌||◌, ℤ, refl, sym, ap, subst, ◌∙◌, arith}
 use Rattle.std.specs.Option.{option_and_then}
-use Rattle.std.specs.Prelude.{IsSome, IfSome, Contains, int_lt, pos, ◌≤ℤ◌, slice_index}
-use Rattle.std.proofs.lemmas.Bool.{or_parts, ltb-false}
+use Rattle.std.specs.Prelude.{IsSome, IfSome, Contains, int_lt, nat_lt, not, pos, ◌≤ℤ◌, slice_index}
+use Rattle.std.proofs.lemmas.Bool.{or_parts, and_parts, ltb-false, ltb-true}
 use Rattle.std.proofs.lemmas.Int.{ints}
 use Rattle.std.proofs.lemmas.List.Elements.{Contains-append_right}
 use Rattle.std.proofs.lemmas.Option.{same_Some}
@@ -15,8 +15,8 @@ use Rattle.ckpt_types.specs.declared.open_flags.OpenFlags.{OpenFlags}
 use Rattle.ckpt_types.specs.declared.operation.Op.{Op}
 use Rattle.ckpt_types.specs.declared.update.Update.{Update}
 use Rattle.ckpt_types.specs.declared.update.Update.TheVariants as updates
-use Rattle.ckpt_types.specs.Attributes.{has_bad_open_flags}
-use Rattle.ckpt_types.specs.Limits.{client_numbers, nodes_max}
+use Rattle.ckpt_types.specs.Attributes.{has_bad_open_flags, has_flag}
+use Rattle.ckpt_types.specs.Limits.{client_numbers, nodes_max, checkpoint_collocated}
 use Rattle.section_iter.specs.Room.{room_declared}
 use Rattle.client_handles.specs.declared.begun.BegunIteration.{BegunIteration}
 use Rattle.client_handles.specs.declared.handle_view.HandleView.{HandleView}
@@ -31,28 +31,30 @@ use Rattle.cluster_record.specs.Places.{find_key}
 use Rattle.cluster_record.specs.RecordState.{entry_of, client_key, node_of_client, is_live, is_live_client, is_up}
 use Rattle.ckpt_types.specs.Asks.{Ask, asked, IsBuiltAsk, IsBuilt}
 use Rattle.ckpt_types.specs.Asks as asks
-use Rattle.ckpt_machine.specs.Beginning.{begin_end, if_live, on_handle, sync_begin, unless_forbidden, are_of_all, open_begin, may_always, may_write, update_is_bad, attributes_are_bad, name_is_bad}
+use Rattle.ckpt_machine.specs.Beginning.{begin_end, if_live, on_handle, sync_begin, unless_forbidden, are_of_all, are_not_collocated, open_begin, may_always, may_write, update_is_bad, attributes_are_bad, name_is_bad}
 use Rattle.ckpt_machine.specs.Drivers.{Driver}
 use Rattle.ckpt_machine.specs.Drivers as drivers
 use Rattle.cluster_record.specs.DueActive.{active_begun}
 use Rattle.cluster_record.specs.DueOnce as once
 use Rattle.cluster_record.specs.DueSync.{sync_begun}
-use Rattle.cluster_record.specs.declared.calls.SyncKind.TheVariants.{Synchronize}
+use Rattle.cluster_record.specs.declared.calls.SyncKind.TheVariants.{Synchronize, ActiveSet}
+use Rattle.cluster_record.specs.Placement.{is_collocated}
 use Rattle.moment_rules.specs.Times.{sum_until_end}
 use Rattle.cluster_record.specs.DueUpdate.{update_begun}
 use Rattle.ckpt_machine.specs.Driving.{Kept, driver_start, active_start, deadline_from, kind_of_change, change_start}
 use Rattle.ckpt_machine.specs.Entries.{WasMade}
-use Rattle.ckpt_machine.specs.InHand.{AreGoodAttributes, active_kind, is_enter, is_marked_by, MarksFit, IsInPlace, change_kind}
+use Rattle.ckpt_machine.specs.InHand.{AreGoodAttributes, active_kind, is_enter, is_marked_by, is_held_by, MarksFit, IsInPlace, change_kind}
 use Rattle.weak_marks.specs.Marks.{Marked}
 use Rattle.ckpt_machine.specs.Invariant.{IsGoodClient, IsGoodHandle, IsGoodIn, InvariantIn, Invariant}
 use Rattle.ckpt_machine.specs.Machine.{Machine, CallState}
 use Rattle.ckpt_machine.specs.Steps.{IsBegun, IsDriven, MayBegin, asked_handle, kept_at_beginning, room_in, after_beginning, begun_call, call_begun, started_call, driver_of}
 use Rattle.ckpt_machine.specs.Tables.{handle_asked, ckpt_of_handle, choice_of, ended_at_once}
-use Rattle.ckpt_machine.specs.Shape.{Shape, IsSpread}
+use Rattle.ckpt_machine.specs.Shape.{Shape, IsCompleteOn, IsSpread}
 use Rattle.ckpt_machine.proofs.Actors.{same_call-true}
 use Rattle.ckpt_machine.proofs.Begun.{begun_live, begun_keeps, update_begins}
 use Rattle.ckpt_machine.proofs.ClientTables.{same_tables}
 use Rattle.ckpt_machine.proofs.EndedTables.{client_by_number, ended_at_once_keeps}
+use Rattle.ckpt_machine.proofs.OptionLemmas.{IfSome-from, IfSome-at}
 use Rattle.ckpt_machine.proofs.ReplicaSteps.{put_actor-here}
 use Rattle.ckpt_machine.proofs.Served.{slice_get-replicate}
 use Rattle.ckpt_machine.proofs.Starting.{if_live-None, on_handle-None, sync_begin-None, iteration_answers, goes_on_begun, driven_begun}
@@ -145,8 +147,17 @@ declares_itself None = tt
 declares_itself (Some e) = refl
 
 -- what creation flags do not forbid
-not_forbidden : (x : HandleView) → unless_forbidden are_of_all (Some x) ≡ None → are_of_all x.creation_flags ≡ false
-not_forbidden x allowed = (passed (are_of_all x.creation_flags) _ None allowed).0
+not_forbidden : (forbid : ℕ → Bool) (x : HandleView) → unless_forbidden forbid (Some x) ≡ None → forbid x.creation_flags ≡ false
+not_forbidden forbid x allowed = (passed (forbid x.creation_flags) _ None allowed).0
+
+-- a checkpoint with creation flags that are those of a collocated one
+are_collocated : (o : Option Entry) (flags : ℕ) → are_not_collocated flags ≡ false → IfSome o (λ e. flags ≡ e.attributes.creation_flags) → IfSome o (λ e. is_collocated e.attributes ≡ true)
+are_collocated None flags are same = tt
+are_collocated (Some e) flags are same = ap (λ n. has_flag n checkpoint_collocated) (sym same) ∙ by_test (has_flag flags checkpoint_collocated) refl are
+  where
+    by_test : (b : Bool) → has_flag flags checkpoint_collocated ≡ b → not b ≡ false → has_flag flags checkpoint_collocated ≡ true
+    by_test true is allowed = is
+    by_test false is forbidden = absurd (cc forbidden)
 
 -- a checkpoint with creation flags that do not have updates on all replicas
 not_of_all : (o : Option Entry) (flags : ℕ) → are_of_all flags ≡ false → IfSome o (λ e. flags ≡ e.attributes.creation_flags) → IfSome o (λ e. is_all e.attributes ≡ false)
@@ -178,7 +189,7 @@ module _ (m : Machine) (shapes : ℕ → Shape) (inv : InvariantIn shapes m) (ca
   state_with op h d = started_call call op (kept_with h) d
 
   -- the handle that an operation is about is good
-  asked_good : (op : Op) (h : HandleView) → asked_handle m call.actor op ≡ Some h → IsGoodHandle m.cluster h
+  asked_good : (op : Op) (h : HandleView) → asked_handle m call.actor op ≡ Some h → IsGoodHandle m.cluster call.actor h
   asked_good op h e = inv.handles call.actor h (handle_asked-Contains (asked op) (m.tables call.actor) h e)
 
   -- its checkpoint was made
@@ -228,6 +239,21 @@ module _ (m : Machine) (shapes : ℕ → Shape) (inv : InvariantIn shapes m) (ca
               let good : IsSpread m k (shapes k) e = subst (IsGoodIn m k (shapes k) e) none (inv.entries k e found) in
               let own = good.marked marks stand in
               absurd (let w : None ≡ Some own.state = sym idle ∙ ap (λ (c : CallId). m.in_hand c.actor) (sym (same_call-true marks.call call same)) ∙ own.in_hand in cc w)
+
+  -- so it holds nothing yet
+  has_no_hold : (k : ℕ) (e : Entry) → entry_of k m.cluster.entries ≡ Some e → e.making ≡ None → is_held_by call e.hold ≡ false
+  has_no_hold k e found none = by_hold e.hold refl
+    where
+      by_hold : (o : Option CallId) → e.hold ≡ o → is_held_by call o ≡ false
+      by_hold None holds = refl
+      by_hold (Some d) holds = by_test (same_call d call) refl
+        where
+          by_test : (b : Bool) → same_call d call ≡ b → same_call d call ≡ false
+          by_test false is_not = is_not
+          by_test true same =
+              let good : IsSpread m k (shapes k) e = subst (IsGoodIn m k (shapes k) e) none (inv.entries k e found) in
+              let own = (good.held d holds).holder in
+              absurd (let w : None ≡ Some own.state = sym idle ∙ ap (λ (c : CallId). m.in_hand c.actor) (sym (same_call-true d call same)) ∙ own.in_hand in cc w)
 
   -- a call to the active on a handle that is there
   starts_on : (op : Op) (ask : Ask) (kind : ActiveKind) (x : HandleView) → asked op ≡ ask → asked_handle m call.actor op ≡ Some x → is_live m.cluster call ≡ true → driver_start call ask (kept_with (Some x)) ≡ active_start call kind (Some x.id) → active_kind (kept_with (Some x)).all (kept_with (Some x)).weak ask ≡ Some kind → MarksFit kind None → Starts op ask (Some x)
@@ -332,16 +358,40 @@ module _ (m : Machine) (shapes : ℕ → Shape) (inv : InvariantIn shapes m) (ca
           kind = ap (λ a. Synchronize (deadline_from m.cluster.moment a)) (sym on.is);
           kept = refl;
           made = asked_made op x (on.named ∙ there);
-          alone = not_of_all (entry_of x.id m.cluster.entries) x.creation_flags (not_forbidden x (ap (unless_forbidden are_of_all) (sym there) ∙ allowed)) (asked_good op x (on.named ∙ there)).flags;
+          alone = not_of_all (entry_of x.id m.cluster.entries) x.creation_flags (not_forbidden are_of_all x (ap (unless_forbidden are_of_all) (sym there) ∙ allowed)) (asked_good op x (on.named ∙ there)).flags;
           declares = declares_itself (entry_of x.id m.cluster.entries);
           pulled = refl;
           nodes = refl;
           served = λ r below. slice_get-replicate {A = Bool} nodes_max false r below;
           led = tt;
+          older = tt;
         };
         live = λ others. live;
       })
-  starts op (asks.SetActive place) h on built = absurd built
+  starts op (asks.SetActive place) h on built =
+      let (is_live, rest) = if_live-None (is_live_client c m.cluster) (sync_begin h false are_not_collocated) on.goes in
+      let (goes, allowed) = sync_begin-None h false are_not_collocated rest in
+      let (x, there) = on_handle-None h _ _ goes in
+      let good = asked_good op x (on.named ∙ there) in
+      let collocated = are_collocated (entry_of x.id m.cluster.entries) x.creation_flags (not_forbidden are_not_collocated x (ap (unless_forbidden are_not_collocated) (sym there) ∙ allowed)) good.flags in
+      subst (Starts op (asks.SetActive place)) (sym there) (record {
+        driver = drivers.Sync (sync_begun call x.id (ActiveSet (kept_with (Some x)).node));
+        driven = refl;
+        at = record {
+          call = refl;
+          place = place;
+          asks = on.is;
+          node = refl;
+          within = ltb-true (kept_with (Some x)).node 8 (and_parts (nat_lt (kept_with (Some x)).node 8) (not (slice_index m.cluster.up (kept_with (Some x)).node == 0)) (node_up is_live)).0;
+          kept = refl;
+          made = asked_made op x (on.named ∙ there);
+          collocated = collocated;
+          complete = IfSome-from (entry_of x.id m.cluster.entries) (λ e. IsCompleteOn e (kept_with (Some x)).node) (λ e found. IfSome-at (entry_of x.id m.cluster.entries) _ good.placed e found (IfSome-at (entry_of x.id m.cluster.entries) _ collocated e found));
+          declares = declares_itself (entry_of x.id m.cluster.entries);
+          held = IfSome-from (entry_of x.id m.cluster.entries) _ (λ e found. has_no_hold x.id e found (IfSome-at (entry_of x.id m.cluster.entries) _ good.made.made e found));
+        };
+        live = λ others. live_then is_live;
+      })
   starts op asks.Unbuilt h on built = absurd built
 
   -- ---- the state after a beginning

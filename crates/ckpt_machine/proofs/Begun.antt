@@ -71,7 +71,7 @@ module _ (m : Machine) (shapes : ℕ → Shape) (inv : InvariantIn shapes m) (ca
     rises = inv.rises;
     up_to = inv.up_to;
     swept = inv.swept;
-    entries = λ k e found. IsGoodIn-apart m shapes (then_machine o).next (then_machine o).in_hand (λ k sh d own. put_actor-other m.in_hand call.actor o d.actor (held_other d.actor own.state own.in_hand)) (λ k marks own. put_actor-other m.in_hand call.actor o marks.call.actor (held_other marks.call.actor own.state own.in_hand)) (λ k d maker. put_actor-other m.in_hand call.actor o d.actor (held_other d.actor maker.state maker.in_hand))
+    entries = λ k e found. IsGoodIn-apart m shapes (then_machine o).next (then_machine o).in_hand (λ k sh d own. put_actor-other m.in_hand call.actor o d.actor (held_other d.actor own.state own.in_hand)) (λ k marks own. put_actor-other m.in_hand call.actor o marks.call.actor (held_other marks.call.actor own.state own.in_hand)) (λ k active d own. put_actor-other m.in_hand call.actor o d.actor (held_other d.actor own.state own.in_hand)) (λ k d maker. put_actor-other m.in_hand call.actor o d.actor (held_other d.actor maker.state maker.in_hand))
         k (shapes k) e e.making (inv.entries k e found);
     replicas = inv.replicas;
     reserves = inv.reserves;

@@ -1,13 +1,16 @@
 -- What a synchronisation in hand has done so far: it has pulled in the log what the active had, and each node that it has served has that first.
-use Rattle.std.proofs.Common.{◌≡◌, ℕ, ◌≤◌, inl, inr, List, [], ◌∷◌, ◌++◌, Option, Some, None, true, false, refl, sym, ap, subst, ◌∙◌, append_assoc}
+use Rattle.std.proofs.Common.{◌≡◌, ℕ, ◌≤◌, inl, inr, List, [], ◌∷◌, ◌++◌, length, Option, Some, None, Bool, true, false, ◌==◌, ◌&&◌, ◌||◌, nat_lt, refl, sym, ap, subst, ◌∙◌, append_assoc, arith}
 use Rattle.std.specs.List.{list_any}
 use Rattle.std.specs.Option.{option_map}
 use Rattle.std.specs.Prelude.{IsSomeAnd}
+use Rattle.std.proofs.lemmas.Bool.{ltb-false}
 use Rattle.std.proofs.lemmas.Option.{same_Some}
 use Rattle.ckpt_types.specs.declared.answers.Outcome.{Outcome}
 use Rattle.ckpt_types.specs.declared.identities.ActorName.{ActorName}
 use Rattle.ckpt_types.specs.declared.identities.CallId.{CallId}
 use Rattle.ckpt_types.specs.declared.words.OpWord.{OpWord}
+use Rattle.ckpt_types.specs.Asks.{asked}
+use Rattle.ckpt_types.specs.Asks as asks
 use Rattle.node_msgs.specs.declared.details.Details.{Details}
 use Rattle.node_msgs.specs.declared.steps.StepReply.{StepReply}
 use Rattle.node_msgs.specs.declared.steps.StepReply.TheVariants as words
@@ -22,18 +25,20 @@ use Rattle.ckpt_machine.specs.Driving.{Kept}
 use Rattle.ckpt_machine.specs.Guards.{PullOk, InstallOk, OnReplica, IsOnOwn, Row, is_service, serves}
 use Rattle.ckpt_machine.specs.Invariant.{Invariant}
 use Rattle.ckpt_machine.specs.Machine.{Machine, ReplicaState, Snapshot, CallState}
-use Rattle.ckpt_machine.specs.Propagation.{copied, replica_from}
+use Rattle.ckpt_machine.specs.Propagation.{copied, is_behind, replica_from}
 use Rattle.ckpt_machine.specs.Replays.{IsPrefix}
 use Rattle.ckpt_machine.specs.Runs.{last}
 use Rattle.ckpt_machine.specs.Steps.{Told, IsDone, due, change_replica, with_installed, changed, counted_at, pulled_by, kept_behind}
 use Rattle.ckpt_machine.specs.Synchronized.{IsPullOf}
 use Rattle.ckpt_machine.proofs.EachReplica.{Each, PulledInHand}
-use Rattle.ckpt_machine.proofs.Copying.{IsSource, put2-here}
+use Rattle.ckpt_machine.proofs.Copying.{IsOfSource, put2-here}
+use Rattle.ckpt_machine.proofs.Generations.{generation_there}
 use Rattle.ckpt_machine.proofs.Growing.{GrowsTo, GoesOnIn, GoesOn, other_first}
 use Rattle.ckpt_machine.proofs.Histories.{HasHistory, on_replica-there}
 use Rattle.ckpt_machine.proofs.OptionLemmas.{IsSomeAnd-at, IsSomeAnd-from, IfSome-at}
+use Rattle.ckpt_machine.proofs.Refusing.{at_node}
 use Rattle.ckpt_machine.proofs.Prefixes.{prefix_same, prefix_then}
-use Rattle.ckpt_machine.proofs.SyncSteps.{served_as, served_then, pulls_empty}
+use Rattle.ckpt_machine.proofs.SyncSteps.{IsSynchronize, served_as, served_then, pulls_empty}
 
 -- ---- what is so of a call in hand
 
@@ -96,10 +101,13 @@ module _ (log : List Label) (l : Label) (inv : Invariant (last log)) (history : 
         let (given, so) = each.in_hand k z (in_hand_of k z ckpt snapshot) in
         let go = goes k given in
         let (e, there, keeps) = go.made f found in
-        let source = (IfSome-at (entry_of k m.cluster.entries) (λ e. IsSource e × Unit {0}) so e there).0 in
-        let before : z.generation ≡ e.generation = present ∙ (keeps.made source.made).generation in
+        let of = (IfSome-at (entry_of k m.cluster.entries) (λ e. IsOfSource e z × Unit {0}) so e there).0 in
+        let within = of.within in
+        let rises = (keeps.made of.source.made).generation in
+        let before : z.generation ≡ e.generation = omega (arith, within, rises, present) in
+        let still : f.generation ≡ e.generation = sym present ∙ before in
         let (x, at, first) = IsSomeAnd-at (m.replicas k r) (HasFirst z) (was.served k z ckpt snapshot e r there before served) in
-        let (y, at_then, grows) = IsSomeAnd-at (replicas k r) (GrowsTo x) (go.replica r x e f there found at (first.0 ∙ before)) in
+        let (y, at_then, grows) = IsSomeAnd-at (replicas k r) (GrowsTo x) (go.replica r x e f there found still at (first.0 ∙ before)) in
         IsSomeAnd-from (replicas k r) (HasFirst z) y at_then (grows.0 ∙ first.0, prefix_then z.effects x.effects y.effects first.1 grows.1)
 
     -- a call that takes no step goes on to bring what it has pulled
@@ -187,16 +195,23 @@ module _ (log : List Label) (inv : Invariant (last log)) (history : HasHistory (
       ap (λ o. (change_replica (last log) j q o (with_installed s.snapshot)).replicas j q) there ∙ put2-here (last log).replicas j q (Some (with_installed s.snapshot x)) ∙ ap Some takes in
       install_brings l j q words.Ok goes own ok.pulled ok.in_hand (IsSomeAnd-from ((changed (last log) s verbs.Install (Some j) (Some q) words.Ok).replicas j q) (HasFirst ok.pulled) (replica_from ok.pulled x) here (refl, prefix_same ok.pulled.effects))
 
+  -- a replica that is not behind a snapshot of the present generation is of that too
+  not_older : (e : Entry) (x : ReplicaState) (z : Snapshot) → x.generation ≤ e.generation → z.generation ≡ e.generation → is_behind x z ≡ false → x.generation ≡ e.generation
+  not_older e x z within present behind = by_test (nat_lt x.generation z.generation) refl behind
+    where
+      by_test : (b : Bool) → nat_lt x.generation z.generation ≡ b → (b || ((x.generation == z.generation) && nat_lt (length x.effects) (length z.effects))) ≡ false → x.generation ≡ e.generation
+      by_test true lower behind = absurd (cc behind)
+      by_test false least behind = let above : z.generation ≤ x.generation = ltb-false x.generation z.generation least in omega (arith, above, within, present)
+
   -- a call brings what it has pulled behind an installation that finds a replica not behind it
-  older_brings : (l : Label) (j q : ℕ) (t : Told) → ((e : Entry) (x : ReplicaState) → entry_of j (last log).cluster.entries ≡ Some e → (last log).replicas j q ≡ Some x → x.generation ≡ e.generation)
-      → GoesBy verbs.Install (Some j) (Some q) words.Older → Some j ≡ s.kept.ckpt → OnReplica (last log) j q (InstallOk (last log) s q t false) → BringsBy l verbs.Install (Some j) (Some q) words.Older
-  older_brings l j q t generation goes own on =
+  older_brings : (l : Label) (j q : ℕ) (t : Told) → GoesBy verbs.Install (Some j) (Some q) words.Older → Some j ≡ s.kept.ckpt → OnReplica (last log) j q (InstallOk (last log) s q t false) → BringsBy l verbs.Install (Some j) (Some q) words.Older
+  older_brings l j q t goes own on =
       let (e, x, found, there, ok) = on_replica-there (last log) j q (InstallOk (last log) s q t false) on in
       let has : PulledInHand (last log).in_hand j ok.pulled = record { actor = s.call.actor; state = s; in_hand = held; ckpt = sym own; snapshot = ok.in_hand } in
-      let now = generation e x found there in
+      let now : x.generation ≡ e.generation = not_older e x ok.pulled (generation_there (last log) inv j q e x found there).within ok.present ok.behind_is in
       install_brings l j q words.Older goes own ok.pulled ok.in_hand (IsSomeAnd-from ((last log).replicas j q) (HasFirst ok.pulled) x there (now ∙ sym ok.present, other_first (last log) inv history.bare each j q e ok.pulled x found (inr has) there now ok.present ok.behind_is))
 
-  module _ (generations : (k r : ℕ) (e : Entry) (x : ReplicaState) → entry_of k (last log).cluster.entries ≡ Some e → (last log).replicas k r ≡ Some x → x.generation ≡ e.generation) (d : CallId) (call_is : s.call ≡ d) (op : OpWord) (end : Option Outcome) (details : Details) where
+  module _ (asks_is : IsSynchronize (asked s.op)) (d : CallId) (call_is : s.call ≡ d) (op : OpWord) (end : Option Outcome) (details : Details) where
     -- the label of a step
     abbrev l_of : Verb → Option ℕ → Option ℕ → StepReply → Label
     l_of verb j q reply = labels.Stepped d op verb j q reply end details
@@ -214,8 +229,12 @@ module _ (log : List Label) (inv : Invariant (last log)) (history : HasHistory (
 
     installs : (j q : ℕ) (reply : StepReply) → GoesBy verbs.Install (Some j) (Some q) reply → Some j ≡ s.kept.ckpt → Row (last log) s verbs.Install (t_of verbs.Install (Some j) (Some q) reply) → BringsBy (l_of verbs.Install (Some j) (Some q) reply) verbs.Install (Some j) (Some q) reply
     installs j q words.Ok goes own row = installed_brings (l_of verbs.Install (Some j) (Some q) words.Ok) j q (t_of verbs.Install (Some j) (Some q) words.Ok) goes own row.0.3
-    installs j q words.Older goes own row = older_brings (l_of verbs.Install (Some j) (Some q) words.Older) j q (t_of verbs.Install (Some j) (Some q) words.Older) (generations j q) goes own row.0.3
+    installs j q words.Older goes own row = older_brings (l_of verbs.Install (Some j) (Some q) words.Older) j q (t_of verbs.Install (Some j) (Some q) words.Older) goes own row.0.3
     installs j q reply goes own row = unserving_brings (l_of verbs.Install (Some j) (Some q) reply) verbs.Install (Some j) (Some q) reply goes refl refl
+
+    -- a synchronisation sets no active
+    no_setting : {place : ℕ} → asked s.op ≡ asks.SetActive place → ⊥
+    no_setting is = subst IsSynchronize is asks_is
 
     -- a call brings what it has pulled behind any step of its own that is due and allowed
     pub step_brings : (verb : Verb) (j q : Option ℕ) (reply : StepReply) → GoesBy verb j q reply → IsDone (last log) s (due (last log) s) (t_of verb j q reply) → IsOnOwn verb j s.kept.ckpt → Row (last log) s verb (t_of verb j q reply) → BringsBy (l_of verb j q reply) verb j q reply
@@ -225,4 +244,6 @@ module _ (log : List Label) (inv : Invariant (last log)) (history : HasHistory (
     step_brings verbs.Install (Some j) (Some q) reply goes done own row = installs j q reply goes own row
     step_brings verbs.Install (Some j) None reply goes done own row = absurd row.0
     step_brings verbs.Install None q reply goes done own row = absurd row.0
+    step_brings verbs.Hold j q reply goes done own row = absurd (at_node j q _ row.0 (λ k r p. no_setting p.1))
+    step_brings verbs.Activate j q reply goes done own row = absurd (at_node j q _ row.0 (λ k r p. no_setting p.1))
     step_brings verb j q reply goes done own row = unserving_brings (l_of verb j q reply) verb j q reply goes refl refl

@@ -7,7 +7,7 @@ use Rattle.ckpt_machine.specs.Machine.{Machine, CallState}
 use Rattle.ckpt_machine.specs.Shape.{Shape}
 use Rattle.ckpt_machine.specs.Invariant.{IsGoodClient, InvariantIn}
 use Rattle.ckpt_machine.proofs.Handles.{IsGoodHandle-later}
-use Rattle.ckpt_machine.proofs.OtherCalls.{LooksAlike, IsInHand-alike, IsGoodIn-alike}
+use Rattle.ckpt_machine.proofs.OtherCalls.{LooksAlike, LooksLater-refl, IsInHand-alike, IsGoodIn-alike}
 use Rattle.ckpt_machine.proofs.EndedTables.{live_alike}
 use Rattle.ckpt_machine.proofs.NodeLists.{is_up-none}
 
@@ -26,7 +26,7 @@ module _ (m : Machine) (shapes : ℕ → Shape) (inv : InvariantIn shapes m) (n 
     tables = refl;
     making = λ o at. none_up o.ask.node at.node;
     made = λ k was. was;
-    later = λ k was e found. (e, found, λ all. refl, refl, refl, refl);
+    later = λ k was e found. (e, found, LooksLater-refl z (shapes k).marks e);
     owners = λ k was r. refl;
     marks = λ k was. refl;
   }
@@ -38,10 +38,10 @@ module _ (m : Machine) (shapes : ℕ → Shape) (inv : InvariantIn shapes m) (n 
     rises = inv.rises;
     up_to = inv.up_to;
     swept = inv.swept;
-    entries = λ k e found. IsGoodIn-alike m then_machine k (shapes k) e (λ r there. refl) (λ d own. refl) (λ marks own. refl) (λ d own. refl) e.making (inv.entries k e found);
+    entries = λ k e found. IsGoodIn-alike m then_machine k (shapes k) e (λ r there. refl) (λ d own. refl) (λ marks own. refl) (λ active d own. refl) (λ d own. refl) e.making (inv.entries k e found);
     replicas = inv.replicas;
     reserves = inv.reserves;
-    handles = λ a h among. IsGoodHandle-later m.cluster (brought_up n m.cluster) (λ k was. was) (λ k was e found. (e, found, refl)) h (inv.handles a h among);
+    handles = λ a h among. IsGoodHandle-later m.cluster (brought_up n m.cluster) (λ k was. was) (λ k was e found. (e, found, refl, λ r there. there)) a h refl (inv.handles a h among);
     rest = inv.rest;
     clients = λ c. subst (λ clients. IfSome (find_key client_key c clients) (IsGoodClient m.next (brought_up n m.cluster) c)) (sym (inv.none_live none)) tt;
     hands = λ a z held. let was = inv.hands a z held in IsInHand-alike m then_machine shapes shapes z (looks_up z) a (λ live. live_alike m.cluster (brought_up n m.cluster) z.call was.client refl ∙ live) was.number was;

@@ -109,9 +109,9 @@ own_kind call k kinds.Next marks = tt
 own_asked : (c : CallId) (x : Driver) → Of c x → OfAsked (Asks c) x
 own_asked c (drivers.Update u) is = (λ r t. is, λ r. is)
 own_asked c (drivers.Active a) is = λ r. subst (λ d. IsOwn d (active_request a)) is (own_kind a.call a.ckpt a.kind a.marks)
-own_asked c (drivers.Sync u) is = (λ r. tt, λ r. tt)
+own_asked c (drivers.Sync u) is = (λ r. tt, λ r. tt, λ r. tt, λ r. tt)
 own_asked c x is = tt
 
 -- what a call asks a node, it asks as itself
 pub own_request : (R : RecordState) (room : Rooms) (s : CallState) (r : ℕ) (request : Request) → IsDriven s → driver_next R room (driver_of s) ≡ Serve r request → IsOwn s.call request
-own_request R room s r request driven e = subst (Asks s.call) e (next_of (Asks s.call) (λ o. tt) (λ step. tt) (λ r k. tt) R room (driver_of s) (own_asked s.call (driver_of s) (of_state s driven)))
+own_request R room s r request driven e = subst (Asks s.call) e (next_of (Asks s.call) (λ o. tt) (λ step none. tt) (λ r k. tt) R room (driver_of s) (own_asked s.call (driver_of s) (of_state s driven)))

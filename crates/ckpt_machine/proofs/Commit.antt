@@ -33,7 +33,7 @@ use Rattle.ckpt_machine.specs.Invariant.{IsCompleteAt, InvariantIn, Invariant}
 use Rattle.ckpt_machine.proofs.NodeLists.{elsewhere-is, last_having-None, index-set, index-other, length-slice_set, index-within, had-there, has-none}
 use Rattle.ckpt_machine.proofs.OnComplete.{put_complete}
 use Rattle.ckpt_machine.proofs.ReplicaSteps.{IsMarker-other, put_actor-here, one_changed, step_keeps}
-use Rattle.ckpt_machine.proofs.Owning.{is_owner-true, is_owner-here, owner_alone, at, made, on_all, all_is}
+use Rattle.ckpt_machine.proofs.Owning.{never_held, is_owner-true, is_owner-here, owner_alone, at, made, on_all, all_is}
 use Rattle.ckpt_machine.proofs.OnAll.{shaped_replicas, by_shape}
 use Rattle.ckpt_machine.proofs.Stage.{IfSome-more, on_complete}
 use Rattle.ckpt_machine.proofs.Actors.{same_actor-refl, same_call-refl}
@@ -251,6 +251,7 @@ module _ (m : Machine) (shapes : ℕ → Shape) (inv : InvariantIn shapes m) (s 
     owned = owned;
     led = spread.led;
     marked = λ marks is_some. IsMarker-other m shapes inv s u held is (put2 m.replicas u.ckpt r (Some with_commit)) o u.ckpt marks (spread.marked marks is_some);
+    held = λ d is_some. absurd (never_held m shapes inv s u held is e found d is_some);
   }
 
   keeps_then : (call : CallId) (q : ℕ) → same_actor call.actor s.call.actor ≡ false → is_owner call (committed.owners q) ≡ is_owner call (z.owners q)

@@ -1,5 +1,5 @@
 -- Where a snapshot is taken, where it is put, and what is so after a pull and a put.
-use Rattle.std.proofs.Common.{◌≡◌, ◌⊎◌, ℕ, inl, inr, Option, Some, None, Bool, true, false, cond, not, ◌||◌, ◌&&◌, ◌==◌, length, refl, sym, ap, subst, ◌∙◌}
+use Rattle.std.proofs.Common.{◌≡◌, ◌⊎◌, ℕ, ◌≤◌, inl, inr, Option, Some, None, Bool, true, false, cond, not, ◌||◌, ◌&&◌, ◌==◌, length, refl, sym, ap, subst, ◌∙◌}
 use Rattle.std.specs.Prelude.{is_some, IsSome}
 use Rattle.std.proofs.lemmas.Bool.{eqb-true, eq-eqb, and_parts}
 use Rattle.std.proofs.lemmas.Option.{same_Some}
@@ -25,6 +25,11 @@ pub record IsSource (e : Entry) : Type 0 where
   pub made : e.making ≡ None
   pub alone : is_all e.attributes ≡ false
   pub led : IsSome e.active
+
+-- a snapshot is of such a checkpoint, and of no higher generation
+pub record IsOfSource (e : Entry) (s : Snapshot) : Type 0 where
+  pub source : IsSource e
+  pub within : s.generation ≤ e.generation
 
 -- this is the replica of the active of such a checkpoint
 pub record IsPulledFrom (m : Machine) (k : ℕ) (x : ReplicaState) : Type 0 where

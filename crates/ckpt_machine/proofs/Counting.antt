@@ -34,7 +34,9 @@ use Rattle.cluster_record.specs.LookUps.{creation_flags_of}
 use Rattle.cluster_record.specs.Makings.{making_of}
 use Rattle.cluster_record.specs.Places.{change_key, put2}
 use Rattle.cluster_record.specs.Placement.{adds}
-use Rattle.cluster_record.specs.RecordState.{RecordState, entry_of, identity_of, has_references, stays, swept, entered, created_as, new_entry, referred, opened_with, home_of, made_with, unreferred, released_all, unnamed, retaining, is_call_of, departed, moved, undone, complete_of}
+use Rattle.cluster_record.specs.RecordState.{RecordState, entry_of, identity_of, has_references, stays, swept, entered, created_as, new_entry, referred, opened_with, home_of, made_with, unreferred, released_all, unnamed, retaining, is_call_of, departed, moved, undone, complete_of, is_active, can_be_held, with_hold, can_lead, generation_under, with_active, active_set}
+use Rattle.cluster_record.specs.StepDone.{generation_in}
+use Rattle.ckpt_machine.proofs.SettingActive.{with_hold-identity, with_active-identity}
 use Rattle.cluster_record.proofs.IdentityLaws.{KeepsIdentity, IdentitiesRise-change_key, IdentitiesRise-filter, IdentitiesRise-map, IdentitiesRise-push}
 use Rattle.ckpt_types.specs.Asks.{Ask, asked, update_of}
 use Rattle.ckpt_types.specs.Asks as asks
@@ -43,7 +45,7 @@ use Rattle.ckpt_machine.specs.Laws.{CountsUp}
 use Rattle.ckpt_machine.specs.Propagation.{source_at, copied, with_pulled, target_at, replica_from, with_put}
 use Rattle.ckpt_machine.specs.Runs.{Counts}
 use Rattle.ckpt_machine.specs.Steps.{given_at, chosen_at}
-use Rattle.ckpt_machine.specs.Steps.{with_record, record_step, with_tables, with_given, with_started, with_gone_on, ids_asked, seen_at, created_for, retained_for, change_replica, with_committed, committed_slot, with_applied, with_marks, without_marks, marks_ended, with_installed, effect_of, after_beginning, begun_call, call_begun, changed, pulled_by, kept_behind, step_of, on_ok, on_look, without_making, at_some, replica_under, snapshot_under, opened_state}
+use Rattle.ckpt_machine.specs.Steps.{with_record, record_step, with_tables, with_given, with_started, with_gone_on, ids_asked, seen_at, created_for, retained_for, change_replica, with_committed, committed_slot, with_applied, with_marks, without_marks, marks_ended, with_installed, with_lead, effect_of, after_beginning, begun_call, call_begun, changed, pulled_by, kept_behind, step_of, on_ok, on_look, without_making, at_some, replica_under, snapshot_under, opened_state}
 use Rattle.ckpt_machine.specs.Tables.{handle_given, with_iteration, started, with_next, gone_on, closing, ended_at_once}
 use Rattle.ckpt_machine.proofs.References.{released-identity, released_all-identity}
 use Rattle.ckpt_machine.proofs.Joining.{opened_with-identity}
@@ -83,8 +85,8 @@ snapshot_under-Some None was s gone = absurd (cc gone)
 snapshot_under-Some (Some e) was s is = is
 
 -- after a step of the record
-pub Counts-record : (m : Machine) (R : RecordState) (n : ℕ) → Counts m n → R.last_identity ≤ n + 1 → ((k : ℕ) (e : Entry) (c : ℕ) → entry_of k R.entries ≡ Some e → slice_index e.references c ≤ n + 1) → Counts (with_record m R) (n + 1)
-Counts-record m R n counts identity references = record {
+pub Counts-record : (m : Machine) (R : RecordState) (n : ℕ) → Counts m n → R.last_identity ≤ n + 1 → ((k : ℕ) (e : Entry) (c : ℕ) → entry_of k R.entries ≡ Some e → slice_index e.references c ≤ n + 1) → ((k : ℕ) (e : Entry) → entry_of k R.entries ≡ Some e → e.generation ≤ n + 1 + 1) → Counts (with_record m R) (n + 1)
+Counts-record m R n counts identity references generations = record {
   next = λ a. omega (arith, counts.next a);
   last_handles = λ c. omega (arith, counts.last_handles c);
   last_iterations = λ c. omega (arith, counts.last_iterations c);
@@ -95,6 +97,7 @@ Counts-record m R n counts identity references = record {
   snapshots = λ k s is. omega (arith, counts.snapshots k s (snapshot_under-Some (entry_of k R.entries) (m.snapshots k) s is));
   copies = λ a s x held is. omega (arith, counts.copies a s x held is);
   identity = identity;
+  generations = generations;
   references = references;
 }
 
@@ -111,7 +114,25 @@ Counts-replica m k r x n counts few = record {
   snapshots = λ j s is. omega (arith, counts.snapshots j s is);
   copies = λ a s x held is. omega (arith, counts.copies a s x held is);
   identity = omega arith;
+  generations = λ j e is. omega (arith, counts.generations j e is);
   references = λ j e c is. omega (arith, counts.references j e c is);
+}
+
+-- one replica that counts no more
+Counts-replaced : (m : Machine) (k r : ℕ) (x : ReplicaState) (n : ℕ) → Counts m n → length x.effects ≤ n → Counts (record m { replicas = put2 m.replicas k r (Some x) }) n
+Counts-replaced m k r x n counts few = record {
+  next = counts.next;
+  last_handles = counts.last_handles;
+  last_iterations = counts.last_iterations;
+  effects = λ j q y is. elim ((j == k) && (q == r)) as (λ b. cond b (Some x) (m.replicas j q) ≡ Some y → length y.effects ≤ n) [
+    | true ↦ λ here. subst (λ (z : ReplicaState). length z.effects ≤ n) (same_Some x y here) few
+    | false ↦ λ there. counts.effects j q y there
+  ] is;
+  snapshots = counts.snapshots;
+  copies = counts.copies;
+  identity = counts.identity;
+  generations = counts.generations;
+  references = counts.references;
 }
 
 -- nothing counts in the empty cluster
@@ -124,6 +145,7 @@ counts_empty = record {
   snapshots = λ k s is. absurd (cc is);
   copies = λ a s x held is. absurd (cc held);
   identity = omega arith;
+  generations = λ k e is. absurd (cc is);
   references = λ k e c is. absurd (cc is);
 }
 
@@ -133,26 +155,43 @@ counts_empty = record {
 abbrev Few : ℕ → List Entry → Type 0
 Few n entries = (k : ℕ) (e : Entry) (c : ℕ) → entry_of k entries ≡ Some e → slice_index e.references c ≤ n
 
--- at most one more of each client
-abbrev OneMore : Entry → Entry → Type 0
-OneMore e f = (n : ℕ) → ((c : ℕ) → slice_index e.references c ≤ n) → (c : ℕ) → slice_index f.references c ≤ n + 1
+-- and at most one generation more than this
+abbrev Low : ℕ → List Entry → Type 0
+Low n entries = (k : ℕ) (e : Entry) → entry_of k entries ≡ Some e → e.generation ≤ n + 1
+
+-- at most one more of each client, and a generation that is at most one higher
+record OneMore (e f : Entry) : Type 0 where
+  few : (n : ℕ) → ((c : ℕ) → slice_index e.references c ≤ n) → (c : ℕ) → slice_index f.references c ≤ n + 1
+  low : f.generation ≤ e.generation + 1
 
 OneMore-same : (e : Entry) → OneMore e e
-OneMore-same e n few c = let a = few c in omega (arith, a)
+OneMore-same e = record { few = λ n few c. let a = few c in omega (arith, a); low = omega arith }
 
--- fewer of each client
-OneMore-fewer : (e f : Entry) → ((c : ℕ) → slice_index f.references c ≤ slice_index e.references c) → OneMore e f
-OneMore-fewer e f fewer n few c = let a = few c in let b = fewer c in omega (arith, a, b)
+-- fewer of each client, of the same generation
+OneMore-fewer : (e f : Entry) → ((c : ℕ) → slice_index f.references c ≤ slice_index e.references c) → f.generation ≡ e.generation → OneMore e f
+OneMore-fewer e f fewer same = record { few = λ n few c. let a = few c in let b = fewer c in omega (arith, a, b); low = omega (arith, same) }
 
 Few-of : (n : ℕ) (old new : List Entry) → ComesOf OneMore old new → Few n old → Few (n + 1) new
 Few-of n old new comes few k f c found =
     let (e, was, more) = comes k f found in
-    more n (λ d. few k e d was) c
+    more.few n (λ d. few k e d was) c
+
+Low-of : (n : ℕ) (old new : List Entry) → ComesOf OneMore old new → Low n old → Low (n + 1) new
+Low-of n old new comes low k f found =
+    let (e, was, more) = comes k f found in
+    let a = low k e was in
+    let b = more.low in
+    omega (arith, a, b)
 
 Few-filter : (n : ℕ) (p : Entry → Bool) (entries : List Entry) → IdentitiesRise entries → Few n entries → Few n (filter p entries)
 Few-filter n p entries rises few k f c found =
     let (e, was, same) = ComesOf-filter (λ e f. e ≡ f) (λ e. refl) p entries rises k f found in
     subst (λ (x : Entry). slice_index x.references c ≤ n) same (few k e c was)
+
+Low-filter : (n : ℕ) (p : Entry → Bool) (entries : List Entry) → IdentitiesRise entries → Low n entries → Low n (filter p entries)
+Low-filter n p entries rises low k f found =
+    let (e, was, same) = ComesOf-filter (λ e f. e ≡ f) (λ e. refl) p entries rises k f found in
+    subst (λ (x : Entry). x.generation ≤ n + 1) same (low k e was)
 
 -- one at a client replaced by no more
 slice_index-less : (counts : List ℕ) (c d n : ℕ) → n ≤ slice_index counts c → slice_index (slice_set counts c n) d ≤ slice_index counts d
@@ -166,8 +205,8 @@ slice_index-less (x ∷ xs) (suc c) (suc d) n less = slice_index-less xs c d n l
 left_fewer : (e : Entry) (t : ℤ) (references : List ℕ) → ((d : ℕ) → slice_index references d ≤ slice_index e.references d) → (none left : Bool)
     → OneMore e (cond none e (cond left (record e { references = references }) (record e { references = references; idle = t })))
 left_fewer e t references fewer true left = OneMore-same e
-left_fewer e t references fewer false true = OneMore-fewer e (record e { references = references }) fewer
-left_fewer e t references fewer false false = OneMore-fewer e (record e { references = references; idle = t }) fewer
+left_fewer e t references fewer false true = OneMore-fewer e (record e { references = references }) fewer refl
+left_fewer e t references fewer false false = OneMore-fewer e (record e { references = references; idle = t }) fewer refl
 
 OneMore-released : (c : ℕ) (t : ℤ) (e : Entry) → OneMore e (unreferred c t e)
 OneMore-released c t e = left_fewer e t (slice_set e.references c (slice_index e.references c - 1)) (λ d. slice_index-less e.references c d (slice_index e.references c - 1) (omega arith)) (slice_index e.references c == 0) (has_references (record e { references = slice_set e.references c (slice_index e.references c - 1) }))
@@ -176,37 +215,48 @@ OneMore-released_all : (c : ℕ) (t : ℤ) (e : Entry) → OneMore e (released_a
 OneMore-released_all c t e = left_fewer e t (slice_set e.references c 0) (λ d. slice_index-less e.references c d 0 (omega arith)) (slice_index e.references c == 0) (has_references (record e { references = slice_set e.references c 0 }))
 
 OneMore-referred : (c : ℕ) (e : Entry) → OneMore e (referred c e)
-OneMore-referred c e n few d = slice_index-one_more e.references c d n few
+OneMore-referred c e = record { few = λ n few d. slice_index-one_more e.references c d n few; low = omega arith }
 
 OneMore-opened : (opener : ℕ) (up : List ℕ) (c : ℕ) (e : Entry) → OneMore e (opened_with opener up c e)
 OneMore-opened opener up c e = elim (adds e.attributes opener e.complete) as (λ b. OneMore e (referred c (cond b (record e { complete = slice_set e.complete opener (slice_index up opener) }) e))) [
-  | true ↦ λ n few d. slice_index-one_more e.references c d n few
+  | true ↦ record { few = λ n few d. slice_index-one_more e.references c d n few; low = omega arith }
   | false ↦ OneMore-referred c e
 ]
 
 OneMore-made : (opener : ℕ) (up : List ℕ) (c : ℕ) (e : Entry) → OneMore e (made_with opener up c e)
-OneMore-made opener up c e n few d = slice_index-one_more e.references c d n few
+OneMore-made opener up c e = record { few = λ n few d. slice_index-one_more e.references c d n few; low = omega arith }
+
+OneMore-held : (call : CallId) (e : Entry) → OneMore e (with_hold call e)
+OneMore-held call e = elim (can_be_held e) as (λ b. OneMore e (cond b (record e { hold = Some call }) e)) [ true ↦ OneMore-fewer e (record e { hold = Some call }) (λ c. omega arith) refl | false ↦ OneMore-same e ]
+
+OneMore-led : (r : ℕ) (e : Entry) → OneMore e (with_active r e)
+OneMore-led r e = elim (can_lead r e) as (λ b. OneMore e (cond b (record e { active = Some r; generation = generation_under r e; hold = None }) e)) [
+  | true ↦ record { few = λ n few c. let a = few c in omega (arith, a); low = elim (is_active r e.active) as (λ b. cond b e.generation (e.generation + 1) ≤ e.generation + 1) [ true ↦ omega arith | false ↦ omega arith ] }
+  | false ↦ OneMore-same e
+]
 
 -- ---- the record
 
--- at most one identity more is given, and at most one reference more of each client
+-- at most one identity more is given, and at most one reference more of each client, and no generation rises by more than one
 record CountsOn (R S : RecordState) : Type 0 where
   rises : IdentitiesRise S.entries
   last : S.last_identity ≤ R.last_identity + 1
   few : (n : ℕ) → Few n R.entries → Few (n + 1) S.entries
+  low : (n : ℕ) → Low n R.entries → Low (n + 1) S.entries
 
 CountsOn-swept : (R S : RecordState) → CountsOn R S → CountsOn R (swept S)
-CountsOn-swept R S on = record { rises = IdentitiesRise-filter (stays S.moment) S.entries on.rises; last = on.last; few = λ n few. Few-filter (n + 1) (stays S.moment) S.entries on.rises (on.few n few) }
+CountsOn-swept R S on = record { rises = IdentitiesRise-filter (stays S.moment) S.entries on.rises; last = on.last; few = λ n few. Few-filter (n + 1) (stays S.moment) S.entries on.rises (on.few n few); low = λ n low. Low-filter (n + 1) (stays S.moment) S.entries on.rises (on.low n low) }
 
 module _ (R : RecordState) (rises : IdentitiesRise R.entries) (up_to : AllUpTo R.last_identity R.entries) where
   same_on : CountsOn R R
-  same_on = record { rises = rises; last = omega arith; few = λ n few k e c found. let a = few k e c found in omega (arith, a) }
+  same_on = record { rises = rises; last = omega arith; few = λ n few k e c found. let a = few k e c found in omega (arith, a); low = λ n low k e found. let a = low k e found in omega (arith, a) }
 
   changed_on : (k : ℕ) (f : Entry → Entry) → KeepsIdentity f → ((e : Entry) → OneMore e (f e)) → CountsOn R (record R { entries = change_key identity_of k f R.entries })
   changed_on k f keeps more = record {
     rises = IdentitiesRise-change_key f keeps k R.entries rises;
     last = omega arith;
     few = λ n few. Few-of n R.entries (change_key identity_of k f R.entries) (ComesOf-change_key OneMore OneMore-same f keeps more k R.entries) few;
+    low = λ n low. Low-of n R.entries (change_key identity_of k f R.entries) (ComesOf-change_key OneMore OneMore-same f keeps more k R.entries) low;
   }
 
   filter_on : (p : Entry → Bool) → CountsOn R (record R { entries = filter p R.entries })
@@ -214,6 +264,7 @@ module _ (R : RecordState) (rises : IdentitiesRise R.entries) (up_to : AllUpTo R
     rises = IdentitiesRise-filter p R.entries rises;
     last = omega arith;
     few = λ n few k e c found. let a = Few-filter n p R.entries rises few k e c found in omega (arith, a);
+    low = λ n low k e found. let a = Low-filter n p R.entries rises low k e found in omega (arith, a);
   }
 
   departed_on : (c : ℕ) → CountsOn R (departed c R)
@@ -221,6 +272,7 @@ module _ (R : RecordState) (rises : IdentitiesRise R.entries) (up_to : AllUpTo R
     rises = IdentitiesRise-map (released_all c R.moment) (released_all-identity c R.moment) (filter others R.entries) (IdentitiesRise-filter others R.entries rises);
     last = omega arith;
     few = λ n few. Few-of n (filter others R.entries) (departed c R).entries (ComesOf-map OneMore (released_all c R.moment) (released_all-identity c R.moment) (OneMore-released_all c R.moment) (filter others R.entries)) (Few-filter n others R.entries rises few);
+    low = λ n low. Low-of n (filter others R.entries) (departed c R).entries (ComesOf-map OneMore (released_all c R.moment) (released_all-identity c R.moment) (OneMore-released_all c R.moment) (filter others R.entries)) (Low-filter n others R.entries rises low);
   }
     where
       others : Entry → Bool
@@ -243,6 +295,10 @@ module _ (R : RecordState) (rises : IdentitiesRise R.entries) (up_to : AllUpTo R
       | inl was ↦ (let a = few k e c was in omega (arith, a))
       | inr new ↦ subst (λ (x : Entry). slice_index x.references c ≤ n + 1) new (let none : slice_index (new_entry call name a R).references c ≡ 0 = slice_index-replicate 100 c in omega (arith, none))
     ];
+    low = λ n low k e found. elim (found_push k R.entries (new_entry call name a R) e found) [
+      | inl was ↦ (let a = low k e was in omega (arith, a))
+      | inr new ↦ subst (λ (x : Entry). x.generation ≤ n + 1 + 1) new (omega arith)
+    ];
   }
 
   created_for_on : (call : CallId) (ask : Ask) → CountsOn R (created_for call ask R)
@@ -250,7 +306,7 @@ module _ (R : RecordState) (rises : IdentitiesRise R.entries) (up_to : AllUpTo R
   created_for_on call ask = same_on
 
   retained_for_on : (ask : Ask) (k : ℕ) → CountsOn R (retained_for ask k R)
-  retained_for_on (asks.Retain place duration) k = changed_on k (retaining duration) (λ e. refl) (λ e. OneMore-fewer e (retaining duration e) (λ c. omega arith))
+  retained_for_on (asks.Retain place duration) k = changed_on k (retaining duration) (λ e. refl) (λ e. OneMore-fewer e (retaining duration e) (λ c. omega arith) refl)
   retained_for_on ask k = same_on
 
 -- ---- a client's tables
@@ -292,7 +348,7 @@ CountsOne-ended_at_once end ask t = record { handles = omega arith; iterations =
 
 -- other calls in hand, whose snapshots have no more
 Counts-in_hand : (m : Machine) (f : ActorName → Option CallState) (n : ℕ) → Counts m n → ((a : ActorName) (s : CallState) (x : Snapshot) → f a ≡ Some s → s.snapshot ≡ Some x → length x.effects ≤ n) → Counts (record m { in_hand = f }) n
-Counts-in_hand m f n counts few = record { copies = few; next = counts.next; last_handles = counts.last_handles; last_iterations = counts.last_iterations; effects = counts.effects; snapshots = counts.snapshots; identity = counts.identity; references = counts.references }
+Counts-in_hand m f n counts few = record { copies = few; next = counts.next; last_handles = counts.last_handles; last_iterations = counts.last_iterations; effects = counts.effects; snapshots = counts.snapshots; identity = counts.identity; generations = counts.generations; references = counts.references }
 
 module _ (m : Machine) (n : ℕ) (counts : Counts m n) where
   more : Counts m (n + 1)
@@ -304,11 +360,12 @@ module _ (m : Machine) (n : ℕ) (counts : Counts m n) where
     snapshots = λ k s is. omega (arith, counts.snapshots k s is);
     copies = λ a s x held is. omega (arith, counts.copies a s x held is);
     identity = omega arith;
+    generations = λ k e is. omega (arith, counts.generations k e is);
     references = λ k e c is. omega (arith, counts.references k e c is);
   }
 
   on_record : (R : RecordState) → CountsOn m.cluster R → Counts (with_record m R) (n + 1)
-  on_record R on = Counts-record m R n counts (let a = on.last in let b = counts.identity in omega (arith, a, b)) (on.few n counts.references)
+  on_record R on = Counts-record m R n counts (let a = on.last in let b = counts.identity in omega (arith, a, b)) (on.few n counts.references) (on.low n counts.generations)
 
   on_step : (step : RecordState → RecordState) → CountsOn m.cluster (step m.cluster) → Counts (record_step step m) (n + 1)
   on_step step on = on_record (swept (step m.cluster)) (CountsOn-swept m.cluster (step m.cluster) on)
@@ -323,6 +380,7 @@ module _ (m : Machine) (n : ℕ) (counts : Counts m n) where
     snapshots = on.snapshots;
     copies = on.copies;
     identity = on.identity;
+    generations = on.generations;
     references = on.references;
   }
 
@@ -344,6 +402,7 @@ module _ (m : Machine) (n : ℕ) (counts : Counts m n) where
     ] at;
     copies = more.copies;
     identity = more.identity;
+    generations = more.generations;
     references = more.references;
   }
   pulled_on k reply o is = more
@@ -357,13 +416,24 @@ module _ (m : Machine) (n : ℕ) (counts : Counts m n) where
       by_snapshot None none = Counts-replica m k r x n counts (more.effects k r x there)
       by_snapshot (Some p) is = Counts-replica m k r (replica_from p x) n counts (more.copies a s p held is)
 
+  -- so does one that leads from then on, of the record after a step
+  led_on : (a : ActorName) (s : CallState) → m.in_hand a ≡ Some s → (b : Machine) → Counts b (n + 1) → (k r generation : ℕ) (x : Option ReplicaState) → b.replicas k r ≡ x → Counts (change_replica b k r x (with_lead s.snapshot generation)) (n + 1)
+  led_on a s held b on k r generation None there = on
+  led_on a s held b on k r generation (Some x) there = by_snapshot s.snapshot refl
+    where
+      by_snapshot : (o : Option Snapshot) → s.snapshot ≡ o → Counts (change_replica b k r (Some x) (with_lead o generation)) (n + 1)
+      by_snapshot None none = Counts-replaced b k r (with_lead None generation x) (n + 1) on (on.effects k r x there)
+      by_snapshot (Some p) is = Counts-replaced b k r (with_lead (Some p) generation x) (n + 1) on (more.copies a s p held is)
+
+  -- a copy of a replica has no more than that
+  copy_few : (k r : ℕ) (x : Snapshot) (o : Option ReplicaState) → m.replicas k r ≡ o → option_map copied o ≡ Some x → length x.effects ≤ n
+  copy_few k r x None none gone = absurd (cc gone)
+  copy_few k r x (Some y) there same = subst (λ (z : Snapshot). length z.effects ≤ n) (same_Some (copied y) x same) (counts.effects k r y there)
+
   -- what a call has in its hand behind a step is what it had, or a copy of a replica
   pulled_few : (a : ActorName) (s : CallState) → m.in_hand a ≡ Some s → (verb : Verb) (k r : Option ℕ) (reply : StepReply) (x : Snapshot) → pulled_by m s verb k r reply ≡ Some x → length x.effects ≤ n
-  pulled_few a s held verbs.Pull (Some k) (Some r) words.Ok x is = by_replica (m.replicas k r) refl is
-    where
-      by_replica : (o : Option ReplicaState) → m.replicas k r ≡ o → option_map copied o ≡ Some x → length x.effects ≤ n
-      by_replica None none gone = absurd (cc gone)
-      by_replica (Some y) there same = subst (λ (z : Snapshot). length z.effects ≤ n) (same_Some (copied y) x same) (counts.effects k r y there)
+  pulled_few a s held verbs.Pull (Some k) (Some r) words.Ok x is = copy_few k r x (m.replicas k r) refl is
+  pulled_few a s held verbs.Hold (Some k) (Some r) words.Ok x is = copy_few k r x (m.replicas k r) refl is
   pulled_few a s held verb k r reply x is = counts.copies a s x held is
 
   -- and a put gives a replica what a snapshot has
@@ -445,15 +515,15 @@ module _ (m : Machine) (n : ℕ) (rises : IdentitiesRise m.cluster.entries) (up_
       tables_on m n counts m (more m n counts) s.call.actor (gone_on (asked s.op) next) (CountsOne-gone_on (asked s.op) next (m.tables s.call.actor))
 
   changed_counts : (verb : Verb) (k r : Option ℕ) (reply : StepReply) → Counts (changed m s verb k r reply) (n + 1)
-  changed_counts verbs.Enter k r reply = ok_on m n counts reply _ (some_on m n counts r _ (λ r. on_step m n counts (entered (client_of s.call) r s.call.number) (record { rises = rises; last = omega arith; few = (same_on m.cluster rises up_to).few })))
+  changed_counts verbs.Enter k r reply = ok_on m n counts reply _ (some_on m n counts r _ (λ r. on_step m n counts (entered (client_of s.call) r s.call.number) (record { rises = rises; last = omega arith; few = (same_on m.cluster rises up_to).few; low = (same_on m.cluster rises up_to).low })))
   changed_counts verbs.Leave k r reply = ok_on m n counts reply _ (tables_on m n counts _ (on_step m n counts (departed (client_of s.call)) (departed_on m.cluster rises up_to (client_of s.call))) s.call.actor emptied (record { handles = omega arith; iterations = omega arith }))
   changed_counts verbs.Create k r reply = ok_on m n counts reply _ (on_step m n counts (created_for s.call (asked s.op)) (created_for_on m.cluster rises up_to s.call (asked s.op)))
-  changed_counts verbs.Reserve k r reply = ok_on m n counts reply _ (both_on m n counts k r _ (λ k r. let c = more m n counts in record { next = c.next; last_handles = c.last_handles; last_iterations = c.last_iterations; effects = c.effects; snapshots = c.snapshots; copies = c.copies; identity = c.identity; references = c.references }))
+  changed_counts verbs.Reserve k r reply = ok_on m n counts reply _ (both_on m n counts k r _ (λ k r. let c = more m n counts in record { next = c.next; last_handles = c.last_handles; last_iterations = c.last_iterations; effects = c.effects; snapshots = c.snapshots; copies = c.copies; identity = c.identity; generations = c.generations; references = c.references }))
   changed_counts verbs.Finish k r reply = ok_on m n counts reply _ (some_on m n counts k _ (λ k. entry_given k (made_with (home_of (client_of s.call) m.cluster) m.cluster.up (client_of s.call)) (λ e. refl) (OneMore-made (home_of (client_of s.call) m.cluster) m.cluster.up (client_of s.call))))
   changed_counts verbs.Undo k r reply = ok_on m n counts reply _ (some_on m n counts k _ (undone_on m n counts rises up_to))
   changed_counts verbs.Open k r reply = ok_on m n counts reply _ (some_on m n counts k _ (λ k. entry_given k (opened_with (home_of (client_of s.call) m.cluster) m.cluster.up (client_of s.call)) (opened_with-identity (home_of (client_of s.call) m.cluster) m.cluster.up (client_of s.call)) (OneMore-opened (home_of (client_of s.call) m.cluster) m.cluster.up (client_of s.call))))
   changed_counts verbs.Close k r reply = ok_on m n counts reply _ (some_on m n counts k _ (λ k. tables_on m n counts _ (entry_changed k (unreferred (client_of s.call) m.cluster.moment) (released-identity (client_of s.call) m.cluster.moment) (OneMore-released (client_of s.call) m.cluster.moment)) s.call.actor (closing (asked s.op)) (CountsOne-closing (asked s.op) (m.tables s.call.actor))))
-  changed_counts verbs.Unlink k r reply = ok_on m n counts reply _ (some_on m n counts k _ (λ k. entry_changed k unnamed (λ e. refl) (λ e. OneMore-fewer e (unnamed e) (λ c. omega arith))))
+  changed_counts verbs.Unlink k r reply = ok_on m n counts reply _ (some_on m n counts k _ (λ k. entry_changed k unnamed (λ e. refl) (λ e. OneMore-fewer e (unnamed e) (λ c. omega arith) refl)))
   changed_counts verbs.Retain k r reply = ok_on m n counts reply _ (some_on m n counts k _ (λ k. on_step m n counts (retained_for (asked s.op) k) (retained_for_on m.cluster rises up_to (asked s.op) k)))
   changed_counts verbs.Stage k r reply = ok_on m n counts reply _ (both_on m n counts k r _ (λ k r. replica_on m n counts k r (m.replicas k r) refl _ (λ x. omega arith)))
   changed_counts verbs.Commit k r reply = ok_on m n counts reply _ (both_on m n counts k r _ (λ k r. replica_on m n counts k r (m.replicas k r) refl _ (committed_few (entry_of k m.cluster.entries))))
@@ -462,6 +532,10 @@ module _ (m : Machine) (n : ℕ) (rises : IdentitiesRise m.cluster.entries) (up_
   changed_counts verbs.Element k r reply = ok_on m n counts reply _ (both_on m n counts k r _ (λ k r. replica_on m n counts k r (m.replicas k r) refl _ (λ x. let same = ap length (element_effects (entry_of k m.cluster.entries) x) in omega (arith, same))))
   changed_counts verbs.Unmark k r reply = ok_on m n counts reply _ (both_on m n counts k r _ (λ k r. replica_on m n counts k r (m.replicas k r) refl _ unmarked_few))
   changed_counts verbs.Install k r reply = ok_on m n counts reply _ (both_on m n counts k r _ (λ k r. installed_on m n counts s.call.actor s held k r (m.replicas k r) refl))
+  changed_counts verbs.Hold k r reply = ok_on m n counts reply _ (some_on m n counts k _ (λ k. entry_changed k (with_hold s.call) (with_hold-identity s.call) (OneMore-held s.call)))
+  changed_counts verbs.Activate k r reply = ok_on m n counts reply _ (both_on m n counts k r _ (λ k r.
+      let b = record_step (active_set k r) m in
+      led_on m n counts s.call.actor s held b (entry_changed k (with_active r) (with_active-identity r) (OneMore-led r)) k r (generation_in (entry_of k b.cluster.entries)) (b.replicas k r) refl))
   changed_counts verbs.Iter k r reply = ok_on m n counts reply _ (both_on m n counts k r _ started_counts)
   changed_counts verbs.Next k r reply = ok_on m n counts reply _ (both_on m n counts k r _ gone_on_counts)
   changed_counts verbs.Look k r reply =
@@ -483,6 +557,7 @@ begun_counts m call op end n counts = tables_on m n counts (begun_call m call op
     | inr other ↦ omega (arith, counts.copies a s x other.1 is)
   ];
   identity = omega arith;
+  generations = λ k e is. omega (arith, counts.generations k e is);
   references = λ k e c is. omega (arith, counts.references k e c is);
 }) call.actor (ended_at_once end (asked op)) (CountsOne-ended_at_once end (asked op) (m.tables call.actor))
 
@@ -504,8 +579,8 @@ counts_up m (labels.Stepped call op verb k r reply end details) n inv is few =
       | inr other ↦ on.copies a z x other.1 has
     ]))
 counts_up m (labels.Word who word said) n inv is few = more m n few
-counts_up m (labels.Nodes nodes) n inv is few = let c = more m n few in record { next = c.next; last_handles = c.last_handles; last_iterations = c.last_iterations; effects = c.effects; snapshots = c.snapshots; copies = c.copies; identity = c.identity; references = c.references }
-counts_up m (labels.Moved t) n inv is few = on_record m n few (moved t m.cluster) (record { rises = IdentitiesRise-filter (stays t) m.cluster.entries inv.holds.rises; last = omega arith; few = λ n few k e c found. let a = Few-filter n (stays t) m.cluster.entries inv.holds.rises few k e c found in omega (arith, a) })
+counts_up m (labels.Nodes nodes) n inv is few = let c = more m n few in record { next = c.next; last_handles = c.last_handles; last_iterations = c.last_iterations; effects = c.effects; snapshots = c.snapshots; copies = c.copies; identity = c.identity; generations = c.generations; references = c.references }
+counts_up m (labels.Moved t) n inv is few = on_record m n few (moved t m.cluster) (record { rises = IdentitiesRise-filter (stays t) m.cluster.entries inv.holds.rises; last = omega arith; few = λ n few k e c found. let a = Few-filter n (stays t) m.cluster.entries inv.holds.rises few k e c found in omega (arith, a); low = λ n low k e found. let a = Low-filter n (stays t) m.cluster.entries inv.holds.rises low k e found in omega (arith, a) })
 counts_up m (labels.Shown k replicas) n inv is few = more m n few
 counts_up m (labels.Pulled k reply) n inv is few = pulled_on m n few k reply (source_at m k) refl
 counts_up m (labels.Put k r reply) n inv is few = put_on m n few k r reply (m.snapshots k) (target_at m k r) refl

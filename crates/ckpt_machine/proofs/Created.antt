@@ -17,21 +17,21 @@ use Rattle.ckpt_types.specs.Asks.{asked}
 use Rattle.ckpt_machine.specs.Drivers as drivers
 use Rattle.ckpt_machine.specs.Entries.{WasMade}
 use Rattle.ckpt_machine.specs.InHand.{attributes_asked, IsMakingIn, IsInHand}
-use Rattle.ckpt_machine.specs.Invariant.{IsMaker, IsGoodIn, InvariantIn}
+use Rattle.ckpt_machine.specs.Invariant.{IsMaker, IsGoodIn, IsOfGeneration, InvariantIn}
 use Rattle.ckpt_machine.specs.Machine.{Machine, CallState}
 use Rattle.ckpt_machine.specs.Steps.{driver_of, with_record, replica_under, reservation_under, opened_state}
 use Rattle.ckpt_machine.specs.Shape.{Shape, IsCompleteOn}
 use Rattle.ckpt_machine.proofs.NodeLists.{slice_index-replicate}
 use Rattle.ckpt_machine.proofs.EntryLists.{entry_of-given, find_key-push, AllStay-push}
 use Rattle.ckpt_machine.proofs.Handles.{IsGoodHandle-later}
-use Rattle.ckpt_machine.proofs.OtherCalls.{LooksAlike, making_still, IsInHand-alike, IsGoodIn-alike}
+use Rattle.ckpt_machine.proofs.OtherCalls.{LooksAlike, LooksLater-refl, making_still, IsInHand-alike, IsGoodIn-alike}
 use Rattle.ckpt_machine.proofs.OptionLemmas.{IsSomeAnd-at, IsSomeAnd-from}
 use Rattle.ckpt_machine.proofs.ReplicaSteps.{put_actor-cases, put_actor-here, put_actor-other}
 use Rattle.ckpt_machine.proofs.OnComplete.{under_complete}
 use Rattle.ckpt_machine.proofs.ReservedUnder.{was_reserved}
-use Rattle.ckpt_machine.proofs.PlainCalls.{is_plain, owner_apart, marker_apart, maker_apart}
+use Rattle.ckpt_machine.proofs.PlainCalls.{is_plain, owner_apart, marker_apart, holder_apart, maker_apart}
 
-module _ (m : Machine) (shapes : ℕ → Shape) (inv : InvariantIn shapes m) (s : CallState) (held : m.in_hand s.call.actor ≡ Some s) (plain : is_plain (driver_of s) ≡ true) (name : List ℕ) (a : CreationAttributes) (good : is_malformed a ≡ false)
+module _ (m : Machine) (shapes : ℕ → Shape) (inv : InvariantIn shapes m) (s : CallState) (held : m.in_hand s.call.actor ≡ Some s) (plain : is_plain (driver_of s) s.snapshot ≡ true) (name : List ℕ) (a : CreationAttributes) (good : is_malformed a ≡ false)
     (w : CallState) (call_is : w.call ≡ s.call) (v : OpenState) (driver_is : driver_of w ≡ drivers.Open v) (making : Making) (makes : v.making ≡ Some making) (ckpt : making.ckpt ≡ m.cluster.last_identity + 1) where
   -- the next identity
   abbrev next : ℕ
@@ -102,11 +102,11 @@ module _ (m : Machine) (shapes : ℕ → Shape) (inv : InvariantIn shapes m) (s 
   -- a checkpoint that was there is as it was
   IsGoodIn-then : (j : ℕ) (sh : Shape) (e : Entry) (maker : Option CallId) → entry_of j m.cluster.entries ≡ Some e → IsGoodIn m j sh e maker → IsGoodIn then_machine j sh e maker
   IsGoodIn-then j sh e maker found was = IsGoodIn-alike m then_machine j sh e (λ r there. replica_other j r e found there)
-      (λ d own. put_actor-other m.in_hand s.call.actor (Some w) d.actor (owner_apart m shapes inv s held plain j sh d own)) (λ marks own. put_actor-other m.in_hand s.call.actor (Some w) marks.call.actor (marker_apart m shapes inv s held plain j marks own)) (λ d own. put_actor-other m.in_hand s.call.actor (Some w) d.actor (maker_apart m shapes inv s held plain j d own)) maker was
+      (λ d own. put_actor-other m.in_hand s.call.actor (Some w) d.actor (owner_apart m shapes inv s held plain j sh d own)) (λ marks own. put_actor-other m.in_hand s.call.actor (Some w) marks.call.actor (marker_apart m shapes inv s held plain j marks own)) (λ active d own. put_actor-other m.in_hand s.call.actor (Some w) d.actor (holder_apart m shapes inv s held plain j active d own)) (λ d own. put_actor-other m.in_hand s.call.actor (Some w) d.actor (maker_apart m shapes inv s held plain j d own)) maker was
 
   -- the new one is as it was created
   good_new : (sh : Shape) → IsGoodIn then_machine next sh new (Some s.call)
-  good_new sh = (record { complete = refl; generation = refl; well_formed = good; clients = length-replicate {A = ℕ} 100 0 }, maker_new)
+  good_new sh = (record { complete = refl; generation = refl; free = refl; well_formed = good; clients = length-replicate {A = ℕ} 100 0 }, maker_new)
 
   -- ---- where the calls of others are
 
@@ -140,7 +140,7 @@ module _ (m : Machine) (shapes : ℕ → Shape) (inv : InvariantIn shapes m) (s 
       tables = refl;
       making = λ x at. making_still m then_machine z x making_then at;
       made = WasMade-then;
-      later = λ j was e found. (e, sym (entry_other j (given_apart j was.given)) ∙ found, λ all. refl, refl, refl, refl);
+      later = λ j was e found. (e, sym (entry_other j (given_apart j was.given)) ∙ found, LooksLater-refl z (shapes j).marks e);
       owners = λ j was r. refl;
       marks = λ j was. refl;
     }
@@ -163,9 +163,9 @@ module _ (m : Machine) (shapes : ℕ → Shape) (inv : InvariantIn shapes m) (s 
     up_to = AllUpTo-push m.cluster.last_identity m.cluster.entries new inv.up_to refl;
     swept = AllStay-push m.cluster.moment m.cluster.entries new inv.swept refl;
     entries = λ j e found. by_test j e found (j == next) refl;
-    replicas = λ j q x is. under_complete (entry_of j R.entries) (slice_index (complete_of (entry_of j m.cluster.entries)) q) q (m.replicas j q) x (λ f found was. let (g, there, at) = IsSomeAnd-at (entry_of j m.cluster.entries) (λ (e : Entry). IsCompleteOn e q × (x.generation ≡ e.generation)) (inv.replicas j q x was) in at.1 ∙ ap (λ (e : Entry). e.generation) (same_Some g f (sym (entry_other j (was_there j g there) ∙ there) ∙ found))) is;
+    replicas = λ j q x is. under_complete (entry_of j R.entries) (slice_index (complete_of (entry_of j m.cluster.entries)) q) q (m.replicas j q) x (λ f found was. let (g, there, at) = IsSomeAnd-at (entry_of j m.cluster.entries) (λ (e : Entry). IsCompleteOn e q × IsOfGeneration e q x.generation) (inv.replicas j q x was) in subst (λ (e : Entry). IsOfGeneration e q x.generation) (same_Some g f (sym (entry_other j (was_there j g there) ∙ there) ∙ found)) at.1) is;
     reserves = λ j q n reserved. was_reserved (entry_of j R.entries) q n (m.reserved j q) (λ f. IsSome f.making) (λ f found free was. reserves_then j q n f found was (j == next) refl) reserved;
-    handles = λ b h among. IsGoodHandle-later m.cluster R WasMade-then (λ j was e found. (e, sym (entry_other j (given_apart j was.given)) ∙ found, refl)) h (inv.handles b h among);
+    handles = λ b h among. IsGoodHandle-later m.cluster R WasMade-then (λ j was e found. (e, sym (entry_other j (given_apart j was.given)) ∙ found, refl, λ r there. there)) b h refl (inv.handles b h among);
     rest = inv.rest;
     clients = inv.clients;
     hands = λ b z there. elim (put_actor-cases m.in_hand s.call.actor (Some w) b z there) [

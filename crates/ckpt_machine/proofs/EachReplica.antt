@@ -1,8 +1,7 @@
 -- What is said of a replica by its checkpoint's entry and its node, and of a snapshot by that entry, and what keeps it at each step: then it holds of each replica and each snapshot, in a hand too, in every state of a run. And where updates go to the active alone, no other replica and no snapshot of its generation is ahead of it.
-use Rattle.std.proofs.Common.{◌≡◌, ◌⊎◌, inl, inr, ℕ, ◌≤◌, List, [], ◌∷◌, ◌++◌, Option, Some, None, Bool, true, false, cond, not, ◌==◌, ℤ, refl, sym, ap, subst, ◌∙◌, append_assoc, arith}
+use Rattle.std.proofs.Common.{◌≡◌, inl, inr, ℕ, ◌+◌, ◌≤◌, List, [], ◌∷◌, ◌++◌, Option, Some, None, Bool, true, false, cond, not, ◌==◌, refl, sym, ap, subst, ◌∙◌, append_assoc, arith}
 use Rattle.std.specs.Option.{option_map}
-use Rattle.std.specs.Prelude.{IsSome, IsSomeAnd, IfSome, IsOk, slice_index}
-use Rattle.std.proofs.lemmas.Bool.{eqb-true}
+use Rattle.std.specs.Prelude.{IsSome, IsSomeAnd, IfSome, slice_index}
 use Rattle.std.proofs.lemmas.List.{append-nil}
 use Rattle.std.proofs.lemmas.Option.{same_Some}
 use Rattle.ckpt_types.specs.declared.answers.Outcome.{Outcome}
@@ -12,7 +11,6 @@ use Rattle.ckpt_types.specs.declared.operation.Op.{Op}
 use Rattle.ckpt_types.specs.declared.update.Update.{Update}
 use Rattle.ckpt_types.specs.Asks.{asked, update_asked, update_of}
 use Rattle.ckpt_types.specs.Asks as asks
-use Rattle.ckpt_types.specs.Updates.{outcome}
 use Rattle.weak_marks.specs.Marks.{Marked}
 use Rattle.node_msgs.specs.declared.steps.Verb.{Verb}
 use Rattle.node_msgs.specs.declared.steps.Verb.TheVariants as verbs
@@ -24,118 +22,41 @@ use Rattle.cluster_record.specs.declared.entries.Entry.{Entry}
 use Rattle.cluster_record.specs.Calls.{client_of, put_actor, left}
 use Rattle.cluster_record.specs.Makings.{making_of}
 use Rattle.cluster_record.specs.Places.{change_key, put, put2}
-use Rattle.cluster_record.specs.RecordState.{RecordState, entry_of, identity_of, complete_of, stays, swept, moved, entered, finished, home_of, opened_with, unreferred, unnamed, departed, undone}
+use Rattle.cluster_record.specs.RecordState.{RecordState, entry_of, identity_of, complete_of, stays, swept, moved, entered, finished, home_of, opened_with, unreferred, unnamed, departed, undone, with_hold, hold_set, active_set}
 use Rattle.cluster_record.proofs.IdentityLaws.{IdentitiesRise-filter}
 use Rattle.ckpt_machine.specs.Beginning.{update_is_bad}
 use Rattle.ckpt_machine.specs.BeginRows.{has_bad_arguments}
 use Rattle.ckpt_machine.specs.Driving.{Kept}
-use Rattle.ckpt_machine.specs.Guards.{CommitOk, ApplyOk, MarkOk, AreMarksOf, PullOk, OnAll, OnActive, IsOnOwn, Row, Allowed}
+use Rattle.ckpt_machine.specs.Guards.{CommitOk, ApplyOk, MarkOk, AreMarksOf, PullOk, HoldOk, OnAll, OnActive, IsOnOwn, Row, Allowed}
 use Rattle.ckpt_machine.specs.Invariant.{Invariant}
-use Rattle.ckpt_machine.specs.Machine.{Machine, Effect, Applied, Staged, ReplicaState, Snapshot, CallState, empty_cluster}
-use Rattle.ckpt_machine.specs.Listing.{is_active}
+use Rattle.ckpt_machine.specs.Machine.{Machine, Effect, Applied, ReplicaState, Snapshot, CallState, empty_cluster}
 use Rattle.ckpt_machine.specs.Options.{is_all, is_weak, is_by_element}
 use Rattle.ckpt_machine.specs.Propagation.{copied, replica_from}
 use Rattle.ckpt_machine.specs.Replays.{IsPrefix}
 use Rattle.ckpt_machine.specs.Runs.{last, IsRun}
-use Rattle.ckpt_machine.specs.Shape.{IsCompleteOn, IsApart, IsShapedBy, marks_at}
-use Rattle.ckpt_machine.specs.Steps.{Told, IsDone, IsDue, due, with_record, record_step, created_for, retained_for, change_replica, having_taken, committed_slot, with_committed, with_applied, with_slot, with_marks, next_element_written, with_next_element, marks_ended, without_marks, changed, on_ok, on_look, without_making, at_some, replica_under, snapshot_under, effect_of, opened_state, pulled_by, kept_behind, step_of, call_begun, after_beginning, staged_moment, after}
+use Rattle.ckpt_machine.specs.Shape.{IsCompleteOn, IsApart, IsShapedBy}
+use Rattle.ckpt_machine.specs.Steps.{Told, IsDone, IsDue, due, with_record, record_step, created_for, retained_for, change_replica, having_taken, committed_slot, with_committed, with_applied, with_slot, with_marks, next_element_written, with_next_element, marks_ended, without_marks, with_lead, changed, on_ok, on_look, without_making, at_some, replica_under, snapshot_under, opened_state, pulled_by, kept_behind, step_of, call_begun, after_beginning, staged_moment, after}
+use Rattle.ckpt_machine.proofs.Activating.{Leads, leader, with_leader, made_where_complete, led_by, led_goes, found_led, led_made, led_entry, leader-cases, after_activate}
 use Rattle.ckpt_machine.proofs.ActiveNode.{active_complete}
-use Rattle.ckpt_machine.proofs.Copying.{IsSource, IsPulledFrom, IsPutOn, TakesOver, not_active, after_pull, after_put_over, put-cases, put2-cases}
+use Rattle.ckpt_machine.proofs.Copying.{IsSource, IsOfSource, IsPulledFrom, IsPutOn, TakesOver, not_active, after_pull, after_put_over, put-cases, put2-cases}
 use Rattle.ckpt_machine.proofs.Entries.{ComesOf-filter}
 use Rattle.ckpt_machine.proofs.EntryLists.{entry_of-given}
 use Rattle.ckpt_machine.proofs.Follows.{under, snapshot_was, element_effects}
 use Rattle.ckpt_machine.proofs.GoodArguments.{HaveGoodArguments, good_arguments}
-use Rattle.ckpt_machine.proofs.Histories.{HasHistory, shaped_there, maker_incomplete, on_replica-there, follows, run_history}
+use Rattle.ckpt_machine.proofs.Generations.{generation_there}
+use Rattle.ckpt_machine.proofs.Histories.{HasHistory, shaped_there, on_replica-there, follows, run_history}
 use Rattle.ckpt_machine.proofs.Installed.{after_install}
-use Rattle.ckpt_machine.proofs.Joining.{opened_with-identity}
+use Rattle.ckpt_machine.proofs.Joining.{collocated_apart, opened_with-identity}
+use Rattle.ckpt_machine.proofs.OneReplica.{StepsOn, DeclaresAll, IsActiveOf, CanBeMarked, IsMarkedFor, Grows, committed_generation, element_generation, committed_more, no_marks_at, grows_same}
 use Rattle.ckpt_machine.proofs.OptionLemmas.{IsSomeAnd-at, IsSomeAnd-from, IfSome-from, IfSome-at}
 use Rattle.ckpt_machine.proofs.OwnMaking.{making_there}
-use Rattle.ckpt_machine.proofs.Prefixes.{prefix_same, prefix_of_same, prefix_of_none, prefix_then}
+use Rattle.ckpt_machine.proofs.Prefixes.{prefix_of_same, prefix_of_none, prefix_then}
 use Rattle.ckpt_machine.proofs.References.{released-identity}
 use Rattle.ckpt_machine.proofs.ReplicaSteps.{put_actor-cases}
 use Rattle.ckpt_machine.proofs.Runs.{last-push, IsRunFrom-front, IsRunFrom-back}
 use Rattle.ckpt_machine.proofs.Starting.{first_kept, begun_as}
-use Rattle.ckpt_machine.proofs.StaysMade.{StaysMade, StaysMade-same, StaysMade-kept, released_made, opened_made, MadeOn, MadeOn-swept, changed_on, filter_on, departed_on, created_for_on, retained_for_on, finished_on}
-
--- ---- a step on one replica
-
--- a call in hand takes this step, which is due, on a replica that is there
-pub record StepsOn (m : Machine) (s : CallState) (verb : Verb) (k r : ℕ) (x : ReplicaState) : Type 0 where
-  pub inv : Invariant m
-  pub history : HasHistory m
-  pub held : m.in_hand s.call.actor ≡ Some s
-  pub there : m.replicas k r ≡ Some x
-  pub told : Told
-  pub verb_is : told.verb ≡ verb
-  pub done : IsDone m s (due m s) told
-
--- the checkpoint has this entry, and its updates are on all replicas
-pub record DeclaresAll (m : Machine) (k : ℕ) (e : Entry) : Type 0 where
-  pub found : entry_of k m.cluster.entries ≡ Some e
-  pub all : is_all e.attributes ≡ true
-
--- it has this entry, and they are on the active alone, which is this node
-pub record IsActiveOf (m : Machine) (k r : ℕ) (e : Entry) : Type 0 where
-  pub found : entry_of k m.cluster.entries ≡ Some e
-  pub alone : is_all e.attributes ≡ false
-  pub active : e.active ≡ Some r
-
--- no marks stand, and this is a write of some elements, done one after the other, which has an outcome
-pub record CanBeMarked (e : Entry) (update : Update) (t : ℤ) (x : ReplicaState) : Type 0 where
-  pub none : x.marks ≡ None
-  pub by_element : is_by_element (is_weak e.attributes) update ≡ true
-  pub good : update_is_bad update ≡ false
-  pub fits : IsOk (outcome e.attributes update t x.sections)
-
--- these marks stand, of an update of the call, of which an element is left, or none
-pub record IsMarkedFor (call : CallId) (update : Update) (left : Bool) (x : ReplicaState) (marks : Marked) : Type 0 where
-  pub stand : x.marks ≡ Some marks
-  pub are : AreMarksOf call update left marks
-
--- what one replica becomes: it has its generation and its effects still, and where updates are on the active alone, more only if it is the active
-pub record Grows (m : Machine) (k r : ℕ) (x y : ReplicaState) : Type 0 where
-  pub generation : y.generation ≡ x.generation
-  pub more : IsPrefix x.effects y.effects
-  pub other : (e : Entry) → entry_of k m.cluster.entries ≡ Some e → is_all e.attributes ≡ false → (e.active ≡ Some r) ⊎ (y.effects ≡ x.effects)
-
--- a commit leaves the generation
-pub committed_generation : (o : Option Entry) (x : ReplicaState) → (with_committed o x).generation ≡ x.generation
-committed_generation None x = refl
-committed_generation (Some e) x = by_slot x.slot
-  where
-    by_slot : (o : Option Staged) → (committed_slot e.attributes x o).generation ≡ x.generation
-    by_slot None = refl
-    by_slot (Some slot) = refl
-
--- an element of a weak write leaves the generation
-pub element_generation : (o : Option Entry) (x : ReplicaState) → (with_next_element o x).generation ≡ x.generation
-element_generation None x = refl
-element_generation (Some e) x = by_marks x.marks
-  where
-    by_marks : (marks : Option Marked) → (next_element_written e.attributes x marks).generation ≡ x.generation
-    by_marks None = refl
-    by_marks (Some marked) = refl
-
--- a commit takes no effect away
-pub committed_more : (o : Option Entry) (x : ReplicaState) → IsPrefix x.effects (with_committed o x).effects
-committed_more None x = prefix_same x.effects
-committed_more (Some e) x = by_slot x.slot
-  where
-    by_slot : (o : Option Staged) → IsPrefix x.effects (committed_slot e.attributes x o).effects
-    by_slot None = prefix_same x.effects
-    by_slot (Some slot) = (effect_of slot ∷ [], refl)
-
--- no marks stand on a node that is not the active
-no_marks_at : (active : Option ℕ) (marks : Option Marked) (r : ℕ) → is_active active r ≡ false → marks_at active marks r ≡ None
-no_marks_at None marks r other = refl
-no_marks_at (Some active) marks r other = elim (r == active) as (λ b. (r == active) ≡ b → cond b marks None ≡ None) [
-  | true ↦ λ is. absurd (not_active (Some active) r other (ap Some (sym (eqb-true r active is))))
-  | false ↦ λ is. refl
-] refl
-
--- where its effects and its generation stay
-grows_same : (m : Machine) (k r : ℕ) (x y : ReplicaState) → y.effects ≡ x.effects → y.generation ≡ x.generation → Grows m k r x y
-grows_same m k r x y same generation = record { generation = generation; more = prefix_of_same x.effects y.effects same; other = λ e found alone. inr same }
+use Rattle.ckpt_machine.proofs.Sync.{left_is}
+use Rattle.ckpt_machine.proofs.StaysMade.{StaysMade, StaysMade-same, StaysMade-kept, GoesOnMade, StaysMade-goes, held_made, held-identity, released_made, opened_made, MadeOn, MadeOn-swept, changed_on, filter_on, departed_on, created_for_on, retained_for_on, finished_on}
 
 -- ---- snapshots in hands
 
@@ -151,24 +72,11 @@ pub record PulledInHand (hands : ActorName → Option CallState) (k : ℕ) (s : 
 begun_empty : (end : Option Outcome) (call : CallId) (op : Op) (kept : Kept) (z : CallState) (s : Snapshot) → call_begun end call op kept ≡ Some z → z.snapshot ≡ Some s → ⊥
 begun_empty end call op kept z s is pulled = let (d, driven, same) = begun_as end call op kept z is in let w : None ≡ Some s = ap (λ (z : CallState). z.snapshot) same ∙ pulled in cc w
 
--- a call that goes on is as its step leaves it
-pub left_as : (end : Option Outcome) (s z : CallState) → left end s ≡ Some z → s ≡ z
-left_as None s z is = same_Some s z is
-left_as (Some e) s z is = absurd (cc is)
-
 -- each replica of the checkpoint, and each snapshot of it, that is of this generation has only what this one has taken first
 pub record IsAhead (k g : ℕ) (replicas : ℕ → ℕ → Option ReplicaState) (snapshots : ℕ → Option Snapshot) (hands : ActorName → Option CallState) (y : ReplicaState) : Type 0 where
   pub replica : (q : ℕ) (x : ReplicaState) → replicas k q ≡ Some x → x.generation ≡ g → IsPrefix x.effects y.effects
   pub snapshot : (s : Snapshot) → snapshots k ≡ Some s → s.generation ≡ g → IsPrefix s.effects y.effects
   pub in_hand : (s : Snapshot) → PulledInHand hands k s → s.generation ≡ g → IsPrefix s.effects y.effects
-
--- the checkpoint on which a node is complete is made
-pub made_where_complete : (m : Machine) → Invariant m → (k r : ℕ) (e : Entry) → entry_of k m.cluster.entries ≡ Some e → IsCompleteOn e r → e.making ≡ None
-made_where_complete m inv k r e found complete = by_making e.making refl
-  where
-    by_making : (o : Option CallId) → e.making ≡ o → e.making ≡ None
-    by_making None is = is
-    by_making (Some c) is = absurd (let w : true ≡ false = sym (maker_incomplete m inv c k r e found is) ∙ complete in cc w)
 
 -- ---- what is kept
 
@@ -176,8 +84,8 @@ module _ (Q : Option Entry → ℕ → ReplicaState → Type 0) (S : Entry → S
   -- it holds of each replica and each snapshot; a snapshot is of a checkpoint that is made, and whose updates go to an active alone, but the checkpoint of one in a hand may be gone; and no replica and no snapshot of its generation is ahead of such an active
   pub record EachIn (last : ℕ) (entries : List Entry) (replicas : ℕ → ℕ → Option ReplicaState) (snapshots : ℕ → Option Snapshot) (hands : ActorName → Option CallState) : Type 0 where
     pub replica : (k r : ℕ) (x : ReplicaState) → replicas k r ≡ Some x → Q (entry_of k entries) r x
-    pub snapshot : (k : ℕ) (s : Snapshot) → snapshots k ≡ Some s → IsSomeAnd (entry_of k entries) (λ e. IsSource e × S e s)
-    pub in_hand : (k : ℕ) (s : Snapshot) → PulledInHand hands k s → (k ≤ last) × IfSome (entry_of k entries) (λ e. IsSource e × S e s)
+    pub snapshot : (k : ℕ) (s : Snapshot) → snapshots k ≡ Some s → IsSomeAnd (entry_of k entries) (λ e. IsOfSource e s × S e s)
+    pub in_hand : (k : ℕ) (s : Snapshot) → PulledInHand hands k s → (k ≤ last) × IfSome (entry_of k entries) (λ e. IsOfSource e s × S e s)
     pub ahead : (k r : ℕ) (e : Entry) (y : ReplicaState) → entry_of k entries ≡ Some e → is_all e.attributes ≡ false → e.active ≡ Some r → replicas k r ≡ Some y → IsAhead k e.generation replicas snapshots hands y
 
   abbrev pub Each : Machine → Type 0
@@ -186,7 +94,7 @@ module _ (Q : Option Entry → ℕ → ReplicaState → Type 0) (S : Entry → S
   -- a call in hand may have this snapshot
   record MayHave (n : Machine) (k : ℕ) (s : Snapshot) : Type 0 where
     given : k ≤ n.cluster.last_identity
-    so : IfSome (entry_of k n.cluster.entries) (λ e. IsSource e × S e s)
+    so : IfSome (entry_of k n.cluster.entries) (λ e. IsOfSource e s × S e s)
     behind : (r : ℕ) (e : Entry) (y : ReplicaState) → entry_of k n.cluster.entries ≡ Some e → is_all e.attributes ≡ false → e.active ≡ Some r → n.replicas k r ≡ Some y → s.generation ≡ e.generation → IsPrefix s.effects y.effects
 
   -- a call in hand may have what one has
@@ -208,11 +116,12 @@ module _ (Q : Option Entry → ℕ → ReplicaState → Type 0) (S : Entry → S
         record { replica = before.replica; snapshot = before.snapshot; in_hand = λ s has. (may k s has).behind r e y found alone active at });
   }
 
-  -- it holds of what a checkpoint's opening makes, whatever becomes of its entry, and where it holds it does behind a stage, a commit, an update in one step, and what is done for a weak write: its marks, each element and its end; and so it does of a snapshot of the active, and of a replica that takes it
+  -- it holds of what a checkpoint's opening makes, whatever becomes of its entry, and where it holds it does behind a stage, a commit, an update in one step, and what is done for a weak write: its marks, each element and its end; and so it does of a snapshot of the active, of a replica that takes it, and of one that leads its checkpoint anew
   pub record IsKept : Type 0 where
     pub opened : (e : Entry) (r : ℕ) → Q (Some e) r (opened_state e)
-    pub stays : (e f : Entry) (r : ℕ) (x : ReplicaState) → StaysMade e f → e.making ≡ None → Q (Some e) r x → Q (Some f) r x
-    pub stays_copied : (e f : Entry) (s : Snapshot) → StaysMade e f → IsSource e → S e s → S f s
+    pub stays : (e f : Entry) (r : ℕ) (x : ReplicaState) → GoesOnMade e f → e.making ≡ None → Q (Some e) r x → Q (Some f) r x
+    pub stays_copied : (e f : Entry) (s : Snapshot) → GoesOnMade e f → IsSource e → S e s → S f s
+    pub led : (e f : Entry) (r : ℕ) (o : Option Snapshot) (x : ReplicaState) → GoesOnMade e f → e.making ≡ None → x.slot ≡ None → x.marks ≡ None → IfSome o (S e) → Q (Some e) r x → Q (Some f) r (with_lead o f.generation x)
     pub pulled : (e : Entry) (r : ℕ) (x : ReplicaState) → IsSource e → e.active ≡ Some r → x.marks ≡ None → Q (Some e) r x → S e (copied x)
     pub put : (e : Entry) (r : ℕ) (s : Snapshot) (x : ReplicaState) → s.generation ≡ e.generation → x.slot ≡ None → x.marks ≡ None → S e s → Q (Some e) r x → Q (Some e) r (replica_from s x)
     pub staged : (m : Machine) (s : CallState) (k r : ℕ) (x : ReplicaState) → StepsOn m s verbs.Stage k r x → Q (entry_of k m.cluster.entries) r x → Q (entry_of k m.cluster.entries) r (with_slot s.call (update_of s.op) (staged_moment m k) x)
@@ -222,11 +131,11 @@ module _ (Q : Option Entry → ℕ → ReplicaState → Type 0) (S : Entry → S
     pub element : (m : Machine) (s : CallState) (k r : ℕ) (x : ReplicaState) (e : Entry) (marks : Marked) → StepsOn m s verbs.Element k r x → IsActiveOf m k r e → IsMarkedFor s.call (update_of s.op) true x marks → Q (Some e) r x → Q (Some e) r (next_element_written e.attributes x (Some marks))
     pub unmarked : (m : Machine) (s : CallState) (k r : ℕ) (x : ReplicaState) (e : Entry) (marks : Marked) → StepsOn m s verbs.Unmark k r x → IsActiveOf m k r e → IsMarkedFor s.call (update_of s.op) false x marks → Q (Some e) r x → Q (Some e) r (marks_ended x (Some marks))
 
-  -- a checkpoint of which snapshots are taken stays so
-  IsSource-stays : (e f : Entry) → StaysMade e f → IsSource e → IsSource f
-  IsSource-stays e f stays source =
-      let still = stays.made source.made in
-      record { made = still.made; alone = ap is_all still.attributes ∙ source.alone; led = subst IsSome (sym still.active) source.led }
+  -- a checkpoint of which snapshots are taken stays so, and its generation does not fall
+  IsOfSource-goes : (e f : Entry) (s : Snapshot) → GoesOnMade e f → IsOfSource e s → IsOfSource f s
+  IsOfSource-goes e f s goes of =
+      let still = goes.made of.source.made in
+      record { source = record { made = still.made; alone = ap is_all goes.attributes ∙ of.source.alone; led = still.led of.source.led }; within = (let a = of.within in let b = still.generation in omega (arith, a, b)) }
 
   -- the replica of a node that was complete was there
   was_there : (o : Option Entry) (before r : ℕ) (old : Option ReplicaState) (y : ReplicaState) → (before == 0) ≡ false → replica_under o before r old ≡ Some y → old ≡ Some y
@@ -243,9 +152,52 @@ module _ (Q : Option Entry → ℕ → ReplicaState → Type 0) (S : Entry → S
         let (f, is, complete) = IsSomeAnd-at (entry_of k m.cluster.entries) (λ e. IsCompleteOn e r) (history.bare.complete k r x there) in
         made_where_complete m inv k r e found (subst (λ e. IsCompleteOn e r) (same_Some f e (sym is ∙ found)) complete)
 
+    -- the entry of a replica that is there
+    entry_there : (k r : ℕ) (x : ReplicaState) → m.replicas k r ≡ Some x → (e : Entry) × (entry_of k m.cluster.entries ≡ Some e) × (e.making ≡ None)
+    entry_there k r x was =
+        let (e, there, complete) = IsSomeAnd-at (entry_of k m.cluster.entries) (λ e. IsCompleteOn e r) (history.bare.complete k r x was) in
+        (e, there, made_where_complete m inv k r e there complete)
+
+    -- the entry of a background snapshot that is there
+    copied_there : (k : ℕ) (s : Snapshot) → m.snapshots k ≡ Some s → (e : Entry) × (entry_of k m.cluster.entries ≡ Some e) × (IsOfSource e s × S e s)
+    copied_there k s was = IsSomeAnd-at (entry_of k m.cluster.entries) (λ e. IsOfSource e s × S e s) (each.snapshot k s was)
+
+    -- what a step of the record leaves that comes of what was there
+    module _ (R : RecordState) (last : (k : ℕ) → k ≤ m.cluster.last_identity → m.cluster.last_identity ≤ R.last_identity) (comes : (k : ℕ) → k ≤ m.cluster.last_identity → (f : Entry) → entry_of k R.entries ≡ Some f → (e : Entry) × (entry_of k m.cluster.entries ≡ Some e) × GoesOnMade e f) where
+      -- what was there goes on made
+      goes_on : (k : ℕ) (e f : Entry) → entry_of k m.cluster.entries ≡ Some e → entry_of k R.entries ≡ Some f → GoesOnMade e f
+      goes_on k e f there found =
+          let (g, before, goes) = comes k (entry_of-given m.cluster.last_identity k m.cluster.entries e inv.holds.up_to there) f found in
+          subst (λ e. GoesOnMade e f) (same_Some g e (sym before ∙ there)) goes
+
+      -- a replica that was there
+      stayed : (k r : ℕ) (x : ReplicaState) (f : Entry) → entry_of k R.entries ≡ Some f → m.replicas k r ≡ Some x → Q (Some f) r x
+      stayed k r x f found was =
+          let (e, there, made) = entry_there k r x was in
+          kept.stays e f r x (goes_on k e f there found) made (subst (λ o. Q o r x) there (each.replica k r x was))
+
+      -- a background snapshot
+      snapshot_goes : (k : ℕ) (s : Snapshot) → snapshot_under (entry_of k R.entries) (m.snapshots k) ≡ Some s → IsSomeAnd (entry_of k R.entries) (λ e. IsOfSource e s × S e s)
+      snapshot_goes k s is =
+          let (f, found, was) = IsSomeAnd-at (entry_of k R.entries) (λ e. m.snapshots k ≡ Some s) (snapshot_was (entry_of k R.entries) (m.snapshots k) s is) in
+          let (e, there, is_so) = copied_there k s was in
+          let goes = goes_on k e f there found in
+          IsSomeAnd-from (entry_of k R.entries) (λ e. IsOfSource e s × S e s) f found (IsOfSource-goes e f s goes is_so.0, kept.stays_copied e f s goes is_so.0.source is_so.1)
+
+      -- a snapshot of which the checkpoint was given, and that was so where it was there, is so where it is there still
+      copy_goes : (k : ℕ) (s : Snapshot) → k ≤ m.cluster.last_identity → IfSome (entry_of k m.cluster.entries) (λ e. IsOfSource e s × S e s) → IfSome (entry_of k R.entries) (λ e. IsOfSource e s × S e s)
+      copy_goes k s given so = IfSome-from (entry_of k R.entries) (λ e. IsOfSource e s × S e s) (λ f found. (
+          let (e, there, goes) = comes k given f found in
+          let is_so = IfSome-at (entry_of k m.cluster.entries) (λ e. IsOfSource e s × S e s) so e there in
+          (IsOfSource-goes e f s goes is_so.0, kept.stays_copied e f s goes is_so.0.source is_so.1)))
+
+      -- as one in a hand is
+      hand_goes : (k : ℕ) (s : Snapshot) → PulledInHand m.in_hand k s → (k ≤ R.last_identity) × IfSome (entry_of k R.entries) (λ e. IsOfSource e s × S e s)
+      hand_goes k s has = let (given, so) = each.in_hand k s has in let later = last k given in (omega (arith, given, later), copy_goes k s given so)
+
     -- a step of the record: a replica was there, of a checkpoint that is made, or is as its opening makes it
     record_each : (R : RecordState) → ((k : ℕ) → k ≤ m.cluster.last_identity → MadeOn k m.cluster R) → Each (with_record m R)
-    record_each R on = record { replica = replica; snapshot = snapshot; in_hand = in_hand; ahead = ahead }
+    record_each R on = record { replica = replica; snapshot = snapshot_goes R last comes; in_hand = hand_goes R last comes; ahead = ahead }
       where
         -- what was made stays so
         still_made : (k : ℕ) (e f : Entry) → entry_of k m.cluster.entries ≡ Some e → entry_of k R.entries ≡ Some f → StaysMade e f
@@ -253,16 +205,11 @@ module _ (Q : Option Entry → ℕ → ReplicaState → Type 0) (S : Entry → S
             let (g, before, made) = (on k (entry_of-given m.cluster.last_identity k m.cluster.entries e inv.holds.up_to there)).made f found in
             subst (λ e. StaysMade e f) (same_Some g e (sym before ∙ there)) made
 
-        -- the entry of a replica that was there
-        entry_was : (k r : ℕ) (x : ReplicaState) → m.replicas k r ≡ Some x → (e : Entry) × (entry_of k m.cluster.entries ≡ Some e) × (e.making ≡ None)
-        entry_was k r x was =
-            let (e, there, complete) = IsSomeAnd-at (entry_of k m.cluster.entries) (λ e. IsCompleteOn e r) (history.bare.complete k r x was) in
-            (e, there, made_where_complete m inv k r e there complete)
+        last : (k : ℕ) → k ≤ m.cluster.last_identity → m.cluster.last_identity ≤ R.last_identity
+        last k given = (on k given).last
 
-        stayed : (k r : ℕ) (x : ReplicaState) (f : Entry) → entry_of k R.entries ≡ Some f → m.replicas k r ≡ Some x → Q (Some f) r x
-        stayed k r x f found was =
-            let (e, there, made) = entry_was k r x was in
-            kept.stays e f r x (still_made k e f there found) made (subst (λ o. Q o r x) there (each.replica k r x was))
+        comes : (k : ℕ) → k ≤ m.cluster.last_identity → (f : Entry) → entry_of k R.entries ≡ Some f → (e : Entry) × (entry_of k m.cluster.entries ≡ Some e) × GoesOnMade e f
+        comes k given f found = let (e, was, made) = (on k given).made f found in (e, was, StaysMade-goes e f made)
 
         replica : (k r : ℕ) (x : ReplicaState) → replica_under (entry_of k R.entries) (slice_index (complete_of (entry_of k m.cluster.entries)) r) r (m.replicas k r) ≡ Some x → Q (entry_of k R.entries) r x
         replica k r x is = by_entry (entry_of k R.entries) refl is
@@ -273,38 +220,9 @@ module _ (Q : Option Entry → ℕ → ReplicaState → Type 0) (S : Entry → S
               | true ↦ λ none. absurd (cc none)
               | false ↦ λ some. elim (slice_index (complete_of (entry_of k m.cluster.entries)) r == 0) as (λ b. cond b (Some (opened_state f)) (m.replicas k r) ≡ Some x → Q (Some f) r x) [
                 | true ↦ λ new. subst (Q (Some f) r) (same_Some (opened_state f) x new) (kept.opened f r)
-                | false ↦ λ old. stayed k r x f found old
+                | false ↦ λ old. stayed R last comes k r x f found old
               ] some
             ] here
-
-        -- the entry of a snapshot that was there
-        copied_was : (k : ℕ) (s : Snapshot) → m.snapshots k ≡ Some s → (e : Entry) × (entry_of k m.cluster.entries ≡ Some e) × (IsSource e × S e s)
-        copied_was k s was = IsSomeAnd-at (entry_of k m.cluster.entries) (λ e. IsSource e × S e s) (each.snapshot k s was)
-
-        snapshot : (k : ℕ) (s : Snapshot) → snapshot_under (entry_of k R.entries) (m.snapshots k) ≡ Some s → IsSomeAnd (entry_of k R.entries) (λ e. IsSource e × S e s)
-        snapshot k s is =
-            let (f, found, was) = IsSomeAnd-at (entry_of k R.entries) (λ e. m.snapshots k ≡ Some s) (snapshot_was (entry_of k R.entries) (m.snapshots k) s is) in
-            let (e, there, is_so) = copied_was k s was in
-            let made = still_made k e f there found in
-            IsSomeAnd-from (entry_of k R.entries) (λ e. IsSource e × S e s) f found (IsSource-stays e f made is_so.0, kept.stays_copied e f s made is_so.0 is_so.1)
-
-        -- the entry of a snapshot in a hand, where it is there still
-        pulled_was : (k : ℕ) (s : Snapshot) (f : Entry) → PulledInHand m.in_hand k s → entry_of k R.entries ≡ Some f → (e : Entry) × (entry_of k m.cluster.entries ≡ Some e) × StaysMade e f × IsSource e × S e s
-        pulled_was k s f has found =
-            let (given, so) = each.in_hand k s has in
-            let (e, there, made) = (on k given).made f found in
-            let is_so = IfSome-at (entry_of k m.cluster.entries) (λ e. IsSource e × S e s) so e there in
-            (e, there, made, is_so.0, is_so.1)
-
-        in_hand : (k : ℕ) (s : Snapshot) → PulledInHand m.in_hand k s → (k ≤ R.last_identity) × IfSome (entry_of k R.entries) (λ e. IsSource e × S e s)
-        in_hand k s has =
-            let given : k ≤ m.cluster.last_identity = (each.in_hand k s has).0 in
-            let later : m.cluster.last_identity ≤ R.last_identity = (on k given).last in (
-              omega (arith, given, later),
-              IfSome-from (entry_of k R.entries) (λ e. IsSource e × S e s) (λ f found. (
-                  let (e, there, made, source, is_so) = pulled_was k s f has found in
-                  (IsSource-stays e f made source, kept.stays_copied e f s made source is_so))),
-            )
 
         -- where the checkpoint was made, its active and its generation are as they were
         ahead_still : (k r : ℕ) (e f : Entry) (y : ReplicaState) → entry_of k m.cluster.entries ≡ Some e → e.making ≡ None → entry_of k R.entries ≡ Some f → is_all f.attributes ≡ false → f.active ≡ Some r
@@ -318,16 +236,18 @@ module _ (Q : Option Entry → ℕ → ReplicaState → Type 0) (S : Entry → S
         ahead : (k r : ℕ) (f : Entry) (y : ReplicaState) → entry_of k R.entries ≡ Some f → is_all f.attributes ≡ false → f.active ≡ Some r → (with_record m R).replicas k r ≡ Some y → IsAhead k f.generation (with_record m R).replicas (with_record m R).snapshots m.in_hand y
         ahead k r f y found alone active is = record {
           replica = λ q x at present. elim (under (entry_of k R.entries) (slice_index (complete_of (entry_of k m.cluster.entries)) q) q (m.replicas k q) x at).1 [
-            | inl was ↦ (let (e, there, made) = entry_was k q x was in (ahead_still k r e f y there made found alone active is).replica q x was present)
+            | inl was ↦ (let (e, there, made) = entry_there k q x was in (ahead_still k r e f y there made found alone active is).replica q x was present)
             | inr none ↦ prefix_of_none x.effects y.effects none
           ];
           snapshot = λ s at.
               let was = (IsSomeAnd-at (entry_of k R.entries) (λ e. m.snapshots k ≡ Some s) (snapshot_was (entry_of k R.entries) (m.snapshots k) s at)).2 in
-              let (e, there, is_so) = copied_was k s was in
-              (ahead_still k r e f y there is_so.0.made found alone active is).snapshot s was;
+              let (e, there, is_so) = copied_there k s was in
+              (ahead_still k r e f y there is_so.0.source.made found alone active is).snapshot s was;
           in_hand = λ s has.
-              let (e, there, made, source, is_so) = pulled_was k s f has found in
-              (ahead_still k r e f y there source.made found alone active is).in_hand s has;
+              let (given, so) = each.in_hand k s has in
+              let (e, there, stays) = (on k given).made f found in
+              let is_so = IfSome-at (entry_of k m.cluster.entries) (λ e. IsOfSource e s × S e s) so e there in
+              (ahead_still k r e f y there is_so.0.source.made found alone active is).in_hand s has;
         }
 
     step_each : (step : RecordState → RecordState) → ((k : ℕ) → k ≤ m.cluster.last_identity → MadeOn k m.cluster (step m.cluster)) → Each (record_step step m)
@@ -401,7 +321,7 @@ module _ (Q : Option Entry → ℕ → ReplicaState → Type 0) (S : Entry → S
     pulled_each k x from none = record {
       replica = each.replica;
       snapshot = λ j s is. elim (put-cases m.snapshots k (copied x) j s is) [
-        | inl here ↦ subst (λ s. IsSomeAnd (entry_of j m.cluster.entries) (λ e. IsSource e × S e s)) here.1 (subst (λ j. IsSomeAnd (entry_of j m.cluster.entries) (λ e. IsSource e × S e (copied x))) here.0 own)
+        | inl here ↦ subst (λ s. IsSomeAnd (entry_of j m.cluster.entries) (λ e. IsOfSource e s × S e s)) here.1 (subst (λ j. IsSomeAnd (entry_of j m.cluster.entries) (λ e. IsOfSource e (copied x) × S e (copied x))) here.0 own)
         | inr was ↦ each.snapshot j s was
       ];
       in_hand = each.in_hand;
@@ -417,15 +337,15 @@ module _ (Q : Option Entry → ℕ → ReplicaState → Type 0) (S : Entry → S
           };
     }
       where
-        own : IsSomeAnd (entry_of k m.cluster.entries) (λ e. IsSource e × S e (copied x))
-        own = IsSomeAnd-from (entry_of k m.cluster.entries) (λ e. IsSource e × S e (copied x)) from.entry from.found
-            (from.source, kept.pulled from.entry from.node x from.source from.active none (subst (λ o. Q o from.node x) from.found (each.replica k from.node x from.there)))
+        own : IsSomeAnd (entry_of k m.cluster.entries) (λ e. IsOfSource e (copied x) × S e (copied x))
+        own = IsSomeAnd-from (entry_of k m.cluster.entries) (λ e. IsOfSource e (copied x) × S e (copied x)) from.entry from.found
+            (record { source = from.source; within = (generation_there m inv k from.node from.entry x from.found from.there).within }, kept.pulled from.entry from.node x from.source from.active none (subst (λ o. Q o from.node x) from.found (each.replica k from.node x from.there)))
 
     -- a call in hand may have what is the background snapshot of a checkpoint that is there
     copied_may : (k : ℕ) (s : Snapshot) (e : Entry) → entry_of k m.cluster.entries ≡ Some e → m.snapshots k ≡ Some s → MayHave m k s
     copied_may k s e found is = record {
       given = entry_of-given m.cluster.last_identity k m.cluster.entries e inv.holds.up_to found;
-      so = (let (f, there, is_so) = IsSomeAnd-at (entry_of k m.cluster.entries) (λ e. IsSource e × S e s) (each.snapshot k s is) in subst (λ o. IfSome o (λ e. IsSource e × S e s)) (sym there) is_so);
+      so = (let (f, there, is_so) = IsSomeAnd-at (entry_of k m.cluster.entries) (λ e. IsOfSource e s × S e s) (each.snapshot k s is) in subst (λ o. IfSome o (λ e. IsOfSource e s × S e s)) (sym there) is_so);
       behind = λ r f y at alone active there. (each.ahead k r f y at alone active there).snapshot s is;
     }
 
@@ -467,8 +387,93 @@ module _ (Q : Option Entry → ℕ → ReplicaState → Type 0) (S : Entry → S
         own : Q (entry_of k m.cluster.entries) r (replica_from s x)
         own =
             let apart = put_apart k r x on in
-            let is_so = IfSome-at (entry_of k m.cluster.entries) (λ e. IsSource e × S e s) may.so on.entry on.found in
+            let is_so = IfSome-at (entry_of k m.cluster.entries) (λ e. IsOfSource e s × S e s) may.so on.entry on.found in
             subst (λ o. Q o r (replica_from s x)) (sym on.found) (kept.put on.entry r s x over.present apart.free apart.marks_are is_so.1 (subst (λ o. Q o r x) on.found (each.replica k r x on.there)))
+
+    -- what a call may have, it may have behind a step of the record that leaves what is made as it was
+    still_may : (R : RecordState) → ((k : ℕ) → k ≤ m.cluster.last_identity → MadeOn k m.cluster R) → (k : ℕ) (s : Snapshot) → MayHave m k s → MayHave (with_record m R) k s
+    still_may R on k s may = record {
+      given = (let given = may.given in let later = (on k given).last in omega (arith, given, later));
+      so = copy_goes R (λ k given. (on k given).last) (λ k given f found. (let (e, was, made) = (on k given).made f found in (e, was, StaysMade-goes e f made))) k s may.given may.so;
+      behind = λ r f y found alone active at present. (
+          let (e, there, stays) = (on k may.given).made f found in
+          let made = (IfSome-at (entry_of k m.cluster.entries) (λ e. IsOfSource e s × S e s) may.so e there).0.source.made in
+          let still = stays.made made in
+          let led : e.active ≡ Some r = sym still.active ∙ active in
+          let complete : (slice_index (complete_of (entry_of k m.cluster.entries)) r == 0) ≡ false = subst (λ o. (slice_index (complete_of o) r == 0) ≡ false) (sym there) (active_complete m inv.shapes k e r inv.holds there made led) in
+          may.behind r e y there (ap is_all (sym still.attributes) ∙ alone) led (was_there (entry_of k R.entries) (slice_index (complete_of (entry_of k m.cluster.entries)) r) r (m.replicas k r) y complete at) (present ∙ still.generation));
+    }
+
+    -- a node that leads its checkpoint anew
+    leads_each : (s : CallState) (k r : ℕ) (lead : Leads m s k r) → Each (with_leader m s k r lead)
+    leads_each s k r lead = record { replica = replica; snapshot = snapshot_goes n.cluster last comes; in_hand = hand_goes n.cluster last comes; ahead = ahead }
+      where
+        n : Machine
+        n = with_leader m s k r lead
+
+        last : (k : ℕ) → k ≤ m.cluster.last_identity → m.cluster.last_identity ≤ n.cluster.last_identity
+        last k given = omega arith
+
+        comes : (j : ℕ) → j ≤ m.cluster.last_identity → (f : Entry) → entry_of j n.cluster.entries ≡ Some f → (e : Entry) × (entry_of j m.cluster.entries ≡ Some e) × GoesOnMade e f
+        comes j given f found = led_made m inv s k r lead j f found
+
+        -- what is in the hand of the call is so
+        copied_so : IfSome s.snapshot (S lead.entry)
+        copied_so = IfSome-from s.snapshot (S lead.entry) (λ z is. (
+            let has : PulledInHand m.in_hand k z = record { actor = s.call.actor; state = s; in_hand = lead.held; ckpt = lead.ckpt; snapshot = is } in
+            (IfSome-at (entry_of k m.cluster.entries) (λ e. IsOfSource e z × S e z) (each.in_hand k z has).1 lead.entry lead.found).1))
+
+        -- the replica that leads
+        own : Q (entry_of k n.cluster.entries) r (leader m s k r lead)
+        own =
+            let apart = put_apart k r lead.replica (record { entry = lead.entry; found = lead.found; alone = collocated_apart lead.entry.attributes lead.collocated; other = lead.other; there = lead.there }) in
+            subst (λ o. Q o r (leader m s k r lead)) (sym lead.set) (kept.led lead.entry (led_by r lead.entry) r s.snapshot lead.replica (led_goes r lead.entry) lead.made apart.free apart.marks_are copied_so (subst (λ o. Q o r lead.replica) lead.found (each.replica k r lead.replica lead.there)))
+
+        replica : (j q : ℕ) (z : ReplicaState) → n.replicas j q ≡ Some z → Q (entry_of j n.cluster.entries) q z
+        replica j q z is = elim (leader-cases m inv s k r lead j q z is) [
+          | inl here ↦ subst (Q (entry_of j n.cluster.entries) q) here.2 (subst (λ q. Q (entry_of j n.cluster.entries) q (leader m s k r lead)) here.1 (subst (λ j. Q (entry_of j n.cluster.entries) r (leader m s k r lead)) here.0 own))
+          | inr was ↦ (let (g, found) = led_entry m inv s k r lead j q z is in subst (λ o. Q o q z) (sym found) (stayed n.cluster last comes j q z g found was.0))
+        ]
+
+        -- nothing else is of the generation of what is led
+        none_other : (g : ℕ) → g ≤ lead.entry.generation → g ≡ lead.entry.generation + 1 → ⊥
+        none_other g within is = omega (arith, within, is)
+
+        -- of the checkpoint that the node leads
+        led_ahead : (y : ReplicaState) → n.replicas k r ≡ Some y → IsAhead k (lead.entry.generation + 1) n.replicas n.snapshots n.in_hand y
+        led_ahead y is = record {
+          replica = λ q z at present. elim (leader-cases m inv s k r lead k q z at) [
+            | inl here ↦ prefix_of_same z.effects y.effects (ap (λ (z : ReplicaState). z.effects) (same_Some y z (sym is ∙ ap (n.replicas k) here.1 ∙ at)))
+            | inr was ↦ absurd (none_other z.generation (generation_there m inv k q lead.entry z lead.found was.0).within present)
+          ];
+          snapshot = λ z at present. (
+              let (f, found, was) = IsSomeAnd-at (entry_of k n.cluster.entries) (λ e. m.snapshots k ≡ Some z) (snapshot_was (entry_of k n.cluster.entries) (m.snapshots k) z at) in
+              let (e, there, is_so) = copied_there k z was in
+              absurd (none_other z.generation (subst (λ (e : Entry). z.generation ≤ e.generation) (same_Some e lead.entry (sym there ∙ lead.found)) is_so.0.within) present));
+          in_hand = λ z has present. absurd (none_other z.generation (IfSome-at (entry_of k m.cluster.entries) (λ e. IsOfSource e z × S e z) (each.in_hand k z has).1 lead.entry lead.found).0.within present);
+        }
+
+        -- and of any other
+        other_ahead : (j q : ℕ) (g : Entry) (y : ReplicaState) → ((j ≡ k) → ⊥) → entry_of j m.cluster.entries ≡ Some g → is_all g.attributes ≡ false → g.active ≡ Some q → n.replicas j q ≡ Some y → IsAhead j g.generation n.replicas n.snapshots n.in_hand y
+        other_ahead j q g y other found alone active is =
+            let before = each.ahead j q g y found alone active (as_it_was q y is) in
+            record {
+              replica = λ p z at present. before.replica p z (as_it_was p z at) present;
+              snapshot = λ z at present. before.snapshot z (IsSomeAnd-at (entry_of j n.cluster.entries) (λ e. m.snapshots j ≡ Some z) (snapshot_was (entry_of j n.cluster.entries) (m.snapshots j) z at)).2 present;
+              in_hand = before.in_hand;
+            }
+          where
+            as_it_was : (p : ℕ) (z : ReplicaState) → n.replicas j p ≡ Some z → m.replicas j p ≡ Some z
+            as_it_was p z at = elim (leader-cases m inv s k r lead j p z at) [ inl here ↦ absurd (other (sym here.0)) | inr was ↦ was.0 ]
+
+        ahead : (j q : ℕ) (g : Entry) (y : ReplicaState) → entry_of j n.cluster.entries ≡ Some g → is_all g.attributes ≡ false → g.active ≡ Some q → n.replicas j q ≡ Some y → IsAhead j g.generation n.replicas n.snapshots n.in_hand y
+        ahead j q g y found alone active is = elim (found_led m inv s k r lead j g found) [
+          | inl here ↦ (
+              let node : r ≡ q = same_Some r q (sym (ap (λ (e : Entry). e.active) here.1) ∙ active) in
+              let at : n.replicas k r ≡ Some y = ap (n.replicas k) node ∙ ap (λ j. n.replicas j q) (sym here.0) ∙ is in
+              subst (λ g. IsAhead j g n.replicas n.snapshots n.in_hand y) (sym (ap (λ (e : Entry). e.generation) here.1)) (subst (λ j. IsAhead j (lead.entry.generation + 1) n.replicas n.snapshots n.in_hand y) (sym here.0) (led_ahead y at)))
+          | inr was ↦ other_ahead j q g y was.0 was.1 alone active is
+        ]
 
     -- what is done on OK alone, and at a checkpoint and a node that are named
     ok_each : (reply : StepReply) (n : Machine) → Each n → Each (on_ok reply m n)
@@ -496,7 +501,7 @@ module _ (Q : Option Entry → ℕ → ReplicaState → Type 0) (S : Entry → S
     Becomes (Some k) (Some r) words.Ok change = (x : ReplicaState) → m.replicas k r ≡ Some x → BecomesThere k r x (change k x)
     Becomes k r reply change = Unit {0}
 
-    -- what a step of a call needs: what it finishes was in the making by it, and on the replica on which it is taken it leaves what is kept, as an installation does
+    -- what a step of a call needs: what it finishes was in the making by it, and on the replica on which it is taken it leaves what is kept, as an installation and the setting of an active do
     abbrev Needs : CallState → Verb → Option ℕ → Option ℕ → StepReply → Type 0
     Needs s verbs.Finish (Some j) q words.Ok = IsSomeAnd (entry_of j m.cluster.entries) (λ e. e.making ≡ Some s.call)
     Needs s verbs.Stage k r reply = Becomes k r reply (λ k. with_slot s.call (update_of s.op) (staged_moment m k))
@@ -506,6 +511,7 @@ module _ (Q : Option Entry → ℕ → ReplicaState → Type 0) (S : Entry → S
     Needs s verbs.Element k r reply = Becomes k r reply (λ k. with_next_element (entry_of k m.cluster.entries))
     Needs s verbs.Unmark k r reply = Becomes k r reply (λ k. without_marks)
     Needs s verbs.Install k r reply = Each (changed m s verbs.Install k r reply)
+    Needs s verbs.Activate k r reply = Each (changed m s verbs.Activate k r reply)
     Needs s verb k r reply = Unit {0}
 
     finished_each : (s : CallState) (j q : Option ℕ) (reply : StepReply) → Needs s verbs.Finish j q reply → Each (changed m s verbs.Finish j q reply)
@@ -534,6 +540,8 @@ module _ (Q : Option Entry → ℕ → ReplicaState → Type 0) (S : Entry → S
     changed_each s verbs.Element j q reply needs = becomes_each j q reply _ needs
     changed_each s verbs.Unmark j q reply needs = becomes_each j q reply _ needs
     changed_each s verbs.Install j q reply needs = needs
+    changed_each s verbs.Hold j q reply needs = ok_each reply _ (one_each j _ (λ j. entry_each j (λ R. with_hold s.call) (held-identity s.call) (held_made s.call)))
+    changed_each s verbs.Activate j q reply needs = needs
     changed_each s verbs.Iter j q reply needs = ok_each reply _ (both_each j q _ (λ j q. each))
     changed_each s verbs.Next j q reply needs = ok_each reply _ (both_each j q _ (λ j q. each))
     changed_each s verbs.Leave j q reply needs = ok_each reply _ (step_each (departed (client_of s.call)) (λ k given. departed_on k m.cluster given inv.holds.rises inv.holds.up_to (client_of s.call)))
@@ -549,8 +557,8 @@ module _ (Q : Option Entry → ℕ → ReplicaState → Type 0) (S : Entry → S
     -- what a row says of the active and its replica
     on_active-there : (update : Update) (by_element : Bool) (k r : ℕ) (P : Entry → ReplicaState → Type 0) → OnActive m update by_element k r P → (x : ReplicaState) → m.replicas k r ≡ Some x → (e : Entry) × IsActiveOf m k r e × (is_by_element (is_weak e.attributes) update ≡ by_element) × P e x
     on_active-there update by_element k r P on x there =
-        let (e, y, found, at, facts) = on_replica-there m k r (λ e x. (is_all e.attributes ≡ false) × (e.active ≡ Some r) × (is_by_element (is_weak e.attributes) update ≡ by_element) × P e x) on in
-        (e, record { found = found; alone = facts.0; active = facts.1 }, facts.2, subst (P e) (same_Some y x (sym at ∙ there)) facts.3)
+        let (e, y, found, at, facts) = on_replica-there m k r (λ e x. (is_all e.attributes ≡ false) × (e.active ≡ Some r) × (e.hold ≡ None) × (is_by_element (is_weak e.attributes) update ≡ by_element) × P e x) on in
+        (e, record { found = found; alone = facts.0; active = facts.1 }, facts.3, subst (P e) (same_Some y x (sym at ∙ there)) facts.4)
 
     module _ (s : CallState) (k r : ℕ) (x : ReplicaState) (there : m.replicas k r ≡ Some x) (place : ℕ) (update : Update) (asks_is : asked s.op ≡ asks.Change place update) where
       -- the update that a row names is the call's own
@@ -622,7 +630,7 @@ module _ (Q : Option Entry → ℕ → ReplicaState → Type 0) (S : Entry → S
 
     -- what it needs is in its row
     row_needs : (s : CallState) → m.in_hand s.call.actor ≡ Some s → (t : Told) → IsDone m s (due m s) t → (verb : Verb) (k r : Option ℕ) (reply : StepReply) → t.verb ≡ verb → IsOnOwn verb k s.kept.ckpt → Row m s verb (record t { verb = verb; ckpt = k; node = r; reply = reply }) → Needs s verb k r reply
-    row_needs s held t done verbs.Finish (Some j) None words.Ok verb own row = making_there m.cluster inv.holds.rises s.call j row.0.3.0
+    row_needs s held t done verbs.Finish (Some j) None words.Ok verb _ row = making_there m.cluster inv.holds.rises s.call j row.0.3.0
     row_needs s held t done verbs.Finish (Some j) (Some q) words.Ok verb own row = absurd row.0
     row_needs s held t done verbs.Stage (Some k) (Some r) words.Ok verb own row = λ x there. record { so = kept.staged m s k r x (steps_on s held t done verbs.Stage verb k r x there) (each.replica k r x there); grows = grows_same m k r x _ refl refl }
     row_needs s held t done verbs.Commit (Some k) (Some r) words.Ok verb own row = λ x there. committed_needs s k r x there row.0 row.1 row.2 t (steps_on s held t done verbs.Commit verb k r x there) row.3
@@ -632,24 +640,36 @@ module _ (Q : Option Entry → ℕ → ReplicaState → Type 0) (S : Entry → S
     row_needs s held t done verbs.Unmark (Some k) (Some r) words.Ok verb own row = λ x there. unmarked_needs s k r x there row.0 row.1 row.2 (steps_on s held t done verbs.Unmark verb k r x there) row.3.0
     row_needs s held t done verbs.Install j q reply verb own row = after_install Each m s t j q reply row each (λ k r z x is in_hand over. (
         put_each k r z x (still_has m each k z (record { actor = s.call.actor; state = s; in_hand = held; ckpt = sym own ∙ is; snapshot = in_hand })) over))
+    row_needs s held t done verbs.Activate j q reply verb own row = after_activate Each m inv history.bare s held t j q reply own row each (λ k r on. record_each (swept (active_set k r m.cluster)) (λ j given. on j)) (leads_each s)
     row_needs s held t done verb k r reply verb_is own row = tt
 
-    -- what a call has in hand behind a step, by its pull or from before, it may have
+    -- a call may have a copy of what the active has, where no marks stand
+    active_may : (j q : ℕ) (e : Entry) (x : ReplicaState) → entry_of j m.cluster.entries ≡ Some e → m.replicas j q ≡ Some x → is_all e.attributes ≡ false → e.active ≡ Some q → x.marks ≡ None → MayHave m j (copied x)
+    active_may j q e x found there alone active none =
+        let made = made_where_complete_at j q x e found there in
+        let source : IsSource e = record { made = made; alone = alone; led = subst IsSome (sym active) refl } in
+        record {
+          given = entry_of-given m.cluster.last_identity j m.cluster.entries e inv.holds.up_to found;
+          so = subst (λ o. IfSome o (λ e. IsOfSource e (copied x) × S e (copied x))) (sym found) (record { source = source; within = (generation_there m inv j q e x found there).within }, kept.pulled e q x source active none (subst (λ o. Q o q x) found (each.replica j q x there)));
+          behind = λ r f y at alone active here. (each.ahead j r f y at alone active here).replica q x there;
+        }
+
+    -- so it may have what it keeps of that, of the checkpoint that it keeps
+    kept_may : (n : Machine) (s : CallState) (j q k : ℕ) (x : ReplicaState) (z : Snapshot) → Some j ≡ s.kept.ckpt → m.replicas j q ≡ Some x → s.kept.ckpt ≡ Some k → option_map copied (m.replicas j q) ≡ Some z → MayHave n j (copied x) → MayHave n k z
+    kept_may n s j q k x z own there ckpt is may = subst (MayHave n k) (same_Some (copied x) z (sym (ap (option_map copied) there) ∙ is)) (subst (λ j. MayHave n j (copied x)) (same_Some j k (own ∙ ckpt)) may)
+
+    -- what a call has in hand behind a step, by its pull, by its hold or from before, it may have
     pulled_may : (s : CallState) → m.in_hand s.call.actor ≡ Some s → (t : Told) (verb : Verb) (j q : Option ℕ) (reply : StepReply) → IsOnOwn verb j s.kept.ckpt → Row m s verb (record t { verb = verb; ckpt = j; node = q; reply = reply })
         → ((a : ActorName) → (changed m s verb j q reply).in_hand a ≡ m.in_hand a) → Each (changed m s verb j q reply) → (k : ℕ) (z : Snapshot) → s.kept.ckpt ≡ Some k → pulled_by m s verb j q reply ≡ Some z → MayHave (changed m s verb j q reply) k z
     pulled_may s held t verbs.Pull (Some j) (Some q) words.Ok own row same then k z ckpt is =
-        let u : Told = record t { verb = verbs.Pull; ckpt = Some j; node = Some q; reply = words.Ok } in
-        let (e, x, found, there, ok) = on_replica-there m j q (PullOk m s q u) row.0.3 in
-        let made = made_where_complete_at j q x e found there in
-        let source : IsSource e = record { made = made; alone = ok.alone; led = subst IsSome (sym ok.active) refl } in
-        let copy : copied x ≡ z = same_Some (copied x) z (sym (ap (option_map copied) there) ∙ is) in
-        let may : MayHave m j (copied x) = record {
-          given = entry_of-given m.cluster.last_identity j m.cluster.entries e inv.holds.up_to found;
-          so = subst (λ o. IfSome o (λ e. IsSource e × S e (copied x))) (sym found) (source, kept.pulled e q x source ok.active ok.unmarked (subst (λ o. Q o q x) found (each.replica j q x there)));
-          behind = λ r f y at alone active here. (each.ahead j r f y at alone active here).replica q x there;
-        } in
-        subst (MayHave m k) copy (subst (λ j. MayHave m j (copied x)) (same_Some j k (own ∙ ckpt)) may)
-    pulled_may s held t verb j q reply own row same then k z ckpt is = still_has (changed m s verb j q reply) then k z (record { actor = s.call.actor; state = s; in_hand = same s.call.actor ∙ held; ckpt = ckpt; snapshot = is })
+        let (e, x, found, there, ok) = on_replica-there m j q (PullOk m s q (record t { verb = verbs.Pull; ckpt = Some j; node = Some q; reply = words.Ok })) row.0.3 in
+        kept_may m s j q k x z own there ckpt is (active_may j q e x found there ok.alone ok.active ok.unmarked)
+    pulled_may s held t verbs.Hold (Some j) (Some q) words.Ok own row same then k z ckpt is =
+        let (e, x, found, there, ok) = on_replica-there m j q (HoldOk s q t.end) row.0.2 in
+        let may = active_may j q e x found there (collocated_apart e.attributes ok.collocated) ok.active ok.unmarked in
+        let on : (k : ℕ) → k ≤ m.cluster.last_identity → MadeOn k m.cluster (swept (hold_set j s.call m.cluster)) = λ k given. MadeOn-swept k m.cluster (hold_set j s.call m.cluster) (changed_on k m.cluster given inv.holds.rises inv.holds.up_to j (with_hold s.call) (held-identity s.call) (held_made s.call)) in
+        kept_may (record_step (hold_set j s.call) m) s j q k x z own there ckpt is (still_may (swept (hold_set j s.call m.cluster)) on j (copied x) may)
+    pulled_may s held t verb j q reply _ row same then k z ckpt is = still_has (changed m s verb j q reply) then k z (record { actor = s.call.actor; state = s; in_hand = same s.call.actor ∙ held; ckpt = ckpt; snapshot = is })
 
     -- a step leaves in the hand of its call what this may have
     stepped_each : (s : CallState) → m.in_hand s.call.actor ≡ Some s → (t : Told) → IsOnOwn t.verb t.ckpt s.kept.ckpt → Row m s t.verb t → (end : Option Outcome) → Each (changed m s t.verb t.ckpt t.node t.reply) → Each (step_of m (Some s) t.verb t.ckpt t.node t.reply end)
@@ -667,7 +687,7 @@ module _ (Q : Option Entry → ℕ → ReplicaState → Type 0) (S : Entry → S
         may : (k : ℕ) (z : Snapshot) → PulledInHand (put_actor n.in_hand s.call.actor (left end behind)) k z → MayHave n k z
         may k z has = elim (put_actor-cases n.in_hand s.call.actor (left end behind) has.actor has.state has.in_hand) [
           | inl own_hand ↦ (
-              let is = left_as end behind has.state own_hand.1 in
+              let is = left_is end behind has.state own_hand.1 in
               pulled_may s held t t.verb t.ckpt t.node t.reply own row same then k z (ap (λ (z : CallState). z.kept.ckpt) is ∙ has.ckpt) (ap (λ (z : CallState). z.snapshot) is ∙ has.snapshot))
           | inr other ↦ still_has n then k z (record { actor = has.actor; state = has.state; in_hand = other.1; ckpt = has.ckpt; snapshot = has.snapshot })
         ]
@@ -721,6 +741,7 @@ kept_nothing = record {
   opened = λ e r. tt;
   stays = λ e f r x stays made is. tt;
   stays_copied = λ e f s stays source is. tt;
+  led = λ e f r o x goes made free none copied is. tt;
   pulled = λ e r x source active none is. tt;
   put = λ e r s x present free none copied is. tt;
   staged = λ m s k r x step is. tt;

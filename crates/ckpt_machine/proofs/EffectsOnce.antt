@@ -1,5 +1,6 @@
 -- No replica and no snapshot has two effects of one call, and none has an effect of the call whose update is staged on it.
 use Rattle.std.proofs.Common.{◌≡◌, ◌≢◌, ℕ, inl, inr, List, [], ◌∷◌, ◌++◌, Option, Some, None, false, refl, sym, ap, subst, ◌∙◌}
+use Rattle.std.specs.Prelude.{IfSome}
 use Rattle.std.proofs.lemmas.Option.{same_Some}
 use Rattle.ckpt_types.specs.declared.attributes.CreationAttributes.{CreationAttributes}
 use Rattle.ckpt_types.specs.declared.identities.CallId.{CallId}
@@ -15,16 +16,17 @@ use Rattle.cluster_record.specs.StepDone.{first_lacking, last_having}
 use Rattle.ckpt_machine.specs.Drivers as drivers
 use Rattle.ckpt_machine.specs.Driving.{driver_next}
 use Rattle.ckpt_machine.specs.Invariant.{Invariant}
-use Rattle.ckpt_machine.specs.Machine.{Machine, Effect, Applied, Broken, Staged, ReplicaState, CallState}
+use Rattle.ckpt_machine.specs.Machine.{Machine, Effect, Applied, Broken, Staged, ReplicaState, Snapshot, CallState}
 use Rattle.ckpt_machine.specs.Options.{is_all}
 use Rattle.ckpt_machine.specs.Owned.{IsEffectOf, HasEffect}
 use Rattle.ckpt_machine.specs.Replays.{call_of_effect, EachCallOnce}
 use Rattle.ckpt_machine.specs.Runs.{last, IsRun}
 use Rattle.ckpt_machine.specs.Shape.{IsShapedBy}
-use Rattle.ckpt_machine.specs.Steps.{Told, IsDone, due, driver_of, rooms_of, having_taken, committed_slot, marks_ended, effect_of, staged_moment}
-use Rattle.ckpt_machine.proofs.EachReplica.{StepsOn, IsKept, run_each}
+use Rattle.ckpt_machine.specs.Steps.{Told, IsDone, due, driver_of, rooms_of, having_taken, committed_slot, marks_ended, with_lead, effect_of, staged_moment}
+use Rattle.ckpt_machine.proofs.EachReplica.{IsKept, run_each}
 use Rattle.ckpt_machine.proofs.Follows.{IsBare, effect_more}
 use Rattle.ckpt_machine.proofs.Histories.{IsCommittingAt, shaped_there}
+use Rattle.ckpt_machine.proofs.OneReplica.{StepsOn}
 
 -- ---- effects
 
@@ -70,6 +72,11 @@ one_effect_more x y new effects free none once = record {
   fresh = λ slot staged. absurd (let w : None ≡ Some slot = sym free ∙ staged in cc w);
 }
 
+-- where nothing is staged, a replica that leads with what is in hand
+led_once : (o : Option Snapshot) (g : ℕ) (x : ReplicaState) → x.slot ≡ None → IfSome o (λ s. EachCallOnce s.effects) → IsOnce x → IsOnce (with_lead o g x)
+led_once None g x free none once = record { each = once.each; fresh = once.fresh }
+led_once (Some s) g x free copied once = record { each = copied; fresh = λ slot staged. absurd (let w : None ≡ Some slot = sym free ∙ staged in cc w) }
+
 -- ---- a step of the call
 
 -- one that commits takes no step but a commit and a look
@@ -111,6 +118,7 @@ kept_once = record {
   opened = λ e r. record { each = tt; fresh = λ slot none. absurd (cc none) };
   stays = λ e f r x stays made once. once;
   stays_copied = λ e f s stays source once. once;
+  led = λ e f r o x goes made free none copied once. led_once o f.generation x free copied once;
   pulled = λ e r x source active none once. once.each;
   put = λ e r s x present free none copied once. record { each = copied; fresh = λ slot staged. absurd (let w : None ≡ Some slot = sym free ∙ staged in cc w) };
   staged = λ m s k r x step once. record {

@@ -20,7 +20,6 @@ use Rattle.cluster_record.specs.LookUps.{creation_flags_of}
 use Rattle.cluster_record.specs.RecordState.{RecordState, entry_of, client_key, is_live, is_live_from}
 use Rattle.ckpt_types.specs.Asks.{Ask}
 use Rattle.ckpt_types.specs.Asks as asks
-use Rattle.ckpt_machine.specs.Entries.{WasMade}
 use Rattle.ckpt_machine.specs.Invariant.{InvariantIn}
 use Rattle.ckpt_machine.specs.Machine.{Machine, CallState}
 use Rattle.ckpt_machine.specs.Steps.{with_tables}
@@ -28,7 +27,7 @@ use Rattle.ckpt_machine.specs.Tables.{handle_given, with_iteration, started, wit
 use Rattle.ckpt_machine.specs.Shape.{Shape}
 use Rattle.ckpt_machine.proofs.AtRest.{NoneLent-given, NoneLent-started, NoneLent-gone_on, NoneLent-closing, NoneLent-ended_at_once}
 use Rattle.ckpt_machine.proofs.ClientTables.{tables_keep, fewer_keep}
-use Rattle.ckpt_machine.proofs.Handles.{IsGoodHandle-given}
+use Rattle.ckpt_machine.proofs.Handles.{IsGivable, IsGoodHandle-given}
 
 -- two clients have two numbers
 pub other_number : (a b : ActorName) → IsClient a → IsClient b → same_actor a b ≡ false → (number_of a == number_of b) ≡ false
@@ -124,11 +123,11 @@ module _ (m : Machine) (shapes : ℕ → Shape) (inv : InvariantIn shapes m) (a 
   pub ended_at_once_keeps : (end : Option Outcome) (ask : Ask) → InvariantIn shapes (with_tables a (ended_at_once end ask) m)
   ended_at_once_keeps end ask = same_handles_keep (ended_at_once end ask) (NoneLent-ended_at_once end ask (m.tables a) (inv.rest a)) (ended_at_once-handles end ask (m.tables a))
 
-  -- with a handle of a checkpoint that was made, and its creation flags
-  pub given_keeps : (ask : Ask) (k : ℕ) → WasMade m.cluster k → InvariantIn shapes (with_tables a (handle_given ask k (creation_flags_of (entry_of k m.cluster.entries))) m)
-  given_keeps ask k made =
+  -- with a handle of a checkpoint that may be given, and its creation flags
+  pub given_keeps : (ask : Ask) (k : ℕ) → IsGivable m.cluster a k → InvariantIn shapes (with_tables a (handle_given ask k (creation_flags_of (entry_of k m.cluster.entries))) m)
+  given_keeps ask k can =
       let flags : ℕ = creation_flags_of (entry_of k m.cluster.entries) in
       tables_keep m shapes inv a idle (handle_given ask k flags) (NoneLent-given ask k flags (m.tables a) (inv.rest a)) (λ h among. elim (given-handles ask k flags (m.tables a) h among) [
         | inl was ↦ inv.handles a h was
-        | inr new ↦ IsGoodHandle-given m.cluster k h made new.0 new.1
+        | inr new ↦ IsGoodHandle-given m.cluster a k h can new.0 new.1
       ])

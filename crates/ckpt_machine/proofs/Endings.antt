@@ -24,6 +24,7 @@ use Rattle.run_labels.specs.declared.labels.Label.TheVariants as labels
 use Rattle.ckpt_types.specs.declared.words.OpWord.{OpWord}
 use Rattle.ckpt_types.specs.OpWord.{word_of_op}
 use Rattle.cluster_record.specs.Calls.{client_of}
+use Rattle.cluster_record.specs.RecordState.{entry_of}
 use Rattle.ckpt_types.specs.declared.update.Update.{Update}
 use Rattle.ckpt_types.specs.Asks.{Ask, asked, takes_room}
 use Rattle.ckpt_types.specs.Asks as asks
@@ -31,12 +32,12 @@ use Rattle.ckpt_machine.specs.BeginRows.{BeginRow}
 use Rattle.ckpt_machine.specs.Complete.{complete_replicas}
 use Rattle.ckpt_machine.specs.Driving.{refused_cause}
 use Rattle.ckpt_machine.specs.Endings.{may_lack_memory, IsEndOf}
-use Rattle.ckpt_machine.specs.Guards.{all_served, steps_with, PullOk, PullHeld, PullRow, InstallOk, InstallRow, AsksToOpen, StageRefused, StageHeld, StageRow, CommitOk, CommitRow, ends_update, ApplyOk, ApplyRow, MarkOk, MarkRow, ElementRow, UnmarkRow, ReadRow, StatusOk, StatusRow, IterOk, IterRow, NextOk, NextAnswer, EnterRow, CreateRow, ReserveRow, FinishRow, UndoRow, OpenHeld, OpenRow, LeaveRow, CloseRow, UnlinkRow, RetainRow, LookRow, Row}
+use Rattle.ckpt_machine.specs.Guards.{HoldRow, HoldOk, HoldKeptOff, ActivateRow, ActivateOk, all_served, steps_with, PullOk, PullHeld, PullRow, InstallOk, InstallRow, AsksToOpen, StageRefused, StageHeld, StageRow, CommitOk, CommitRow, ends_update, ApplyOk, ApplyRow, MarkOk, MarkRow, ElementRow, UnmarkRow, ReadRow, StatusOk, StatusRow, IterOk, IterRow, NextOk, NextAnswer, EnterRow, CreateRow, ReserveRow, FinishRow, UndoRow, OpenHeld, OpenRow, LeaveRow, CloseRow, UnlinkRow, RetainRow, LookRow, Row}
 use Rattle.ckpt_machine.specs.Laws.{EndsAsItMay}
 use Rattle.ckpt_machine.specs.Machine.{Machine, CallState}
 use Rattle.node_core.specs.Serving.{update_answer}
 use Rattle.ckpt_machine.specs.Steps.{Told, ids_asked}
-use Rattle.ckpt_machine.proofs.Refusing.{row_at_ckpt, at_node, at_none, at_node_alone, on_replica, on_all, begins_on_active}
+use Rattle.ckpt_machine.proofs.Refusing.{none_of_some, row_at_ckpt, at_node, at_none, at_node_alone, on_replica, on_all, begins_on_active}
 
 -- ---- which calls take memory
 
@@ -183,6 +184,15 @@ module _ (m : Machine) (s : CallState) (end : Option Outcome) (amiss : EndsAmiss
   install_ends k r t words.Older is row = on_replica m k r (InstallOk m s r t false) row (λ e x (ok : InstallOk m s r t false e x). committed (all_served (steps_with m s t) 0 e.complete) (answers.Pulled (length ok.pulled.effects)) (sym is ∙ ok.answer))
   install_ends k r t reply is row = absurd row
 
+  hold_ends : (k r : ℕ) (t : Told) (reply : StepReply) → t.end ≡ end → HoldRow m s k r t reply → ⊥
+  hold_ends k r t words.Ok is row = on_replica m k r (HoldOk s r t.end) row (λ e x (ok : HoldOk s r t.end e x). goes_on (sym is ∙ ok.answer))
+  hold_ends k r t (words.Held by) is row = on_replica m k r (HoldKeptOff m s r by t) row (λ e x (kept : HoldKeptOff m s r by t e x). refused errors.TryAgain (Holder by) (sym is ∙ kept.held.answer))
+  hold_ends k r t reply is row = absurd row
+
+  activate_ends : (k r : ℕ) (reply : StepReply) → ActivateRow m s k r reply end → ⊥
+  activate_ends k r words.Ok row = none_of_some (entry_of k m.cluster.entries) (ActivateOk s r end) row (λ e (ok : ActivateOk s r end e). done answers.Nothing ok.answer)
+  activate_ends k r reply row = absurd row
+
   status_ends : (k r : ℕ) (reply : StepReply) (details : Details) → StatusRow m k r reply end details → ⊥
   status_ends k r words.Ok details row = on_replica m k r (StatusOk m r end details) row (λ e x (ok : StatusOk m r end details e x). done answers.Status ok.answer)
   status_ends k r reply details row = absurd row
@@ -234,6 +244,8 @@ module _ (m : Machine) (s : CallState) (end : Option Outcome) (amiss : EndsAmiss
       at_node k r _ row (λ k r p. on_replica m k r (NextOk m s r t) p.2 (λ e x (ok : NextOk m s r t e x). given_ends (given (ids_asked m s) m.cluster.moment x.sections) reply details ok.answer))
   row_ends verbs.Pull k r reply details row = at_node k r _ row.0 (λ q n p. pull_ends q n (record { verb = verbs.Pull; ckpt = k; node = r; reply = reply; end = end; details = details }) reply refl p.3)
   row_ends verbs.Install k r reply details row = at_node k r _ row.0 (λ q n p. install_ends q n (record { verb = verbs.Install; ckpt = k; node = r; reply = reply; end = end; details = details }) reply refl p.3)
+  row_ends verbs.Hold k r reply details row = at_node k r _ row.0 (λ q n p. hold_ends q n (record { verb = verbs.Hold; ckpt = k; node = r; reply = reply; end = end; details = details }) reply refl p.2)
+  row_ends verbs.Activate k r reply details row = at_node k r _ row.0 (λ k r p. activate_ends k r reply p.2)
   row_ends verbs.Leave k r reply details row = at_none k r _ row.0 (λ p. leave_ends (client_of s.call) reply p.1)
   row_ends verbs.Close k r reply details row = row_at_ckpt k r _ row.0 (λ k p. close_ends k reply p.2)
   row_ends verbs.Unlink k r reply details row = row_at_ckpt k r _ row.0 (λ k p. unlink_ends p.0 k reply p.2)

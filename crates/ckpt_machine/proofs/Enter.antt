@@ -1,18 +1,19 @@
 -- A client becomes live, with any calls of others in hand.
-use Rattle.std.proofs.Common.{◌≡◌, ℕ, ◌<◌, ◌≤◌, inl, inr, length, Option, Some, None, true, false, cond, nat_le, ◌==◌, refl, sym, ap, subst, ◌∙◌}
+use Rattle.std.proofs.Common.{◌≡◌, ℕ, ◌<◌, ◌≤◌, inl, inr, length, Option, Some, None, Bool, true, false, cond, nat_le, ◌==◌, refl, sym, ap, subst, ◌∙◌}
 use Rattle.std.specs.Prelude.{is_some, IfSome, slice_index}
 use Rattle.std.proofs.lemmas.Bool.{eqb-true, leb-true, leb-false}
 use Rattle.ckpt_types.specs.declared.ais_error.AisError.TheVariants.{NoResources}
 use Rattle.ckpt_types.specs.declared.answers.Cause.TheVariants.{Count}
 use Rattle.ckpt_types.specs.declared.answers.Outcome.TheVariants.{Refused}
+use Rattle.ckpt_types.specs.declared.identities.ActorName.{ActorName}
 use Rattle.ckpt_types.specs.declared.identities.ActorName.TheVariants.{Client}
 use Rattle.node_msgs.specs.declared.next.RecordStep.TheVariants as events
 use Rattle.node_msgs.specs.declared.next.Next.TheVariants.{Event, End}
 use Rattle.cluster_record.specs.declared.clients.LiveClient.{LiveClient}
-use Rattle.cluster_record.specs.Calls.{client_of}
+use Rattle.cluster_record.specs.Calls.{number_of, client_of}
 use Rattle.cluster_record.specs.DueOnce.{Enter, enter_next}
 use Rattle.cluster_record.specs.Places.{find_key}
-use Rattle.cluster_record.specs.RecordState.{RecordState, client_key, entered}
+use Rattle.cluster_record.specs.RecordState.{RecordState, client_key, is_live_client, entered}
 use Rattle.ckpt_machine.specs.Drivers as drivers
 use Rattle.ckpt_machine.specs.InHand.{IsEnterAt, IsInPlace}
 use Rattle.ckpt_machine.specs.Invariant.{IsGoodClient, InvariantIn, Invariant}
@@ -52,6 +53,14 @@ module _ (m : Machine) (shapes : ℕ → Shape) (inv : InvariantIn shapes m) (s 
   found_other : (d : ℕ) → (d == c) ≡ false → find_key client_key d R.clients ≡ find_key client_key d m.cluster.clients
   found_other d other = found_then d ∙ ap (λ b. cond b (Some new) (find_key client_key d m.cluster.clients)) other
 
+  -- a client that is live is another
+  not_entering : (a : ActorName) → is_live_client (number_of a) m.cluster ≡ true → (number_of a == c) ≡ false
+  not_entering a live = by_test (number_of a == c) refl
+    where
+      by_test : (b : Bool) → (number_of a == c) ≡ b → (number_of a == c) ≡ false
+      by_test false other = other
+      by_test true same = absurd (let w : true ≡ false = sym live ∙ ap (λ n. is_live_client n m.cluster) (eqb-true (number_of a) c same) ∙ at_enter.not_live in cc w)
+
   -- its number was given
   given : s.call.number < m.next (Client c)
   given = subst (λ a. s.call.number < m.next a) (client_by_number s.call.actor at_enter.client) (inv.hands s.call.actor s held).number
@@ -60,7 +69,7 @@ module _ (m : Machine) (shapes : ℕ → Shape) (inv : InvariantIn shapes m) (s 
   enter_keeps : Invariant (ending s (record_step (entered c r s.call.number) m))
   enter_keeps = record {
     shapes = shapes;
-    holds = swept_keeps m shapes inv s held (ap is_plain is) R inv.rises inv.up_to refl refl (λ k f found. (f, found, IsLaterEntry-refl f))
+    holds = swept_keeps m shapes inv s held (ap (λ d. is_plain d s.snapshot) is) R inv.rises inv.up_to refl refl (λ k f found. (f, found, IsLaterEntry-refl f))
         (λ none. absurd (let w : false ≡ true = sym (is_up-none r m.cluster none) ∙ at_enter.up in cc w))
         (λ d. subst (λ o. IfSome o (IsGoodClient m.next R d)) (sym (found_then d)) (elim (d == c) as (λ b. (d == c) ≡ b → IfSome (cond b (Some new) (find_key client_key d m.cluster.clients)) (IsGoodClient m.next R d)) [
           | true ↦ λ same. (subst (λ (n : ℕ). s.call.number < m.next (Client n)) (sym (eqb-true d c same)) given, at_enter.up)
@@ -68,7 +77,8 @@ module _ (m : Machine) (shapes : ℕ → Shape) (inv : InvariantIn shapes m) (s 
         ] refl))
         (λ a z other at live. let apart = other_client m shapes s.call.actor inv at_enter.client a z other at in live_alike m.cluster R z.call apart.0 (found_other (client_of z.call) apart.1) ∙ live)
         (λ a z other at. let apart = other_client m shapes s.call.actor inv at_enter.client a z other at in found_other (client_of z.call) apart.1)
-        (λ a z k e other at was by. ap is_some was);
+        (λ a z k e other at was by. ap is_some was)
+        (λ a h among. found_other (number_of a) (not_entering a (inv.handles a h among).live));
   }
 
   may_enter : length m.cluster.clients < 64 → MayEnter m c r
@@ -76,7 +86,7 @@ module _ (m : Machine) (shapes : ℕ → Shape) (inv : InvariantIn shapes m) (s 
 
   -- it becomes live, or is refused memory
   event_goes : (t : Told) → length m.cluster.clients < 64 → IsEvent m s events.Enter t → Goes m s (driver_of s) t
-  event_goes t room event = elim (IsEvent-told m s events.Enter t (drivers.Once (Enter r)) event is refl) [
+  event_goes t room event = elim (IsEvent-told m s events.Enter t (drivers.Once (Enter r)) event is refl tt) [
     | inl ok ↦ subst (Goes m s (driver_of s)) (sym ok) (record {
       row = ((at_enter.version, at_enter.callbacks, at_enter.asks, (may_enter room, refl)), refl);
       holds = enter_keeps;
@@ -84,14 +94,14 @@ module _ (m : Machine) (shapes : ℕ → Shape) (inv : InvariantIn shapes m) (s 
     })
     | inr memory ↦ subst (Goes m s (driver_of s)) (sym memory.1) (record {
       row = ((at_enter.version, at_enter.callbacks, at_enter.asks, (may_enter room, refl)), refl);
-      holds = record { shapes = shapes; holds = plain_ends m shapes inv s held (ap is_plain is) };
+      holds = record { shapes = shapes; holds = plain_ends m shapes inv s held (ap (λ d. is_plain d s.snapshot) is) };
       nearer = λ none. absurd (cc none);
     })
   ]
 
   -- with no room for a client it is refused
   full_goes : (t : Told) → 64 ≤ length m.cluster.clients → IsDone m s (End (Refused NoResources (Count 64))) t → Goes m s (driver_of s) t
-  full_goes t full done = look_goes m shapes inv s held (ap is_plain is) NoResources (Count 64) t (subst (λ ask. LookRefused m s ask NoResources (Count 64)) (sym at_enter.asks) (full, refl)) done
+  full_goes t full done = look_goes m shapes inv s held (ap (λ d. is_plain d s.snapshot) is) NoResources (Count 64) t (subst (λ ask. LookRefused m s ask NoResources (Count 64)) (sym at_enter.asks) (full, refl)) done
 
   -- the next step of an Initialize
   pub enter_goes : (t : Told) → IsDone m s (enter_next m.cluster) t → Goes m s (driver_of s) t

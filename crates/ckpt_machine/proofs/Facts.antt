@@ -3,8 +3,9 @@ use Rattle.std.proofs.Common.{◌≡◌, ℕ, inl, inr, ◌<◌, List, length, O
 use Rattle.std.specs.Prelude.{is_some, IsSome, IsSomeAnd, IfSome, pos, ◌≤ℤ◌}
 use Rattle.std.proofs.lemmas.Bool.{eqb-true, leb-false}
 use Rattle.ckpt_types.specs.declared.ais_error.AisError.TheVariants.{NoResources, BadOperation, TryAgain}
-use Rattle.ckpt_types.specs.declared.answers.Cause.TheVariants.{Plain, Count, Generations}
+use Rattle.ckpt_types.specs.declared.answers.Cause.TheVariants.{Plain, Count, Holder, Generations}
 use Rattle.ckpt_types.specs.declared.answers.Outcome.TheVariants.{Refused}
+use Rattle.ckpt_types.specs.declared.answers.Outcome.{Outcome}
 use Rattle.ckpt_types.specs.declared.identities.ActorName.{ActorName}
 use Rattle.ckpt_types.specs.declared.identities.CallId.{CallId}
 use Rattle.ckpt_types.specs.declared.sections.Choice.{Choice}
@@ -19,10 +20,12 @@ use Rattle.cluster_record.specs.declared.calls.ActiveKind.TheVariants as kinds
 use Rattle.cluster_record.specs.declared.calls.UpdatePhase.{UpdatePhase}
 use Rattle.cluster_record.specs.declared.calls.UpdatePhase.TheVariants.{Staging, Committing}
 use Rattle.cluster_record.specs.declared.entries.Entry.{Entry}
-use Rattle.cluster_record.specs.DueActive.{unless_changed, on_active, request_by, starts_iteration, active_on}
+use Rattle.cluster_record.specs.DueActive.{unless_changed, unless_on_hold, is_update, on_active, request_by, starts_iteration, active_on}
 use Rattle.cluster_record.specs.DueOnce.{OneStep, Enter, Leave, Close, Unlink, Retain, enter_next, close_of, unlink_of, unlink_of_making, retain_of, once_next}
 use Rattle.cluster_record.specs.DueOpen.{OpenState}
-use Rattle.cluster_record.specs.DueSync.{SyncState, first_unserved, install_next, unless_stale, synchronize_next, kind_next, sync_on, sync_next}
+use Rattle.cluster_record.specs.DueSync.{SyncState, first_unserved, install_next, unless_stale, lead_next, unless_held, synchronize_next, kind_next, sync_on, sync_next}
+use Rattle.cluster_record.specs.declared.calls.SyncKind.{SyncKind}
+use Rattle.cluster_record.specs.declared.calls.SyncKind.TheVariants.{Synchronize, ActiveSet}
 use Rattle.cluster_record.specs.declared.calls.PulledAt.{PulledAt}
 use Rattle.cluster_record.specs.DueUpdate.{UpdateState, by_phase, stage_at, commit_at, update_next, update_on}
 use Rattle.cluster_record.specs.RecordState.{entry_of, named}
@@ -34,15 +37,24 @@ use Rattle.ckpt_machine.specs.Driving.{driver_next}
 use Rattle.ckpt_machine.specs.Machine.{Machine, CallState}
 use Rattle.node_core.specs.Fitting.{IsReadyFor}
 use Rattle.ckpt_machine.specs.Steps.{due, driver_of, room_in, room_at, rooms_of, seen_at, seen, seen_slot}
-use Rattle.ckpt_machine.specs.Facts.{IsActive, IsServable, IsEventReady, IsStarting, IsGoingOn, HasCopyRoom, Facts}
-use Rattle.ckpt_machine.specs.InHand.{MarksFit, IsEnterAt, IsOnceAt, IsInPlace, IsActiveIn, IsSyncIn}
+use Rattle.ckpt_machine.specs.Facts.{IsActive, IsAtRest, IsLeadable, IsServable, IsEventReady, IsStarting, IsGoingOn, HasCopyRoom, Facts}
+use Rattle.ckpt_machine.specs.InHand.{MarksFit, IsEnterAt, IsOnceAt, IsInPlace, IsActiveIn, is_held_by, IsSynchronizeIn, IsSettingIn}
 use Rattle.ckpt_machine.specs.Invariant.{InvariantIn, Invariant}
 use Rattle.ckpt_machine.specs.Guards.{deadline_of}
-use Rattle.ckpt_machine.specs.Shape.{Shape}
+use Rattle.ckpt_machine.specs.Shape.{Shape, marks_at, IsSpread}
 use Rattle.ckpt_machine.specs.Tables.{takes_copy}
 use Rattle.section_iter.specs.Room.{room_declared}
 use Rattle.cluster_record.specs.LookUps.{declared_in}
+use Rattle.ckpt_machine.proofs.Active.{marked_free}
 use Rattle.ckpt_machine.proofs.ActiveNode.{AsksOf, by_kind as asks_of_kind, is_change, ActiveOf, active_of, active_seen, active_next-there}
+use Rattle.ckpt_machine.proofs.ActiveBy.{active_by-complete}
+use Rattle.ckpt_machine.proofs.Actors.{same_call-true, same_call-refl}
+use Rattle.ckpt_machine.proofs.MarksAt.{none_marked}
+use Rattle.ckpt_machine.proofs.NodeLists.{index-within}
+use Rattle.ckpt_machine.proofs.SettingActive.{at_setting, spread, on_complete, complete_here, own_hold}
+use Rattle.cluster_record.specs.Calls.{same_call}
+use Rattle.cluster_record.specs.Placement.{is_collocated}
+use Rattle.std.proofs.lemmas.Option.{same_Some}
 use Rattle.ckpt_machine.proofs.Deadlines.{in_time-either}
 use Rattle.ckpt_machine.proofs.Installing.{below, free_there}
 use Rattle.ckpt_machine.proofs.OnTheActive.{apart}
@@ -54,7 +66,7 @@ use Rattle.ckpt_machine.proofs.OpenReady.{IsReadyOpen, open_ready, open_fits}
 use Rattle.ckpt_machine.proofs.OwnMaking.{making_is}
 use Rattle.ckpt_machine.proofs.Propagated.{complete_there, target_there, target_free}
 use Rattle.ckpt_machine.proofs.UpdateReady.{HasMoment, HasOwn, IsReadyNext, update_ready}
-use Rattle.ckpt_machine.proofs.OptionLemmas.{IsSomeAnd-from}
+use Rattle.ckpt_machine.proofs.OptionLemmas.{IsSomeAnd-from, IfSome-at}
 
 -- what it relies on of a weak write that begins, of an iteration that is started, and of one that goes on; and of a pull and an installation
 abbrev pub IsFor : Machine → CallState → Request → Type 0
@@ -144,9 +156,9 @@ module _ (m : Machine) (shapes : ℕ → Shape) (inv : InvariantIn shapes m) (s 
     free : is_change kind ≡ true → seen_slot (length at.replica.effects) at.replica.slot ≡ None
     free change = ap (seen_slot (length at.replica.effects)) (apart m shapes inv s call k kind made held at change is).free
 
-    by_kind : (x : ActiveKind) → kind ≡ x → AsksOf s.kept.weak x (asked s.op) → MarksFit x made → (b : Bool) → IsDueReady m s driver (cond b (End (Refused NoResources (Count 8))) (unless_changed made at.entry.generation (Serve at.node (request_by call k x made))))
+    by_kind : (x : ActiveKind) → kind ≡ x → AsksOf s.kept.weak x (asked s.op) → MarksFit x made → (b : Bool) → IsDueReady m s driver (cond b (End (Refused NoResources (Count 8))) (unless_on_hold x at.entry.hold (unless_changed made at.entry.generation (Serve at.node (request_by call k x made)))))
     by_kind x kind_is asks fit true = tt
-    by_kind x kind_is asks fit false = by_made x kind_is asks made refl fit
+    by_kind x kind_is asks fit false = by_hold at.entry.hold
       where
         by_made : (x : ActiveKind) → kind ≡ x → AsksOf s.kept.weak x (asked s.op) → (o : Option MarksMade) → made ≡ o → MarksFit x o → IsDueReady m s driver (unless_changed o at.entry.generation (Serve at.node (request_by call k x o)))
         by_made kinds.Read kind_is asks None none fit = (at.within, seen_there (requests.Read k) refl tt, tt, tt, tt)
@@ -157,14 +169,26 @@ module _ (m : Machine) (shapes : ℕ → Shape) (inv : InvariantIn shapes m) (s 
         by_made (kinds.Weak n) kind_is asks None none fit = (at.within, seen_there (requests.Mark call k) refl (free (ap is_change kind_is)), tt, tt, subst (λ a. IsWrite (update_asked a)) (sym asks.2) tt)
         by_made (kinds.Weak n) kind_is asks (Some w) made_is fit = by_generation (w.generation == at.entry.generation)
           where
+            -- no call holds a checkpoint on which its marks stand
+            free_then : at.entry.hold ≡ None
+            free_then = marked_free m shapes inv s call k held at (kinds.Weak n) w (is ∙ (λ i. drivers.Active (record { call = call; ckpt = k; kind = kind_is i; marks = made_is i }))) at.entry.hold refl
+
             by_left : (b : Bool) → (w.left == 0) ≡ b → IsDueReady m s driver (Serve at.node (cond b (requests.Unmark call k) (requests.Element call k)))
-            by_left true none = (at.within, seen_there (requests.Unmark call k) refl (marks_ready m shapes inv s call k n made held at (is ∙ ap (λ x. drivers.Active (record { call = call; ckpt = k; kind = x; marks = made })) kind_is) w made_is true none), tt, tt, tt)
-            by_left false some = (at.within, seen_there (requests.Element call k) refl (marks_ready m shapes inv s call k n made held at (is ∙ ap (λ x. drivers.Active (record { call = call; ckpt = k; kind = x; marks = made })) kind_is) w made_is false some), tt, tt, tt)
+            by_left true none = (at.within, seen_there (requests.Unmark call k) refl (marks_ready m shapes inv s call k n made held at free_then (is ∙ ap (λ x. drivers.Active (record { call = call; ckpt = k; kind = x; marks = made })) kind_is) w made_is true none), tt, tt, tt)
+            by_left false some = (at.within, seen_there (requests.Element call k) refl (marks_ready m shapes inv s call k n made held at free_then (is ∙ ap (λ x. drivers.Active (record { call = call; ckpt = k; kind = x; marks = made })) kind_is) w made_is false some), tt, tt, tt)
 
             by_generation : (b : Bool) → IsDueReady m s driver (cond b (Serve at.node (request_by call k (kinds.Weak n) (Some w))) (End (Refused TryAgain (Generations w.generation at.entry.generation))))
             by_generation true = by_left (w.left == 0) refl
             by_generation false = tt
         by_made x kind_is asks (Some w) made_is fit = absurd fit
+
+        by_update : (b : Bool) (o : Outcome) → IsDueReady m s driver (cond b (End o) (unless_changed made at.entry.generation (Serve at.node (request_by call k x made))))
+        by_update true o = tt
+        by_update false o = by_made x kind_is asks made refl fit
+
+        by_hold : (hold : Option CallId) → IsDueReady m s driver (unless_on_hold x hold (unless_changed made at.entry.generation (Serve at.node (request_by call k x made))))
+        by_hold None = by_made x kind_is asks made refl fit
+        by_hold (Some holder) = by_update (is_update x) (Refused TryAgain (Holder holder))
 
   active_ready : (rooms : Rooms) → IsDueReady m s driver (driver_next m.cluster rooms driver)
   active_ready rooms = by_entry (entry_of k m.cluster.entries) refl
@@ -172,15 +196,15 @@ module _ (m : Machine) (shapes : ℕ → Shape) (inv : InvariantIn shapes m) (s 
       by_entry : (o : Option Entry) → entry_of k m.cluster.entries ≡ o → IsDueReady m s driver (driver_next m.cluster rooms driver)
       by_entry None gone = subst (IsDueReady m s driver) (sym (ap (active_on rooms.iterations (record { call = call; ckpt = k; kind = kind; marks = made })) gone)) tt
       by_entry (Some e) found = elim (active_of m shapes k e inv at_active.made found) [
-        | inl none ↦ subst (IsDueReady m s driver) (sym (ap (active_on rooms.iterations (record { call = call; ckpt = k; kind = kind; marks = made })) found ∙ ap (on_active rooms.iterations (record { call = call; ckpt = k; kind = kind; marks = made }) e.generation) none)) tt
+        | inl none ↦ subst (IsDueReady m s driver) (sym (ap (active_on rooms.iterations (record { call = call; ckpt = k; kind = kind; marks = made })) found ∙ ap (on_active rooms.iterations (record { call = call; ckpt = k; kind = kind; marks = made }) e.generation e.hold) none)) tt
         | inr at ↦ subst (IsDueReady m s driver) (sym (active_next-there m (shapes k).marks k at call kind made rooms)) (by_kind at kind refl (asks_of_kind s.kept.all s.kept.weak (asked s.op) kind at_active.kind) at_active.fit (starts_iteration kind && not rooms.iterations))
       ]
 
 -- ---- a synchronisation
 
-module _ (m : Machine) (shapes : ℕ → Shape) (inv : InvariantIn shapes m) (s : CallState) (u : SyncState) (held : m.in_hand s.call.actor ≡ Some s) (is : driver_of s ≡ drivers.Sync u) where
-  its : IsSyncIn m s u
-  its = at_sync m shapes inv s u held is
+module _ (m : Machine) (shapes : ℕ → Shape) (inv : InvariantIn shapes m) (s : CallState) (u : SyncState) (held : m.in_hand s.call.actor ≡ Some s) (is : driver_of s ≡ drivers.Sync u) (sync : (deadline : Option ℤ) × (u.kind ≡ Synchronize deadline)) where
+  its : IsSynchronizeIn m s u
+  its = at_sync m shapes inv s u held is sync
 
   module _ (at : ActiveOf m (shapes u.ckpt).marks u.ckpt) where
     -- it has room for a copy of what its checkpoint declares
@@ -196,11 +220,11 @@ module _ (m : Machine) (shapes : ℕ → Shape) (inv : InvariantIn shapes m) (s 
     install_ready : (p : PulledAt) → u.pulled ≡ Some p → p.generation ≡ at.entry.generation → (r : Option ℕ) → first_unserved 0 at.entry.complete u.served ≡ r → IsDueReady m s (drivers.Sync u) (install_next u.call u.ckpt p.count r)
     install_ready p keeps present None none = tt
     install_ready p keeps present (Some r) next = (
-      below m shapes inv s u held is at p keeps present r next,
-      free_there m shapes inv s u held is at p keeps present r next,
+      below m shapes inv s u held is sync at p keeps present r next,
+      free_there m shapes inv s u held is sync at p keeps present r next,
       tt,
       tt,
-      (has_copy_room, let pulled = has_pulled m shapes inv s u held is p keeps in ap is_some pulled.in_hand),
+      (has_copy_room, let pulled = has_pulled m shapes inv s u held is sync p keeps in ap is_some pulled.in_hand),
     )
 
     pulled_ready : (o : Option PulledAt) → u.pulled ≡ o → IsDueReady m s (drivers.Sync u) (unless_stale u at.entry at.node o)
@@ -211,8 +235,8 @@ module _ (m : Machine) (shapes : ℕ → Shape) (inv : InvariantIn shapes m) (s 
         by_generation true same = install_ready p keeps (eqb-true p.generation at.entry.generation same) (first_unserved 0 at.entry.complete u.served) refl
         by_generation false other = tt
 
-  sync_ready : IsDueReady m s (drivers.Sync u) (sync_next m.cluster u)
-  sync_ready = by_entry (entry_of u.ckpt m.cluster.entries) refl
+  synchronize_ready : IsDueReady m s (drivers.Sync u) (sync_next m.cluster u)
+  synchronize_ready = by_entry (entry_of u.ckpt m.cluster.entries) refl
     where
       by_entry : (o : Option Entry) → entry_of u.ckpt m.cluster.entries ≡ o → IsDueReady m s (drivers.Sync u) (sync_next m.cluster u)
       by_entry None gone = subst (IsDueReady m s (drivers.Sync u)) (sym (ap (sync_on m.cluster u) gone)) tt
@@ -221,6 +245,81 @@ module _ (m : Machine) (shapes : ℕ → Shape) (inv : InvariantIn shapes m) (s 
         | inr at ↦ subst (IsDueReady m s (drivers.Sync u)) (sym (ap (sync_on m.cluster u) at.found ∙ ap (kind_next m.cluster u at.entry) its.kind ∙ ap (synchronize_next m.cluster u (deadline_of s) at.entry) at.active))
             (in_time-either (IsDueReady m s (drivers.Sync u)) (deadline_of s) m.cluster.moment (unless_stale u at.entry at.node u.pulled) (λ o. tt) (pulled_ready at u.pulled refl))
       ]
+
+-- ---- the setting of an active
+
+module _ (m : Machine) (shapes : ℕ → Shape) (inv : InvariantIn shapes m) (s : CallState) (u : SyncState) (held : m.in_hand s.call.actor ≡ Some s) (is : driver_of s ≡ drivers.Sync u) (local : ℕ) (kind : u.kind ≡ ActiveSet local) where
+  sets : IsSettingIn m s u local
+  sets = at_setting m shapes inv s u held is local kind
+
+  module _ (e : Entry) (found : entry_of u.ckpt m.cluster.entries ≡ Some e) where
+    -- it has room for a copy of what its checkpoint declares
+    setting_room : HasCopyRoom m s u.ckpt
+    setting_room = record {
+      takes = ap takes_copy sets.asks;
+      declares = IsSomeAnd-from (entry_of u.ckpt m.cluster.entries) (λ e. s.kept.declares ≡ Some e.attributes) e found (IfSome-at (entry_of u.ckpt m.cluster.entries) (λ e. s.kept.declares ≡ Some e.attributes) sets.declares e found);
+    }
+
+    spread_is : IsSpread m u.ckpt (shapes u.ckpt) e
+    spread_is = spread m shapes inv s u held is local kind e found
+
+    -- its replica is at rest, where something is in its hand
+    rests : IsSome s.snapshot → IfSome (m.replicas u.ckpt local) IsAtRest
+    rests some =
+        let at = on_complete m shapes inv s u held is local kind e found local (complete_here m shapes inv s u held is local kind e found) in
+        subst (λ o. IfSome o IsAtRest) (sym at.there) (at.apart.free, at.apart.marks_are ∙ by_hold e.hold refl)
+      where
+        by_hold : (o : Option CallId) → e.hold ≡ o → marks_at e.active (shapes u.ckpt).marks local ≡ None
+        by_hold (Some d) holds = ap (λ marks. marks_at e.active marks local) (spread_is.held d holds).unmarked ∙ none_marked e.active local
+        by_hold None free = absurd (let w : false ≡ true = sym (ap (is_held_by s.call) free) ∙ own_hold m shapes inv s u held is local kind e found ∙ some in cc w)
+
+    -- something is in its hand just where the checkpoint is held
+    in_hand_is : ((d : CallId) → e.hold ≡ Some d → d ≡ s.call) → is_some s.snapshot ≡ is_some e.hold
+    in_hand_is own = sym (own_hold m shapes inv s u held is local kind e found) ∙ by_hold e.hold refl
+      where
+        by_hold : (o : Option CallId) → e.hold ≡ o → is_held_by s.call o ≡ is_some o
+        by_hold None free = refl
+        by_hold (Some d) holds = ap (λ c. same_call c s.call) (own d holds) ∙ same_call-refl s.call
+
+    lead_ready : ((d : CallId) → e.hold ≡ Some d → d ≡ s.call) → IsDueReady m s (drivers.Sync u) (Event (events.Activate local))
+    lead_ready own = (sets.within, setting_room, IsSomeAnd-from (entry_of u.ckpt m.cluster.entries) (λ e. IsLeadable m s u.ckpt local e) e found (record { rest = rests; held = in_hand_is own }))
+
+    hold_ready : (r : ℕ) → e.active ≡ Some r → e.hold ≡ None → IsDueReady m s (drivers.Sync u) (Event (events.Hold r))
+    hold_ready r active free =
+        let complete = active_by-complete (is_collocated e.attributes) e.complete e.active spread_is.active r active in
+        let at = on_complete m shapes inv s u held is local kind e found r complete in
+        (subst (λ (n : ℕ). r < n) spread_is.nodes (index-within e.complete r complete), ap (λ o. is_some o) at.there, setting_room, IsSomeAnd-from (entry_of u.ckpt m.cluster.entries) (λ e. e.hold ≡ None) e found free)
+
+    by_active : e.hold ≡ None → (o : Option ℕ) → e.active ≡ o → IsDueReady m s (drivers.Sync u) (lead_next local o)
+    by_active free None active = lead_ready (λ d holds. absurd (let w : None ≡ Some d = sym free ∙ holds in cc w))
+    by_active free (Some r) active = by_test (r == local)
+      where
+        by_test : (b : Bool) → IsDueReady m s (drivers.Sync u) (cond b (Event (events.Activate local)) (Event (events.Hold r)))
+        by_test true = lead_ready (λ d holds. absurd (let w : None ≡ Some d = sym free ∙ holds in cc w))
+        by_test false = hold_ready r active free
+
+    by_hold : (o : Option CallId) → e.hold ≡ o → IsDueReady m s (drivers.Sync u) (unless_held u.call local e.active o)
+    by_hold None free = by_active free e.active refl
+    by_hold (Some by) holds = by_test (same_call by u.call) refl
+      where
+        by_test : (b : Bool) → same_call by u.call ≡ b → IsDueReady m s (drivers.Sync u) (cond b (Event (events.Activate local)) (End (Refused TryAgain (Holder by))))
+        by_test true same = lead_ready (λ d also. same_Some d by (sym also ∙ holds) ∙ same_call-true by u.call same ∙ sets.call)
+        by_test false other = tt
+
+  setting_ready : IsDueReady m s (drivers.Sync u) (sync_next m.cluster u)
+  setting_ready = by_entry (entry_of u.ckpt m.cluster.entries) refl
+    where
+      by_entry : (o : Option Entry) → entry_of u.ckpt m.cluster.entries ≡ o → IsDueReady m s (drivers.Sync u) (sync_next m.cluster u)
+      by_entry None gone = subst (IsDueReady m s (drivers.Sync u)) (sym (ap (sync_on m.cluster u) gone)) tt
+      by_entry (Some e) found = subst (IsDueReady m s (drivers.Sync u)) (sym (ap (sync_on m.cluster u) found ∙ ap (kind_next m.cluster u e) kind)) (by_hold e found e.hold refl)
+
+-- either of the two
+sync_ready : (m : Machine) (shapes : ℕ → Shape) (inv : InvariantIn shapes m) (s : CallState) (u : SyncState) → m.in_hand s.call.actor ≡ Some s → driver_of s ≡ drivers.Sync u → IsDueReady m s (drivers.Sync u) (sync_next m.cluster u)
+sync_ready m shapes inv s u held is = by_kind u.kind refl
+  where
+    by_kind : (kind : SyncKind) → u.kind ≡ kind → IsDueReady m s (drivers.Sync u) (sync_next m.cluster u)
+    by_kind (Synchronize deadline) sync = synchronize_ready m shapes inv s u held is (deadline, sync)
+    by_kind (ActiveSet local) kind = setting_ready m shapes inv s u held is local kind
 
 -- ---- a call of one step of the record
 

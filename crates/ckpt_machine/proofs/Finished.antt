@@ -1,5 +1,5 @@
 -- A making is finished on all nodes that are up: the checkpoint is made there, and the calls of others are where they were.
-use Rattle.std.proofs.Common.{◌≡◌, ◌≢◌, ℕ, inl, inr, [], length, Option, Some, None, Bool, true, false, cond, ◌==◌, refl, sym, ap, subst, ◌∙◌}
+use Rattle.std.proofs.Common.{◌≡◌, ◌≢◌, ℕ, inl, inr, List, [], length, Option, Some, None, Bool, true, false, cond, ◌==◌, refl, sym, ap, subst, ◌∙◌}
 use Rattle.std.specs.Prelude.{IsSome, IsSomeAnd, IfSome, slice_index}
 use Rattle.std.proofs.lemmas.Bool.{eqb-true, eq-eqb}
 use Rattle.std.proofs.lemmas.Option.{same_Some}
@@ -18,23 +18,28 @@ use Rattle.ckpt_machine.specs.Entries.{AllStay, WasMade}
 use Rattle.ckpt_machine.specs.InHand.{is_marked_by, attributes_asked, IsMakingIn}
 use Rattle.ckpt_types.specs.Asks.{asked}
 use Rattle.weak_marks.specs.Marks.{Marked}
-use Rattle.ckpt_machine.specs.Invariant.{IsMaker, IsGoodIn, InvariantIn}
+use Rattle.ckpt_machine.specs.Invariant.{IsMaker, IsGoodIn, IsOfGeneration, InvariantIn}
 use Rattle.ckpt_machine.specs.Machine.{Machine, ReplicaState, CallState}
 use Rattle.ckpt_machine.specs.Steps.{driver_of, with_record, replica_under, reservation_under, opened_state}
-use Rattle.ckpt_machine.specs.Shape.{Shape, IsCompleteOn, IsShapedBy, is_owner, IsOwner, IsMarker, IsSpread}
+use Rattle.ckpt_machine.specs.Shape.{Shape, IsCompleteOn, IsShapedBy, is_owner, IsOwner, IsMarker, IsActiveBy, IsHolder, IsSpread}
 use Rattle.ckpt_machine.proofs.ReplicaSteps.{put_actor-cases, put_actor-other}
 use Rattle.ckpt_machine.proofs.Handles.{IsGoodHandle-later}
-use Rattle.ckpt_machine.proofs.OtherCalls.{LooksAlike, making_still, IsInHand-alike, IsGoodIn-alike}
+use Rattle.ckpt_machine.proofs.OtherCalls.{LooksAlike, LooksLater-refl, making_still, IsInHand-alike, IsGoodIn-alike}
 use Rattle.ckpt_machine.proofs.OptionLemmas.{IsSomeAnd-at, IsSomeAnd-from}
 use Rattle.ckpt_machine.proofs.MarksAt.{none_marked}
 use Rattle.ckpt_machine.proofs.Targets.{targets-length}
-use Rattle.cluster_record.specs.Placement.{targets}
+use Rattle.cluster_record.specs.Placement.{is_collocated, targets}
 use Rattle.ckpt_machine.proofs.Actors.{same_actor-refl, same_actor-true}
 use Rattle.ckpt_machine.proofs.EntryLists.{find_key-change_key}
 use Rattle.ckpt_machine.proofs.OnComplete.{under_complete}
 use Rattle.ckpt_machine.proofs.ReservedUnder.{was_reserved}
 use Rattle.ckpt_machine.proofs.NodeLists.{slice_index-replicate}
 use Rattle.ckpt_machine.specs.Options.{is_all}
+
+-- the first active is one by the complete nodes
+first_active_by : (collocated : Bool) (cs : List ℕ) → IsActiveBy collocated cs (cond collocated None (first_complete 0 cs))
+first_active_by true cs = tt
+first_active_by false cs = refl
 
 module _ (m : Machine) (shapes : ℕ → Shape) (inv : InvariantIn shapes m) (s : CallState) (o : OpenState) (making : Making) (held : m.in_hand s.call.actor ≡ Some s) (is : driver_of s ≡ drivers.Open o) (makes : o.making ≡ Some making)
     (c : ℕ) (e : Entry) (found : entry_of making.ckpt m.cluster.entries ≡ Some e) (by : e.making ≡ Some s.call) (some : IsSome (first_complete 0 (targets e.attributes (home_of c m.cluster) m.cluster.up))) (none_else : (r : ℕ) → (slice_index (targets e.attributes (home_of c m.cluster) m.cluster.up) r == 0) ≡ true → m.reserved making.ckpt r ≡ None) (stays : AllStay m.cluster.moment (change_key identity_of making.ckpt (made_with (home_of c m.cluster) m.cluster.up c) m.cluster.entries)) where
@@ -106,6 +111,16 @@ module _ (m : Machine) (shapes : ℕ → Shape) (inv : InvariantIn shapes m) (s 
           let apart : drivers.Active own.driver ≡ drivers.Open o = sym own.driver_is ∙ ap driver_of state ∙ is in
           cc apart
 
+  -- the setting of an active is no open
+  holder_stays : (j : ℕ) (active : Option ℕ) (d : CallId) → IsHolder m j active d → then_machine.in_hand d.actor ≡ m.in_hand d.actor
+  holder_stays j active d own = put_actor-other m.in_hand s.call.actor None d.actor (other_actor d own.state own.in_hand own.call_is not_own)
+    where
+      not_own : d ≢ s.call
+      not_own same =
+          let state : own.state ≡ s = same_Some own.state s (sym own.in_hand ∙ ap (λ (x : CallId). m.in_hand x.actor) same ∙ held) in
+          let apart : drivers.Sync own.driver ≡ drivers.Open o = sym own.driver_is ∙ ap driver_of state ∙ is in
+          cc apart
+
   -- who makes another checkpoint is another call
   maker_other : (j : ℕ) (d : CallId) → (j == making.ckpt) ≡ false → IsMaker m j d → d ≢ s.call
   maker_other j d apart own same =
@@ -128,7 +143,7 @@ module _ (m : Machine) (shapes : ℕ → Shape) (inv : InvariantIn shapes m) (s 
       ∙ (λ i. cond (there i) None (cond (there i) (Some (opened_state g)) (m.replicas j r)))
 
   IsGoodIn-then : (j : ℕ) (sh : Shape) (g : Entry) (maker : Option CallId) → (j == making.ckpt) ≡ false → entry_of j m.cluster.entries ≡ Some g → IsGoodIn m j sh g maker → IsGoodIn then_machine j sh g maker
-  IsGoodIn-then j sh g maker other was good = IsGoodIn-alike m then_machine j sh g (λ r there. replica_other j r g other was there) (owner_stays j sh) (marker_stays j) (λ d own. maker_stays j d other own) maker good
+  IsGoodIn-then j sh g maker other was good = IsGoodIn-alike m then_machine j sh g (λ r there. replica_other j r g other was there) (owner_stays j sh) (marker_stays j) (holder_stays j) (λ d own. maker_stays j d other own) maker good
 
   -- ---- the checkpoint that is made
 
@@ -139,6 +154,12 @@ module _ (m : Machine) (shapes : ℕ → Shape) (inv : InvariantIn shapes m) (s 
   none_before r =
       let good : IsGoodIn m making.ckpt (shapes making.ckpt) e (Some s.call) = subst (IsGoodIn m making.ckpt (shapes making.ckpt) e) by (inv.entries making.ckpt e found) in
       ap (λ nodes. slice_index nodes r == 0) good.0.complete ∙ ap (λ n. n == 0) (slice_index-replicate 8 r)
+
+  -- no call held it
+  none_held : e.hold ≡ None
+  none_held =
+      let good : IsGoodIn m making.ckpt (shapes making.ckpt) e (Some s.call) = subst (IsGoodIn m making.ckpt (shapes making.ckpt) e) by (inv.entries making.ckpt e found) in
+      good.0.free
 
   replica_here : (r : ℕ) → IsCompleteOn f r → then_machine.replicas making.ckpt r ≡ Some (opened_state f)
   replica_here r there =
@@ -156,7 +177,7 @@ module _ (m : Machine) (shapes : ℕ → Shape) (inv : InvariantIn shapes m) (s 
   spread_here = record {
     nodes = targets-length e.attributes (home_of c m.cluster) m.cluster.up (ap length inv.up.1);
     some = some;
-    active = refl;
+    active = first_active_by (is_collocated e.attributes) (targets e.attributes (home_of c m.cluster) m.cluster.up);
     replicas = λ r there. IsSomeAnd-from (then_machine.replicas making.ckpt r) (IsShapedBy (is_all f.attributes) opened_shape f.active r) (opened_state f) (replica_here r there) (opened_by (is_all f.attributes) r);
     fits = λ r d none. absurd (cc none);
     complete = λ r d none. absurd (cc none);
@@ -164,6 +185,7 @@ module _ (m : Machine) (shapes : ℕ → Shape) (inv : InvariantIn shapes m) (s 
     owned = λ r d none. absurd (cc none);
     led = λ marks none. absurd (cc none);
     marked = λ marks none. absurd (cc none);
+    held = λ d is. absurd (let w : Some d ≡ None = sym is ∙ none_held in cc w);
   }
 
   -- ---- where the calls of others are
@@ -206,7 +228,7 @@ module _ (m : Machine) (shapes : ℕ → Shape) (inv : InvariantIn shapes m) (s 
       tables = refl;
       making = λ v at. making_still m then_machine z v making_then at;
       made = WasMade-then;
-      later = λ j was g found. (g, sym (entry_other j (not_made j was)) ∙ found, λ all. refl, refl, refl, refl);
+      later = λ j was g found. (g, sym (entry_other j (not_made j was)) ∙ found, LooksLater-refl z (shapes j).marks g);
       owners = λ j was r. ap (λ (sh : Shape). is_owner z.call (sh.owners r)) (ap (λ b. cond b opened_shape (shapes j)) (not_made j was));
       marks = λ j was. ap (λ (sh : Shape). is_marked_by z.call sh.marks) (ap (λ b. cond b opened_shape (shapes j)) (not_made j was));
     }
@@ -223,10 +245,10 @@ module _ (m : Machine) (shapes : ℕ → Shape) (inv : InvariantIn shapes m) (s 
       absurd (let w : None ≡ Some n = sym none ∙ ap (λ i. m.reserved i q) at_k ∙ was in cc w)
 
   -- a replica that was there is of another checkpoint, since this one had none
-  generation_then : (j q : ℕ) (x : ReplicaState) (g : Entry) → entry_of j R.entries ≡ Some g → m.replicas j q ≡ Some x → (b : Bool) → (j == making.ckpt) ≡ b → x.generation ≡ g.generation
-  generation_then j q x g there was false other = (subst (λ o. IsSomeAnd o (λ (e : Entry). IsCompleteOn e q × (x.generation ≡ e.generation))) (sym (entry_other j other) ∙ there) (inv.replicas j q x was)).1
+  generation_then : (j q : ℕ) (x : ReplicaState) (g : Entry) → entry_of j R.entries ≡ Some g → m.replicas j q ≡ Some x → (b : Bool) → (j == making.ckpt) ≡ b → IsOfGeneration g q x.generation
+  generation_then j q x g there was false other = (subst (λ o. IsSomeAnd o (λ (e : Entry). IsCompleteOn e q × IsOfGeneration e q x.generation)) (sym (entry_other j other) ∙ there) (inv.replicas j q x was)).1
   generation_then j q x g there was true same =
-      let complete = (subst (λ o. IsSomeAnd o (λ (e : Entry). IsCompleteOn e q × (x.generation ≡ e.generation))) (ap (λ n. entry_of n m.cluster.entries) (eqb-true j making.ckpt same) ∙ found) (inv.replicas j q x was)).0 in
+      let complete = (subst (λ o. IsSomeAnd o (λ (e : Entry). IsCompleteOn e q × IsOfGeneration e q x.generation)) (ap (λ n. entry_of n m.cluster.entries) (eqb-true j making.ckpt same) ∙ found) (inv.replicas j q x was)).0 in
       absurd (let w : true ≡ false = sym (none_before q) ∙ complete in cc w)
 
   -- the invariant holds after it
@@ -240,7 +262,7 @@ module _ (m : Machine) (shapes : ℕ → Shape) (inv : InvariantIn shapes m) (s 
     entries = λ j g there. by_test j g there (j == making.ckpt) refl;
     replicas = λ j q x is. under_complete (entry_of j R.entries) (slice_index (complete_of (entry_of j m.cluster.entries)) q) q (m.replicas j q) x (λ g found was. generation_then j q x g found was (j == making.ckpt) refl) is;
     reserves = λ j q n reserved. was_reserved (entry_of j R.entries) q n (m.reserved j q) (λ g. IsSome g.making) (λ g found free was. reserves_then j q n g found free was (j == making.ckpt) refl) reserved;
-    handles = λ b h among. IsGoodHandle-later m.cluster R WasMade-then (λ j was g found. (g, sym (entry_other j (not_made j was)) ∙ found, refl)) h (inv.handles b h among);
+    handles = λ b h among. IsGoodHandle-later m.cluster R WasMade-then (λ j was g found. (g, sym (entry_other j (not_made j was)) ∙ found, refl, λ r there. there)) b h refl (inv.handles b h among);
     rest = inv.rest;
     clients = inv.clients;
     hands = λ a z there. elim (put_actor-cases m.in_hand s.call.actor None a z there) [

@@ -1,10 +1,8 @@
--- What a step leaves of replicas and their effects: a replica is where its node is complete, and no checkpoint is held; effects are those that were, or of the call that commits, applies, or ends its weak write, or of the snapshot in the hand of one that installs it; and a background snapshot is one that was.
-use Rattle.std.proofs.Common.{◌≡◌, ◌⊎◌, ℕ, ◌-◌, inl, inr, List, [], ◌∷◌, ◌++◌, filter, All, Option, Some, None, Bool, true, false, cond, not, ◌==◌, ◌&&◌, ℤ, refl, sym, ap, subst, ◌∙◌}
-use Rattle.std.specs.Prelude.{IsSomeAnd, slice_index, slice_set}
+-- What a step leaves of replicas and their effects: a replica is where its node is complete; effects are those that were, or of the call that commits, applies, or ends its weak write, or of the snapshot in the hand of one that installs it, or has its client's node lead with it; and a background snapshot is one that was.
+use Rattle.std.proofs.Common.{◌≡◌, ◌⊎◌, ℕ, inl, inr, List, [], ◌∷◌, ◌++◌, Option, Some, None, true, false, cond, ◌==◌, ◌&&◌, ℤ, refl, sym, ap, subst}
+use Rattle.std.specs.Prelude.{IsSomeAnd, slice_index}
 use Rattle.std.proofs.lemmas.Bool.{eqb-true, and_parts}
 use Rattle.std.proofs.lemmas.Option.{same_Some}
-use Rattle.std.proofs.lemmas.List.Elements.{All-filter, All-map, All-push, All-weaker}
-use Rattle.ckpt_types.specs.declared.attributes.CreationAttributes.{CreationAttributes}
 use Rattle.ckpt_types.specs.declared.identities.ActorName.{ActorName}
 use Rattle.ckpt_types.specs.declared.identities.CallId.{CallId}
 use Rattle.ckpt_types.specs.declared.update.Update.{Update}
@@ -16,32 +14,26 @@ use Rattle.node_msgs.specs.declared.steps.StepReply.TheVariants as words
 use Rattle.cluster_record.specs.declared.entries.Entry.{Entry}
 use Rattle.cluster_record.specs.Calls.{client_of}
 use Rattle.cluster_record.specs.Makings.{making_of}
-use Rattle.cluster_record.specs.Places.{change_key, put2}
-use Rattle.cluster_record.specs.RecordState.{RecordState, entry_of, identity_of, complete_of, has_references, stays, swept, entered, created_as, new_entry, home_of, made_with, opened_with, unreferred, released_all, unnamed, retaining, is_call_of, departed, undone}
-use Rattle.cluster_record.proofs.KeptLaws.{All-change_key}
-use Rattle.ckpt_types.specs.Asks.{Ask, asked, update_of}
-use Rattle.ckpt_types.specs.Asks as asks
+use Rattle.cluster_record.specs.Places.{put2}
+use Rattle.cluster_record.specs.RecordState.{RecordState, entry_of, complete_of, swept, entered, finished, opened, closed, unlinked, departed, undone, hold_set, active_set}
+use Rattle.cluster_record.specs.StepDone.{generation_in}
+use Rattle.ckpt_types.specs.Asks.{asked, update_of}
 use Rattle.ckpt_machine.specs.Machine.{Machine, Effect, Applied, ReplicaState, Snapshot, Staged, CallState}
 use Rattle.ckpt_machine.specs.Owned.{IsEffectOf, HasEffect}
 use Rattle.ckpt_machine.specs.Shape.{IsCompleteOn}
-use Rattle.ckpt_machine.specs.Steps.{with_record, record_step, created_for, retained_for, change_replica, with_slot, staged_moment, with_committed, committed_slot, with_applied, with_marks, with_next_element, next_element_written, without_marks, marks_ended, with_installed, effect_of, changed, on_ok, on_look, without_making, at_some, replica_under, reservation_under, snapshot_under, opened_state}
-use Rattle.ckpt_machine.proofs.Joining.{joined-hold}
+use Rattle.ckpt_machine.specs.Steps.{with_record, record_step, created_for, retained_for, change_replica, with_slot, staged_moment, with_committed, committed_slot, with_applied, with_marks, with_next_element, next_element_written, without_marks, marks_ended, with_installed, with_lead, led_from, effect_of, changed, on_ok, on_look, without_making, at_some, replica_under, reservation_under, snapshot_under, opened_state}
 use Rattle.ckpt_machine.proofs.OptionLemmas.{IsSomeAnd-at}
 
 -- ---- what is so in every state of a run
-
-abbrev pub IsFree : Entry → Type 0
-IsFree e = e.hold ≡ None
 
 -- the node is not complete
 abbrev pub IsIncomplete : Entry → ℕ → Type 0
 IsIncomplete e r = (slice_index e.complete r == 0) ≡ true
 
--- a node has a replica where it is complete; it has reserved none where it is complete, or that is gone; no checkpoint is held
+-- a node has a replica where it is complete; it has reserved none where it is complete, or that is gone
 pub record IsBareIn (R : RecordState) (replicas : ℕ → ℕ → Option ReplicaState) (reserved : ℕ → ℕ → Option ℕ) : Type 0 where
   pub complete : (k r : ℕ) (x : ReplicaState) → replicas k r ≡ Some x → IsSomeAnd (entry_of k R.entries) (λ e. IsCompleteOn e r)
   pub reserves : (k r n : ℕ) → reserved k r ≡ Some n → IsSomeAnd (entry_of k R.entries) (λ e. IsIncomplete e r)
-  pub free : All IsFree R.entries
 
 abbrev pub IsBare : Machine → Type 0
 IsBare m = IsBareIn m.cluster m.replicas m.reserved
@@ -143,46 +135,6 @@ unmarked_effects x d has = by_marks x.marks refl has
     by_marks None is has = inl has
     by_marks (Some marks) is has = elim (effect_more d x.effects (Applied marks.call marks.update marks.moment) has) [ inl was ↦ inl was | inr new ↦ inr (marks, is, new) ]
 
--- ---- the entries
-
--- where one is changed, and its hold is not
-changed_free : (k : ℕ) (f : Entry → Entry) (es : List Entry) → ((e : Entry) → (f e).hold ≡ e.hold) → All IsFree es → All IsFree (change_key identity_of k f es)
-changed_free k f es keeps all = All-change_key IsFree identity_of k f es all (λ e found free. keeps e ∙ free)
-
--- whether any references are left or not
-left_hold : (e : Entry) (t : ℤ) (references : List ℕ) (none left : Bool) → (cond none e (cond left (record e { references = references }) (record e { references = references; idle = t }))).hold ≡ e.hold
-left_hold e t references true left = refl
-left_hold e t references false true = refl
-left_hold e t references false false = refl
-
-released_hold : (c : ℕ) (t : ℤ) (e : Entry) → (unreferred c t e).hold ≡ e.hold
-released_hold c t e = left_hold e t (slice_set e.references c (slice_index e.references c - 1)) (slice_index e.references c == 0) (has_references (record e { references = slice_set e.references c (slice_index e.references c - 1) }))
-
-released_all_hold : (c : ℕ) (t : ℤ) (e : Entry) → (released_all c t e).hold ≡ e.hold
-released_all_hold c t e = left_hold e t (slice_set e.references c 0) (slice_index e.references c == 0) (has_references (record e { references = slice_set e.references c 0 }))
-
-module _ (R : RecordState) (free : All IsFree R.entries) where
-  created_free : (call : CallId) (name : List ℕ) (a : Option CreationAttributes) → All IsFree (created_as call name a R).entries
-  created_free call name None = free
-  created_free call name (Some a) = All-push IsFree R.entries (new_entry call name a R) free refl
-
-  -- by what is asked for
-  created_for_free : (call : CallId) (ask : Ask) → All IsFree (created_for call ask R).entries
-  created_for_free call (asks.Open place name flags timeout a) = created_free call name a
-  created_for_free call ask = free
-
-  retained_for_free : (ask : Ask) (k : ℕ) → All IsFree (retained_for ask k R).entries
-  retained_for_free (asks.Retain place duration) k = changed_free k (retaining duration) R.entries (λ e. refl) free
-  retained_for_free ask k = free
-
-  departed_free : (c : ℕ) → All IsFree (departed c R).entries
-  departed_free c =
-      All-map IsFree (released_all c R.moment) (filter others R.entries)
-      (All-weaker IsFree (λ e. IsFree (released_all c R.moment e)) (λ e free. released_all_hold c R.moment e ∙ free) (filter others R.entries) (All-filter others IsFree R.entries free))
-    where
-      others : Entry → Bool
-      others e = not (is_call_of c e.making)
-
 -- ---- the machine
 
 module _ (m : Machine) (bare : IsBare m) (IsNew : ℕ → CallId → Type 0) where
@@ -190,12 +142,11 @@ module _ (m : Machine) (bare : IsBare m) (IsNew : ℕ → CallId → Type 0) whe
   same_follows = record { bare = bare; next = λ a. refl; in_hand = λ a. refl; effects = λ k r x d there has. inl (record { replica = x; there = there; effect = has }); copies = λ k s is. is }
 
   -- a step of the record
-  pub record_follows : (R : RecordState) → All IsFree R.entries → ReplicasFollow m IsNew (with_record m R)
-  record_follows R free = record {
+  pub record_follows : (R : RecordState) → ReplicasFollow m IsNew (with_record m R)
+  record_follows R = record {
     bare = record {
       complete = λ k r x is. (came k r x is).0;
       reserves = λ k r n is. reserved_under (entry_of k R.entries) r (m.reserved k r) n is;
-      free = free;
     };
     next = λ a. refl;
     in_hand = λ a. refl;
@@ -209,38 +160,30 @@ module _ (m : Machine) (bare : IsBare m) (IsNew : ℕ → CallId → Type 0) whe
       came : (k r : ℕ) (x : ReplicaState) → (with_record m R).replicas k r ≡ Some x → IsSomeAnd (entry_of k R.entries) (λ e. IsCompleteOn e r) × ((m.replicas k r ≡ Some x) ⊎ (x.effects ≡ []))
       came k r x is = under (entry_of k R.entries) (slice_index (complete_of (entry_of k m.cluster.entries)) r) r (m.replicas k r) x is
 
-  step_follows : (step : RecordState → RecordState) → All IsFree (step m.cluster).entries → ReplicasFollow m IsNew (record_step step m)
-  step_follows step free = record_follows (swept (step m.cluster)) (All-filter (stays (step m.cluster).moment) IsFree (step m.cluster).entries free)
-
-  -- that changes one entry, by the record as it is, and not its hold
-  entry_follows : (k : ℕ) (f : RecordState → Entry → Entry) → ((e : Entry) → (f m.cluster e).hold ≡ e.hold) → ReplicasFollow m IsNew (record_step (λ R. record R { entries = change_key identity_of k (f R) R.entries }) m)
-  entry_follows k f keeps = step_follows (λ R. record R { entries = change_key identity_of k (f R) R.entries }) (changed_free k (f m.cluster) m.cluster.entries keeps bare.free)
-
-  undone_follows : (k : ℕ) → ReplicasFollow m IsNew (record_step (undone k) m)
-  undone_follows k = step_follows (undone k) (All-filter (λ e. not (e.identity == k)) IsFree m.cluster.entries bare.free)
+  step_follows : (step : RecordState → RecordState) → ReplicasFollow m IsNew (record_step step m)
+  step_follows step = record_follows (swept (step m.cluster))
 
   making_follows : (k : Option ℕ) → ReplicasFollow m IsNew (without_making k m)
   making_follows None = same_follows
-  making_follows (Some k) = undone_follows k
+  making_follows (Some k) = step_follows (undone k)
 
-  -- one replica changed
-  pub replica_follows : (k r : ℕ) (x y : ReplicaState) → m.replicas k r ≡ Some x → ((d : CallId) → HasEffect d y.effects → HasEffect d x.effects ⊎ IsNew k d) → ReplicasFollow m IsNew (record m { replicas = put2 m.replicas k r (Some y) })
-  replica_follows k r x y there more = record {
+  -- one replica changed behind it
+  pub then_follows : (b : Machine) → ReplicasFollow m IsNew b → (k r : ℕ) (x y : ReplicaState) → b.replicas k r ≡ Some x → ((d : CallId) → HasEffect d y.effects → HasEffect d x.effects ⊎ IsNew k d) → ReplicasFollow m IsNew (record b { replicas = put2 b.replicas k r (Some y) })
+  then_follows b follows k r x y there more = record {
     bare = record {
-      complete = λ j q z is. by_place j q z (λ j q z. IsSomeAnd (entry_of j m.cluster.entries) (λ e. IsCompleteOn e q)) (bare.complete k r x there) (bare.complete j q z) is;
-      reserves = bare.reserves;
-      free = bare.free;
+      complete = λ j q z is. by_place j q z (λ j q z. IsSomeAnd (entry_of j b.cluster.entries) (λ e. IsCompleteOn e q)) (follows.bare.complete k r x there) (follows.bare.complete j q z) is;
+      reserves = follows.bare.reserves;
     };
-    next = λ a. refl;
-    in_hand = λ a. refl;
+    next = follows.next;
+    in_hand = follows.in_hand;
     effects = λ j q z d is. by_place j q z (λ j q z. HasEffect d z.effects → Has m j q d ⊎ IsNew j d)
-        (λ has. elim (more d has) [ inl was ↦ inl (record { replica = x; there = there; effect = was }) | inr new ↦ inr new ])
-        (λ was has. inl (record { replica = z; there = was; effect = has })) is;
-    copies = λ j z is. is;
+        (λ has. elim (more d has) [ inl was ↦ follows.effects k r x d there was | inr new ↦ inr new ])
+        (λ was has. follows.effects j q z d was has) is;
+    copies = follows.copies;
   }
     where
-      by_place : (j q : ℕ) (z : ReplicaState) (P : ℕ → ℕ → ReplicaState → Type 0) → P k r y → (m.replicas j q ≡ Some z → P j q z) → put2 m.replicas k r (Some y) j q ≡ Some z → P j q z
-      by_place j q z P here other is = elim ((j == k) && (q == r)) as (λ b. ((j == k) && (q == r)) ≡ b → cond b (Some y) (m.replicas j q) ≡ Some z → P j q z) [
+      by_place : (j q : ℕ) (z : ReplicaState) (P : ℕ → ℕ → ReplicaState → Type 0) → P k r y → (b.replicas j q ≡ Some z → P j q z) → put2 b.replicas k r (Some y) j q ≡ Some z → P j q z
+      by_place j q z P here other is = elim ((j == k) && (q == r)) as (λ t. ((j == k) && (q == r)) ≡ t → cond t (Some y) (b.replicas j q) ≡ Some z → P j q z) [
         | true ↦ λ at some.
             let (ckpt, node) = and_parts (j == k) (q == r) at in
             let k_is : k ≡ j = sym (eqb-true j k ckpt) in
@@ -248,6 +191,10 @@ module _ (m : Machine) (bare : IsBare m) (IsNew : ℕ → CallId → Type 0) whe
             subst (λ q. P j q z) r_is (subst (λ j. P j r z) k_is (subst (P k r) (same_Some y z some) here))
         | false ↦ λ at some. other some
       ] refl is
+
+  -- or in the state itself
+  pub replica_follows : (k r : ℕ) (x y : ReplicaState) → m.replicas k r ≡ Some x → ((d : CallId) → HasEffect d y.effects → HasEffect d x.effects ⊎ IsNew k d) → ReplicasFollow m IsNew (record m { replicas = put2 m.replicas k r (Some y) })
+  replica_follows k r x y there more = then_follows m same_follows k r x y there more
 
   changed_replica : (k r : ℕ) (o : Option ReplicaState) → m.replicas k r ≡ o → (change : ReplicaState → ReplicaState) → ((x : ReplicaState) (d : CallId) → m.replicas k r ≡ Some x → HasEffect d (change x).effects → HasEffect d x.effects ⊎ IsNew k d) → ReplicasFollow m IsNew (change_replica m k r o change)
   changed_replica k r None there change more = same_follows
@@ -273,7 +220,7 @@ module _ (m : Machine) (bare : IsBare m) (IsNew : ℕ → CallId → Type 0) whe
   -- a reservation
   reserve_follows : (k r n : ℕ) → IsSomeAnd (entry_of k m.cluster.entries) (λ e. IsIncomplete e r) → ReplicasFollow m IsNew (record m { reserved = put2 m.reserved k r (Some n) })
   reserve_follows k r n there = record {
-    bare = record { complete = bare.complete; reserves = reserves; free = bare.free };
+    bare = record { complete = bare.complete; reserves = reserves };
     next = λ a. refl;
     in_hand = λ a. refl;
     effects = λ j q x d is has. inl (record { replica = x; there = is; effect = has });
@@ -290,13 +237,14 @@ module _ (m : Machine) (bare : IsBare m) (IsNew : ℕ → CallId → Type 0) whe
         | false ↦ λ at some. bare.reserves j q i some
       ] refl is
 
-  -- what a step of a call needs of its row: a node that reserves is not complete, the new effects of a commit are of the origins of what is staged there, that of an update in one step is of the call, that of the end of a weak write is of the call of the marks, and those of an installation are the ones of the snapshot in hand
+  -- what a step of a call needs of its row: a node that reserves is not complete, the new effects of a commit are of the origins of what is staged there, that of an update in one step is of the call, that of the end of a weak write is of the call of the marks, and those of an installation, and of a node that leads, are the ones of the snapshot in hand
   abbrev pub StepNeeds : CallState → Verb → Option ℕ → Option ℕ → StepReply → Type 0
   StepNeeds s verbs.Reserve (Some k) (Some r) words.Ok = IsSomeAnd (entry_of k m.cluster.entries) (λ e. IsIncomplete e r)
   StepNeeds s verbs.Commit (Some k) (Some r) words.Ok = (x : ReplicaState) (slot : Staged) → m.replicas k r ≡ Some x → x.slot ≡ Some slot → IsNew k slot.origin
   StepNeeds s verbs.Apply (Some k) (Some r) words.Ok = IsNew k s.call
   StepNeeds s verbs.Unmark (Some k) (Some r) words.Ok = (x : ReplicaState) (marks : Marked) → m.replicas k r ≡ Some x → x.marks ≡ Some marks → IsNew k marks.call
   StepNeeds s verbs.Install (Some k) (Some r) words.Ok = (pulled : Snapshot) (d : CallId) → s.snapshot ≡ Some pulled → HasEffect d pulled.effects → IsNew k d
+  StepNeeds s verbs.Activate (Some k) (Some r) words.Ok = (copy : Snapshot) (d : CallId) → s.snapshot ≡ Some copy → HasEffect d copy.effects → IsNew k d
   StepNeeds s verb k r reply = Unit {0}
 
   reserved_follows : (s : CallState) (k r : Option ℕ) (reply : StepReply) → StepNeeds s verbs.Reserve k r reply → ReplicasFollow m IsNew (on_ok reply m (at_some k m (λ k. at_some r m (λ r. record m { reserved = put2 m.reserved k r (Some (slice_index m.cluster.up r)) }))))
@@ -353,14 +301,34 @@ module _ (m : Machine) (bare : IsBare m) (IsNew : ℕ → CallId → Type 0) whe
   install_follows s None r words.Ok new = same_follows
   install_follows s k r reply new = same_follows
 
+  led_effects : (o : Option Snapshot) (generation : ℕ) (x : ReplicaState) (d : CallId) → HasEffect d (with_lead o generation x).effects → HasEffect d x.effects ⊎ IsSomeAnd o (λ p. HasEffect d p.effects)
+  led_effects None generation x d has = inl has
+  led_effects (Some p) generation x d has = inr has
+
+  -- the replica of a node leads, behind a step of the record
+  led_behind : (s : CallState) (k r generation : ℕ) (b : Machine) → ReplicasFollow m IsNew b → ((copy : Snapshot) (d : CallId) → s.snapshot ≡ Some copy → HasEffect d copy.effects → IsNew k d) → (o : Option ReplicaState) → b.replicas k r ≡ o → ReplicasFollow m IsNew (change_replica b k r o (with_lead s.snapshot generation))
+  led_behind s k r generation b follows new None there = follows
+  led_behind s k r generation b follows new (Some x) there = then_follows b follows k r x (with_lead s.snapshot generation x) there (λ d has. elim (led_effects s.snapshot generation x d has) [
+    | inl was ↦ inl was
+    | inr of_it ↦ (let (p, is, effect) = IsSomeAnd-at s.snapshot (λ p. HasEffect d p.effects) of_it in inr (new p d is effect))
+  ])
+
+  activate_follows : (s : CallState) (k r : Option ℕ) (reply : StepReply) → StepNeeds s verbs.Activate k r reply → ReplicasFollow m IsNew (on_ok reply m (at_some k m (λ k. at_some r m (λ r. led_from s.snapshot k r (record_step (active_set k r) m)))))
+  activate_follows s (Some k) (Some r) words.Ok new =
+      let b = record_step (active_set k r) m in
+      led_behind s k r (generation_in (entry_of k b.cluster.entries)) b (step_follows (active_set k r)) new (b.replicas k r) refl
+  activate_follows s (Some k) None words.Ok new = same_follows
+  activate_follows s None r words.Ok new = same_follows
+  activate_follows s k r reply new = same_follows
+
   -- any step
   pub changed_follows : (s : CallState) (verb : Verb) (k r : Option ℕ) (reply : StepReply) → StepNeeds s verb k r reply → ReplicasFollow m IsNew (changed m s verb k r reply)
-  changed_follows s verbs.Enter k r reply new = ok_follows reply _ (one_follows r _ (λ r. step_follows (entered (client_of s.call) r s.call.number) bare.free))
-  changed_follows s verbs.Open k r reply new = ok_follows reply _ (one_follows k _ (λ k. entry_follows k (λ R. opened_with (home_of (client_of s.call) R) R.up (client_of s.call)) (joined-hold (home_of (client_of s.call) m.cluster) m.cluster.up)))
-  changed_follows s verbs.Create k r reply new = ok_follows reply _ (step_follows (created_for s.call (asked s.op)) (created_for_free m.cluster bare.free s.call (asked s.op)))
+  changed_follows s verbs.Enter k r reply new = ok_follows reply _ (one_follows r _ (λ r. step_follows (entered (client_of s.call) r s.call.number)))
+  changed_follows s verbs.Open k r reply new = ok_follows reply _ (one_follows k _ (λ k. step_follows (opened k (client_of s.call))))
+  changed_follows s verbs.Create k r reply new = ok_follows reply _ (step_follows (created_for s.call (asked s.op)))
   changed_follows s verbs.Reserve k r reply new = reserved_follows s k r reply new
-  changed_follows s verbs.Finish k r reply new = ok_follows reply _ (one_follows k _ (λ k. entry_follows k (λ R. made_with (home_of (client_of s.call) R) R.up (client_of s.call)) (λ e. refl)))
-  changed_follows s verbs.Undo k r reply new = ok_follows reply _ (one_follows k _ undone_follows)
+  changed_follows s verbs.Finish k r reply new = ok_follows reply _ (one_follows k _ (λ k. step_follows (finished k (client_of s.call))))
+  changed_follows s verbs.Undo k r reply new = ok_follows reply _ (one_follows k _ (λ k. step_follows (undone k)))
   changed_follows s verbs.Stage k r reply new = ok_follows reply _ (both_follow k r _ (λ k r. changed_replica k r (m.replicas k r) refl (with_slot s.call (update_of s.op) (staged_moment m k)) (λ x d there has. inl has)))
   changed_follows s verbs.Commit k r reply new = commit_follows s k r reply new
   changed_follows s verbs.Apply k r reply new = apply_follows s (update_of s.op) m.cluster.moment k r reply new
@@ -370,9 +338,11 @@ module _ (m : Machine) (bare : IsBare m) (IsNew : ℕ → CallId → Type 0) whe
   changed_follows s verbs.Install k r reply new = install_follows s k r reply new
   changed_follows s verbs.Iter k r reply new = ok_follows reply _ (both_follow k r _ (λ k r. same_follows))
   changed_follows s verbs.Next k r reply new = ok_follows reply _ (both_follow k r _ (λ k r. same_follows))
-  changed_follows s verbs.Leave k r reply new = ok_follows reply _ (step_follows (departed (client_of s.call)) (departed_free m.cluster bare.free (client_of s.call)))
-  changed_follows s verbs.Close k r reply new = ok_follows reply _ (one_follows k _ (λ k. entry_follows k (λ R. unreferred (client_of s.call) R.moment) (released_hold (client_of s.call) m.cluster.moment)))
-  changed_follows s verbs.Unlink k r reply new = ok_follows reply _ (one_follows k _ (λ k. entry_follows k (λ R. unnamed) (λ e. refl)))
-  changed_follows s verbs.Retain k r reply new = ok_follows reply _ (one_follows k _ (λ k. step_follows (retained_for (asked s.op) k) (retained_for_free m.cluster bare.free (asked s.op) k)))
+  changed_follows s verbs.Leave k r reply new = ok_follows reply _ (step_follows (departed (client_of s.call)))
+  changed_follows s verbs.Close k r reply new = ok_follows reply _ (one_follows k _ (λ k. step_follows (closed k (client_of s.call))))
+  changed_follows s verbs.Unlink k r reply new = ok_follows reply _ (one_follows k _ (λ k. step_follows (unlinked k)))
+  changed_follows s verbs.Retain k r reply new = ok_follows reply _ (one_follows k _ (λ k. step_follows (retained_for (asked s.op) k)))
+  changed_follows s verbs.Hold k r reply new = ok_follows reply _ (one_follows k _ (λ k. step_follows (hold_set k s.call)))
+  changed_follows s verbs.Activate k r reply new = activate_follows s k r reply new
   changed_follows s verbs.Look k r reply new = look_follows reply _ _ same_follows (making_follows (making_of s.call m.cluster))
   changed_follows s verb k r reply new = same_follows

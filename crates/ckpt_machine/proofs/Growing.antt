@@ -1,5 +1,5 @@
--- No step takes away what a replica of the present generation has: it stays, and goes on from that.
-use Rattle.std.proofs.Common.{◌≡◌, ◌⊎◌, ℕ, ◌<◌, ◌≤◌, inl, inr, List, [], ◌∷◌, length, Option, Some, None, Bool, true, false, cond, not, ◌==◌, ◌&&◌, ◌||◌, nat_lt, ℤ, refl, sym, ap, subst, ◌∙◌, arith}
+-- No step takes away what a replica of the present generation has, as long as this does not rise: it stays, and goes on from that.
+use Rattle.std.proofs.Common.{◌≡◌, ◌⊎◌, ℕ, ◌+◌, ◌<◌, ◌≤◌, inl, inr, List, [], ◌∷◌, length, Option, Some, None, Bool, true, false, cond, not, ◌==◌, ◌&&◌, ◌||◌, nat_lt, ℤ, refl, sym, ap, subst, ◌∙◌, arith}
 use Rattle.std.specs.Prelude.{IsSome, IsSomeAnd, slice_index}
 use Rattle.std.proofs.lemmas.Bool.{eqb-true, eq-eqb, and_parts, ltb-true, ltb-false}
 use Rattle.std.proofs.lemmas.Option.{same_Some}
@@ -17,7 +17,7 @@ use Rattle.cluster_record.specs.declared.entries.Entry.{Entry}
 use Rattle.cluster_record.specs.Calls.{client_of}
 use Rattle.cluster_record.specs.Makings.{making_of}
 use Rattle.cluster_record.specs.Places.{put2}
-use Rattle.cluster_record.specs.RecordState.{RecordState, entry_of, complete_of, stays, swept, moved, entered, finished, home_of, opened_with, opened, closed, unlinked, unreferred, unnamed, departed, undone}
+use Rattle.cluster_record.specs.RecordState.{RecordState, entry_of, complete_of, stays, swept, moved, entered, finished, home_of, opened_with, opened, closed, unlinked, unreferred, unnamed, departed, undone, with_hold, hold_set, active_set}
 use Rattle.cluster_record.proofs.IdentityLaws.{IdentitiesRise-filter}
 use Rattle.ckpt_machine.specs.Guards.{IsOnOwn, Row, Allowed}
 use Rattle.ckpt_machine.specs.Invariant.{Invariant}
@@ -26,18 +26,20 @@ use Rattle.ckpt_machine.specs.Propagation.{is_behind, replica_from}
 use Rattle.ckpt_machine.specs.Replays.{IsPrefix}
 use Rattle.ckpt_machine.specs.Shape.{IsCompleteOn}
 use Rattle.ckpt_machine.specs.Steps.{Told, with_record, record_step, created_for, retained_for, change_replica, with_committed, with_applied, with_slot, with_marks, with_next_element, without_marks, marks_ended, changed, on_ok, on_look, without_making, at_some, replica_under, opened_state, step_of, staged_moment, after}
+use Rattle.ckpt_machine.proofs.Activating.{Leads, with_leader, made_where_complete, found_led, led_made, others_stay, after_activate}
 use Rattle.ckpt_machine.proofs.ActiveNode.{active_complete}
-use Rattle.ckpt_machine.proofs.Copying.{IsSource, TakesOver, after_pull, after_put_over}
-use Rattle.ckpt_machine.proofs.EachReplica.{Each, PulledInHand, IsAhead, committed_generation, element_generation, committed_more, made_where_complete}
+use Rattle.ckpt_machine.proofs.Copying.{IsSource, IsOfSource, TakesOver, after_pull, after_put_over}
+use Rattle.ckpt_machine.proofs.EachReplica.{Each, PulledInHand, IsAhead}
 use Rattle.ckpt_machine.proofs.Entries.{ComesOf-filter}
 use Rattle.ckpt_machine.proofs.Follows.{IsBare, element_effects}
 use Rattle.ckpt_machine.proofs.Installed.{after_install}
 use Rattle.ckpt_machine.proofs.Joining.{opened_with-identity}
+use Rattle.ckpt_machine.proofs.OneReplica.{committed_generation, element_generation, committed_more}
 use Rattle.ckpt_machine.proofs.OptionLemmas.{IsSomeAnd-at, IsSomeAnd-from, IfSome-at}
 use Rattle.ckpt_machine.proofs.Prefixes.{prefix_same, prefix_of_same, prefix_longer}
 use Rattle.ckpt_machine.proofs.Propagated.{complete_there}
 use Rattle.ckpt_machine.proofs.References.{released-identity}
-use Rattle.ckpt_machine.proofs.StaysMade.{StaysMade, StaysMade-same, StaysMade-kept, MadeOn, MadeOn-swept, released_made, opened_made, same_on, changed_on, filter_on, departed_on, finished_on, created_for_on, retained_for_on, StepNeeds, row_needs}
+use Rattle.ckpt_machine.proofs.StaysMade.{StaysMade, StaysMade-same, StaysMade-kept, GoesOnMade, GoesOnMade-same, StaysMade-goes, held_made, held-identity, MadeOn, MadeOn-swept, released_made, opened_made, same_on, changed_on, filter_on, departed_on, finished_on, created_for_on, retained_for_on, StepNeeds, row_needs}
 
 -- ---- what one replica becomes
 
@@ -72,10 +74,10 @@ unmarked_grows x = by_marks x.marks
 
 -- ---- what becomes of a checkpoint
 
--- a checkpoint that is there was there, and stays made; and each replica of its generation is there still, and has its effects first
+-- a checkpoint that is there was there, and goes on made; and where its generation is what it was, each replica of this is there still, and has its effects first
 pub record GoesOnIn (m : Machine) (k : ℕ) (entries : List Entry) (replicas : ℕ → ℕ → Option ReplicaState) : Type 0 where
-  pub made : (f : Entry) → entry_of k entries ≡ Some f → (e : Entry) × (entry_of k m.cluster.entries ≡ Some e) × StaysMade e f
-  pub replica : (r : ℕ) (x : ReplicaState) (e f : Entry) → entry_of k m.cluster.entries ≡ Some e → entry_of k entries ≡ Some f → m.replicas k r ≡ Some x → x.generation ≡ e.generation → IsSomeAnd (replicas k r) (GrowsTo x)
+  pub made : (f : Entry) → entry_of k entries ≡ Some f → (e : Entry) × (entry_of k m.cluster.entries ≡ Some e) × GoesOnMade e f
+  pub replica : (r : ℕ) (x : ReplicaState) (e f : Entry) → entry_of k m.cluster.entries ≡ Some e → entry_of k entries ≡ Some f → f.generation ≡ e.generation → m.replicas k r ≡ Some x → x.generation ≡ e.generation → IsSomeAnd (replicas k r) (GrowsTo x)
 
 -- what becomes of a checkpoint from one state to another
 abbrev pub GoesOn : Machine → ℕ → Machine → Type 0
@@ -107,9 +109,9 @@ module _ (m : Machine) (inv : Invariant m) (bare : IsBare m) (each : Each (λ o 
   -- the checkpoint of such a snapshot, where it is there, is made, and its updates go to an active alone
   copy_source : (k : ℕ) (s : Snapshot) (e : Entry) → entry_of k m.cluster.entries ≡ Some e → IsCopyOf k s → IsSource e
   copy_source k s e found (inl is) =
-      let (f, there, is_so) = IsSomeAnd-at (entry_of k m.cluster.entries) (λ e. IsSource e × Unit {0}) (each.snapshot k s is) in
-      subst IsSource (same_Some f e (sym there ∙ found)) is_so.0
-  copy_source k s e found (inr has) = (IfSome-at (entry_of k m.cluster.entries) (λ e. IsSource e × Unit {0}) (each.in_hand k s has).1 e found).0
+      let (f, there, is_so) = IsSomeAnd-at (entry_of k m.cluster.entries) (λ e. IsOfSource e s × Unit {0}) (each.snapshot k s is) in
+      subst IsSource (same_Some f e (sym there ∙ found)) is_so.0.source
+  copy_source k s e found (inr has) = (IfSome-at (entry_of k m.cluster.entries) (λ e. IsOfSource e s × Unit {0}) (each.in_hand k s has).1 e found).0.source
 
   -- no such snapshot of this generation is ahead of the active
   copy_first : (k g : ℕ) (s : Snapshot) (y : ReplicaState) → IsAhead k g m.replicas m.snapshots m.in_hand y → IsCopyOf k s → s.generation ≡ g → IsPrefix s.effects y.effects
@@ -154,20 +156,20 @@ module _ (m : Machine) (inv : Invariant m) (bare : IsBare m) (each : Each (λ o 
     -- a checkpoint goes on where nothing changes
     goes_on_same : GoesOn m k m
     goes_on_same = record {
-      made = λ f found. (f, found, StaysMade-same f);
-      replica = λ r x e f there found at present. IsSomeAnd-from (m.replicas k r) (GrowsTo x) x at (grows_to_same x);
+      made = λ f found. (f, found, GoesOnMade-same f);
+      replica = λ r x e f there found still at present. IsSomeAnd-from (m.replicas k r) (GrowsTo x) x at (grows_to_same x);
     }
 
     -- a checkpoint goes on by a step of the record
     record_goes : (R : RecordState) → MadeOn k m.cluster R → GoesOn m k (with_record m R)
-    record_goes R on = record { made = on.made; replica = replica }
+    record_goes R on = record { made = λ f found. (let (e, was, made) = on.made f found in (e, was, StaysMade-goes e f made)); replica = replica }
       where
         -- the replica of a node that stays complete is as it was
         stays_there : (f : Entry) (before r : ℕ) (old : Option ReplicaState) → IsCompleteOn f r → (before == 0) ≡ false → replica_under (Some f) before r old ≡ old
         stays_there f before r old complete was = ap (λ b. cond b None (cond (before == 0) (Some (opened_state f)) old)) complete ∙ ap (λ b. cond b (Some (opened_state f)) old) was
 
-        replica : (r : ℕ) (x : ReplicaState) (e f : Entry) → entry_of k m.cluster.entries ≡ Some e → entry_of k R.entries ≡ Some f → m.replicas k r ≡ Some x → x.generation ≡ e.generation → IsSomeAnd ((with_record m R).replicas k r) (GrowsTo x)
-        replica r x e f there found at present =
+        replica : (r : ℕ) (x : ReplicaState) (e f : Entry) → entry_of k m.cluster.entries ≡ Some e → entry_of k R.entries ≡ Some f → f.generation ≡ e.generation → m.replicas k r ≡ Some x → x.generation ≡ e.generation → IsSomeAnd ((with_record m R).replicas k r) (GrowsTo x)
+        replica r x e f there found still_present at present =
             let (g, is, complete_at) = IsSomeAnd-at (entry_of k m.cluster.entries) (λ e. IsCompleteOn e r) (bare.complete k r x at) in
             let complete : IsCompleteOn e r = subst (λ e. IsCompleteOn e r) (same_Some g e (sym is ∙ there)) complete_at in
             let (h, before, keeps) = on.made f found in
@@ -184,7 +186,7 @@ module _ (m : Machine) (inv : Invariant m) (bare : IsBare m) (each : Each (λ o 
     put_goes : (j q : ℕ) (y z : ReplicaState) → m.replicas j q ≡ Some y → ((e : Entry) → entry_of j m.cluster.entries ≡ Some e → y.generation ≡ e.generation → GrowsTo y z) → GoesOn m k (record m { replicas = put2 m.replicas j q (Some z) })
     put_goes j q y z there grows = record {
       made = goes_on_same.made;
-      replica = λ r x e f was found at present. elim ((k == j) && (r == q)) as (λ b. ((k == j) && (r == q)) ≡ b → IsSomeAnd (cond b (Some z) (m.replicas k r)) (GrowsTo x)) [
+      replica = λ r x e f was found still at present. elim ((k == j) && (r == q)) as (λ b. ((k == j) && (r == q)) ≡ b → IsSomeAnd (cond b (Some z) (m.replicas k r)) (GrowsTo x)) [
         | true ↦ λ here.
             let (ckpt, node) = and_parts (k == j) (r == q) here in
             let k_is : k ≡ j = eqb-true k j ckpt in
@@ -193,6 +195,19 @@ module _ (m : Machine) (inv : Invariant m) (bare : IsBare m) (each : Each (λ o 
             subst (λ x. GrowsTo x z) same (grows e (ap (λ j. entry_of j m.cluster.entries) (sym k_is) ∙ was) (ap (λ (x : ReplicaState). x.generation) same ∙ present))
         | false ↦ λ other. IsSomeAnd-from (m.replicas k r) (GrowsTo x) x at (grows_to_same x)
       ] refl;
+    }
+
+    -- a checkpoint goes on where a node leads another one anew, or this one, whose generation rises then
+    leads_go : (s : CallState) (j q : ℕ) (lead : Leads m s j q) → GoesOn m k (with_leader m s j q lead)
+    leads_go s j q lead = record {
+      made = λ g found. led_made m inv s j q lead k g found;
+      replica = λ r x e g was found still at present. elim (found_led m inv s j q lead k g found) [
+        | inl here ↦ absurd (
+            let risen : g.generation ≡ lead.entry.generation + 1 = ap (λ (e : Entry). e.generation) here.1 in
+            let same : lead.entry.generation ≡ e.generation = ap (λ (e : Entry). e.generation) (same_Some lead.entry e (sym lead.found ∙ ap (λ k. entry_of k m.cluster.entries) (sym here.0) ∙ was)) in
+            omega (arith, risen, same, still))
+        | inr other ↦ IsSomeAnd-from ((with_leader m s j q lead).replicas k r) (GrowsTo x) x (others_stay m inv s j q lead bare k r g x other.0 found at) (grows_to_same x)
+      ];
     }
 
     -- a checkpoint goes on where a replica is changed, if there is one, that grows
@@ -239,16 +254,18 @@ module _ (m : Machine) (inv : Invariant m) (bare : IsBare m) (each : Each (λ o 
     finished_goes s None q words.Ok by = goes_on_same
     finished_goes s j q reply by = goes_on_same
 
-    -- what an installation leaves
+    -- what an installation and the setting of an active leave
     abbrev Installs : CallState → Verb → Option ℕ → Option ℕ → StepReply → Type 0
     Installs s verbs.Install j q reply = GoesOn m k (changed m s verbs.Install j q reply)
+    Installs s verbs.Activate j q reply = GoesOn m k (changed m s verbs.Activate j q reply)
     Installs s verb j q reply = Unit {0}
 
-    -- a checkpoint goes on where a call installs what it has pulled there
+    -- a checkpoint goes on where a call installs what it has pulled there, or sets an active
     installs : (s : CallState) → m.in_hand s.call.actor ≡ Some s → (verb : Verb) (j q : Option ℕ) (reply : StepReply) (t : Told) → IsOnOwn verb j s.kept.ckpt → Row m s verb (record t { verb = verb; ckpt = j; node = q; reply = reply }) → Installs s verb j q reply
     installs s held verbs.Install j q reply t own row = after_install (GoesOn m k) m s t j q reply row goes_on_same (λ i r z x is in_hand over. (
         let has : PulledInHand m.in_hand i z = record { actor = s.call.actor; state = s; in_hand = held; ckpt = sym own ∙ is; snapshot = in_hand } in
         put_goes i r x (replica_from z x) over.on.there (λ e found present. taken_grows i r z x (inr has) over (present ∙ ap (λ (e : Entry). e.generation) (same_Some e over.on.entry (sym found ∙ over.on.found))))))
+    installs s held verbs.Activate j q reply t own row = after_activate (GoesOn m k) m inv bare s held t j q reply own row goes_on_same (λ i r on. record_goes (swept (active_set i r m.cluster)) (on k)) (leads_go s)
     installs s held verb j q reply t own row = tt
 
     -- a checkpoint goes on by any step
@@ -267,6 +284,8 @@ module _ (m : Machine) (inv : Invariant m) (bare : IsBare m) (each : Each (λ o 
     steps_go s verbs.Element j q reply needs done = changed_goes j q reply (λ j. with_next_element (entry_of j m.cluster.entries)) (λ j x. element_grows (entry_of j m.cluster.entries) x)
     steps_go s verbs.Unmark j q reply needs done = changed_goes j q reply (λ j. without_marks) (λ j x. unmarked_grows x)
     steps_go s verbs.Install j q reply needs done = done
+    steps_go s verbs.Hold j q reply needs done = entry_goes (λ j. hold_set j s.call) (λ j. changed_on k m.cluster given inv.holds.rises inv.holds.up_to j (with_hold s.call) (held-identity s.call) (held_made s.call)) j reply
+    steps_go s verbs.Activate j q reply needs done = done
     steps_go s verbs.Iter j q reply needs done = ok_goes reply _ (both_go j q _ (λ j q. goes_on_same))
     steps_go s verbs.Next j q reply needs done = ok_goes reply _ (both_go j q _ (λ j q. goes_on_same))
     steps_go s verbs.Leave j q reply needs done = ok_goes reply _ (step_goes (departed (client_of s.call)) (departed_on k m.cluster given inv.holds.rises inv.holds.up_to (client_of s.call)))

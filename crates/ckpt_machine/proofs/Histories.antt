@@ -2,7 +2,6 @@
 use Rattle.std.proofs.Common.{◌≡◌, ◌⊎◌, ℕ, ◌+◌, ◌<◌, inl, inr, List, [], ◌∷◌, Option, Some, None, Bool, true, false, cond, ◌==◌, ℤ, refl, sym, ap, subst, ◌∙◌, arith}
 use Rattle.std.specs.Option.{option_map}
 use Rattle.std.specs.Prelude.{IsSomeAnd, IfSome, slice_index}
-use Rattle.std.proofs.lemmas.List.Elements.{All-nil, All-filter}
 use Rattle.std.proofs.lemmas.Option.{same_Some}
 use Rattle.ckpt_types.specs.declared.ais_error.AisError.TheVariants.{NotExist}
 use Rattle.ckpt_types.specs.declared.answers.Answer.{Answer}
@@ -25,13 +24,13 @@ use Rattle.cluster_record.specs.declared.entries.Entry.{Entry}
 use Rattle.cluster_record.specs.Calls.{same_actor, put_actor, left}
 use Rattle.cluster_record.specs.DueUpdate.{UpdateState, update_on, by_phase, commit_at, update_taken, update_taken_by, commit_taken}
 use Rattle.cluster_record.specs.Places.{put, put2}
-use Rattle.cluster_record.specs.RecordState.{entry_of, moved, stays}
+use Rattle.cluster_record.specs.RecordState.{entry_of, moved}
 use Rattle.cluster_record.specs.StepDone.{StepDone, done_of, counting, first_lacking, last_having}
 use Rattle.ckpt_machine.specs.Drivers.{Driver}
 use Rattle.ckpt_machine.specs.Drivers as drivers
 use Rattle.ckpt_machine.specs.Driving.{driver_next, driver_taken}
 use Rattle.node_core.specs.Serving.{update_answer}
-use Rattle.ckpt_machine.specs.Guards.{IsMadeBy, OnReplica, OnAll, OnActive, CommitOk, ApplyOk, AreMarksOf, UnmarkRow, PullOk, Row, Allowed}
+use Rattle.ckpt_machine.specs.Guards.{HoldOk, IsMadeBy, OnReplica, OnAll, OnActive, CommitOk, ApplyOk, AreMarksOf, UnmarkRow, PullOk, Row, Allowed}
 use Rattle.ckpt_machine.specs.InHand.{IsInPlace, IsUpdateIn}
 use Rattle.ckpt_machine.specs.Invariant.{IsGoodIn, InvariantIn, Invariant}
 use Rattle.ckpt_machine.specs.Machine.{Machine, Staged, ReplicaState, Snapshot, CallState, empty_cluster}
@@ -42,7 +41,8 @@ use Rattle.ckpt_machine.specs.Shape.{Shape, IsCompleteOn, IsShapedBy, IsOwner, I
 use Rattle.ckpt_machine.specs.Steps.{Told, IsDone, IsDue, driver_of, due, rooms_of, after_beginning, with_record, call_begun, changed, kept_behind, counted_at, pulled_by, stepped, step_of, after}
 use Rattle.ckpt_machine.proofs.Copying.{IsPulledFrom, after_pull, after_put, put-cases}
 use Rattle.ckpt_machine.proofs.OwnMaking.{making_there}
-use Rattle.ckpt_machine.proofs.Follows.{IsFree, IsIncomplete, IsBare, Has, HasCopied, HasInHand, ReplicasFollow, record_follows, replica_follows, StepNeeds, changed_follows}
+use Rattle.ckpt_machine.proofs.Joining.{collocated_apart}
+use Rattle.ckpt_machine.proofs.Follows.{IsIncomplete, IsBare, Has, HasCopied, HasInHand, ReplicasFollow, record_follows, replica_follows, StepNeeds, changed_follows}
 use Rattle.ckpt_machine.specs.Runs.{last_from, last, IsRunFrom, IsRun}
 use Rattle.ckpt_machine.proofs.Lawful.{lawful}
 use Rattle.ckpt_machine.proofs.ReplicaSteps.{put_actor-cases}
@@ -73,7 +73,7 @@ pub record HasHistory (m : Machine) : Type 0 where
 
 pub history_empty : HasHistory empty_cluster
 history_empty = record {
-  bare = record { complete = λ k r x is. absurd (cc is); reserves = λ k r n is. absurd (cc is); free = All-nil IsFree };
+  bare = record { complete = λ k r x is. absurd (cc is); reserves = λ k r n is. absurd (cc is) };
   given = λ k r d has. absurd (let none = has.there in cc none);
   commits = λ k r s held has. absurd (cc held);
   given_copied = λ k d has. absurd (let none = has.there in cc none);
@@ -215,8 +215,8 @@ on_replica-there m k r P on =
 -- and where its updates are on the active alone
 pub on_active-there : (m : Machine) (update : Update) (by_element : Bool) (k r : ℕ) (P : Entry → ReplicaState → Type 0) → OnActive m update by_element k r P → (e : Entry) × (x : ReplicaState) × (entry_of k m.cluster.entries ≡ Some e) × (m.replicas k r ≡ Some x) × (is_all e.attributes ≡ false) × (e.active ≡ Some r) × P e x
 on_active-there m update by_element k r P on =
-    let (e, x, found, there, row_of) = on_replica-there m k r (λ e x. (is_all e.attributes ≡ false) × (e.active ≡ Some r) × (is_by_element (is_weak e.attributes) update ≡ by_element) × P e x) on in
-    (e, x, found, there, row_of.0, row_of.1, row_of.3)
+    let (e, x, found, there, row_of) = on_replica-there m k r (λ e x. (is_all e.attributes ≡ false) × (e.active ≡ Some r) × (e.hold ≡ None) × (is_by_element (is_weak e.attributes) update ≡ by_element) × P e x) on in
+    (e, x, found, there, row_of.0, row_of.1, row_of.4)
 
 module _ (m : Machine) (inv : Invariant m) (history : HasHistory m) (s : CallState) (held : m.in_hand s.call.actor ≡ Some s) (t : Told) (row : Row m s t.verb t) where
   -- the step commits at this checkpoint
@@ -278,6 +278,7 @@ module _ (m : Machine) (inv : Invariant m) (history : HasHistory m) (s : CallSta
       news verbs.Apply (Some k) (Some r) words.Ok verb reply row = inl (own_apply row.1 k r (record t { verb = verbs.Apply; ckpt = Some k; node = Some r; reply = words.Ok }) refl verb reply row.3)
       news verbs.Unmark (Some k) (Some r) words.Ok verb reply row = λ x marks there marked. inl (own_unmark row.1 k r (record t { verb = verbs.Unmark; ckpt = Some k; node = Some r; reply = words.Ok }) refl verb reply row.3 x marks there marked)
       news verbs.Install (Some k) (Some r) words.Ok verb reply row = λ pulled d there has. inr (record { actor = s.call.actor; state = s; held = held; snapshot = pulled; there = there; effect = has })
+      news verbs.Activate (Some k) (Some r) words.Ok verb reply row = λ copy d there has. inr (record { actor = s.call.actor; state = s; held = held; snapshot = copy; there = there; effect = has })
       news verbs.Reserve (Some k) (Some r) words.Ok verb reply row = making_incomplete m inv s.call k r row.0.3.1
       news verb k r reply verb_is reply_is row = tt
 
@@ -301,19 +302,28 @@ module _ (m : Machine) (inv : Invariant m) (history : HasHistory m) (s : CallSta
     alone : IsSomeAnd (entry_of ckpt m.cluster.entries) (λ e. is_all e.attributes ≡ false)
     has : Has m ckpt node d
 
-  pulled_effect : (k r : ℕ) (u : Told) (p : Snapshot) (d : CallId) → OnReplica m k r (PullOk m s r u) → option_map copied (m.replicas k r) ≡ Some p → HasEffect d p.effects → IsPulledEffect d
-  pulled_effect k r u p d on is effect =
-      let (e, x, found, there, ok) = on_replica-there m k r (PullOk m s r u) on in
+  copied_effect : (k r : ℕ) (p : Snapshot) (d : CallId) → OnReplica m k r (λ e x. is_all e.attributes ≡ false) → option_map copied (m.replicas k r) ≡ Some p → HasEffect d p.effects → IsPulledEffect d
+  copied_effect k r p d on is effect =
+      let (e, x, found, there, alone) = on_replica-there m k r (λ e x. is_all e.attributes ≡ false) on in
       record {
         ckpt = k;
         node = r;
-        alone = IsSomeAnd-from (entry_of k m.cluster.entries) (λ e. is_all e.attributes ≡ false) e found ok.alone;
+        alone = IsSomeAnd-from (entry_of k m.cluster.entries) (λ e. is_all e.attributes ≡ false) e found alone;
         has = record { replica = x; there = there; effect = subst (λ (q : Snapshot). HasEffect d q.effects) (sym (same_Some (copied x) p (sym (ap (option_map copied) there) ∙ is))) effect };
       }
 
+  -- a pull is of such a checkpoint
+  pulled_alone : (k r : ℕ) (u : Told) → OnReplica m k r (PullOk m s r u) → OnReplica m k r (λ e x. is_all e.attributes ≡ false)
+  pulled_alone k r u on = let (e, x, found, there, ok) = on_replica-there m k r (PullOk m s r u) on in IsSomeAnd-from (entry_of k m.cluster.entries) _ e found (IsSomeAnd-from (m.replicas k r) (λ x. is_all e.attributes ≡ false) x there ok.alone)
+
+  -- and so is a hold
+  held_alone : (k r : ℕ) (end : Option Outcome) → OnReplica m k r (HoldOk s r end) → OnReplica m k r (λ e x. is_all e.attributes ≡ false)
+  held_alone k r end on = let (e, x, found, there, ok) = on_replica-there m k r (HoldOk s r end) on in IsSomeAnd-from (entry_of k m.cluster.entries) _ e found (IsSomeAnd-from (m.replicas k r) (λ x. is_all e.attributes ≡ false) x there (collocated_apart e.attributes ok.collocated))
+
   -- an effect of the snapshot in its hand behind the step was there before, or is pulled
   pulled_was : (verb : Verb) (k r : Option ℕ) (reply : StepReply) (p : Snapshot) (d : CallId) → Row m s verb (record t { verb = verb; ckpt = k; node = r; reply = reply }) → pulled_by m s verb k r reply ≡ Some p → HasEffect d p.effects → HasInHand m d ⊎ IsPulledEffect d
-  pulled_was verbs.Pull (Some k) (Some r) words.Ok p d row is effect = inr (pulled_effect k r (record t { verb = verbs.Pull; ckpt = Some k; node = Some r; reply = words.Ok }) p d row.0.3 is effect)
+  pulled_was verbs.Pull (Some k) (Some r) words.Ok p d row is effect = inr (copied_effect k r p d (pulled_alone k r (record t { verb = verbs.Pull; ckpt = Some k; node = Some r; reply = words.Ok }) row.0.3) is effect)
+  pulled_was verbs.Hold (Some k) (Some r) words.Ok p d row is effect = inr (copied_effect k r p d (held_alone k r t.end row.0.2) is effect)
   pulled_was verb k r reply p d row is effect = inl (record { actor = s.call.actor; state = s; held = held; snapshot = p; there = is; effect = effect })
 
   module _ (end : Option Outcome) (ends : t.end ≡ end) (done : IsDone m s (due m s) t) where
@@ -461,7 +471,7 @@ moved_history m history t = record {
 }
   where
     follows : ReplicasFollow m (λ k d. ⊥) (with_record m (moved t m.cluster))
-    follows = record_follows m history.bare (λ k d. ⊥) (moved t m.cluster) (All-filter (stays t) IsFree m.cluster.entries history.bare.free)
+    follows = record_follows m history.bare (λ k d. ⊥) (moved t m.cluster)
 
     before : (k r : ℕ) (d : CallId) → Has (with_record m (moved t m.cluster)) k r d → Has m k r d
     before k r d has = elim (follows.effects k r has.replica d has.there has.effect) [ inl was ↦ was | inr none ↦ absurd none ]
@@ -517,7 +527,7 @@ keeps_history m (labels.Stepped call op verb k r reply end details) inv history 
     subst (λ o. HasHistory (step_of m o verb k r reply end)) (sym step.in_hand) (step_history m inv history step.state held _ (subst (λ z. Row m z verb _) same allowed.row) end refl step.done)
 keeps_history m (labels.Word who word said) inv history allowed is = history
 keeps_history m (labels.Nodes n) inv history allowed is = record {
-  bare = record { complete = history.bare.complete; reserves = history.bare.reserves; free = history.bare.free };
+  bare = record { complete = history.bare.complete; reserves = history.bare.reserves };
   given = λ k r d has. history.given k r d (record { replica = has.replica; there = has.there; effect = has.effect });
   commits = λ k r s held has. history.commits k r s held (record { replica = has.replica; there = has.there; effect = has.effect });
   given_copied = λ k d has. history.given_copied k d (record { snapshot = has.snapshot; there = has.there; effect = has.effect });

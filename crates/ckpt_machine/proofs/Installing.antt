@@ -1,6 +1,6 @@
 -- A synchronisation installs what it has pulled at the next node that is not served, and whatever is next of it.
 use Rattle.std.specs.List.{list_any}
-use Rattle.std.proofs.Common.{◌≡◌, ℕ, ◌+◌, ◌<◌, inl, inr, List, ◌∷◌, length, Option, Some, None, Ok, Err, Bool, true, false, cond, ◌==◌, refl, sym, ap, subst, ◌∙◌, arith}
+use Rattle.std.proofs.Common.{◌≡◌, ℕ, ◌+◌, ◌<◌, inl, inr, List, ◌∷◌, length, Option, Some, None, Ok, Err, Bool, true, false, cond, ◌==◌, ℤ, refl, sym, ap, subst, ◌∙◌, arith}
 use Rattle.std.specs.Prelude.{is_some, IfSome, IsSomeAnd, slice_get, slice_set}
 use Rattle.std.proofs.lemmas.Bool.{eqb-true, eq-eqb}
 use Rattle.std.proofs.lemmas.Option.{same_Some}
@@ -8,7 +8,7 @@ use Rattle.ckpt_types.specs.declared.ais_error.AisError.TheVariants.{TryAgain}
 use Rattle.ckpt_types.specs.declared.answers.Answer.TheVariants as answers
 use Rattle.ckpt_types.specs.declared.answers.Cause.TheVariants.{Generations}
 use Rattle.ckpt_types.specs.declared.answers.Outcome.{Outcome}
-use Rattle.ckpt_types.specs.declared.answers.Outcome.TheVariants.{Done, Refused}
+use Rattle.ckpt_types.specs.declared.answers.Outcome.TheVariants.{Refused}
 use Rattle.node_msgs.specs.declared.details.Details.TheVariants as beside
 use Rattle.node_msgs.specs.declared.next.Next.TheVariants.{End}
 use Rattle.node_msgs.specs.declared.requests.Request.{Request}
@@ -20,6 +20,7 @@ use Rattle.node_msgs.specs.declared.steps.Verb.TheVariants as verbs
 use Rattle.node_core.specs.Fitting.{IsReadyFor}
 use Rattle.node_core.specs.Seen.{record_seen, entry_seen}
 use Rattle.node_core.specs.Serving.{reply_at, details_at, install_reply, older_reply, generation_seen}
+use Rattle.cluster_record.specs.declared.calls.SyncKind.TheVariants.{Synchronize}
 use Rattle.cluster_record.specs.declared.calls.PulledAt.{PulledAt}
 use Rattle.cluster_record.specs.declared.entries.Entry.{Entry}
 use Rattle.cluster_record.specs.Calls.{put_actor, left}
@@ -31,9 +32,9 @@ use Rattle.cluster_record.specs.StepDone.{StepDone, done_of, counting}
 use Rattle.ckpt_machine.specs.Drivers as drivers
 use Rattle.ckpt_machine.specs.Driving.{driver_taken}
 use Rattle.ckpt_machine.specs.Guards.{deadline_of, IsInTime, HasNoActive, OnReplica, InstallOk, steps_with, serves, unless_unserved}
-use Rattle.ckpt_machine.specs.InHand.{IsInHand, IsSyncIn, HasServedActive}
+use Rattle.ckpt_machine.specs.InHand.{IsInHand, IsSynchronizeIn, HasServedActive}
 use Rattle.ckpt_machine.specs.Invariant.{InvariantIn, Invariant}
-use Rattle.ckpt_machine.specs.Left.{unserved, sync_left, steps_left}
+use Rattle.ckpt_machine.specs.Left.{unserved, sync_left, kind_left, steps_left}
 use Rattle.ckpt_machine.specs.Listing.{is_active}
 use Rattle.ckpt_machine.specs.Machine.{Machine, ReplicaState, Snapshot, CallState}
 use Rattle.ckpt_machine.specs.Options.{is_all}
@@ -51,19 +52,19 @@ use Rattle.ckpt_machine.proofs.Served.{UnservedFirst, first_unserved-is, served_
 use Rattle.ckpt_machine.proofs.StepLabels.{IsServed-told}
 use Rattle.ckpt_machine.proofs.Sync.{HasPulled, has_pulled, at_sync, plain, alone, spread, then_state, hand_then, here_then, left_is, ended_nothing, unled_goes, late_goes, stale_goes, done_goes, pull_goes}
 
-module _ (m : Machine) (shapes : ℕ → Shape) (inv : InvariantIn shapes m) (s : CallState) (u : SyncState) (held : m.in_hand s.call.actor ≡ Some s) (is : driver_of s ≡ drivers.Sync u) (at : ActiveOf m (shapes u.ckpt).marks u.ckpt) where
+module _ (m : Machine) (shapes : ℕ → Shape) (inv : InvariantIn shapes m) (s : CallState) (u : SyncState) (held : m.in_hand s.call.actor ≡ Some s) (is : driver_of s ≡ drivers.Sync u) (sync : (deadline : Option ℤ) × (u.kind ≡ Synchronize deadline)) (at : ActiveOf m (shapes u.ckpt).marks u.ckpt) where
   abbrev pub k : ℕ
   k = u.ckpt
 
   module _ (p : PulledAt) (keeps : u.pulled ≡ Some p) (present : p.generation ≡ at.entry.generation) (r : ℕ) (next : first_unserved 0 at.entry.complete u.served ≡ Some r) where
-    has : HasPulled m shapes inv s u held is p
-    has = has_pulled m shapes inv s u held is p keeps
+    has : HasPulled m shapes inv s u held is sync p
+    has = has_pulled m shapes inv s u held is sync p keeps
 
     its_spread : IsSpread m k (shapes k) at.entry
-    its_spread = spread m shapes inv s u held is at
+    its_spread = spread m shapes inv s u held is sync at
 
     its_alone : is_all at.entry.attributes ≡ false
-    its_alone = alone m shapes inv s u held is at
+    its_alone = alone m shapes inv s u held is sync at
 
     at_first : UnservedFirst 0 at.entry.complete u.served r
     at_first = first_unserved-is 0 at.entry.complete u.served r next
@@ -82,7 +83,7 @@ module _ (m : Machine) (shapes : ℕ → Shape) (inv : InvariantIn shapes m) (s 
     below = subst (λ (n : ℕ). r < n) its_spread.nodes (index-within at.entry.complete r complete)
 
     within : r < length u.served
-    within = subst (λ (n : ℕ). r < n) (sym (at_sync m shapes inv s u held is).nodes) below
+    within = subst (λ (n : ℕ). r < n) (sym (at_sync m shapes inv s u held is sync).nodes) below
 
     its_generation : has.pulled.generation ≡ at.entry.generation
     its_generation = ap (λ (q : PulledAt). q.generation) has.keeps ∙ present
@@ -90,7 +91,7 @@ module _ (m : Machine) (shapes : ℕ → Shape) (inv : InvariantIn shapes m) (s 
     -- the active was served
     active_served : slice_get u.served at.node ≡ Some true
     active_served =
-        let led = subst (λ o. IfSome o (λ p. IfSome (entry_of k m.cluster.entries) (HasServedActive u.served p))) has.in_hand (at_sync m shapes inv s u held is).led in
+        let led = subst (λ o. IfSome o (λ p. IfSome (entry_of k m.cluster.entries) (HasServedActive u.served p))) has.in_hand (at_sync m shapes inv s u held is sync).led in
         let there : HasServedActive u.served has.pulled at.entry = subst (λ o. IfSome o (HasServedActive u.served has.pulled)) at.found led in
         subst (λ o. IsSomeAnd o (λ q. slice_get u.served q ≡ Some true)) at.active (there its_generation)
 
@@ -135,7 +136,7 @@ module _ (m : Machine) (shapes : ℕ → Shape) (inv : InvariantIn shapes m) (s 
 
     -- it declares what it did at the beginning
     pub declares_still : s.kept.declares ≡ Some at.entry.attributes
-    declares_still = subst (λ o. IfSome o (λ (e : Entry). s.kept.declares ≡ Some e.attributes)) at.found (at_sync m shapes inv s u held is).declares
+    declares_still = subst (λ o. IfSome o (λ (e : Entry). s.kept.declares ≡ Some e.attributes)) at.found (at_sync m shapes inv s u held is sync).declares
 
     -- the snapshot that travels is the one in hand
     travels : seen_snapshot s.kept.declares s.snapshot ≡ seen_snapshot (Some at.entry.attributes) (Some has.pulled)
@@ -172,7 +173,7 @@ module _ (m : Machine) (shapes : ℕ → Shape) (inv : InvariantIn shapes m) (s 
 
     -- the call with it
     abbrev state_then : StepReply → CallState
-    state_then word = then_state m shapes inv s u held is (install_done word) s.snapshot u.pulled served_then
+    state_then word = then_state m shapes inv s u held is sync (install_done word) s.snapshot u.pulled served_then
 
     module _ (word : StepReply) (tells : (q : ℕ) → q < 8 → slice_get served_then q ≡ Some (list_any (serves q) (install_done word ∷ s.steps))) (takes : driver_taken (install_done word) (drivers.Sync u) ≡ drivers.Sync (record u { served = served_then })) where
       -- it goes on with it, or ends, with these replicas
@@ -181,9 +182,9 @@ module _ (m : Machine) (shapes : ℕ → Shape) (inv : InvariantIn shapes m) (s 
           let hands = put_actor m.in_hand s.call.actor (left end (state_then word)) in
           record {
             shapes = shapes;
-            holds = plain_steps (record m { replicas = f }) shapes holds s held (plain m shapes inv s u held is) (left end (state_then word)) (λ w same. subst (IsInHand (record m { replicas = f; in_hand = hands }) shapes s.call.actor) (left_is end (state_then word) w same)
-                (hand_then m shapes inv s u held is (install_done word) s.snapshot u.pulled served_then f hands takes
-                (here_then m shapes inv s u held is (install_done word) s.snapshot u.pulled served_then f hands (at_sync m shapes inv s u held is).pulled (set_length u.served r true ∙ (at_sync m shapes inv s u held is).nodes) tells led_then)));
+            holds = plain_steps (record m { replicas = f }) shapes holds s held (plain m shapes inv s u held is sync) (left end (state_then word)) (λ w same. subst (IsInHand (record m { replicas = f; in_hand = hands }) shapes s.call.actor) (left_is end (state_then word) w same)
+                (hand_then m shapes inv s u held is sync (install_done word) s.snapshot u.pulled served_then f hands takes
+                (here_then m shapes inv s u held is sync (install_done word) s.snapshot u.pulled served_then f hands (at_sync m shapes inv s u held is sync).pulled (set_length u.served r true ∙ (at_sync m shapes inv s u held is sync).nodes) tells led_then (at_sync m shapes inv s u held is sync).older)));
           }
 
       -- it ends where all are served
@@ -201,7 +202,8 @@ module _ (m : Machine) (shapes : ℕ → Shape) (inv : InvariantIn shapes m) (s 
           let less : unserved cs served_then + 1 ≡ unserved cs u.served = subst (λ cs. unserved cs served_then + 1 ≡ unserved cs u.served) (sym cs_is) (unserved-set at.entry.complete u.served r complete free) in
           subst (λ d. steps_left m.cluster (driver_taken (install_done word) d) < steps_left m.cluster d) (sym is)
           (subst (λ d. steps_left m.cluster d < steps_left m.cluster (drivers.Sync u)) (sym takes)
-          (subst (λ o. sync_left cs (record u { served = served_then }) o < sync_left cs u o) (sym keeps) (omega (arith, less))))
+          (subst (λ kind. kind_left (entry_of k m.cluster.entries) (record u { served = served_then }) kind < kind_left (entry_of k m.cluster.entries) u kind) (sym sync.1)
+          (subst (λ o. sync_left cs (record u { served = served_then }) o < sync_left cs u o) (sym keeps) (omega (arith, less)))))
 
     -- ---- the step
 
@@ -225,16 +227,16 @@ module _ (m : Machine) (shapes : ℕ → Shape) (inv : InvariantIn shapes m) (s 
       }))
 
       tells_ok : (q : ℕ) → q < 8 → slice_get served_then q ≡ Some (list_any (serves q) (install_done words.Ok ∷ s.steps))
-      tells_ok q low = served_set u.served r q (list_any (serves q) s.steps) within ((at_sync m shapes inv s u held is).served q low)
+      tells_ok q low = served_set u.served r q (list_any (serves q) s.steps) within ((at_sync m shapes inv s u held is sync).served q low)
 
       tells_older : (q : ℕ) → q < 8 → slice_get served_then q ≡ Some (list_any (serves q) (install_done words.Older ∷ s.steps))
-      tells_older q low = served_set u.served r q (list_any (serves q) s.steps) within ((at_sync m shapes inv s u held is).served q low)
+      tells_older q low = served_set u.served r q (list_any (serves q) s.steps) within ((at_sync m shapes inv s u held is sync).served q low)
 
       -- by whether the replica is behind what was pulled
       install_by : (t : Told) → IsServed m s r request t → (b : Bool) → is_behind x has.pulled ≡ b → Goes m s (driver_of s) t
       install_by t served true behind = subst (Goes m s (driver_of s)) (sym (IsServed-told m s r request t (drivers.Sync u) (replies.Done answers.Nothing) served is (answered t served true behind))) (record {
         row = (
-          ((at_sync m shapes inv s u held is).place, (at_sync m shapes inv s u held is).timeout, (at_sync m shapes inv s u held is).asks, install_row _ true behind (install_ends words.Ok tells_ok refl)),
+          ((at_sync m shapes inv s u held is sync).place, (at_sync m shapes inv s u held is sync).timeout, (at_sync m shapes inv s u held is sync).asks, install_row _ true behind (install_ends words.Ok tells_ok refl)),
           ended_nothing install_end _ nothing_told,
         );
         holds = subst (λ (z : Option ReplicaState × Option Snapshot). let n = change_replica m k r z.0 (with_installed z.1) in Invariant (stepped n (kept_behind m s n.cluster verbs.Install (Some k) (Some r) words.Ok) install_end)) (λ i. (sym on_node.there i, sym has.in_hand i))
@@ -244,7 +246,7 @@ module _ (m : Machine) (shapes : ℕ → Shape) (inv : InvariantIn shapes m) (s 
       })
       install_by t served false not_behind = subst (Goes m s (driver_of s)) (sym (IsServed-told m s r request t (drivers.Sync u) (replies.Older x.generation (length x.effects)) served is (answered t served false not_behind))) (record {
         row = (
-          ((at_sync m shapes inv s u held is).place, (at_sync m shapes inv s u held is).timeout, (at_sync m shapes inv s u held is).asks, install_row _ false not_behind (install_ends words.Older tells_older refl)),
+          ((at_sync m shapes inv s u held is sync).place, (at_sync m shapes inv s u held is sync).timeout, (at_sync m shapes inv s u held is sync).asks, install_row _ false not_behind (install_ends words.Older tells_older refl)),
           ended_nothing install_end _ nothing_told,
         );
         holds = install_keeps words.Older tells_older refl m.replicas install_end inv;
@@ -256,37 +258,37 @@ module _ (m : Machine) (shapes : ℕ → Shape) (inv : InvariantIn shapes m) (s 
 
 -- ---- whatever is next
 
-module _ (m : Machine) (shapes : ℕ → Shape) (inv : InvariantIn shapes m) (s : CallState) (u : SyncState) (held : m.in_hand s.call.actor ≡ Some s) (is : driver_of s ≡ drivers.Sync u) where
+module _ (m : Machine) (shapes : ℕ → Shape) (inv : InvariantIn shapes m) (s : CallState) (u : SyncState) (held : m.in_hand s.call.actor ≡ Some s) (is : driver_of s ≡ drivers.Sync u) (sync : (deadline : Option ℤ) × (u.kind ≡ Synchronize deadline)) where
   module _ (at : ActiveOf m (shapes u.ckpt).marks u.ckpt) (early : IsInTime m s) where
     -- of a node that is left, or of none
     next_goes : (p : PulledAt) → u.pulled ≡ Some p → p.generation ≡ at.entry.generation → (r : Option ℕ) → first_unserved 0 at.entry.complete u.served ≡ r → (t : Told) → IsDone m s (install_next u.call u.ckpt p.count r) t → Goes m s (driver_of s) t
-    next_goes p keeps present None none t done = done_goes m shapes inv s u held is at early p keeps present none t done
-    next_goes p keeps present (Some r) next t done = install_goes m shapes inv s u held is at p keeps present r next early t done
+    next_goes p keeps present None none t done = done_goes m shapes inv s u held is sync at early p keeps present none t done
+    next_goes p keeps present (Some r) next t done = install_goes m shapes inv s u held is sync at p keeps present r next early t done
 
     -- by what it has pulled
     pulled_goes : (o : Option PulledAt) → u.pulled ≡ o → (t : Told) → IsDone m s (unless_stale u at.entry at.node o) t → Goes m s (driver_of s) t
-    pulled_goes None first t done = pull_goes m shapes inv s u held is at early first t done
+    pulled_goes None first t done = pull_goes m shapes inv s u held is sync at early first t done
     pulled_goes (Some p) keeps t done = by_generation (p.generation == at.entry.generation) refl done
       where
         by_generation : (b : Bool) → (p.generation == at.entry.generation) ≡ b → IsDone m s (cond b (install_next u.call u.ckpt p.count (first_unserved 0 at.entry.complete u.served)) (End (Refused TryAgain (Generations p.generation at.entry.generation)))) t → Goes m s (driver_of s) t
         by_generation true same done = next_goes p keeps (eqb-true p.generation at.entry.generation same) (first_unserved 0 at.entry.complete u.served) refl t done
-        by_generation false other done = stale_goes m shapes inv s u held is at early p keeps other t done
+        by_generation false other done = stale_goes m shapes inv s u held is sync at early p keeps other t done
 
   -- the next step of a synchronisation
-  pub sync_goes : (t : Told) → IsDone m s (sync_next m.cluster u) t → Goes m s (driver_of s) t
-  sync_goes t done = by_entry (entry_of u.ckpt m.cluster.entries) refl
+  pub synchronize_goes : (t : Told) → IsDone m s (sync_next m.cluster u) t → Goes m s (driver_of s) t
+  synchronize_goes t done = by_entry (entry_of u.ckpt m.cluster.entries) refl
     where
-      its : IsSyncIn m s u
-      its = at_sync m shapes inv s u held is
+      its : IsSynchronizeIn m s u
+      its = at_sync m shapes inv s u held is sync
 
       led_goes : (at : ActiveOf m (shapes u.ckpt).marks u.ckpt) → IsDone m s (in_time (deadline_of s) m.cluster.moment (unless_stale u at.entry at.node u.pulled)) t → Goes m s (driver_of s) t
       led_goes at = in_time-cases (λ next. IsDone m s next t → Goes m s (driver_of s) t) (deadline_of s) m.cluster.moment (unless_stale u at.entry at.node u.pulled)
-          (λ deadline has reached done. late_goes m shapes inv s u held is at deadline has reached t done)
+          (λ deadline has reached done. late_goes m shapes inv s u held is sync at deadline has reached t done)
           (λ early done. pulled_goes at early u.pulled refl t done)
 
       by_entry : (o : Option Entry) → entry_of u.ckpt m.cluster.entries ≡ o → Goes m s (driver_of s) t
-      by_entry None gone = unled_goes m shapes inv s u held is (subst (λ o. HasNoActive o) (sym gone) tt) t (subst (λ next. IsDone m s next t) (ap (sync_on m.cluster u) gone) done)
+      by_entry None gone = unled_goes m shapes inv s u held is sync (subst (λ o. HasNoActive o) (sym gone) tt) t (subst (λ next. IsDone m s next t) (ap (sync_on m.cluster u) gone) done)
       by_entry (Some e) found = elim (active_of m shapes u.ckpt e inv its.made found) [
-        | inl none ↦ unled_goes m shapes inv s u held is (subst (λ o. HasNoActive o) (sym found) none) t (subst (λ next. IsDone m s next t) (ap (sync_on m.cluster u) found ∙ ap (kind_next m.cluster u e) its.kind ∙ ap (synchronize_next m.cluster u (deadline_of s) e) none) done)
+        | inl none ↦ unled_goes m shapes inv s u held is sync (subst (λ o. HasNoActive o) (sym found) none) t (subst (λ next. IsDone m s next t) (ap (sync_on m.cluster u) found ∙ ap (kind_next m.cluster u e) its.kind ∙ ap (synchronize_next m.cluster u (deadline_of s) e) none) done)
         | inr at ↦ led_goes at (subst (λ next. IsDone m s next t) (ap (sync_on m.cluster u) at.found ∙ ap (kind_next m.cluster u at.entry) its.kind ∙ ap (synchronize_next m.cluster u (deadline_of s) at.entry) at.active) done)
       ]

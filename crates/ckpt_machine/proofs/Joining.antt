@@ -1,5 +1,5 @@
 -- What an open leaves of the entry that it opens: a collocated checkpoint may be complete on its client's node too, and but for its references all else stays.
-use Rattle.std.proofs.Common.{◌≡◌, ℕ, List, Option, None, Bool, true, false, cond, ◌&&◌, ◌==◌, ℤ, length, refl, sym, ap, subst, ◌∙◌}
+use Rattle.std.proofs.Common.{◌≡◌, ℕ, ◌<◌, List, Option, None, Bool, true, false, cond, ◌&&◌, ◌==◌, ℤ, length, refl, sym, ap, subst, ◌∙◌}
 use Rattle.std.specs.Prelude.{is_some, slice_index, slice_set}
 use Rattle.std.proofs.lemmas.Bool.{eqb-true, ne_eqb, and_parts}
 use Rattle.ckpt_types.specs.declared.attributes.CreationAttributes.{CreationAttributes}
@@ -13,7 +13,7 @@ use Rattle.cluster_record.proofs.IdentityLaws.{KeepsIdentity}
 use Rattle.ckpt_machine.specs.Later.{IsLaterEntry}
 use Rattle.ckpt_machine.specs.Options.{is_all}
 use Rattle.ckpt_machine.specs.Shape.{IsCompleteOn}
-use Rattle.ckpt_machine.proofs.NodeLists.{index-other, length-slice_set}
+use Rattle.ckpt_machine.proofs.NodeLists.{index-set, index-other, length-slice_set}
 
 -- ---- where updates are on all replicas
 
@@ -92,8 +92,8 @@ opened_with-identity opener up c e = joined-same opener up e {X = ℕ} (λ e. e.
 -- ---- later entries
 
 -- an entry with the same nodes
-pub same_nodes-later : (e f : Entry) → f.making ≡ e.making → f.complete ≡ e.complete → f.active ≡ e.active → f.attributes ≡ e.attributes → f.generation ≡ e.generation → length f.references ≡ length e.references → IsLaterEntry e f
-same_nodes-later e f making complete active attributes generation clients = record {
+pub same_nodes-later : (e f : Entry) → f.making ≡ e.making → f.complete ≡ e.complete → f.active ≡ e.active → f.attributes ≡ e.attributes → f.generation ≡ e.generation → f.hold ≡ e.hold → length f.references ≡ length e.references → IsLaterEntry e f
+same_nodes-later e f making complete active attributes generation hold clients = record {
   making = making;
   unmade = λ some. complete;
   placed = λ apart. complete;
@@ -102,16 +102,17 @@ same_nodes-later e f making complete active attributes generation clients = reco
   active = active;
   attributes = attributes;
   generation = generation;
+  hold = hold;
   clients = clients;
 }
 
 -- the same
 pub IsLaterEntry-refl : (e : Entry) → IsLaterEntry e e
-IsLaterEntry-refl e = same_nodes-later e e refl refl refl refl refl refl
+IsLaterEntry-refl e = same_nodes-later e e refl refl refl refl refl refl refl
 
 -- one reference more changes nothing that the invariant looks at
 pub referred-later : (c : ℕ) (e : Entry) → IsLaterEntry e (referred c e)
-referred-later c e = same_nodes-later e (referred c e) refl refl refl refl refl (length-slice_set e.references c _)
+referred-later c e = same_nodes-later e (referred c e) refl refl refl refl refl refl (length-slice_set e.references c _)
 
 -- what an open leaves of one that is made
 pub opened_with-later : (opener : ℕ) (up : List ℕ) (c : ℕ) (e : Entry) → e.making ≡ None → IsLaterEntry e (opened_with opener up c e)
@@ -124,5 +125,16 @@ opened_with-later opener up c e made = record {
   active = joined-active opener up e;
   attributes = joined-attributes opener up e;
   generation = joined-generation opener up e;
+  hold = joined-hold opener up e;
   clients = length-slice_set (joined opener up e).references c _ ∙ ap length (joined-references opener up e);
 }
+
+-- ---- the opener's node
+
+-- a collocated one that was opened from a node that is up is complete there
+pub joined-here : (opener : ℕ) (up : List ℕ) (e : Entry) → is_collocated e.attributes ≡ true → opener < length e.complete → (slice_index up opener == 0) ≡ false → IsCompleteOn (joined opener up e) opener
+joined-here opener up e collocated within is_up = by_test (slice_index e.complete opener == 0) refl
+  where
+    by_test : (b : Bool) → (slice_index e.complete opener == 0) ≡ b → IsCompleteOn (joined opener up e) opener
+    by_test true none = subst (λ b. IsCompleteOn (cond b (record e { complete = with_opener opener up e }) e) opener) (λ i. sym (ap (λ b. b && (slice_index e.complete opener == 0)) collocated ∙ none) i) (ap (λ n. n == 0) (index-set e.complete opener (slice_index up opener) within) ∙ is_up)
+    by_test false some = joined-complete opener up e opener some

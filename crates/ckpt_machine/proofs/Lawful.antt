@@ -14,7 +14,7 @@ use Rattle.ckpt_machine.proofs.Active.{active_goes}
 use Rattle.ckpt_machine.proofs.Beginnings.{begin_keeps}
 use Rattle.ckpt_machine.proofs.BeginRows.{begin_row, word_row}
 use Rattle.ckpt_machine.proofs.BroughtUp.{nodes_keep}
-use Rattle.ckpt_machine.proofs.Installing.{sync_goes}
+use Rattle.ckpt_machine.proofs.SettingActive.{sync_goes}
 use Rattle.ckpt_machine.proofs.Moment.{moved_keeps}
 use Rattle.ckpt_machine.proofs.OneStepCalls.{once_goes}
 use Rattle.ckpt_machine.proofs.Propagated.{pull_keeps, put_keeps}

@@ -1,3 +1,4 @@
+pub mod ActiveBy
 pub mod OnComplete
 pub mod Handles
 pub mod Served
@@ -35,6 +36,7 @@ pub mod OtherCalls
 pub mod Entries
 pub mod PlainCalls
 pub mod EndedTables
+pub mod OneReplica
 pub mod OnAll
 pub mod OneStepCalls
 pub mod Enter
@@ -45,6 +47,7 @@ pub mod Copying
 pub mod BegunOnce
 pub mod GoodArguments
 pub mod UpdateAnswers
+pub mod Activating
 pub mod Active
 pub mod ActiveNode
 pub mod ActiveSteps
@@ -83,6 +86,7 @@ pub mod OpenSteps
 pub mod References
 pub mod OpenReady
 pub mod Follows
+pub mod HeldIn
 pub mod Histories
 pub mod RefusedRuns
 pub mod RefusedRows
@@ -98,3 +102,6 @@ pub mod Bringing
 pub mod Synchronized
 pub mod ActiveAhead
 pub mod EffectsTell
+pub mod HeldBy
+pub mod EntrySteps
+pub mod SettingActive

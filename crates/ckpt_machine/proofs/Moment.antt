@@ -53,7 +53,9 @@ moved_later m shapes t inv = record {
   lives = λ a z held. refl;
   makes = λ a z k e held found by. ap is_some (found_swept t k m.cluster.entries e found (making_stays t e (ap is_some by)));
   owners = λ k sh call own. refl;
+  homes = λ a h among. refl;
   markers = λ k marks there own. refl;
+  holders = λ k active d there own. refl;
   makers = λ k call there maker. refl;
 }
 

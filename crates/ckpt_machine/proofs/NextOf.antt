@@ -7,7 +7,7 @@ use Rattle.ckpt_types.specs.declared.attributes.CreationAttributes.{CreationAttr
 use Rattle.ckpt_types.specs.declared.identities.CallId.{CallId}
 use Rattle.node_msgs.specs.declared.requests.Request.TheVariants.{Reserve, Stage, Commit, Pull, Install}
 use Rattle.node_msgs.specs.declared.next.RecordStep.{RecordStep}
-use Rattle.node_msgs.specs.declared.next.RecordStep.TheVariants.{Open, Finish, Undo, Retain, Hold, Activate}
+use Rattle.node_msgs.specs.declared.next.RecordStep.TheVariants.{Enter, Leave, Open, Create, Finish, Undo, Close, Unlink, Retain, Hold, Activate}
 use Rattle.node_msgs.specs.declared.next.Next.{Next}
 use Rattle.node_msgs.specs.declared.next.Next.TheVariants.{Serve, Event, End}
 use Rattle.ckpt_machine.specs.Drivers.{Driver}
@@ -31,47 +31,53 @@ use Rattle.ckpt_machine.specs.Driving.{driver_next}
 use Rattle.cluster_record.specs.DueOpen.{accepts, create_next, entry_by, entry_next, on_named, reserve_or_finish, targets_of, on_making, by_making}
 use Rattle.ckpt_types.specs.declared.calls.OpenAsk.{OpenAsk}
 use Rattle.cluster_record.specs.DueUpdate.{commit_at, stage_at, by_phase, update_on}
-use Rattle.cluster_record.specs.DueActive.{unless_changed, on_active, active_on, active_request, starts_iteration}
+use Rattle.cluster_record.specs.DueActive.{unless_changed, unless_on_hold, is_update, on_active, active_on, active_request, starts_iteration}
 use Rattle.cluster_record.specs.DueOnce.{OneStep, once_next, close_of, unlink_of_making, unlink_of, retain_of}
 use Rattle.cluster_record.specs.DueOnce as once
 use Rattle.ckpt_machine.proofs.Deadlines.{in_time-either}
 
--- what a driver asks of a replica has it
+-- what a driver asks of a replica has it, and the steps of the setting of an active
 abbrev pub OfAsked : (Next → Type 0) → Driver → Type 0
 OfAsked P (drivers.Update u) = ((r : ℕ) (t : ℤ) → P (Serve r (Stage u.call u.ckpt t))) × ((r : ℕ) → P (Serve r (Commit u.call u.ckpt)))
 OfAsked P (drivers.Active a) = (r : ℕ) → P (Serve r (active_request a))
-OfAsked P (drivers.Sync u) = ((r : ℕ) → P (Serve r (Pull u.call u.ckpt))) × ((r : ℕ) → P (Serve r (Install u.call u.ckpt)))
+OfAsked P (drivers.Sync u) = ((r : ℕ) → P (Serve r (Pull u.call u.ckpt))) × ((r : ℕ) → P (Serve r (Install u.call u.ckpt))) × ((r : ℕ) → P (Event (Hold r))) × ((r : ℕ) → P (Event (Activate r)))
 OfAsked P driver = Unit {0}
 
-module _ (P : Next → Type 0) (ends : (o : Outcome) → P (End o)) (steps : (step : RecordStep) → P (Event step)) (reserves : (r k : ℕ) → P (Serve r (Reserve k))) where
-  by_two : (a b : Bool) (x y : Outcome) (step : RecordStep) → P (cond a (End x) (cond b (End y) (Event step)))
-  by_two true b x y step = ends x
-  by_two false true x y step = ends y
-  by_two false false x y step = steps step
+-- a step of the record that names no node of a checkpoint
+abbrev pub NamesNone : RecordStep → Type 0
+NamesNone (Hold r) = ⊥
+NamesNone (Activate r) = ⊥
+NamesNone step = Unit {0}
 
-  by_one : (a : Bool) (x : Outcome) (step : RecordStep) → P (cond a (End x) (Event step))
-  by_one true x step = ends x
-  by_one false x step = steps step
+module _ (P : Next → Type 0) (ends : (o : Outcome) → P (End o)) (steps : (step : RecordStep) → NamesNone step → P (Event step)) (reserves : (r k : ℕ) → P (Serve r (Reserve k))) where
+  by_two : (a b : Bool) (x y : Outcome) (step : RecordStep) → NamesNone step → P (cond a (End x) (cond b (End y) (Event step)))
+  by_two true b x y step none = ends x
+  by_two false true x y step none = ends y
+  by_two false false x y step none = steps step none
+
+  by_one : (a : Bool) (x : Outcome) (step : RecordStep) → NamesNone step → P (cond a (End x) (Event step))
+  by_one true x step none = ends x
+  by_one false x step none = steps step none
 
   -- ---- an open
 
   of_entry : (room : Bool) (a : Option CreationAttributes) (e : Entry) (making : Option CallId) → P (entry_by making room a e)
-  of_entry room a e (Some call) = steps Open
-  of_entry room a e None = by_two (not (accepts a e)) (not room) _ _ _
+  of_entry room a e (Some call) = steps Open tt
+  of_entry room a e None = by_two (not (accepts a e)) (not room) _ _ Open tt
 
   of_named : (R : RecordState) (room : Bool) (deadline : Option ℤ) (a : Option CreationAttributes) (e : Option Entry) → P (on_named R room deadline a e)
   of_named R room deadline None None = ends _
-  of_named R room deadline (Some a) None = in_time-either P deadline R.moment (create_next R room) ends (by_two (not room) (nat_le 16 (length R.entries)) _ _ _)
+  of_named R room deadline (Some a) None = in_time-either P deadline R.moment (create_next R room) ends (by_two (not room) (nat_le 16 (length R.entries)) _ _ Create tt)
   of_named R room deadline a (Some e) = in_time-either P deadline R.moment (entry_next room a e) ends (of_entry room a e e.making)
 
   of_reserve : (k : ℕ) (r : Option ℕ) → P (reserve_or_finish k r)
-  of_reserve k None = steps Finish
+  of_reserve k None = steps Finish tt
   of_reserve k (Some r) = reserves r k
 
   of_making : (R : RecordState) (ask : OpenAsk) (m : Making) → P (on_making R ask m)
   of_making R ask m = by_test m.refused where
     by_test : (b : Bool) → P (cond b (Event Undo) (reserve_or_finish m.ckpt (first_lacking 0 (targets_of ask R) m.reserved)))
-    by_test true = steps Undo
+    by_test true = steps Undo tt
     by_test false = of_reserve m.ckpt (first_lacking 0 (targets_of ask R) m.reserved)
 
   of_open : (R : RecordState) (room : Bool) (o : OpenState) (m : Option Making) → P (by_making R room o m)
@@ -101,7 +107,7 @@ module _ (P : Next → Type 0) (ends : (o : Outcome) → P (End o)) (steps : (st
 
   of_active : (room : Bool) (a : ActiveState) (e : Option Entry) → ((r : ℕ) → P (Serve r (active_request a))) → P (active_on room a e)
   of_active room a None asks = ends _
-  of_active room a (Some e) asks = at e.generation e.active where
+  of_active room a (Some e) asks = at e.generation e.hold e.active where
     by_generation : (b : Bool) (x : Outcome) (r : ℕ) → P (cond b (Serve r (active_request a)) (End x))
     by_generation true x r = asks r
     by_generation false x r = ends x
@@ -110,17 +116,25 @@ module _ (P : Next → Type 0) (ends : (o : Outcome) → P (End o)) (steps : (st
     by_marks None generation r = asks r
     by_marks (Some marks) generation r = by_generation (marks.generation == generation) _ r
 
-    by_test : (b : Bool) (x : Outcome) (generation r : ℕ) → P (cond b (End x) (unless_changed a.marks generation (Serve r (active_request a))))
-    by_test true x generation r = ends x
-    by_test false x generation r = by_marks a.marks generation r
+    by_update : (b : Bool) (x : Outcome) (generation r : ℕ) → P (cond b (End x) (unless_changed a.marks generation (Serve r (active_request a))))
+    by_update true x generation r = ends x
+    by_update false x generation r = by_marks a.marks generation r
 
-    at : (generation : ℕ) (r : Option ℕ) → P (on_active room a generation r)
-    at generation None = ends _
-    at generation (Some r) = by_test (starts_iteration a.kind && not room) _ generation r
+    by_hold : (generation : ℕ) (hold : Option CallId) (r : ℕ) → P (unless_on_hold a.kind hold (unless_changed a.marks generation (Serve r (active_request a))))
+    by_hold generation None r = by_marks a.marks generation r
+    by_hold generation (Some holder) r = by_update (is_update a.kind) _ generation r
+
+    by_test : (b : Bool) (x : Outcome) (generation : ℕ) (hold : Option CallId) (r : ℕ) → P (cond b (End x) (unless_on_hold a.kind hold (unless_changed a.marks generation (Serve r (active_request a)))))
+    by_test true x generation hold r = ends x
+    by_test false x generation hold r = by_hold generation hold r
+
+    at : (generation : ℕ) (hold : Option CallId) (r : Option ℕ) → P (on_active room a generation hold r)
+    at generation hold None = ends _
+    at generation hold (Some r) = by_test (starts_iteration a.kind && not room) _ generation hold r
 
   -- ---- a synchronisation, and the setting of an active
 
-  module _ (R : RecordState) (u : SyncState) (pulls : (r : ℕ) → P (Serve r (Pull u.call u.ckpt))) (installs : (r : ℕ) → P (Serve r (Install u.call u.ckpt))) where
+  module _ (R : RecordState) (u : SyncState) (pulls : (r : ℕ) → P (Serve r (Pull u.call u.ckpt))) (installs : (r : ℕ) → P (Serve r (Install u.call u.ckpt))) (holds : (r : ℕ) → P (Event (Hold r))) (activates : (r : ℕ) → P (Event (Activate r))) where
     of_install : (count : ℕ) (r : Option ℕ) → P (install_next u.call u.ckpt count r)
     of_install count None = ends _
     of_install count (Some r) = installs r
@@ -138,19 +152,19 @@ module _ (P : Next → Type 0) (ends : (o : Outcome) → P (End o)) (steps : (st
     of_synchronize deadline e (Some r) = in_time-either P deadline R.moment (unless_stale u e r u.pulled) ends (of_pulled e r u.pulled)
 
     of_lead : (local : ℕ) (active : Option ℕ) → P (lead_next local active)
-    of_lead local None = steps _
+    of_lead local None = activates local
     of_lead local (Some r) = by_test (r == local)
       where
         by_test : (b : Bool) → P (cond b (Event (Activate local)) (Event (Hold r)))
-        by_test true = steps _
-        by_test false = steps _
+        by_test true = activates local
+        by_test false = holds r
 
     of_hold : (local : ℕ) (active : Option ℕ) (hold : Option CallId) → P (unless_held u.call local active hold)
     of_hold local active None = of_lead local active
     of_hold local active (Some holder) = by_test (same_call holder u.call) _
       where
         by_test : (b : Bool) (x : Outcome) → P (cond b (Event (Activate local)) (End x))
-        by_test true x = steps _
+        by_test true x = activates local
         by_test false x = ends x
 
     of_kind : (e : Entry) (kind : SyncKind) → P (kind_next R u e kind)
@@ -165,27 +179,27 @@ module _ (P : Next → Type 0) (ends : (o : Outcome) → P (End o)) (steps : (st
 
   of_close : (e : Option Entry) → P (close_of e)
   of_close None = ends _
-  of_close (Some e) = steps _
+  of_close (Some e) = steps Close tt
 
   of_unlink : (e : Option Entry) → P (unlink_of e)
   of_unlink None = ends _
   of_unlink (Some e) = by_maker e.making where
     by_maker : (making : Option CallId) → P (unlink_of_making making)
-    by_maker None = steps _
+    by_maker None = steps Unlink tt
     by_maker (Some call) = ends _
 
   of_retain : (e : Option Entry) → P (retain_of e)
   of_retain None = ends _
   of_retain (Some e) = by_test (is_some e.name) _ where
     by_test : (b : Bool) (x : Outcome) → P (cond b (Event Retain) (End x))
-    by_test true x = steps Retain
+    by_test true x = steps Retain tt
     by_test false x = ends x
 
   -- ---- any call
 
   of_once : (R : RecordState) (x : OneStep) → P (once_next R x)
-  of_once R (once.Enter r) = by_one (nat_le 64 (length R.clients)) _ _
-  of_once R once.Leave = steps _
+  of_once R (once.Enter r) = by_one (nat_le 64 (length R.clients)) _ Enter tt
+  of_once R once.Leave = steps Leave tt
   of_once R (once.Close k) = of_close (entry_of k R.entries)
   of_once R (once.Unlink name) = of_unlink (named name R.entries)
   of_once R (once.Retain k duration) = of_retain (entry_of k R.entries)
@@ -195,4 +209,4 @@ module _ (P : Next → Type 0) (ends : (o : Outcome) → P (End o)) (steps : (st
   next_of R room (drivers.Open o) asks = of_open R room.handles o o.making
   next_of R room (drivers.Update u) asks = of_update u asks.0 asks.1 R.moment (entry_of u.ckpt R.entries)
   next_of R room (drivers.Active a) asks = of_active room.iterations a (entry_of a.ckpt R.entries) asks
-  next_of R room (drivers.Sync u) asks = of_sync R u asks.0 asks.1 (entry_of u.ckpt R.entries)
+  next_of R room (drivers.Sync u) asks = of_sync R u asks.0 asks.1 asks.2 asks.3 (entry_of u.ckpt R.entries)

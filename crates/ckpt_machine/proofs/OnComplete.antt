@@ -1,27 +1,41 @@
 -- Replicas are on complete nodes still, after a step of the record and where one of them is changed.
-use Rattle.std.proofs.Common.{◌≡◌, ℕ, Option, Some, None, Bool, true, false, cond, ◌&&◌, ◌==◌, refl, sym, ap, subst}
+use Rattle.std.proofs.Common.{◌≡◌, ℕ, ◌≤◌, arith, Option, Some, None, Bool, true, false, cond, ◌&&◌, ◌==◌, refl, sym, ap, subst, ◌∙◌}
 use Rattle.std.specs.Prelude.{IsSomeAnd, slice_index}
 use Rattle.std.proofs.lemmas.Bool.{eqb-true, and_parts}
 use Rattle.std.proofs.lemmas.Option.{same_Some}
 use Rattle.cluster_record.specs.declared.entries.Entry.{Entry}
+use Rattle.cluster_record.specs.Placement.{is_collocated}
 use Rattle.cluster_record.specs.Places.{put2}
 use Rattle.cluster_record.specs.RecordState.{RecordState}
-use Rattle.ckpt_machine.specs.Invariant.{IsCompleteAt}
+use Rattle.ckpt_machine.specs.Invariant.{IsOfGeneration, IsCompleteAt}
+use Rattle.ckpt_machine.specs.Later.{IsLaterEntry}
 use Rattle.ckpt_machine.specs.Machine.{ReplicaState}
 use Rattle.ckpt_machine.specs.Shape.{IsCompleteOn}
 use Rattle.ckpt_machine.specs.Steps.{opened_state, replica_under}
 
--- what is left of a replica under an entry is on a node on which this is complete, and has its generation, where it had it before
-pub under_complete : (o : Option Entry) (before r : ℕ) (was : Option ReplicaState) (x : ReplicaState) → ((e : Entry) → o ≡ Some e → was ≡ Some x → x.generation ≡ e.generation) → replica_under o before r was ≡ Some x → IsSomeAnd o (λ e. IsCompleteOn e r × (x.generation ≡ e.generation))
+-- the generation of its checkpoint is one that each replica may have
+pub present_generation : (e : Entry) (r generation : ℕ) → generation ≡ e.generation → IsOfGeneration e r generation
+present_generation e r generation same = record { within = omega (arith, same); led = λ led. same; placed = λ apart. same }
+
+-- a replica may have what it had, under a later entry
+pub IsOfGeneration-later : (e f : Entry) (r generation : ℕ) → IsLaterEntry e f → IsOfGeneration e r generation → IsOfGeneration f r generation
+IsOfGeneration-later e f r generation later was = record {
+  within = let at_most : generation ≤ e.generation = was.within in let same : f.generation ≡ e.generation = later.generation in omega (arith, at_most, same);
+  led = λ led. was.led (sym later.active ∙ led) ∙ sym later.generation;
+  placed = λ apart. was.placed (ap is_collocated (sym later.attributes) ∙ apart) ∙ sym later.generation;
+}
+
+-- what is left of a replica under an entry is on a node on which this is complete, and may have its generation, where it had one that it may have
+pub under_complete : (o : Option Entry) (before r : ℕ) (was : Option ReplicaState) (x : ReplicaState) → ((e : Entry) → o ≡ Some e → was ≡ Some x → IsOfGeneration e r x.generation) → replica_under o before r was ≡ Some x → IsSomeAnd o (λ e. IsCompleteOn e r × IsOfGeneration e r x.generation)
 under_complete None before r was x had gone = absurd (cc gone)
 under_complete (Some e) before r was x had is =
-    elim (slice_index e.complete r == 0) as (λ b. cond b None (cond (before == 0) (Some (opened_state e)) was) ≡ Some x → (b ≡ false) × (x.generation ≡ e.generation)) [ true ↦ λ gone. absurd (cc gone) | false ↦ λ there. (refl, by_before (before == 0) there) ] is
+    elim (slice_index e.complete r == 0) as (λ b. cond b None (cond (before == 0) (Some (opened_state e)) was) ≡ Some x → (b ≡ false) × IsOfGeneration e r x.generation) [ true ↦ λ gone. absurd (cc gone) | false ↦ λ there. (refl, by_before (before == 0) there) ] is
   where
-    by_before : (b : Bool) → cond b (Some (opened_state e)) was ≡ Some x → x.generation ≡ e.generation
-    by_before true new = ap (λ (y : ReplicaState). y.generation) (sym (same_Some (opened_state e) x new))
+    by_before : (b : Bool) → cond b (Some (opened_state e)) was ≡ Some x → IsOfGeneration e r x.generation
+    by_before true new = present_generation e r x.generation (ap (λ (y : ReplicaState). y.generation) (sym (same_Some (opened_state e) x new)))
     by_before false old = had e refl old
 
--- the changed one is on a complete node with the checkpoint's generation, and so were the others
+-- the changed one is on a complete node with a generation that it may have, and so were the others
 pub put_complete : (R : RecordState) (replicas : ℕ → ℕ → Option ReplicaState) (k r : ℕ) (y : ReplicaState) → IsCompleteAt R k r y.generation → ((j q : ℕ) (x : ReplicaState) → replicas j q ≡ Some x → IsCompleteAt R j q x.generation)
     → (j q : ℕ) (x : ReplicaState) → put2 replicas k r (Some y) j q ≡ Some x → IsCompleteAt R j q x.generation
 put_complete R replicas k r y here others j q x is = elim ((j == k) && (q == r)) as (λ b. ((j == k) && (q == r)) ≡ b → cond b (Some y) (replicas j q) ≡ Some x → IsCompleteAt R j q x.generation) [

@@ -82,24 +82,24 @@ module _ (m : Machine) (shapes : ℕ → Shape) (inv : InvariantIn shapes m) (s 
   pub by_element : is_by_element (is_weak at.entry.attributes) (update_of s.op) ≡ goes_by_element kind
   by_element = ap (λ b. is_by_element b (update_of s.op)) (sym (subst (λ o. IfSome o (λ (e : Entry). s.kept.weak ≡ is_weak e.attributes)) at.found at_active.weak)) ∙ its_update.2
 
-  -- what holds of its entry and of the replica holds where it is done
-  pub on_active : (P : Entry → ReplicaState → Type 0) → P at.entry at.replica → OnActive m (update_of s.op) (goes_by_element kind) k at.node P
-  on_active P p = IsSomeAnd-from (entry_of k m.cluster.entries) _ at.entry at.found (IsSomeAnd-from (m.replicas k at.node) _ at.replica at.there (alone, at.active, by_element, p))
+  -- what holds of its entry and of the replica holds where it is done, and no call holds the checkpoint
+  pub on_active : at.entry.hold ≡ None → (P : Entry → ReplicaState → Type 0) → P at.entry at.replica → OnActive m (update_of s.op) (goes_by_element kind) k at.node P
+  on_active no_hold P p = IsSomeAnd-from (entry_of k m.cluster.entries) _ at.entry at.found (IsSomeAnd-from (m.replicas k at.node) _ at.replica at.there (alone, at.active, no_hold, by_element, p))
 
   -- ---- one that begins
 
   module _ (none : made ≡ None) where
-    plain : is_plain (driver_of s) ≡ true
-    plain = ap is_plain is ∙ ap (λ o. not (is_some o)) none
+    plain : is_plain (driver_of s) s.snapshot ≡ true
+    plain = ap (λ d. is_plain d s.snapshot) is ∙ ap (λ o. not (is_some o)) none
 
     -- it ends, and all else is as it was
     pub ends : Invariant (record m { in_hand = put_actor m.in_hand s.call.actor None })
     ends = record { shapes = shapes; holds = plain_ends m shapes inv s held plain }
 
     -- it is refused by the sections
-    pub refused_row : (t : Told) (why : Refusal) → (shapes k).marks ≡ None → outcome at.entry.attributes (update_of s.op) m.cluster.moment at.replica.sections ≡ Err why → t.end ≡ Some (Refused why.error (refused_cause s.op why.index)) → t.details ≡ beside.Nothing
+    pub refused_row : at.entry.hold ≡ None → (t : Told) (why : Refusal) → (shapes k).marks ≡ None → outcome at.entry.attributes (update_of s.op) m.cluster.moment at.replica.sections ≡ Err why → t.end ≡ Some (Refused why.error (refused_cause s.op why.index)) → t.details ≡ beside.Nothing
         → OnActive m (update_of s.op) (goes_by_element kind) k at.node (ActiveRefused m s (update_of s.op) t)
-    refused_row t why unmarked gives answer told = on_active (ActiveRefused m s (update_of s.op) t) (record { unmarked = apart.marks_are ∙ unmarked; why = why; refused = gives; answer = answer; told = told })
+    refused_row no_hold t why unmarked gives answer told = on_active no_hold (ActiveRefused m s (update_of s.op) t) (record { unmarked = apart.marks_are ∙ unmarked; why = why; refused = gives; answer = answer; told = told })
 
     -- another's marks hold it off, which is live
     pub another : (marks : Marked) → (shapes k).marks ≡ Some marks → same_call marks.call s.call ≡ false
@@ -108,9 +108,9 @@ module _ (m : Machine) (shapes : ℕ → Shape) (inv : InvariantIn shapes m) (s 
     pub holder_live : (marks : Marked) → (shapes k).marks ≡ Some marks → is_live m.cluster marks.call ≡ true
     holder_live marks stand = marker_live m shapes k marks inv (spread.marked marks stand)
 
-    pub held_row : (t : Told) (marks : Marked) → (shapes k).marks ≡ Some marks → t.end ≡ Some (Refused TryAgain (Holder marks.call)) → t.details ≡ beside.Nothing
+    pub held_row : at.entry.hold ≡ None → (t : Told) (marks : Marked) → (shapes k).marks ≡ Some marks → t.end ≡ Some (Refused TryAgain (Holder marks.call)) → t.details ≡ beside.Nothing
         → OnActive m (update_of s.op) (goes_by_element kind) k at.node (λ e x. ActiveHeld m s.call marks.call t x)
-    held_row t marks stand answer told = on_active (λ e x. ActiveHeld m s.call marks.call t x) (record {
+    held_row no_hold t marks stand answer told = on_active no_hold (λ e x. ActiveHeld m s.call marks.call t x) (record {
       marks = subst (λ o. IsSomeAnd o (λ (w : Marked). w.call ≡ marks.call)) (sym (apart.marks_are ∙ stand)) refl;
       another = another marks stand;
       live = holder_live marks stand;

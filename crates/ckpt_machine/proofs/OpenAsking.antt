@@ -22,7 +22,7 @@ use Rattle.cluster_record.specs.Calls.{client_of, put_actor}
 use Rattle.cluster_record.specs.DueOpen.{OpenState, IsBefore, accepts, create_next, entry_by, entry_next, on_named, on_free_name}
 use Rattle.cluster_record.specs.LookUps.{identity_in}
 use Rattle.cluster_record.specs.Opening.{answer_named, answer_by}
-use Rattle.cluster_record.specs.RecordState.{RecordState, entry_of, home_of, named, no_nodes, is_live, new_entry, created_as, swept}
+use Rattle.cluster_record.specs.RecordState.{RecordState, entry_of, home_of, named, no_nodes, is_live, is_live_client, new_entry, created_as, swept}
 use Rattle.cluster_record.specs.Placement.{adds}
 use Rattle.cluster_record.specs.Refusals.{plainly}
 use Rattle.cluster_record.specs.StepDone.{StepDone, done_of, has}
@@ -36,18 +36,19 @@ use Rattle.ckpt_machine.specs.InHand.{attributes_asked, AreGoodAttributes, is_en
 use Rattle.ckpt_machine.specs.Invariant.{IsMaker, IsGoodIn, InvariantIn, Invariant}
 use Rattle.ckpt_machine.specs.Left.{steps_left}
 use Rattle.ckpt_machine.specs.Machine.{Machine, CallState}
-use Rattle.ckpt_machine.specs.Steps.{reservation_under, Told, IsDone, IsEvent, IsRecordAnswer, driver_of, rooms_of, with_record, created_for}
+use Rattle.ckpt_machine.specs.Steps.{reservation_under, Told, IsDone, IsEvent, IsRecordAnswer, IsEventAnswer, driver_of, rooms_of, with_record, created_for}
 use Rattle.ckpt_machine.specs.Shape.{Shape}
 use Rattle.ckpt_machine.proofs.Created.{entry_new, created_keeps}
 use Rattle.ckpt_machine.proofs.Deadlines.{in_time-cases}
 use Rattle.ckpt_machine.proofs.NodeLists.{slice_index-replicate}
 use Rattle.ckpt_machine.proofs.EntryLists.{entry_of-given, swept-all}
 use Rattle.ckpt_machine.proofs.EntryLists.{AllStay-push}
-use Rattle.ckpt_machine.proofs.StepLabels.{IsEvent-told}
+use Rattle.ckpt_machine.proofs.StepLabels.{not_kept_off, IsEvent-told}
 use Rattle.ckpt_machine.proofs.StepLabels.{Told-is}
 use Rattle.ckpt_machine.proofs.OptionLemmas.{IsSomeAnd-from}
 use Rattle.ckpt_machine.proofs.StepsLeft.{lacking-few}
 use Rattle.ckpt_machine.proofs.NodeLists.{had-there, has-none}
+use Rattle.ckpt_machine.proofs.OpenReady.{client_live}
 use Rattle.ckpt_machine.proofs.OpenThere.{opened_keeps}
 use Rattle.ckpt_machine.proofs.OpenFacts.{LookRefused-open}
 use Rattle.ckpt_machine.proofs.OwnMaking.{open_at}
@@ -63,13 +64,17 @@ module _ (m : Machine) (shapes : ℕ → Shape) (inv : InvariantIn shapes m) (s 
   at_open : IsOpenIn m s asking
   at_open = open_at m shapes inv s asking held is
 
+  -- its client is live
+  own_live : is_live_client (client_of s.call) m.cluster ≡ true
+  own_live = let hand = inv.hands s.call.actor s held in client_live m.cluster s.call hand.client (hand.live (ap is_enter is))
+
   -- the call ends, and nothing else changes
   ends : Invariant (record m { in_hand = put_actor m.in_hand s.call.actor None })
-  ends = record { shapes = shapes; holds = plain_ends m shapes inv s held (ap is_plain is) }
+  ends = record { shapes = shapes; holds = plain_ends m shapes inv s held (ap (λ d. is_plain d s.snapshot) is) }
 
   -- it is refused
   refused : (t : Told) (error : AisError) (cause : Cause) → OpenLook m s ask.name ask.attrs error cause → IsDone m s (End (Refused error cause)) t → Goes m s (drivers.Open asking) t
-  refused t error cause look done = subst (λ d. Goes m s d t) is (look_goes m shapes inv s held (ap is_plain is) error cause t (LookRefused-open m s ask.name ask.attrs error cause at_open.asks look) done)
+  refused t error cause look done = subst (λ d. Goes m s d t) is (look_goes m shapes inv s held (ap (λ d. is_plain d s.snapshot) is) error cause t (LookRefused-open m s ask.name ask.attrs error cause at_open.asks look) done)
 
   -- at its deadline
   refused_late : (t : Told) (d : ℤ) → MayExist (named ask.name m.cluster.entries) ask.attrs → deadline ≡ Some d → is_reached d m.cluster.moment ≡ true → IsDone m s (End (Refused Timeout (Deadline d m.cluster.moment))) t → Goes m s (drivers.Open asking) t
@@ -160,7 +165,7 @@ module _ (m : Machine) (shapes : ℕ → Shape) (inv : InvariantIn shapes m) (s 
 
         -- its entry is the new one
         found_new : entry_of next after_it.entries ≡ Some new
-        found_new = entry_new m shapes inv s held (ap is_plain is) ask.name a (subst AreGoodAttributes given at_open.declared) then_state refl at_making driver_then making refl refl
+        found_new = entry_new m shapes inv s held (ap (λ d. is_plain d s.snapshot) is) ask.name a (subst AreGoodAttributes given at_open.declared) then_state refl at_making driver_then making refl refl
 
         never_reserved : (r : ℕ) → then_machine.reserved next r ≡ None
         never_reserved r = ap (λ o. reservation_under o r (m.reserved next r)) found_new ∙ ap (λ b. cond b (m.reserved next r) None) (ap (λ (n : ℕ). n == 0) (slice_index-replicate 8 r)) ∙ not_given r
@@ -176,7 +181,7 @@ module _ (m : Machine) (shapes : ℕ → Shape) (inv : InvariantIn shapes m) (s 
     create_keeps : (rooms_of m s).handles ≡ true → Invariant then_machine
     create_keeps room = record {
       shapes = shapes;
-      holds = created_keeps m shapes inv s held (ap is_plain is) ask.name a (subst AreGoodAttributes given at_open.declared) then_state refl at_making driver_then making refl refl (own_then room);
+      holds = created_keeps m shapes inv s held (ap (λ d. is_plain d s.snapshot) is) ask.name a (subst AreGoodAttributes given at_open.declared) then_state refl at_making driver_then making refl refl (own_then room);
     }
 
     -- its reservations and its finish are left
@@ -189,7 +194,7 @@ module _ (m : Machine) (shapes : ℕ → Shape) (inv : InvariantIn shapes m) (s 
 
     -- the creation
     create_goes : (t : Told) → (rooms_of m s).handles ≡ true → length m.cluster.entries < 16 → IsEvent m s events.Create t → Goes m s (drivers.Open asking) t
-    create_goes t room few event = elim (IsEvent-told m s events.Create t (drivers.Open asking) event is refl) [
+    create_goes t room few event = elim (IsEvent-told m s events.Create t (drivers.Open asking) event is refl tt) [
       | inl ok ↦ subst (Goes m s (drivers.Open asking)) (sym ok) (record {
         row = ((ask.name, ask.attrs, at_open.asks, (may_create room few, refl)), refl);
         holds = subst (λ R. Invariant (record (with_record m R) { in_hand = put_actor m.in_hand s.call.actor (Some (record s { steps = done_of R verbs.Create (Some next) None words.Ok ∷ s.steps })) })) (sym created_is) (create_keeps room);
@@ -227,7 +232,7 @@ module _ (m : Machine) (shapes : ℕ → Shape) (inv : InvariantIn shapes m) (s 
           there = IsSomeAnd-from (named ask.name m.cluster.entries) (λ x. (x.identity ≡ e.identity) × (x.making ≡ Some by)) e found (refl, made_by);
           in_time = in_time_is before;
           live = ap (is_live m.cluster) (sym maker.call_is) ∙ (inv.hands by.actor maker.state maker.in_hand).live (ap is_enter maker.driver_is);
-          another = ap (λ b. b && (by.number == s.call.number)) (maker_apart m shapes inv s held (ap is_plain is) e.identity by maker);
+          another = ap (λ b. b && (by.number == s.call.number)) (maker_apart m shapes inv s held (ap (λ d. is_plain d s.snapshot) is) e.identity by maker);
           answer = refl;
         },
       )
@@ -236,7 +241,7 @@ module _ (m : Machine) (shapes : ℕ → Shape) (inv : InvariantIn shapes m) (s 
       held_told : (t : Told) → IsEvent m s events.Open t → t ≡ record { verb = verbs.Open; ckpt = Some e.identity; node = None; reply = words.Refused; end = Some (Refused TryAgain (Holder by)); details = beside.Nothing }
       held_told t event =
           let refusal : event_refusal m.cluster events.Open (driver_of s) ≡ Some (Refused TryAgain (Holder by)) = answered ∙ ap (λ c. refusal_in (answer_by c ask.attrs (home_of ask.client m.cluster) e)) made_by in
-          let (reply, end) = subst (λ o. IsRecordAnswer o events.Open t) refusal event.answer in
+          let (reply, end) = subst (λ o. IsRecordAnswer o events.Open t) refusal (subst (λ o. IsEventAnswer o (event_refusal m.cluster events.Open (driver_of s)) events.Open t) (not_kept_off m t.ckpt events.Open tt) event.answer) in
           let ckpt : t.ckpt ≡ Some e.identity = event.ckpt ∙ ckpt_then is ∙ ap identity_in found in
           let node : t.node ≡ None = event.node ∙ node_then is in
           Told-is t (record { verb = verbs.Open; ckpt = Some e.identity; node = None; reply = words.Refused; end = Some (Refused TryAgain (Holder by)); details = beside.Nothing }) event.verb ckpt node reply end event.details
@@ -274,11 +279,11 @@ module _ (m : Machine) (shapes : ℕ → Shape) (inv : InvariantIn shapes m) (s 
 
       -- the opening
       open_goes : (t : Told) → accepts ask.attrs e ≡ true → (rooms_of m s).handles ≡ true → IsEvent m s events.Open t → Goes m s (drivers.Open asking) t
-      open_goes t accepted room event = elim (IsEvent-told m s events.Open t (drivers.Open asking) event is (granted accepted)) [
+      open_goes t accepted room event = elim (IsEvent-told m s events.Open t (drivers.Open asking) event is (granted accepted) tt) [
         | inl ok ↦
             subst (Goes m s (drivers.Open asking)) (sym (ok ∙ (λ i. record { verb = verbs.Open; ckpt = identity_in (found i); node = None; reply = words.Ok; end = opened_end (identity_in (found i)); details = beside.Nothing }))) (record {
               row = ((ask.name, ask.attrs, at_open.asks, (may_open accepted room, refl)), refl);
-              holds = opened_keeps m shapes inv s held (ap is_plain is) (client_of s.call) e there made;
+              holds = opened_keeps m shapes inv s held (ap (λ d. is_plain d s.snapshot) is) own_live e there made;
               nearer = λ none. absurd (cc none);
             })
         | inr memory ↦

@@ -6,13 +6,13 @@ use Rattle.ckpt_types.specs.declared.answers.Cause.{Cause}
 use Rattle.ckpt_types.specs.declared.attributes.CreationAttributes.{CreationAttributes}
 use Rattle.cluster_record.specs.declared.entries.Entry.{Entry}
 use Rattle.ckpt_types.specs.Asks.{asked}
-use Rattle.ckpt_machine.specs.Entries.{WasMade}
 use Rattle.ckpt_machine.specs.Invariant.{InvariantIn}
 use Rattle.ckpt_machine.specs.Machine.{Machine, CallState}
 use Rattle.ckpt_machine.specs.Steps.{with_given}
 use Rattle.ckpt_machine.specs.Guards.{AsksToOpen, MayExist, OpenLook, LookRefused}
 use Rattle.ckpt_machine.specs.Shape.{Shape}
 use Rattle.ckpt_machine.proofs.EndedTables.{given_keeps}
+use Rattle.ckpt_machine.proofs.Handles.{IsGivable}
 use Rattle.ckpt_machine.proofs.PlainCalls.{ending}
 use Rattle.ckpt_machine.proofs.ReplicaSteps.{put_actor-here}
 
@@ -25,6 +25,6 @@ pub may_exist : (o : Option Entry) (a : Option CreationAttributes) → IsSome a 
 may_exist None a asked = asked
 may_exist (Some e) a asked = tt
 
--- a call that has ended gives its client a handle of a checkpoint that was made
-pub given_ends : (n : Machine) (shapes : ℕ → Shape) (s : CallState) (k : ℕ) → InvariantIn shapes (ending s n) → WasMade n.cluster k → InvariantIn shapes (ending s (with_given s k n))
-given_ends n shapes s k ended made = given_keeps (ending s n) shapes ended s.call.actor (put_actor-here n.in_hand s.call.actor None) (asked s.op) k made
+-- a call that has ended gives its client a handle of a checkpoint that may be given
+pub given_ends : (n : Machine) (shapes : ℕ → Shape) (s : CallState) (k : ℕ) → InvariantIn shapes (ending s n) → IsGivable n.cluster s.call.actor k → InvariantIn shapes (ending s (with_given s k n))
+given_ends n shapes s k ended can = given_keeps (ending s n) shapes ended s.call.actor (put_actor-here n.in_hand s.call.actor None) (asked s.op) k can

@@ -20,7 +20,7 @@ use Rattle.cluster_record.specs.declared.calls.Making.{Making}
 use Rattle.cluster_record.specs.declared.entries.Entry.{Entry}
 use Rattle.cluster_record.specs.Calls.{client_of, put_actor}
 use Rattle.cluster_record.specs.DueOpen.{OpenState, IsBefore, in_time, reserve_or_finish, targets_by, targets_of, on_making}
-use Rattle.cluster_record.specs.Placement.{targets}
+use Rattle.cluster_record.specs.Placement.{is_collocated, targets}
 use Rattle.cluster_record.specs.Places.{put2}
 use Rattle.ckpt_types.specs.Asks.{asked}
 use Rattle.cluster_record.specs.RecordState.{RecordState, entry_of, identity_of, named, is_up, is_live_client, first_complete, home_of, made_with, finished, swept, stays}
@@ -34,7 +34,7 @@ use Rattle.ckpt_machine.specs.Invariant.{InvariantIn, Invariant}
 use Rattle.ckpt_machine.specs.Left.{steps_left, lacking}
 use Rattle.ckpt_machine.specs.Machine.{Machine, CallState}
 use Rattle.ckpt_machine.specs.Steps.{Told, IsDone, IsServed, IsEvent, driver_of, with_record, with_given, with_reservation, record_step, without_making}
-use Rattle.ckpt_machine.specs.Shape.{Shape}
+use Rattle.ckpt_machine.specs.Shape.{Shape, IsCompleteOn}
 use Rattle.ckpt_machine.proofs.Deadlines.{in_time-cases}
 use Rattle.ckpt_machine.proofs.Finished.{finish_keeps}
 use Rattle.ckpt_machine.proofs.EntryLists.{swept-all}
@@ -45,17 +45,14 @@ use Rattle.ckpt_machine.proofs.NodeLists.{first_lacking-is, first_lacking-None, 
 use Rattle.ckpt_machine.proofs.OpenReady.{client_live, home_is_up, none_else}
 use Rattle.ckpt_machine.proofs.OptionLemmas.{IsSomeAnd-from}
 use Rattle.ckpt_machine.proofs.Targets.{targets-length, target-up, target-home}
+use Rattle.ckpt_machine.proofs.Handles.{IsGivable}
 use Rattle.ckpt_machine.proofs.OpenFacts.{LookRefused-open, may_exist, given_ends}
+use Rattle.ckpt_machine.proofs.OpenThere.{not_not}
 use Rattle.ckpt_machine.proofs.OwnMaking.{open_at, making_at, made_by, making_entry}
 use Rattle.ckpt_machine.proofs.PlainCalls.{ending}
 use Rattle.ckpt_machine.proofs.Reserved.{reserved_keeps}
 use Rattle.ckpt_machine.proofs.Undone.{undone_keeps}
 use Rattle.ckpt_machine.proofs.DueStep.{Goes}
-
--- what is not true is false
-not_not : (b : Bool) → not b ≡ true → b ≡ false
-not_not true is = absurd (cc is)
-not_not false is = refl
 
 -- the call is in hand, with one step more
 abbrev going_on : CallState → StepDone → Machine → Machine
@@ -107,7 +104,7 @@ module _ (m : Machine) (shapes : ℕ → Shape) (inv : InvariantIn shapes m) (s 
 
   -- where memory was refused
   undo_goes : (t : Told) → IsBefore m.cluster.moment deadline → IsEvent m s events.Undo t → Goes m s (drivers.Open at_making) t
-  undo_goes t before event = elim (IsEvent-told m s events.Undo t (drivers.Open at_making) event is refl) [
+  undo_goes t before event = elim (IsEvent-told m s events.Undo t (drivers.Open at_making) event is refl tt) [
     | inl ok ↦ subst (Goes m s (drivers.Open at_making)) (sym ok) (record {
       row = ((ask.name, ask.attrs, at_open.asks, (by, in_time_is before, refl)), refl);
       holds = undone_keeps m shapes inv s at_making making held is refl;
@@ -132,18 +129,24 @@ module _ (m : Machine) (shapes : ℕ → Shape) (inv : InvariantIn shapes m) (s 
       let same : entry.0 ≡ e = same_Some entry.0 e (sym entry.1 ∙ found) in
       subst (λ f. stays m.cluster.moment (made_with (home_of ask.client m.cluster) m.cluster.up ask.client f) ≡ true) same (open-stays m.cluster.moment made (list_any-first entry.0.references ask.client (subst (λ n. ask.client < n) (sym entry.3.clients) at_open.within))))
 
+  -- its entry is found
+  found_now : entry_of k finished_then.entries ≡ Some made
+  found_now = find_key-change_key identity_of k k (made_with (home_of ask.client m.cluster) m.cluster.up ask.client) (λ x. refl) m.cluster.entries entry.0 entry.1 ∙ ap (λ b. cond b (Some made) (entry_of k m.cluster.entries)) (eq-eqb k k refl)
+
   -- it is made now
   made_now : WasMade finished_then k
   made_now = record {
     given = entry_of-given m.cluster.last_identity k m.cluster.entries entry.0 inv.up_to entry.1;
-    made = subst (λ o. IfSome o (λ (e : Entry). e.making ≡ None)) (sym (find_key-change_key identity_of k k (made_with (home_of ask.client m.cluster) m.cluster.up ask.client) (λ x. refl) m.cluster.entries entry.0 entry.1 ∙ ap (λ b. cond b (Some made) (entry_of k m.cluster.entries)) (eq-eqb k k refl))) refl;
+    made = subst (λ o. IfSome o (λ (e : Entry). e.making ≡ None)) (sym found_now) refl;
   }
+
+  -- its client is live
+  own_live : is_live_client (client_of s.call) m.cluster ≡ true
+  own_live = let hand = inv.hands s.call.actor s held in client_live m.cluster s.call hand.client (hand.live (ap is_enter is))
 
   -- its client's node is up
   home_up : is_up (home_of ask.client m.cluster) m.cluster ≡ true
-  home_up =
-      let hand = inv.hands s.call.actor s held in
-      home_is_up m shapes inv ask.client (subst (λ (c : ℕ). is_live_client c m.cluster ≡ true) (sym at_open.client) (client_live m.cluster s.call hand.client (hand.live (ap is_enter is))))
+  home_up = home_is_up m shapes inv ask.client (subst (λ (c : ℕ). is_live_client c m.cluster ≡ true) (sym at_open.client) own_live)
 
   -- what is asked for is what the checkpoint declares, so these are the nodes on which it is made
   targets_are : targets_of ask m.cluster ≡ targets entry.0.attributes (home_of ask.client m.cluster) m.cluster.up
@@ -156,11 +159,24 @@ module _ (m : Machine) (shapes : ℕ → Shape) (inv : InvariantIn shapes m) (s 
   there_up : (r : ℕ) → (slice_index (targets_of ask m.cluster) r == 0) ≡ false → slice_index (targets_of ask m.cluster) r ≡ slice_index m.cluster.up r
   there_up r there = ap (λ nodes. slice_index nodes r) targets_are ∙ target-up entry.0.attributes (home_of ask.client m.cluster) m.cluster.up r (ap (λ nodes. slice_index nodes r == 0) (sym targets_are) ∙ there)
 
+  -- its client's node is one of them
+  home_there : IsCompleteOn made (home_of ask.client m.cluster)
+  home_there =
+      let (below, there) = and_parts (nat_lt (home_of ask.client m.cluster) 8) (not (slice_index m.cluster.up (home_of ask.client m.cluster) == 0)) home_up in
+      target-home entry.0.attributes (home_of ask.client m.cluster) m.cluster.up (ltb-true (home_of ask.client m.cluster) 8 below) (not_not (slice_index m.cluster.up (home_of ask.client m.cluster) == 0) there)
+
   -- one is up
   some_up : IsSome (first_complete 0 (targets entry.0.attributes (home_of ask.client m.cluster) m.cluster.up))
-  some_up =
-      let (below, there) = and_parts (nat_lt (home_of ask.client m.cluster) 8) (not (slice_index m.cluster.up (home_of ask.client m.cluster) == 0)) home_up in
-      first_complete-there 0 (targets entry.0.attributes (home_of ask.client m.cluster) m.cluster.up) (home_of ask.client m.cluster) (target-home entry.0.attributes (home_of ask.client m.cluster) m.cluster.up (ltb-true (home_of ask.client m.cluster) 8 below) (not_not (slice_index m.cluster.up (home_of ask.client m.cluster) == 0) there))
+  some_up = first_complete-there 0 (targets entry.0.attributes (home_of ask.client m.cluster) m.cluster.up) (home_of ask.client m.cluster) home_there
+
+  -- its client may be given a handle
+  may_give : IsGivable finished_then s.call.actor k
+  may_give = record {
+    client = (inv.hands s.call.actor s held).client;
+    live = own_live;
+    made = made_now;
+    placed = subst (λ o. IfSome o (λ (e : Entry). is_collocated e.attributes ≡ true → IsCompleteOn e (home_of (client_of s.call) m.cluster))) (sym found_now) (λ collocated. subst (λ (c : ℕ). IsCompleteOn made (home_of c m.cluster)) at_open.client home_there);
+  }
 
   -- the client of the call finishes it, and no sweep takes anything
   finished_is : swept (finished k (client_of s.call) m.cluster) ≡ finished_then
@@ -170,7 +186,7 @@ module _ (m : Machine) (shapes : ℕ → Shape) (inv : InvariantIn shapes m) (s 
   finished_keeps : Invariant (ending s (with_given s k (record_step (finished k (client_of s.call)) m)))
   finished_keeps = subst (λ R. Invariant (ending s (with_given s k (with_record m R)))) (sym finished_is) (record {
     shapes = _;
-    holds = given_ends (with_record m finished_then) _ s k (finish_keeps m shapes inv s at_making making held is refl ask.client entry.0 entry.1 entry.2 some_up (none_else m shapes inv s at_making held is making refl) finished_stays) made_now;
+    holds = given_ends (with_record m finished_then) _ s k (finish_keeps m shapes inv s at_making making held is refl ask.client entry.0 entry.1 entry.2 some_up (none_else m shapes inv s at_making held is making refl) finished_stays) may_give;
   })
 
   -- every node on which it is made has reserved
@@ -181,7 +197,7 @@ module _ (m : Machine) (shapes : ℕ → Shape) (inv : InvariantIn shapes m) (s 
 
   -- the finish
   finish_goes : (t : Told) → IsBefore m.cluster.moment deadline → first_lacking 0 (targets_of ask m.cluster) making.reserved ≡ None → IsEvent m s events.Finish t → Goes m s (drivers.Open at_making) t
-  finish_goes t before none event = elim (IsEvent-told m s events.Finish t (drivers.Open at_making) event is refl) [
+  finish_goes t before none event = elim (IsEvent-told m s events.Finish t (drivers.Open at_making) event is refl tt) [
     | inl ok ↦ subst (Goes m s (drivers.Open at_making)) (sym ok) (record {
       row = ((ask.name, ask.attrs, at_open.asks, (by, in_time_is before, all_reserved none, refl)), refl);
       holds = finished_keeps;

@@ -1,5 +1,6 @@
 -- A state that looks like the one before, to a call in hand or to a checkpoint: they are where they were.
-use Rattle.std.proofs.Common.{◌≡◌, ℕ, ◌<◌, List, Option, Some, None, Bool, true, false, cond, ◌==◌, refl, sym, ap, subst, ◌∙◌}
+use Rattle.std.specs.Option.{option_map}
+use Rattle.std.proofs.Common.{◌≡◌, ℕ, ◌<◌, ◌≤◌, arith, List, Option, Some, None, Bool, true, false, ◌==◌, refl, sym, ap, subst, ◌∙◌}
 use Rattle.std.specs.Prelude.{is_some, IsSome, IsSomeAnd, IfSome, slice_get, slice_index}
 use Rattle.ckpt_types.specs.Attributes.{is_malformed}
 use Rattle.ckpt_types.specs.Updates.{outcome}
@@ -8,6 +9,9 @@ use Rattle.ckpt_types.specs.declared.identities.CallId.{CallId}
 use Rattle.client_handles.specs.ClientState.{ClientState, has_handle_room}
 use Rattle.section_iter.specs.Room.{room_declared}
 use Rattle.cluster_record.specs.declared.calls.Making.{Making}
+use Rattle.cluster_record.specs.declared.calls.MarksMade.{MarksMade}
+use Rattle.cluster_record.specs.declared.calls.SyncKind.{SyncKind}
+use Rattle.cluster_record.specs.declared.calls.SyncKind.TheVariants.{Synchronize, ActiveSet}
 use Rattle.cluster_record.specs.declared.calls.UpdatePhase.{UpdatePhase}
 use Rattle.cluster_record.specs.declared.calls.UpdatePhase.TheVariants.{Staging, Committing}
 use Rattle.cluster_record.specs.declared.entries.Entry.{Entry}
@@ -18,7 +22,7 @@ use Rattle.cluster_record.specs.DueOpen.{OpenState}
 use Rattle.cluster_record.specs.DueSync.{SyncState}
 use Rattle.cluster_record.specs.DueUpdate.{UpdateState}
 use Rattle.cluster_record.specs.Placement.{is_collocated}
-use Rattle.cluster_record.specs.RecordState.{entry_of, first_complete, is_live, is_live_client, is_up}
+use Rattle.cluster_record.specs.RecordState.{entry_of, is_live, is_live_client, is_up}
 use Rattle.cluster_record.specs.StepDone.{has, last_having}
 use Rattle.ckpt_types.specs.Asks.{asked}
 use Rattle.ckpt_machine.specs.Drivers.{Driver}
@@ -27,15 +31,18 @@ use Rattle.ckpt_machine.specs.Entries.{WasMade}
 use Rattle.ckpt_types.specs.declared.attributes.CreationAttributes.{CreationAttributes}
 use Rattle.ckpt_machine.specs.Machine.{Machine, ReplicaState, Snapshot, CallState}
 use Rattle.ckpt_machine.specs.Options.{is_all, is_weak}
+use Rattle.ckpt_machine.specs.Propagation.{on_node, copied}
 use Rattle.weak_marks.specs.Marks.{Marked}
-use Rattle.ckpt_machine.specs.Shape.{Shape, IsCompleteOn, IsShapedBy, is_owner, IsOwner, IsMarker}
+use Rattle.ckpt_machine.specs.Shape.{Shape, IsCompleteOn, marks_at, IsShapedBy, is_owner, IsOwner, IsMarker, IsActiveBy, IsHolder}
 use Rattle.ckpt_machine.specs.Steps.{opened_state, driver_of, asked_handle}
 use Rattle.ckpt_machine.specs.Tables.{handle_asked}
-use Rattle.ckpt_machine.specs.InHand.{is_marked_by, IsMakingIn, IsOpenIn, IsUpdateIn, HasSome, HasServedActive, IsOnceAt, IsInPlace, IsInHand}
+use Rattle.ckpt_machine.specs.InHand.{is_marked_by, is_held_by, IsMakingIn, IsOpenIn, IsUpdateIn, HasSome, HasServedActive, IsSettingIn, IsSyncBy, IsOnceAt, IsInPlace, IsInHand}
 use Rattle.ckpt_machine.specs.Invariant.{IsMaker, IsGoodIn}
 use Rattle.ckpt_machine.specs.Later.{IsLaterEntry}
 pub use Rattle.ckpt_machine.proofs.Joining.{IsLaterEntry-refl}
-use Rattle.ckpt_machine.proofs.Joining.{collocated_apart}
+use Rattle.ckpt_machine.proofs.Joining.{all_apart, collocated_apart}
+use Rattle.ckpt_machine.proofs.ActiveBy.{active_by-complete, active_by-grows}
+use Rattle.ckpt_machine.proofs.MarksAt.{marks_at-apart}
 use Rattle.ckpt_machine.proofs.NodeLists.{first_complete-some, first_complete-there}
 use Rattle.ckpt_machine.proofs.OptionLemmas.{IsSomeAnd-from, IfSome-from}
 
@@ -48,15 +55,41 @@ making_still m n z o still at = by_making o.making at.making where
   by_making None at = tt
   by_making (Some w) at = still w at
 
+-- a checkpoint looks to the call as it did: it declares the same, and is complete where it was, and nowhere else where updates are on all replicas; its generation rises, and with the call's marks on it stays, as its active does with its generation; and it is held by the call just where it was
+pub record LooksLater (z : CallState) (marks : Option Marked) (e f : Entry) : Type 0 where
+  pub complete : is_all e.attributes ≡ true → f.complete ≡ e.complete
+  pub grows : (r : ℕ) → IsCompleteOn e r → IsCompleteOn f r
+  pub attributes : f.attributes ≡ e.attributes
+  pub rises : e.generation ≤ f.generation
+  pub generation : is_marked_by z.call marks ≡ true → f.generation ≡ e.generation
+  pub active : f.generation ≡ e.generation → f.active ≡ e.active
+  pub hold : is_held_by z.call f.hold ≡ is_held_by z.call e.hold
+
+-- so does the same one
+pub LooksLater-refl : (z : CallState) (marks : Option Marked) (e : Entry) → LooksLater z marks e e
+LooksLater-refl z marks e = record { complete = λ all. refl; grows = λ r there. there; attributes = refl; rises = omega arith; generation = λ own. refl; active = λ same. refl; hold = refl }
+
+-- and a later one
+pub LooksLater-later : (z : CallState) (marks : Option Marked) (e f : Entry) → IsLaterEntry e f → LooksLater z marks e f
+LooksLater-later z marks e f later = record {
+  complete = λ all. later.placed (all_apart e.attributes all);
+  grows = later.grows;
+  attributes = later.attributes;
+  rises = let same : f.generation ≡ e.generation = later.generation in omega (arith, same);
+  generation = λ own. later.generation;
+  active = λ same. later.active;
+  hold = ap (is_held_by z.call) later.hold;
+}
+
 -- n and its shapes look to the call as m and its did
 pub record LooksAlike (m n : Machine) (shapes then_shapes : ℕ → Shape) (z : CallState) : Type 0 where
   pub up : (r : ℕ) → is_up r m.cluster ≡ true → is_up r n.cluster ≡ true
   pub lives : is_live_client (client_of z.call) n.cluster ≡ is_live_client (client_of z.call) m.cluster
   pub tables : n.tables z.call.actor ≡ m.tables z.call.actor
   pub making : (o : OpenState) → IsOpenIn m z o → IfSome o.making (IsMakingIn n z)
-  -- of the checkpoints that were made, those that are left are as they were, with the same active, and the same nodes where updates are on all replicas
+  -- of the checkpoints that were made, those that are left look as they did
   pub made : (k : ℕ) → WasMade m.cluster k → WasMade n.cluster k
-  pub later : (k : ℕ) → WasMade m.cluster k → (f : Entry) → entry_of k n.cluster.entries ≡ Some f → (e : Entry) × (entry_of k m.cluster.entries ≡ Some e) × (is_all e.attributes ≡ true → f.complete ≡ e.complete) × (f.attributes ≡ e.attributes) × (f.generation ≡ e.generation) × (f.active ≡ e.active)
+  pub later : (k : ℕ) → WasMade m.cluster k → (f : Entry) → entry_of k n.cluster.entries ≡ Some f → (e : Entry) × (entry_of k m.cluster.entries ≡ Some e) × LooksLater z (shapes k).marks e f
   pub owners : (k : ℕ) → WasMade m.cluster k → (r : ℕ) → is_owner z.call ((then_shapes k).owners r) ≡ is_owner z.call ((shapes k).owners r)
   pub marks : (k : ℕ) → WasMade m.cluster k → is_marked_by z.call (then_shapes k).marks ≡ is_marked_by z.call (shapes k).marks
 
@@ -71,8 +104,8 @@ module _ (m n : Machine) (shapes then_shapes : ℕ → Shape) (z : CallState) (a
       by_entry : (o : Option Entry) → entry_of k n.cluster.entries ≡ o → IfSome o (λ e. P e.attributes)
       by_entry None gone = tt
       by_entry (Some f) is =
-          let (e, there, complete, attributes, generation, active) = alike.later k was f is in
-          subst P (sym attributes) (subst (λ o. IfSome o (λ (e : Entry). P e.attributes)) there holds)
+          let (e, there, look) = alike.later k was f is in
+          subst P (sym look.attributes) (subst (λ o. IfSome o (λ (e : Entry). P e.attributes)) there holds)
 
   -- the checkpoint of an update
   all_at : (u : UpdateState) → IsUpdateIn m shapes z u → (e : Entry) → entry_of u.ckpt m.cluster.entries ≡ Some e → is_all e.attributes ≡ true
@@ -82,13 +115,65 @@ module _ (m n : Machine) (shapes then_shapes : ℕ → Shape) (z : CallState) (a
   HasSome-alike u e f same Staging some = tt
   HasSome-alike u e f same Committing some = subst (λ cs. IsSome (last_having 0 cs u.owned)) (sym same) some
 
-  -- where a synchronisation has pulled of the present generation, it has served the active
-  led_alike : (u : SyncState) → WasMade m.cluster u.ckpt → (o : Option Snapshot) → IfSome o (λ p. IfSome (entry_of u.ckpt m.cluster.entries) (HasServedActive u.served p)) → IfSome o (λ p. IfSome (entry_of u.ckpt n.cluster.entries) (HasServedActive u.served p))
-  led_alike u was None led = tt
-  led_alike u was (Some p) led = IfSome-from (entry_of u.ckpt n.cluster.entries) (HasServedActive u.served p) (λ f is.
-      let (e, there, complete, attributes, generation, active) = alike.later u.ckpt was f is in
+  -- what a synchronisation has pulled is of no later generation
+  older_alike : (u : SyncState) → WasMade m.cluster u.ckpt → (o : Option Snapshot) → IfSome o (λ p. IfSome (entry_of u.ckpt m.cluster.entries) (λ e. p.generation ≤ e.generation)) → IfSome o (λ p. IfSome (entry_of u.ckpt n.cluster.entries) (λ e. p.generation ≤ e.generation))
+  older_alike u was None older = tt
+  older_alike u was (Some p) older = IfSome-from (entry_of u.ckpt n.cluster.entries) (λ e. p.generation ≤ e.generation) (λ f is.
+      let (e, there, look) = alike.later u.ckpt was f is in
+      let before : p.generation ≤ e.generation = subst (λ o. IfSome o (λ (e : Entry). p.generation ≤ e.generation)) there older in
+      let rises : e.generation ≤ f.generation = look.rises in
+      omega (arith, before, rises))
+
+  -- where it is of the present generation, it has served the active
+  led_alike : (u : SyncState) → WasMade m.cluster u.ckpt → (o : Option Snapshot) → IfSome o (λ p. IfSome (entry_of u.ckpt m.cluster.entries) (λ e. p.generation ≤ e.generation)) → IfSome o (λ p. IfSome (entry_of u.ckpt m.cluster.entries) (HasServedActive u.served p)) → IfSome o (λ p. IfSome (entry_of u.ckpt n.cluster.entries) (HasServedActive u.served p))
+  led_alike u was None older led = tt
+  led_alike u was (Some p) older led = IfSome-from (entry_of u.ckpt n.cluster.entries) (HasServedActive u.served p) (λ f is.
+      let (e, there, look) = alike.later u.ckpt was f is in
       let before : HasServedActive u.served p e = subst (λ o. IfSome o (λ (e : Entry). HasServedActive u.served p e)) there led in
-      λ present. subst (λ o. IsSomeAnd o (λ r. slice_get u.served r ≡ Some true)) (sym active) (before (present ∙ generation)))
+      let at_most : p.generation ≤ e.generation = subst (λ o. IfSome o (λ (e : Entry). p.generation ≤ e.generation)) there older in
+      let rises : e.generation ≤ f.generation = look.rises in
+      λ present.
+      let present_is : p.generation ≡ f.generation = present in
+      let same : f.generation ≡ e.generation = omega (arith, at_most, rises, present_is) in
+      subst (λ o. IsSomeAnd o (λ r. slice_get u.served r ≡ Some true)) (sym (look.active same)) (before (present ∙ same)))
+
+  -- the setting of an active is where it was
+  IsSetting-alike : (u : SyncState) (local : ℕ) → IsSettingIn m z u local → IsSettingIn n z u local
+  IsSetting-alike u local at = record {
+    call = at.call;
+    place = at.place;
+    asks = at.asks;
+    node = at.node;
+    within = at.within;
+    kept = at.kept;
+    made = alike.made u.ckpt at.made;
+    collocated = declared_alike (λ a. is_collocated a ≡ true) u.ckpt at.made at.collocated;
+    complete = IfSome-from (entry_of u.ckpt n.cluster.entries) (λ e. IsCompleteOn e local) (λ f is.
+        let (e, there, look) = alike.later u.ckpt at.made f is in look.grows local (subst (λ o. IfSome o (λ (e : Entry). IsCompleteOn e local)) there at.complete));
+    declares = declared_alike (λ a. z.kept.declares ≡ Some a) u.ckpt at.made at.declares;
+    held = IfSome-from (entry_of u.ckpt n.cluster.entries) (λ e. is_held_by z.call e.hold ≡ is_some z.snapshot) (λ f is.
+        let (e, there, look) = alike.later u.ckpt at.made f is in look.hold ∙ subst (λ o. IfSome o (λ (e : Entry). is_held_by z.call e.hold ≡ is_some z.snapshot)) there at.held);
+  }
+
+  -- and so is either of the two
+  IsSync-alike : (u : SyncState) (kind : SyncKind) → IsSyncBy m z u kind → IsSyncBy n z u kind
+  IsSync-alike u (Synchronize deadline) at = record {
+    call = at.call;
+    place = at.place;
+    timeout = at.timeout;
+    asks = at.asks;
+    kind = at.kind;
+    kept = at.kept;
+    made = alike.made u.ckpt at.made;
+    alone = declared_alike (λ a. is_all a ≡ false) u.ckpt at.made at.alone;
+    declares = declared_alike (λ a. z.kept.declares ≡ Some a) u.ckpt at.made at.declares;
+    pulled = at.pulled;
+    nodes = at.nodes;
+    served = at.served;
+    led = led_alike u at.made z.snapshot at.older at.led;
+    older = older_alike u at.made z.snapshot at.older;
+  }
+  IsSync-alike u (ActiveSet local) at = IsSetting-alike u local at
 
   IsOnce-alike : (x : OneStep) → IsOnceAt m z x → IsOnceAt n z x
   IsOnce-alike (once.Enter r) at = record { version = at.version; callbacks = at.callbacks; asks = at.asks; client = at.client; up = alike.up r at.up; not_live = alike.lives ∙ at.not_live }
@@ -123,10 +208,10 @@ module _ (m n : Machine) (shapes then_shapes : ℕ → Shape) (z : CallState) (a
     all = declared_alike (λ a. is_all a ≡ true) u.ckpt at.made at.all;
     nodes = at.nodes;
     owns = λ f is r full.
-        let (e, was, complete, attributes, generation, active) = alike.later u.ckpt at.made f is in
-        subst (λ (cs : List ℕ). (slice_index cs r == 0) ≡ false → has (slice_index cs r) (slice_index u.owned r) ≡ is_owner z.call ((shapes u.ckpt).owners r)) (sym (complete (all_at u at e was))) (at.owns e was r) full
+        let (e, was, look) = alike.later u.ckpt at.made f is in
+        subst (λ (cs : List ℕ). (slice_index cs r == 0) ≡ false → has (slice_index cs r) (slice_index u.owned r) ≡ is_owner z.call ((shapes u.ckpt).owners r)) (sym (look.complete (all_at u at e was))) (at.owns e was r) full
         ∙ sym (alike.owners u.ckpt at.made r);
-    some = λ f is. let (e, was, complete, attributes, generation, active) = alike.later u.ckpt at.made f is in HasSome-alike u e f (complete (all_at u at e was)) u.phase (at.some e was);
+    some = λ f is. let (e, was, look) = alike.later u.ckpt at.made f is in HasSome-alike u e f (look.complete (all_at u at e was)) u.phase (at.some e was);
   }
   IsIn-alike (drivers.Active a) at = record {
     call = at.call;
@@ -138,26 +223,17 @@ module _ (m n : Machine) (shapes then_shapes : ℕ → Shape) (z : CallState) (a
     all = declared_alike (λ b. z.kept.all ≡ is_all b) a.ckpt at.made at.all;
     weak = declared_alike (λ b. z.kept.weak ≡ is_weak b) a.ckpt at.made at.weak;
     handle = handle_alike at.handle;
-    marks = λ f is. let (e, was, complete, attributes, generation, active) = alike.later a.ckpt at.made f is in alike.marks a.ckpt at.made ∙ at.marks e was;
-    generation = λ f is.
-        let (e, was, complete, attributes, generation, active) = alike.later a.ckpt at.made f is in
-        subst (λ (n : ℕ). IfSome a.marks (λ marks. marks.generation ≡ n)) (sym generation) (at.generation e was);
+    marks = λ f is. let (e, was, look) = alike.later a.ckpt at.made f is in alike.marks a.ckpt at.made ∙ at.marks e was;
+    generation = λ f is. (
+        let (e, was, look) = alike.later a.ckpt at.made f is in
+        generation_alike (shapes a.ckpt).marks e f look a.marks (at.marks e was) (at.generation e was));
   }
-  IsIn-alike (drivers.Sync u) at = record {
-    call = at.call;
-    place = at.place;
-    timeout = at.timeout;
-    asks = at.asks;
-    kind = at.kind;
-    kept = at.kept;
-    made = alike.made u.ckpt at.made;
-    alone = declared_alike (λ a. is_all a ≡ false) u.ckpt at.made at.alone;
-    declares = declared_alike (λ a. z.kept.declares ≡ Some a) u.ckpt at.made at.declares;
-    pulled = at.pulled;
-    nodes = at.nodes;
-    served = at.served;
-    led = led_alike u at.made z.snapshot at.led;
-  }
+    where
+      -- marks that it has made are of the present generation still
+      generation_alike : (stand : Option Marked) (e f : Entry) → LooksLater z stand e f → (o : Option MarksMade) → is_marked_by z.call stand ≡ is_some o → IfSome o (λ marks. marks.generation ≡ e.generation) → IfSome o (λ marks. marks.generation ≡ f.generation)
+      generation_alike stand e f look None own was = tt
+      generation_alike stand e f look (Some marks) own was = was ∙ sym (look.generation own)
+  IsIn-alike (drivers.Sync u) at = IsSync-alike u u.kind at
 
   -- and all holds of it that did
   pub IsInHand-alike : (a : ActorName) → (is_live m.cluster z.call ≡ true → is_live n.cluster z.call ≡ true) → z.call.number < n.next a → IsInHand m shapes a z → IsInHand n then_shapes a z
@@ -174,18 +250,30 @@ module _ (m n : Machine) (k : ℕ) where
   pub IsMarker-alike : (marks : Marked) → n.in_hand marks.call.actor ≡ m.in_hand marks.call.actor → IsMarker m k marks → IsMarker n k marks
   IsMarker-alike marks same own = record { state = own.state; in_hand = same ∙ own.in_hand; call_is = own.call_is; driver = own.driver; driver_is = own.driver_is; ckpt = own.ckpt; made = own.made; made_is = own.made_is; update = own.update; left = own.left }
 
+  -- so has whose hold it is, where the replica of the active stays
+  pub IsHolder-alike : (active : Option ℕ) (d : CallId) → n.in_hand d.actor ≡ m.in_hand d.actor → on_node (n.replicas k) active ≡ on_node (m.replicas k) active → IsHolder m k active d → IsHolder n k active d
+  IsHolder-alike active d same replica own = record { state = own.state; in_hand = same ∙ own.in_hand; call_is = own.call_is; driver = own.driver; driver_is = own.driver_is; local = own.local; kind = own.kind; ckpt = own.ckpt; some = own.some; copies = own.copies ∙ ap (option_map copied) (sym replica) }
+
+  -- the active's replica stays where those on complete nodes do
+  active_stays : (e : Entry) → ((r : ℕ) → IsCompleteOn e r → n.replicas k r ≡ m.replicas k r) → IsActiveBy (is_collocated e.attributes) e.complete e.active → on_node (n.replicas k) e.active ≡ on_node (m.replicas k) e.active
+  active_stays e replicas led = by_active e.active (active_by-complete (is_collocated e.attributes) e.complete e.active led)
+    where
+      by_active : (o : Option ℕ) → ((r : ℕ) → o ≡ Some r → IsCompleteOn e r) → on_node (n.replicas k) o ≡ on_node (m.replicas k) o
+      by_active None complete = refl
+      by_active (Some r) complete = replicas r (complete r refl)
+
   -- so has who is making it
   pub IsMaker-alike : (d : CallId) → n.in_hand d.actor ≡ m.in_hand d.actor → IsMaker m k d → IsMaker n k d
   IsMaker-alike d same own = record { state = own.state; in_hand = same ∙ own.in_hand; call_is = own.call_is; driver = own.driver; driver_is = own.driver_is; making = own.making; making_is = own.making_is; ckpt = own.ckpt }
 
-  -- the checkpoint is as it was, where its replicas stay, a node on which it is complete now has the opening one, and those who own its slots, have marks on it or are making it stay
+  -- the checkpoint is as it was, where its replicas stay, a node on which it is complete now has the opening one, and those who own its slots, have marks on it, hold it or are making it stay
   pub IsGoodIn-later : (sh : Shape) (e f : Entry) → IsLaterEntry e f → ((r : ℕ) → IsCompleteOn e r → n.replicas k r ≡ m.replicas k r) → ((r : ℕ) → (slice_index e.complete r == 0) ≡ true → IsCompleteOn f r → n.replicas k r ≡ Some (opened_state f))
-      → ((d : CallId) → IsOwner m k sh d → f.complete ≡ e.complete) → ((d : CallId) → IsOwner m k sh d → n.in_hand d.actor ≡ m.in_hand d.actor) → ((marks : Marked) → IsMarker m k marks → n.in_hand marks.call.actor ≡ m.in_hand marks.call.actor) → ((d : CallId) → IsMaker m k d → n.in_hand d.actor ≡ m.in_hand d.actor)
+      → ((d : CallId) → IsOwner m k sh d → f.complete ≡ e.complete) → ((d : CallId) → IsOwner m k sh d → n.in_hand d.actor ≡ m.in_hand d.actor) → ((marks : Marked) → IsMarker m k marks → n.in_hand marks.call.actor ≡ m.in_hand marks.call.actor) → ((active : Option ℕ) (d : CallId) → IsHolder m k active d → n.in_hand d.actor ≡ m.in_hand d.actor) → ((d : CallId) → IsMaker m k d → n.in_hand d.actor ≡ m.in_hand d.actor)
       → (maker : Option CallId) → (IsSome maker → f.complete ≡ e.complete) → IsGoodIn m k sh e maker → IsGoodIn n k sh f maker
-  IsGoodIn-later sh e f later replicas joins same_owned owners markers makers None unmade was = record {
+  IsGoodIn-later sh e f later replicas joins same_owned owners markers holders makers None unmade was = record {
     nodes = later.nodes ∙ was.nodes;
     some = let (q, there) = first_complete-some 0 e.complete was.some in first_complete-there 0 f.complete q (later.grows q there);
-    active = later.active ∙ was.active ∙ active_same (is_collocated e.attributes) refl;
+    active = subst (λ (z : Bool × Option ℕ). IsActiveBy z.0 f.complete z.1) (λ i. (is_collocated (sym later.attributes i), sym later.active i)) (active_by-grows (is_collocated e.attributes) e.complete f.complete e.active later.placed later.grows was.active);
     replicas = λ r there. by_before r there (slice_index e.complete r == 0) refl;
     fits = λ r d owns. ap (λ a. outcome a sh.update sh.moment sh.sections) later.attributes ∙ was.fits r d owns;
     complete = λ r d owns. later.grows r (was.complete r d owns);
@@ -193,13 +281,16 @@ module _ (m n : Machine) (k : ℕ) where
     owned = λ r d owns. let own = was.owned r d owns in IsOwner-alike sh d (owners d own) own;
     led = λ marks is. ap is_some later.active ∙ was.led marks is;
     marked = λ marks is. let own = was.marked marks is in IsMarker-alike marks (markers marks own) own;
+    held = λ d is. (
+        let own = was.held d (sym later.hold ∙ is) in
+        record {
+          collocated = ap is_collocated later.attributes ∙ own.collocated;
+          led = ap is_some later.active ∙ own.led;
+          unmarked = own.unmarked;
+          holder = subst (λ active. IsHolder n k active d) (sym later.active) (IsHolder-alike e.active d (holders e.active d own.holder) (active_stays e replicas was.active) own.holder);
+        });
   }
     where
-      -- its active is told of its nodes still
-      active_same : (b : Bool) → is_collocated e.attributes ≡ b → cond (is_collocated e.attributes) None (first_complete 0 e.complete) ≡ cond (is_collocated f.attributes) None (first_complete 0 f.complete)
-      active_same true is = ap (λ b. cond b None (first_complete 0 e.complete)) is ∙ sym (ap (λ b. cond b None (first_complete 0 f.complete)) (ap is_collocated later.attributes ∙ is))
-      active_same false is = (λ i. cond (is_collocated (sym later.attributes i)) None (first_complete 0 (sym (later.placed is) i)))
-
       -- one that a node joins is collocated
       joined_collocated : (r : ℕ) → (slice_index e.complete r == 0) ≡ true → IsCompleteOn f r → (b : Bool) → is_collocated e.attributes ≡ b → is_collocated e.attributes ≡ true
       joined_collocated r none there true is = is
@@ -211,23 +302,24 @@ module _ (m n : Machine) (k : ℕ) where
       by_before r there true none =
           let collocated : is_collocated e.attributes ≡ true = joined_collocated r none there (is_collocated e.attributes) refl in
           let not_all : is_all f.attributes ≡ false = ap is_all later.attributes ∙ collocated_apart e.attributes collocated in
-          let no_active : f.active ≡ None = later.active ∙ was.active ∙ ap (λ b. cond b None (first_complete 0 e.complete)) collocated in
+          let elsewhere : marks_at f.active sh.marks r ≡ None = ap (λ active. marks_at active sh.marks r) later.active ∙ marks_at-apart e.active sh.marks r (λ led. (let w : true ≡ false = sym none ∙ active_by-complete (is_collocated e.attributes) e.complete e.active was.active r led in cc w)) in
           IsSomeAnd-from (n.replicas k r) (IsShapedBy (is_all f.attributes) sh f.active r) (opened_state f) (joins r none there)
-          (subst (λ (z : Bool × Option ℕ). IsShapedBy z.0 sh z.1 r (opened_state f)) (λ i. (sym not_all i, sym no_active i)) (record { free = refl; marks_are = refl }))
-  IsGoodIn-later sh e f later replicas joins same_owned owners markers makers (Some d) unmade was = (
+          (subst (λ b. IsShapedBy b sh f.active r (opened_state f)) (sym not_all) (record { free = refl; marks_are = sym elsewhere }))
+  IsGoodIn-later sh e f later replicas joins same_owned owners markers holders makers (Some d) unmade was = (
     record {
       complete = unmade refl ∙ was.0.complete;
       generation = later.generation ∙ was.0.generation;
+      free = later.hold ∙ was.0.free;
       well_formed = ap is_malformed later.attributes ∙ was.0.well_formed;
       clients = later.clients ∙ was.0.clients;
     },
     IsMaker-alike d (makers d was.1) was.1,
   )
 
-  -- the checkpoint is as it was, where its entry and its replicas are and where those who own its slots, have marks on it or are making it stay
-  pub IsGoodIn-alike : (sh : Shape) (e : Entry) → ((r : ℕ) → IsCompleteOn e r → n.replicas k r ≡ m.replicas k r) → ((d : CallId) → IsOwner m k sh d → n.in_hand d.actor ≡ m.in_hand d.actor) → ((marks : Marked) → IsMarker m k marks → n.in_hand marks.call.actor ≡ m.in_hand marks.call.actor) → ((d : CallId) → IsMaker m k d → n.in_hand d.actor ≡ m.in_hand d.actor)
+  -- the checkpoint is as it was, where its entry and its replicas are and where those who own its slots, have marks on it, hold it or are making it stay
+  pub IsGoodIn-alike : (sh : Shape) (e : Entry) → ((r : ℕ) → IsCompleteOn e r → n.replicas k r ≡ m.replicas k r) → ((d : CallId) → IsOwner m k sh d → n.in_hand d.actor ≡ m.in_hand d.actor) → ((marks : Marked) → IsMarker m k marks → n.in_hand marks.call.actor ≡ m.in_hand marks.call.actor) → ((active : Option ℕ) (d : CallId) → IsHolder m k active d → n.in_hand d.actor ≡ m.in_hand d.actor) → ((d : CallId) → IsMaker m k d → n.in_hand d.actor ≡ m.in_hand d.actor)
       → (maker : Option CallId) → IsGoodIn m k sh e maker → IsGoodIn n k sh e maker
-  IsGoodIn-alike sh e replicas owners markers makers maker was = IsGoodIn-later sh e e (IsLaterEntry-refl e) replicas (λ r none there. absurd (let w : true ≡ false = sym none ∙ there in cc w)) (λ d own. refl) owners markers makers maker (λ some. refl) was
+  IsGoodIn-alike sh e replicas owners markers holders makers maker was = IsGoodIn-later sh e e (IsLaterEntry-refl e) replicas (λ r none there. absurd (let w : true ≡ false = sym none ∙ there in cc w)) (λ d own. refl) owners markers holders makers maker (λ some. refl) was
 
 -- ---- other calls in hand, and other numbers
 
@@ -242,7 +334,7 @@ module _ (m : Machine) (shapes : ℕ → Shape) (next : ActorName → ℕ) (f : 
     tables = refl;
     making = λ o at. making_still m with_hands z o (λ w at. record { there = at.there; declares = at.declares; nodes = at.nodes; reserved = at.reserved; only = at.only; within = at.within }) at;
     made = λ k was. was;
-    later = λ k was e found. (e, found, λ all. refl, refl, refl, refl);
+    later = λ k was e found. (e, found, LooksLater-refl z (shapes k).marks e);
     owners = λ k was r. refl;
     marks = λ k was. refl;
   }
@@ -251,7 +343,7 @@ module _ (m : Machine) (shapes : ℕ → Shape) (next : ActorName → ℕ) (f : 
   pub IsIn-apart : (z : CallState) (d : Driver) → IsInPlace m shapes z d → IsInPlace with_hands shapes z d
   IsIn-apart z d at = IsIn-alike m with_hands shapes shapes z (looks_apart z) d at
 
-  -- a checkpoint is as it was, where those who own its slots, have marks on it or are making it stay
-  pub IsGoodIn-apart : ((k : ℕ) (sh : Shape) (d : CallId) → IsOwner m k sh d → f d.actor ≡ m.in_hand d.actor) → ((k : ℕ) (marks : Marked) → IsMarker m k marks → f marks.call.actor ≡ m.in_hand marks.call.actor) → ((k : ℕ) (d : CallId) → IsMaker m k d → f d.actor ≡ m.in_hand d.actor)
+  -- a checkpoint is as it was, where those who own its slots, have marks on it, hold it or are making it stay
+  pub IsGoodIn-apart : ((k : ℕ) (sh : Shape) (d : CallId) → IsOwner m k sh d → f d.actor ≡ m.in_hand d.actor) → ((k : ℕ) (marks : Marked) → IsMarker m k marks → f marks.call.actor ≡ m.in_hand marks.call.actor) → ((k : ℕ) (active : Option ℕ) (d : CallId) → IsHolder m k active d → f d.actor ≡ m.in_hand d.actor) → ((k : ℕ) (d : CallId) → IsMaker m k d → f d.actor ≡ m.in_hand d.actor)
       → (k : ℕ) (sh : Shape) (e : Entry) (maker : Option CallId) → IsGoodIn m k sh e maker → IsGoodIn with_hands k sh e maker
-  IsGoodIn-apart owners markers makers k sh e maker was = IsGoodIn-alike m with_hands k sh e (λ r there. refl) (owners k sh) (markers k) (makers k) maker was
+  IsGoodIn-apart owners markers holders makers k sh e maker was = IsGoodIn-alike m with_hands k sh e (λ r there. refl) (owners k sh) (markers k) (holders k) (makers k) maker was

@@ -1,5 +1,9 @@
 -- What a call asks_own of a replica it asks_own of the checkpoint that it was begun on.
-use Rattle.std.proofs.Common.{ℕ, Option, Some, None, Bool, true, false, cond, ◌==◌, refl, sym, subst}
+use Rattle.cluster_record.specs.RecordState.{RecordState}
+use Rattle.cluster_record.specs.DueSync.{SyncState}
+use Rattle.cluster_record.specs.declared.calls.SyncKind.{SyncKind}
+use Rattle.cluster_record.specs.declared.calls.SyncKind.TheVariants.{Synchronize, ActiveSet}
+use Rattle.std.proofs.Common.{◌≡◌, ℕ, Option, Some, None, Bool, true, false, cond, ◌==◌, refl, sym, subst}
 use Rattle.node_msgs.specs.Requests.{ckpt_of}
 use Rattle.node_msgs.specs.Steps.{verb_of, event_verb}
 use Rattle.node_msgs.specs.declared.next.Next.{Next}
@@ -17,64 +21,69 @@ use Rattle.ckpt_machine.specs.Steps.{Told, IsDone, driver_of}
 use Rattle.ckpt_types.specs.declared.identities.CallId.{CallId}
 use Rattle.ckpt_machine.specs.Drivers.{Driver, Rooms}
 use Rattle.ckpt_machine.specs.Drivers as drivers
-use Rattle.ckpt_machine.specs.Driving.{driver_next}
-use Rattle.ckpt_machine.specs.InHand.{IsInPlace}
+use Rattle.ckpt_machine.specs.Driving.{event_ckpt, driver_next}
+use Rattle.ckpt_machine.specs.InHand.{IsSyncBy, IsInPlace}
 use Rattle.ckpt_machine.specs.Shape.{Shape}
-use Rattle.ckpt_machine.proofs.NextOf.{OfAsked, next_of}
+use Rattle.ckpt_machine.proofs.NextOf.{OfAsked, NamesNone, next_of}
 
--- what is next asks_own so
-abbrev IsAskedOf : Option ℕ → Next → Type 0
-IsAskedOf own (Serve r request) = IsOnOwn (verb_of request) (Some (ckpt_of request)) own
-IsAskedOf own (Event step) = Unit {0}
-IsAskedOf own (End o) = Unit {0}
+-- what is next of a driver asks so
+abbrev IsAskedOf : RecordState → Driver → Option ℕ → Next → Type 0
+IsAskedOf R d own (Serve r request) = IsOnOwn (verb_of request) (Some (ckpt_of request)) own
+IsAskedOf R d own (Event step) = IsOnOwn (event_verb step) (event_ckpt R d step) own
+IsAskedOf R d own (End o) = Unit {0}
 
--- no step of the record asks_own a replica
-no_event : (step : RecordStep) (ckpt own : Option ℕ) → IsOnOwn (event_verb step) ckpt own
-no_event events.Enter ckpt own = tt
-no_event events.Leave ckpt own = tt
-no_event events.Open ckpt own = tt
-no_event events.Create ckpt own = tt
-no_event events.Finish ckpt own = tt
-no_event events.Undo ckpt own = tt
-no_event events.Close ckpt own = tt
-no_event events.Unlink ckpt own = tt
-no_event events.Retain ckpt own = tt
-no_event (events.Hold r) ckpt own = tt
-no_event (events.Activate r) ckpt own = tt
-no_event (events.Complete k r t) ckpt own = tt
+-- a step of the record asks no replica, unless it sets an active
+no_event : (step : RecordStep) (ckpt own : Option ℕ) → NamesNone step → IsOnOwn (event_verb step) ckpt own
+no_event events.Enter ckpt own none = tt
+no_event events.Leave ckpt own none = tt
+no_event events.Open ckpt own none = tt
+no_event events.Create ckpt own none = tt
+no_event events.Finish ckpt own none = tt
+no_event events.Undo ckpt own none = tt
+no_event events.Close ckpt own none = tt
+no_event events.Unlink ckpt own none = tt
+no_event events.Retain ckpt own none = tt
+no_event (events.Hold r) ckpt own none = absurd none
+no_event (events.Activate r) ckpt own none = absurd none
+no_event (events.Complete k r t) ckpt own none = tt
 
 -- so does the label of it
-pub own_told : (m : Machine) (s : CallState) (next : Next) (t : Told) → IsAskedOf s.kept.ckpt next → IsDone m s next t → IsOnOwn t.verb t.ckpt s.kept.ckpt
+pub own_told : (m : Machine) (s : CallState) (next : Next) (t : Told) → IsAskedOf m.cluster (driver_of s) s.kept.ckpt next → IsDone m s next t → IsOnOwn t.verb t.ckpt s.kept.ckpt
 own_told m s (Serve r request) t asked done = subst (λ verb. IsOnOwn verb t.ckpt s.kept.ckpt) (sym done.verb) (subst (λ ckpt. IsOnOwn (verb_of request) ckpt s.kept.ckpt) (sym done.ckpt) asked)
-own_told m s (Event step) t asked done = subst (λ verb. IsOnOwn verb t.ckpt s.kept.ckpt) (sym done.verb) (no_event step t.ckpt s.kept.ckpt)
+own_told m s (Event step) t asked done = subst (λ verb. IsOnOwn verb t.ckpt s.kept.ckpt) (sym done.verb) (subst (λ ckpt. IsOnOwn (event_verb step) ckpt s.kept.ckpt) (sym done.ckpt) asked)
 own_told m s (End o) t asked done = subst (λ (t : Told). IsOnOwn t.verb t.ckpt s.kept.ckpt) (sym done) tt
 
 -- ---- what a driver asks_own
 
-weak_asks : (call : CallId) (k r : ℕ) (marks : Option MarksMade) → IsAskedOf (Some k) (Serve r (weak_request call k marks))
-weak_asks call k r None = refl
-weak_asks call k r (Some marks) = by_left (marks.left == 0)
+weak_asks : (R : RecordState) (d : Driver) (call : CallId) (k r : ℕ) (marks : Option MarksMade) → IsAskedOf R d (Some k) (Serve r (weak_request call k marks))
+weak_asks R d call k r None = refl
+weak_asks R d call k r (Some marks) = by_left (marks.left == 0)
   where
-    by_left : (b : Bool) → IsAskedOf (Some k) (Serve r (cond b (requests.Unmark call k) (requests.Element call k)))
+    by_left : (b : Bool) → IsAskedOf R d (Some k) (Serve r (cond b (requests.Unmark call k) (requests.Element call k)))
     by_left true = refl
     by_left false = refl
 
-kind_asks : (call : CallId) (k r : ℕ) (kind : ActiveKind) (marks : Option MarksMade) → IsAskedOf (Some k) (Serve r (request_by call k kind marks))
-kind_asks call k r kinds.Apply marks = refl
-kind_asks call k r (kinds.Weak n) marks = weak_asks call k r marks
-kind_asks call k r kinds.Read marks = refl
-kind_asks call k r kinds.Status marks = refl
-kind_asks call k r (kinds.Iterate choice) marks = refl
-kind_asks call k r kinds.Next marks = refl
+kind_asks : (R : RecordState) (d : Driver) (call : CallId) (k r : ℕ) (kind : ActiveKind) (marks : Option MarksMade) → IsAskedOf R d (Some k) (Serve r (request_by call k kind marks))
+kind_asks R d call k r kinds.Apply marks = refl
+kind_asks R d call k r (kinds.Weak n) marks = weak_asks R d call k r marks
+kind_asks R d call k r kinds.Read marks = refl
+kind_asks R d call k r kinds.Status marks = refl
+kind_asks R d call k r (kinds.Iterate choice) marks = refl
+kind_asks R d call k r kinds.Next marks = refl
 
--- an update, a call to the active and a synchronisation are of the checkpoint that their call keeps
-asks_own : (m : Machine) (shapes : ℕ → Shape) (s : CallState) (d : Driver) → IsInPlace m shapes s d → OfAsked (IsAskedOf s.kept.ckpt) d
+-- a synchronisation and the setting of an active keep their checkpoint
+sync_kept : (m : Machine) (s : CallState) (u : SyncState) (kind : SyncKind) → IsSyncBy m s u kind → s.kept.ckpt ≡ Some u.ckpt
+sync_kept m s u (Synchronize deadline) at = at.kept
+sync_kept m s u (ActiveSet local) at = at.kept
+
+-- an update, a call to the active and what brings its sections to others are of the checkpoint that their call keeps
+asks_own : (m : Machine) (shapes : ℕ → Shape) (s : CallState) (d : Driver) → IsInPlace m shapes s d → OfAsked (IsAskedOf m.cluster d s.kept.ckpt) d
 asks_own m shapes s (drivers.Update u) at = (λ r t. sym at.kept, λ r. sym at.kept)
-asks_own m shapes s (drivers.Active a) at = λ r. subst (λ own. IsAskedOf own (Serve r (active_request a))) (sym at.kept) (kind_asks a.call a.ckpt r a.kind a.marks)
-asks_own m shapes s (drivers.Sync u) at = (λ r. sym at.kept, λ r. sym at.kept)
+asks_own m shapes s (drivers.Active a) at = λ r. subst (λ own. IsAskedOf m.cluster (drivers.Active a) own (Serve r (active_request a))) (sym at.kept) (kind_asks m.cluster (drivers.Active a) a.call a.ckpt r a.kind a.marks)
+asks_own m shapes s (drivers.Sync u) at = let kept = sync_kept m s u u.kind at in (λ r. sym kept, λ r. sym kept, λ r. sym kept, λ r. sym kept)
 asks_own m shapes s (drivers.Once x) at = tt
 asks_own m shapes s (drivers.Open o) at = tt
 
 -- so a due step is on it
 pub own_step : (m : Machine) (shapes : ℕ → Shape) (s : CallState) (room : Rooms) (t : Told) → IsInPlace m shapes s (driver_of s) → IsDone m s (driver_next m.cluster room (driver_of s)) t → IsOnOwn t.verb t.ckpt s.kept.ckpt
-own_step m shapes s room t at done = own_told m s (driver_next m.cluster room (driver_of s)) t (next_of (IsAskedOf s.kept.ckpt) (λ o. tt) (λ step. tt) (λ r k. tt) m.cluster room (driver_of s) (asks_own m shapes s (driver_of s) at)) done
+own_step m shapes s room t at done = own_told m s (driver_next m.cluster room (driver_of s)) t (next_of (IsAskedOf m.cluster (driver_of s) s.kept.ckpt) (λ o. tt) (λ step none. no_event step (event_ckpt m.cluster (driver_of s) step) s.kept.ckpt none) (λ r k. tt) m.cluster room (driver_of s) (asks_own m shapes s (driver_of s) at)) done

@@ -23,7 +23,7 @@ use Rattle.ckpt_machine.specs.Invariant.{IsMaker, IsGoodIn, InvariantIn}
 use Rattle.ckpt_machine.specs.Machine.{Machine, CallState}
 use Rattle.ckpt_machine.specs.Steps.{driver_of}
 use Rattle.ckpt_machine.specs.Guards.{IsMadeBy}
-use Rattle.ckpt_machine.specs.Shape.{Shape, IsOwner, IsMarker}
+use Rattle.ckpt_machine.specs.Shape.{Shape, IsOwner, IsMarker, IsHolder}
 use Rattle.weak_marks.specs.Marks.{Marked}
 use Rattle.ckpt_machine.proofs.Actors.{same_actor-refl, same_actor-true, same_call-refl, same_call-true}
 use Rattle.ckpt_machine.proofs.OptionLemmas.{IsSomeAnd-at, IsSomeAnd-from}
@@ -54,6 +54,17 @@ module _ (m : Machine) (s : CallState) (o : OpenState) (held : m.in_hand s.call.
       by_test true same =
           let state : own.state ≡ s = same_Some own.state s (sym own.in_hand ∙ ap m.in_hand (same_actor-true marks.call.actor s.call.actor same) ∙ held) in
           let apart : drivers.Active own.driver ≡ drivers.Open o = sym own.driver_is ∙ ap driver_of state ∙ is in
+          absurd (cc apart)
+
+  -- so is whose hold it is, since the setting of an active is no open
+  pub holder_apart : (j : ℕ) (active : Option ℕ) (d : CallId) → IsHolder m j active d → same_actor d.actor s.call.actor ≡ false
+  holder_apart j active d own = by_test (same_actor d.actor s.call.actor) refl
+    where
+      by_test : (b : Bool) → same_actor d.actor s.call.actor ≡ b → same_actor d.actor s.call.actor ≡ false
+      by_test false is_not = is_not
+      by_test true same =
+          let state : own.state ≡ s = same_Some own.state s (sym own.in_hand ∙ ap m.in_hand (same_actor-true d.actor s.call.actor same) ∙ held) in
+          let apart : drivers.Sync own.driver ≡ drivers.Open o = sym own.driver_is ∙ ap driver_of state ∙ is in
           absurd (cc apart)
 
   module _ (making : Making) (makes : o.making ≡ Some making) where

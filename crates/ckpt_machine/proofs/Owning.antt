@@ -21,6 +21,7 @@ use Rattle.ckpt_machine.proofs.OnAll.{shaped_replicas}
 use Rattle.ckpt_machine.specs.Shape.{Shape, IsCompleteOn, IsShaped, is_owner, IsOwner, IsSpread, PhaseFits}
 use Rattle.ckpt_machine.specs.InHand.{is_enter, IsInPlace, IsUpdateIn}
 use Rattle.ckpt_machine.specs.Invariant.{IsGoodIn, InvariantIn, Invariant}
+use Rattle.ckpt_machine.proofs.Joining.{all_apart}
 use Rattle.ckpt_machine.proofs.ReplicaSteps.{IsOwner-other, IsMarker-other, none_changed, step_keeps}
 use Rattle.ckpt_machine.proofs.OptionLemmas.{IsSomeAnd-at, IsSomeAnd-from}
 use Rattle.ckpt_machine.proofs.Actors.{same_actor-true, same_call-refl, same_call-true}
@@ -107,6 +108,10 @@ module _ (m : Machine) (shapes : ℕ → Shape) (inv : InvariantIn shapes m) (s 
     pub all_is : is_all e.attributes ≡ true
     all_is = subst (λ o. IfSome o (λ e. is_all e.attributes ≡ true)) found at.all
 
+    -- so no call holds it
+    pub never_held : (d : CallId) → e.hold ≡ Some d → ⊥
+    never_held d holds = let w : true ≡ false = sym ((spread e found).held d holds).collocated ∙ all_apart e.attributes all_is in cc w
+
     -- the replica of a complete node
     pub replica_at : (q : ℕ) → IsCompleteOn e q → (x : ReplicaState) × (m.replicas u.ckpt q ≡ Some x) × IsShaped (shapes u.ckpt) ((shapes u.ckpt).owners q) x
     replica_at q there = IsSomeAnd-at (m.replicas u.ckpt q) (IsShaped (shapes u.ckpt) ((shapes u.ckpt).owners q)) (shaped_replicas m u.ckpt (shapes u.ckpt) e (spread e found) all_is q there)
@@ -144,4 +149,5 @@ module _ (m : Machine) (shapes : ℕ → Shape) (inv : InvariantIn shapes m) (s 
         owned = λ q call owns. let own = was.owned q call owns in IsOwner-other m shapes inv s u held is m.replicas None u.ckpt (shapes u.ckpt) call (owner_same (shapes u.ckpt) call own (none e found q call owns)) own;
         led = was.led;
         marked = λ marks is_some. IsMarker-other m shapes inv s u held is m.replicas None u.ckpt marks (was.marked marks is_some);
+        held = λ d is_some. absurd (never_held e found d is_some);
       }

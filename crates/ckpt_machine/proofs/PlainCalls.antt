@@ -1,6 +1,6 @@
 -- A call that is no update, has no marks and makes no checkpoint owns nothing and makes nothing: where it goes on or ends, what holds of all others stays.
 use Rattle.std.proofs.Common.{◌≡◌, ℕ, inl, inr, [], Option, Some, None, Bool, true, false, filter, not, refl, sym, ap, subst, ◌∙◌}
-use Rattle.std.specs.Prelude.{is_some, IsSome, IfSome}
+use Rattle.std.specs.Prelude.{is_some, IsSome, IfSome, Contains}
 use Rattle.std.proofs.lemmas.Option.{same_Some}
 use Rattle.ckpt_types.specs.declared.ais_error.AisError.{AisError}
 use Rattle.ckpt_types.specs.declared.answers.Cause.{Cause}
@@ -10,10 +10,13 @@ use Rattle.ckpt_types.specs.declared.identities.CallId.{CallId}
 use Rattle.node_msgs.specs.declared.next.Next.TheVariants.{End}
 use Rattle.node_msgs.specs.declared.steps.Verb.TheVariants as verbs
 use Rattle.node_msgs.specs.declared.steps.StepReply.TheVariants as words
+use Rattle.client_handles.specs.declared.handle_view.HandleView.{HandleView}
+use Rattle.cluster_record.specs.declared.calls.SyncKind.{SyncKind}
+use Rattle.cluster_record.specs.declared.calls.SyncKind.TheVariants.{Synchronize, ActiveSet}
 use Rattle.cluster_record.specs.declared.calls.Making.{Making}
 use Rattle.cluster_record.specs.declared.entries.Entry.{Entry}
 use Rattle.cluster_record.specs.DueOpen.{making_ckpt}
-use Rattle.cluster_record.specs.Calls.{same_actor, client_of, put_actor}
+use Rattle.cluster_record.specs.Calls.{same_actor, number_of, client_of, put_actor}
 use Rattle.cluster_record.specs.Identities.{IdentitiesRise, AllUpTo}
 use Rattle.cluster_record.specs.Makings.{making_of}
 use Rattle.cluster_record.specs.Placement.{is_collocated}
@@ -23,11 +26,11 @@ use Rattle.cluster_record.proofs.IdentityLaws.{KeepsIdentity, IdentitiesRise-fil
 use Rattle.ckpt_machine.specs.Drivers.{Driver}
 use Rattle.ckpt_machine.specs.Drivers as drivers
 use Rattle.ckpt_machine.specs.Driving.{making_in}
-use Rattle.ckpt_machine.specs.Machine.{Machine, CallState}
+use Rattle.ckpt_machine.specs.Machine.{Machine, Snapshot, CallState}
 use Rattle.ckpt_types.specs.Asks.{asked}
 use Rattle.ckpt_machine.specs.Steps.{Told, IsDone, driver_of, with_record, without_making, kept_behind, stepped}
 use Rattle.ckpt_machine.specs.Guards.{LookRefused}
-use Rattle.ckpt_machine.specs.Shape.{Shape, IsOwner, IsMarker}
+use Rattle.ckpt_machine.specs.Shape.{Shape, IsOwner, IsMarker, IsHolder}
 use Rattle.weak_marks.specs.Marks.{Marked}
 use Rattle.ckpt_machine.specs.InHand.{IsInHand}
 use Rattle.ckpt_machine.specs.Invariant.{IsMaker, IsGoodClient, InvariantIn, Invariant}
@@ -42,24 +45,29 @@ use Rattle.ckpt_machine.proofs.DueStep.{Goes}
 use Rattle.ckpt_machine.proofs.Actors.{same_actor-true}
 use Rattle.ckpt_machine.proofs.EntryLists.{AllStay-swept}
 
--- neither an update on all replicas, nor a weak write that has marks, nor an open that is making a checkpoint
-abbrev pub is_plain : Driver → Bool
-is_plain (drivers.Once x) = true
-is_plain (drivers.Open o) = not (is_some o.making)
-is_plain (drivers.Update u) = false
-is_plain (drivers.Active a) = not (is_some a.marks)
-is_plain (drivers.Sync u) = true
+-- a synchronisation, or the setting of an active with nothing in its hand
+abbrev pub is_plain_sync : SyncKind → Option Snapshot → Bool
+is_plain_sync (Synchronize deadline) copy = true
+is_plain_sync (ActiveSet local) copy = not (is_some copy)
+
+-- neither an update on all replicas, nor a weak write that has marks, nor an open that is making a checkpoint, nor the setting of an active that has something in its hand
+abbrev pub is_plain : Driver → Option Snapshot → Bool
+is_plain (drivers.Once x) copy = true
+is_plain (drivers.Open o) copy = not (is_some o.making)
+is_plain (drivers.Update u) copy = false
+is_plain (drivers.Active a) copy = not (is_some a.marks)
+is_plain (drivers.Sync u) copy = is_plain_sync u.kind copy
 
 -- one that is none of these makes nothing
-makes_none : (d : Driver) → is_plain d ≡ true → making_in d ≡ None
-makes_none (drivers.Once x) plain = refl
-makes_none (drivers.Open o) plain = by_making o.making plain where
+makes_none : (d : Driver) (copy : Option Snapshot) → is_plain d copy ≡ true → making_in d ≡ None
+makes_none (drivers.Once x) copy plain = refl
+makes_none (drivers.Open o) copy plain = by_making o.making plain where
   by_making : (w : Option Making) → not (is_some w) ≡ true → making_ckpt w ≡ None
   by_making None plain = refl
   by_making (Some w) plain = absurd (cc plain)
-makes_none (drivers.Update u) plain = refl
-makes_none (drivers.Active a) plain = refl
-makes_none (drivers.Sync u) plain = refl
+makes_none (drivers.Update u) copy plain = refl
+makes_none (drivers.Active a) copy plain = refl
+makes_none (drivers.Sync u) copy plain = refl
 
 -- the call is in hand no more
 abbrev pub ending : CallState → Machine → Machine
@@ -75,6 +83,7 @@ IsLaterEntry-then e f g first second = record {
   active = second.active ∙ first.active;
   attributes = second.attributes ∙ first.attributes;
   generation = second.generation ∙ first.generation;
+  hold = second.hold ∙ first.hold;
   clients = second.clients ∙ first.clients;
 }
 
@@ -88,29 +97,84 @@ look_ends m shapes inv s held error cause t look makes ends done =
       nearer = λ none. absurd (cc none);
     })
 
-module _ (m : Machine) (shapes : ℕ → Shape) (inv : InvariantIn shapes m) (s : CallState) (held : m.in_hand s.call.actor ≡ Some s) (plain : is_plain (driver_of s) ≡ true) where
-  -- the calls in hand without it
-  abbrev pub others : ActorName → Option CallState
-  others = put_actor m.in_hand s.call.actor None
+-- ---- a step of the record that leaves all calls in hand, behind which what is over is swept away
 
+module _ (n : Machine) (shapes : ℕ → Shape) (inv : InvariantIn shapes n) (R : RecordState) (rises : IdentitiesRise R.entries) (up_to : AllUpTo n.cluster.last_identity R.entries) (up : R.up ≡ n.cluster.up) (last : R.last_identity ≡ n.cluster.last_identity) (later : ComesOf IsLaterEntry n.cluster.entries R.entries)
+    (none_live : n.cluster.up ≡ no_nodes → R.clients ≡ []) (clients : (c : ℕ) → IfSome (find_key client_key c R.clients) (IsGoodClient n.next R c))
+    (live : (a : ActorName) (z : CallState) → n.in_hand a ≡ Some z → is_live n.cluster z.call ≡ true → is_live R z.call ≡ true)
+    (lives : (a : ActorName) (z : CallState) → n.in_hand a ≡ Some z → find_key client_key (client_of z.call) R.clients ≡ find_key client_key (client_of z.call) n.cluster.clients)
+    (makes : (a : ActorName) (z : CallState) (k : ℕ) (e : Entry) → n.in_hand a ≡ Some z → entry_of k n.cluster.entries ≡ Some e → e.making ≡ Some z.call → IsSome (entry_of k R.entries))
+    (homes : (a : ActorName) (h : HandleView) → Contains (n.tables a).handles h → find_key client_key (number_of a) R.clients ≡ find_key client_key (number_of a) n.cluster.clients) where
+  left_later : ComesOf IsLaterEntry n.cluster.entries (swept R).entries
+  left_later = ComesOf-then IsLaterEntry IsLaterEntry IsLaterEntry IsLaterEntry-then n.cluster.entries R.entries (swept R).entries later (ComesOf-filter IsLaterEntry IsLaterEntry-refl (stays R.moment) R.entries rises)
+
+  -- what is in the making is not swept away
+  makes_still : (k : ℕ) (e : Entry) (call : CallId) → entry_of k n.cluster.entries ≡ Some e → e.making ≡ Some call → IsSome (entry_of k R.entries) → IsSome (entry_of k (swept R).entries)
+  makes_still k e call was by some = by_entry (entry_of k R.entries) refl some
+    where
+      by_entry : (o : Option Entry) → entry_of k R.entries ≡ o → is_some o ≡ true → IsSome (entry_of k (swept R).entries)
+      by_entry None gone some = absurd (cc some)
+      by_entry (Some f) found some =
+          let (g, there, after) = later k f found in
+          let same : g ≡ e = same_Some g e (sym there ∙ was) in
+          let made_by : f.making ≡ Some call = after.making ∙ ap (λ (x : Entry). x.making) same ∙ by in
+          ap is_some (found_filter (stays R.moment) k R.entries f found (making_stays R.moment f (ap is_some made_by)))
+
+  swept_later : IsLaterRecord n (swept R) n.in_hand
+  swept_later = record {
+    up = up;
+    last = last;
+    rises = IdentitiesRise-filter (stays R.moment) R.entries rises;
+    up_to = subst (λ i. AllUpTo i (filter (stays R.moment) R.entries)) (sym last) (AllUpTo-filter (stays R.moment) n.cluster.last_identity R.entries up_to);
+    swept = AllStay-swept R.moment R.entries;
+    later = left_later;
+    none_live = none_live;
+    clients = clients;
+    was_held = λ a z left. left;
+    live = live;
+    lives = lives;
+    makes = λ a z k e left was by. makes_still k e z.call was by (makes a z k e left was by);
+    homes = homes;
+    owners = λ k sh d own. refl;
+    markers = λ k marks there own. refl;
+    holders = λ k active d there own. refl;
+    makers = λ k d there maker. refl;
+  }
+
+  pub resting_keeps : InvariantIn shapes (with_record n (swept R))
+  resting_keeps = record_keeps n shapes inv (swept R) n.in_hand swept_later
+
+-- a call in hand once another has ended is another's, and was in hand
+pub left_other : {P : Type 0} → (s : CallState) (m : Machine) (a : ActorName) (z : CallState) → put_actor m.in_hand s.call.actor None a ≡ Some z → (same_actor a s.call.actor ≡ false → m.in_hand a ≡ Some z → P) → P
+left_other {P} s m a z left then_it = elim (put_actor-cases m.in_hand s.call.actor None a z left) [
+  | inl here ↦ absurd (let w : None ≡ Some z = here.1 in cc w)
+  | inr other ↦ then_it other.0 other.1
+]
+
+-- ---- a plain call
+
+module _ (m : Machine) (shapes : ℕ → Shape) (inv : InvariantIn shapes m) (s : CallState) (held : m.in_hand s.call.actor ≡ Some s) (plain : is_plain (driver_of s) s.snapshot ≡ true) where
   -- who has one of these in hand is another
-  apart_from : (a : ActorName) (z : CallState) → m.in_hand a ≡ Some z → is_plain (driver_of z) ≡ false → same_actor a s.call.actor ≡ false
+  apart_from : (a : ActorName) (z : CallState) → m.in_hand a ≡ Some z → is_plain (driver_of z) z.snapshot ≡ false → same_actor a s.call.actor ≡ false
   apart_from a z at not_plain = by_test (same_actor a s.call.actor) refl
     where
       by_test : (b : Bool) → same_actor a s.call.actor ≡ b → same_actor a s.call.actor ≡ false
       by_test false is_not = is_not
       by_test true same =
           let state : s ≡ z = same_Some s z (sym held ∙ ap m.in_hand (sym (same_actor-true a s.call.actor same)) ∙ at) in
-          absurd (let w : true ≡ false = sym plain ∙ ap (λ (x : CallState). is_plain (driver_of x)) state ∙ not_plain in cc w)
+          absurd (let w : true ≡ false = sym plain ∙ ap (λ (x : CallState). is_plain (driver_of x) x.snapshot) state ∙ not_plain in cc w)
 
   pub owner_apart : (k : ℕ) (sh : Shape) (d : CallId) → IsOwner m k sh d → same_actor d.actor s.call.actor ≡ false
-  owner_apart k sh d own = apart_from d.actor own.state own.in_hand (ap is_plain own.driver_is)
+  owner_apart k sh d own = apart_from d.actor own.state own.in_hand (ap (λ d. is_plain d own.state.snapshot) own.driver_is)
 
   pub marker_apart : (k : ℕ) (marks : Marked) → IsMarker m k marks → same_actor marks.call.actor s.call.actor ≡ false
-  marker_apart k marks own = apart_from marks.call.actor own.state own.in_hand (ap is_plain own.driver_is ∙ ap (λ w. not (is_some w)) own.made_is)
+  marker_apart k marks own = apart_from marks.call.actor own.state own.in_hand (ap (λ d. is_plain d own.state.snapshot) own.driver_is ∙ ap (λ w. not (is_some w)) own.made_is)
+
+  pub holder_apart : (k : ℕ) (active : Option ℕ) (d : CallId) → IsHolder m k active d → same_actor d.actor s.call.actor ≡ false
+  holder_apart k active d own = apart_from d.actor own.state own.in_hand (ap (λ d. is_plain d own.state.snapshot) own.driver_is ∙ ap (λ kind. is_plain_sync kind own.state.snapshot) own.kind ∙ ap not own.some)
 
   pub maker_apart : (k : ℕ) (d : CallId) → IsMaker m k d → same_actor d.actor s.call.actor ≡ false
-  maker_apart k d maker = apart_from d.actor maker.state maker.in_hand (ap is_plain maker.driver_is ∙ ap (λ w. not (is_some w)) maker.making_is)
+  maker_apart k d maker = apart_from d.actor maker.state maker.in_hand (ap (λ d. is_plain d maker.state.snapshot) maker.driver_is ∙ ap (λ w. not (is_some w)) maker.making_is)
 
   -- ---- it goes on or ends, and nothing else changes
 
@@ -123,7 +187,7 @@ module _ (m : Machine) (shapes : ℕ → Shape) (inv : InvariantIn shapes m) (s 
     up_to = inv.up_to;
     swept = inv.swept;
     entries = λ k e found. IsGoodIn-apart m shapes m.next (put_actor m.in_hand s.call.actor o)
-        (λ k sh d is. put_actor-other m.in_hand s.call.actor o d.actor (owner_apart k sh d is)) (λ k marks is. put_actor-other m.in_hand s.call.actor o marks.call.actor (marker_apart k marks is)) (λ k d is. put_actor-other m.in_hand s.call.actor o d.actor (maker_apart k d is))
+        (λ k sh d is. put_actor-other m.in_hand s.call.actor o d.actor (owner_apart k sh d is)) (λ k marks is. put_actor-other m.in_hand s.call.actor o marks.call.actor (marker_apart k marks is)) (λ k active d is. put_actor-other m.in_hand s.call.actor o d.actor (holder_apart k active d is)) (λ k d is. put_actor-other m.in_hand s.call.actor o d.actor (maker_apart k d is))
         k (shapes k) e e.making (inv.entries k e found);
     replicas = inv.replicas;
     reserves = inv.reserves;
@@ -140,18 +204,9 @@ module _ (m : Machine) (shapes : ℕ → Shape) (inv : InvariantIn shapes m) (s 
   pub plain_ends : InvariantIn shapes (record m { in_hand = put_actor m.in_hand s.call.actor None })
   plain_ends = plain_steps None (λ z none. absurd (cc none))
 
-  owner_stays : (k : ℕ) (sh : Shape) (d : CallId) → IsOwner m k sh d → others d.actor ≡ m.in_hand d.actor
-  owner_stays k sh d own = put_actor-other m.in_hand s.call.actor None d.actor (owner_apart k sh d own)
-
-  marker_stays : (k : ℕ) (marks : Marked) → IsMarker m k marks → others marks.call.actor ≡ m.in_hand marks.call.actor
-  marker_stays k marks own = put_actor-other m.in_hand s.call.actor None marks.call.actor (marker_apart k marks own)
-
-  maker_stays : (k : ℕ) (d : CallId) → IsMaker m k d → others d.actor ≡ m.in_hand d.actor
-  maker_stays k d maker = put_actor-other m.in_hand s.call.actor None d.actor (maker_apart k d maker)
-
   -- it ends by a look that refuses it
   pub look_goes : (error : AisError) (cause : Cause) (t : Told) → LookRefused m s (asked s.op) error cause → IsDone m s (End (Refused error cause)) t → Goes m s (driver_of s) t
-  look_goes error cause t look done = look_ends m shapes inv s held error cause t look (makes_none (driver_of s) plain) plain_ends done
+  look_goes error cause t look done = look_ends m shapes inv s held error cause t look (makes_none (driver_of s) s.snapshot plain) plain_ends done
 
   -- ---- it ends with a step of the record, and what is over is swept away
 
@@ -159,54 +214,15 @@ module _ (m : Machine) (shapes : ℕ → Shape) (inv : InvariantIn shapes m) (s 
       (none_live : m.cluster.up ≡ no_nodes → R.clients ≡ []) (clients : (c : ℕ) → IfSome (find_key client_key c R.clients) (IsGoodClient m.next R c))
       (live : (a : ActorName) (z : CallState) → same_actor a s.call.actor ≡ false → m.in_hand a ≡ Some z → is_live m.cluster z.call ≡ true → is_live R z.call ≡ true)
       (lives : (a : ActorName) (z : CallState) → same_actor a s.call.actor ≡ false → m.in_hand a ≡ Some z → find_key client_key (client_of z.call) R.clients ≡ find_key client_key (client_of z.call) m.cluster.clients)
-      (makes : (a : ActorName) (z : CallState) (k : ℕ) (e : Entry) → same_actor a s.call.actor ≡ false → m.in_hand a ≡ Some z → entry_of k m.cluster.entries ≡ Some e → e.making ≡ Some z.call → IsSome (entry_of k R.entries)) where
-    left_later : ComesOf IsLaterEntry m.cluster.entries (swept R).entries
-    left_later = ComesOf-then IsLaterEntry IsLaterEntry IsLaterEntry IsLaterEntry-then m.cluster.entries R.entries (swept R).entries later (ComesOf-filter IsLaterEntry IsLaterEntry-refl (stays R.moment) R.entries rises)
-
-    -- what is in the making is not swept away
-    makes_still : (k : ℕ) (e : Entry) (call : CallId) → entry_of k m.cluster.entries ≡ Some e → e.making ≡ Some call → IsSome (entry_of k R.entries) → IsSome (entry_of k (swept R).entries)
-    makes_still k e call was by some = by_entry (entry_of k R.entries) refl some
-      where
-        by_entry : (o : Option Entry) → entry_of k R.entries ≡ o → is_some o ≡ true → IsSome (entry_of k (swept R).entries)
-        by_entry None gone some = absurd (cc some)
-        by_entry (Some f) found some =
-            let (g, there, after) = later k f found in
-            let same : g ≡ e = same_Some g e (sym there ∙ was) in
-            let made_by : f.making ≡ Some call = after.making ∙ ap (λ (x : Entry). x.making) same ∙ by in
-            ap is_some (found_filter (stays R.moment) k R.entries f found (making_stays R.moment f (ap is_some made_by)))
-
-    -- another's, where it is left
-    left_other : {P : Type 0} → (a : ActorName) (z : CallState) → others a ≡ Some z → (same_actor a s.call.actor ≡ false → m.in_hand a ≡ Some z → P) → P
-    left_other {P} a z left then_it = elim (put_actor-cases m.in_hand s.call.actor None a z left) [
-      | inl here ↦ absurd (let w : None ≡ Some z = here.1 in cc w)
-      | inr other ↦ then_it other.0 other.1
-    ]
-
-    swept_later : IsLaterRecord m (swept R) others
-    swept_later = record {
-      up = up;
-      last = last;
-      rises = IdentitiesRise-filter (stays R.moment) R.entries rises;
-      up_to = subst (λ n. AllUpTo n (filter (stays R.moment) R.entries)) (sym last) (AllUpTo-filter (stays R.moment) m.cluster.last_identity R.entries up_to);
-      swept = AllStay-swept R.moment R.entries;
-      later = left_later;
-      none_live = none_live;
-      clients = clients;
-      was_held = λ a z left. left_other a z left (λ other at. at);
-      live = λ a z left is. left_other a z left (λ other at. live a z other at is);
-      lives = λ a z left. left_other a z left (λ other at. lives a z other at);
-      makes = λ a z k e left was by. left_other a z left (λ other at. makes_still k e z.call was by (makes a z k e other at was by));
-      owners = owner_stays;
-      markers = λ k marks there own. marker_stays k marks own;
-      makers = λ k d there maker. maker_stays k d maker;
-    }
-
+      (makes : (a : ActorName) (z : CallState) (k : ℕ) (e : Entry) → same_actor a s.call.actor ≡ false → m.in_hand a ≡ Some z → entry_of k m.cluster.entries ≡ Some e → e.making ≡ Some z.call → IsSome (entry_of k R.entries))
+      (homes : (a : ActorName) (h : HandleView) → Contains (m.tables a).handles h → find_key client_key (number_of a) R.clients ≡ find_key client_key (number_of a) m.cluster.clients) where
     pub swept_keeps : InvariantIn shapes (record (with_record m (swept R)) { in_hand = put_actor m.in_hand s.call.actor None })
-    swept_keeps = record_keeps m shapes inv (swept R) others swept_later
+    swept_keeps = resting_keeps (ending s m) shapes plain_ends R rises up_to up last later none_live clients
+        (λ a z left. left_other s m a z left (λ other at. live a z other at)) (λ a z left. left_other s m a z left (λ other at. lives a z other at)) (λ a z k e left. left_other s m a z left (λ other at. makes a z k e other at)) homes
 
   -- one entry was changed
   pub changed_keeps : (k : ℕ) (f : Entry → Entry) → KeepsIdentity f → ((e : Entry) → entry_of k m.cluster.entries ≡ Some e → IsLaterEntry e (f e)) → InvariantIn shapes (record (with_record m (swept (record m.cluster { entries = change_key identity_of k f m.cluster.entries }))) { in_hand = put_actor m.in_hand s.call.actor None })
   changed_keeps k f keeps later = swept_keeps (record m.cluster { entries = change_key identity_of k f m.cluster.entries })
       (IdentitiesRise-change_key f keeps k m.cluster.entries inv.rises) (AllUpTo-change_key f keeps m.cluster.last_identity k m.cluster.entries inv.up_to) refl refl
       (ComesOf-change_found IsLaterEntry IsLaterEntry-refl f keeps k m.cluster.entries later) inv.none_live inv.clients
-      (λ a z other at live. live) (λ a z other at. refl) (λ a z j e other at was by. there_still f keeps k j m.cluster.entries e was)
+      (λ a z other at live. live) (λ a z other at. refl) (λ a z j e other at was by. there_still f keeps k j m.cluster.entries e was) (λ a h among. refl)

@@ -1,7 +1,7 @@
 -- A pull and a put leave the invariant, and a put meets no slot and no marks.
 use Rattle.std.proofs.Common.{◌≡◌, ℕ, length, Option, Some, None, Bool, true, false, cond, not, ◌&&◌, ◌||◌, ◌==◌, refl, sym, ap, subst, ◌∙◌}
 use Rattle.std.specs.Prelude.{IsSome, is_some, IsSomeAnd, slice_index}
-use Rattle.std.proofs.lemmas.Bool.{eqb-true, and_parts}
+use Rattle.std.proofs.lemmas.Bool.{eqb-true, eq-eqb, and_parts}
 use Rattle.std.proofs.lemmas.Option.{same_Some}
 use Rattle.ckpt_types.specs.declared.identities.CallId.{CallId}
 use Rattle.run_labels.specs.declared.labels.PullReply.{PullReply}
@@ -12,7 +12,7 @@ use Rattle.cluster_record.specs.declared.entries.Entry.{Entry}
 use Rattle.cluster_record.specs.Places.{put, put2}
 use Rattle.cluster_record.specs.RecordState.{entry_of}
 use Rattle.cluster_record.specs.StepDone.{generation_in}
-use Rattle.ckpt_machine.specs.Invariant.{IsGoodIn, IsCompleteAt, InvariantIn}
+use Rattle.ckpt_machine.specs.Invariant.{IsGoodIn, IsOfGeneration, IsCompleteAt, InvariantIn}
 use Rattle.ckpt_machine.specs.Listing.{is_active}
 use Rattle.ckpt_machine.specs.Machine.{Machine, ReplicaState, Snapshot, CallState}
 use Rattle.ckpt_machine.specs.Options.{is_all}
@@ -20,9 +20,9 @@ use Rattle.ckpt_machine.specs.Propagation.{source_of, on_node, source_at, copied
 use Rattle.ckpt_machine.specs.Shape.{Shape, IsCompleteOn, marks_at, IsApart, IsShapedBy, IsSpread}
 use Rattle.ckpt_machine.proofs.MarksAt.{none_elsewhere}
 use Rattle.ckpt_machine.proofs.NodeLists.{slice_index-replicate}
-use Rattle.ckpt_machine.proofs.OnComplete.{put_complete}
+use Rattle.ckpt_machine.proofs.OnComplete.{present_generation, put_complete}
 use Rattle.ckpt_machine.proofs.OptionLemmas.{IsSomeAnd-at, IsSomeAnd-from}
-use Rattle.ckpt_machine.proofs.OtherCalls.{LooksAlike, making_still, IsInHand-alike, IsOwner-alike, IsMarker-alike, IsMaker-alike}
+use Rattle.ckpt_machine.proofs.OtherCalls.{LooksAlike, LooksLater-refl, IsHolder-alike, making_still, IsInHand-alike, IsOwner-alike, IsMarker-alike, IsMaker-alike}
 
 -- ---- what they are about
 
@@ -74,7 +74,7 @@ module _ (m : Machine) (shapes : ℕ → Shape) (inv : InvariantIn shapes m) (k 
 module _ (m : Machine) (shapes : ℕ → Shape) (inv : InvariantIn shapes m) (k r : ℕ) (x : ReplicaState) (at : IsPutTarget m k r x) where
   -- its node is complete
   target_complete : IsCompleteOn at.entry r
-  target_complete = (subst (λ o. IsSomeAnd o (λ (e : Entry). IsCompleteOn e r × (x.generation ≡ e.generation))) at.found (inv.replicas k r x at.there)).0
+  target_complete = (subst (λ o. IsSomeAnd o (λ (e : Entry). IsCompleteOn e r × IsOfGeneration e r x.generation)) at.found (inv.replicas k r x at.there)).0
 
   -- so its checkpoint is made
   target_spread : IsSpread m k (shapes k) at.entry
@@ -90,6 +90,7 @@ module _ (m : Machine) (shapes : ℕ → Shape) (inv : InvariantIn shapes m) (k 
 -- ---- other replicas and snapshots
 
 module _ (m : Machine) (shapes : ℕ → Shape) (inv : InvariantIn shapes m) (f : ℕ → ℕ → Option ReplicaState) (g : ℕ → Option Snapshot) (complete : (j q : ℕ) (x : ReplicaState) → f j q ≡ Some x → IsCompleteAt m.cluster j q x.generation)
+    (led : (j q : ℕ) (e : Entry) → entry_of j m.cluster.entries ≡ Some e → e.active ≡ Some q → f j q ≡ m.replicas j q)
     (shaped : (j q : ℕ) (e : Entry) → entry_of j m.cluster.entries ≡ Some e → IsSomeAnd (m.replicas j q) (IsShapedBy (is_all e.attributes) (shapes j) e.active q) → IsSomeAnd (f j q) (IsShapedBy (is_all e.attributes) (shapes j) e.active q)) where
   abbrev then_machine : Machine
   then_machine = record m { replicas = f; snapshots = g }
@@ -107,7 +108,13 @@ module _ (m : Machine) (shapes : ℕ → Shape) (inv : InvariantIn shapes m) (f 
     owned = λ q d owns. IsOwner-alike m then_machine j (shapes j) d refl (good.owned q d owns);
     led = good.led;
     marked = λ marks is. IsMarker-alike m then_machine j marks refl (good.marked marks is);
+    held = λ d is. (let own = good.held d is in record { collocated = own.collocated; led = own.led; unmarked = own.unmarked; holder = IsHolder-alike m then_machine j e.active d refl (active_same e.active refl) own.holder });
   }
+    where
+      -- the replica of its active is the one that was
+      active_same : (o : Option ℕ) → e.active ≡ o → on_node (f j) o ≡ on_node (m.replicas j) o
+      active_same None is = refl
+      active_same (Some q) is = led j q e found is
   IsGoodIn-then j e found (Some d) good = (good.0, IsMaker-alike m then_machine j d refl good.1)
 
   -- a call sees what it saw
@@ -118,7 +125,7 @@ module _ (m : Machine) (shapes : ℕ → Shape) (inv : InvariantIn shapes m) (f 
     tables = refl;
     making = λ o at. making_still m then_machine z o (λ w at. record { there = at.there; declares = at.declares; nodes = at.nodes; reserved = at.reserved; only = at.only; within = at.within }) at;
     made = λ k was. was;
-    later = λ k was e found. (e, found, λ all. refl, refl, refl, refl);
+    later = λ k was e found. (e, found, LooksLater-refl z (shapes k).marks e);
     owners = λ k was r. refl;
     marks = λ k was. refl;
   }
@@ -145,7 +152,7 @@ module _ (m : Machine) (shapes : ℕ → Shape) (inv : InvariantIn shapes m) (f 
 module _ (m : Machine) (shapes : ℕ → Shape) (inv : InvariantIn shapes m) where
   -- a pull leaves all replicas
   pub pull_keeps : (k : ℕ) (reply : PullReply) (x : Option ReplicaState) → InvariantIn shapes (with_pulled m k reply x)
-  pull_keeps k (pulls.Ok count) (Some x) = alike_keeps m shapes inv m.replicas (put m.snapshots k (Some (copied x))) inv.replicas (λ j q e found was. was)
+  pull_keeps k (pulls.Ok count) (Some x) = alike_keeps m shapes inv m.replicas (put m.snapshots k (Some (copied x))) inv.replicas (λ j q e found active. refl) (λ j q e found was. was)
   pull_keeps k reply x = inv
 
   -- a put leaves slot and marks of the replica that it changes
@@ -164,9 +171,20 @@ module _ (m : Machine) (shapes : ℕ → Shape) (inv : InvariantIn shapes m) whe
       | false ↦ λ other. was
     ] refl
 
+    -- and the replicas of the actives
+    led_still : (j q : ℕ) (e : Entry) → entry_of j m.cluster.entries ≡ Some e → e.active ≡ Some q → put2 m.replicas k r (Some (replica_from s x)) j q ≡ m.replicas j q
+    led_still j q e found active = elim ((j == k) && (q == r)) as (λ b. ((j == k) && (q == r)) ≡ b → cond b (Some (replica_from s x)) (m.replicas j q) ≡ m.replicas j q) [
+      | true ↦ λ same.
+          let (ckpt, node) = and_parts (j == k) (q == r) same in
+          let e_is : e ≡ at.entry = same_Some e at.entry (sym found ∙ ap (λ n. entry_of n m.cluster.entries) (eqb-true j k ckpt) ∙ at.found) in
+          let here : is_active at.entry.active r ≡ true = ap (λ o. is_active o r) (ap (λ (e : Entry). e.active) (sym e_is) ∙ active) ∙ eq-eqb q r (eqb-true q r node) in
+          absurd (let w : true ≡ false = sym here ∙ at.elsewhere in cc w)
+      | false ↦ λ other. refl
+    ] refl
+
     -- so the invariant holds after it, where what is put is of the checkpoint's generation
     pub put_target : s.generation ≡ at.entry.generation → InvariantIn shapes (record m { replicas = put2 m.replicas k r (Some (replica_from s x)) })
-    put_target present = alike_keeps m shapes inv (put2 m.replicas k r (Some (replica_from s x))) m.snapshots (put_complete m.cluster m.replicas k r (replica_from s x) (IsSomeAnd-from (entry_of k m.cluster.entries) (λ e. IsCompleteOn e r × (s.generation ≡ e.generation)) at.entry at.found (target_complete m shapes inv k r x at, present)) inv.replicas) shaped_still
+    put_target present = alike_keeps m shapes inv (put2 m.replicas k r (Some (replica_from s x))) m.snapshots (put_complete m.cluster m.replicas k r (replica_from s x) (IsSomeAnd-from (entry_of k m.cluster.entries) (λ e. IsCompleteOn e r × IsOfGeneration e r s.generation) at.entry at.found (target_complete m shapes inv k r x at, present_generation at.entry r s.generation present)) inv.replicas) led_still shaped_still
 
   -- a put that is done has the checkpoint's generation
   ok_present : (present count : ℕ) (s : Snapshot) (x : ReplicaState) → puts.Ok count ≡ put_onto present s x → s.generation ≡ present

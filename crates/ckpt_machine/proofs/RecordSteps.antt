@@ -12,17 +12,17 @@ use Rattle.cluster_record.specs.StepDone.{has}
 use Rattle.ckpt_machine.specs.Entries.{WasMade}
 use Rattle.ckpt_types.specs.Asks.{asked}
 use Rattle.ckpt_machine.specs.InHand.{attributes_asked, IsMakingIn, IsUpdateIn, IsInPlace}
-use Rattle.ckpt_machine.specs.Invariant.{IsGoodIn, InvariantIn}
+use Rattle.ckpt_machine.specs.Invariant.{IsGoodIn, IsOfGeneration, InvariantIn}
 use Rattle.ckpt_machine.specs.Machine.{Machine, CallState}
 use Rattle.ckpt_machine.specs.Options.{is_all}
 use Rattle.ckpt_machine.specs.Steps.{opened_state, with_record, replica_under, reservation_under}
 use Rattle.ckpt_machine.specs.Shape.{Shape, IsCompleteOn, IsOwner}
 use Rattle.ckpt_machine.specs.Later.{IsLaterEntry, IsLaterRecord}
-use Rattle.ckpt_machine.proofs.OtherCalls.{LooksAlike, making_still, IsInHand-alike, IsGoodIn-later}
+use Rattle.ckpt_machine.proofs.OtherCalls.{LooksAlike, LooksLater-later, making_still, IsInHand-alike, IsGoodIn-later}
 use Rattle.ckpt_machine.proofs.Handles.{IsGoodHandle-later}
 use Rattle.ckpt_machine.proofs.Joining.{all_apart}
 use Rattle.ckpt_machine.proofs.OptionLemmas.{IsSomeAnd-at, IsSomeAnd-from}
-use Rattle.ckpt_machine.proofs.OnComplete.{under_complete}
+use Rattle.ckpt_machine.proofs.OnComplete.{IsOfGeneration-later, under_complete}
 use Rattle.ckpt_machine.proofs.ReservedUnder.{was_reserved}
 use Rattle.ckpt_machine.proofs.NodeLists.{slice_index-replicate}
 
@@ -62,7 +62,7 @@ module _ (m : Machine) (shapes : ℕ → Shape) (inv : InvariantIn shapes m) (R 
   -- ---- checkpoints
 
   IsGoodIn-kept : (k : ℕ) (sh : Shape) (e f : Entry) (maker : Option CallId) → entry_of k m.cluster.entries ≡ Some e → entry_of k R.entries ≡ Some f → IsLaterEntry e f → (IsSome maker → f.complete ≡ e.complete) → IsGoodIn m k sh e maker → IsGoodIn then_machine k sh f maker
-  IsGoodIn-kept k sh e f maker was is later unmade good = IsGoodIn-later m then_machine k sh e f later (λ r there. replica_by k r e f false was is (later.grows r there) there) (λ r none there. replica_by k r e f true was is there none) (owned_placed k sh e f was later) (after_it.owners k sh) (λ marks own. after_it.markers k marks (subst (λ o. IsSome o) (sym is) refl) own) (λ d own. after_it.makers k d (subst (λ o. IsSome o) (sym is) refl) own) maker unmade good
+  IsGoodIn-kept k sh e f maker was is later unmade good = IsGoodIn-later m then_machine k sh e f later (λ r there. replica_by k r e f false was is (later.grows r there) there) (λ r none there. replica_by k r e f true was is there none) (owned_placed k sh e f was later) (after_it.owners k sh) (λ marks own. after_it.markers k marks (subst (λ o. IsSome o) (sym is) refl) own) (λ active d own. after_it.holders k active d (subst (λ o. IsSome o) (sym is) refl) own) (λ d own. after_it.makers k d (subst (λ o. IsSome o) (sym is) refl) own) maker unmade good
 
   -- ---- where a call is
 
@@ -107,7 +107,7 @@ module _ (m : Machine) (shapes : ℕ → Shape) (inv : InvariantIn shapes m) (R 
       tables = refl;
       making = λ o at. making_still m then_machine z o making_kept at;
       made = WasMade-kept;
-      later = λ k was f found. let (e, there, later) = after_it.later k f found in (e, there, λ all. later.placed (all_apart e.attributes all), later.attributes, later.generation, later.active);
+      later = λ k was f found. let (e, there, later) = after_it.later k f found in (e, there, LooksLater-later z (shapes k).marks e f later);
       owners = λ k was r. refl;
       marks = λ k was. refl;
     }
@@ -131,9 +131,9 @@ module _ (m : Machine) (shapes : ℕ → Shape) (inv : InvariantIn shapes m) (R 
     entries = λ k f is. (
         let (e, was, later) = after_it.later k f is in
         subst (IsGoodIn then_machine k (shapes k) f) (sym later.making) (IsGoodIn-kept k (shapes k) e f e.making was is later later.unmade (inv.entries k e was)));
-    replicas = λ j q x is. under_complete (entry_of j R.entries) (slice_index (complete_of (entry_of j m.cluster.entries)) q) q (m.replicas j q) x (λ f found was. let (e, there, later) = after_it.later j f found in (subst (λ o. IsSomeAnd o (λ (e : Entry). IsCompleteOn e q × (x.generation ≡ e.generation))) there (inv.replicas j q x was)).1 ∙ sym later.generation) is;
+    replicas = λ j q x is. under_complete (entry_of j R.entries) (slice_index (complete_of (entry_of j m.cluster.entries)) q) q (m.replicas j q) x (λ f found was. let (e, there, later) = after_it.later j f found in IsOfGeneration-later e f q x.generation later ((subst (λ o. IsSomeAnd o (λ (e : Entry). IsCompleteOn e q × IsOfGeneration e q x.generation)) there (inv.replicas j q x was)).1)) is;
     reserves = λ j q n reserved. was_reserved (entry_of j R.entries) q n (m.reserved j q) (λ f. IsSome f.making) (λ f found free was. reserves_kept j q n f found was) reserved;
-    handles = λ b h among. IsGoodHandle-later m.cluster R WasMade-kept (λ k was f found. let (e, there, later) = after_it.later k f found in (e, there, later.attributes)) h (inv.handles b h among);
+    handles = λ b h among. IsGoodHandle-later m.cluster R WasMade-kept (λ k was f found. let (e, there, later) = after_it.later k f found in (e, there, later.attributes, later.grows)) b h (after_it.homes b h among) (inv.handles b h among);
     rest = inv.rest;
     clients = after_it.clients;
     hands = λ a z left. let was = inv.hands a z (after_it.was_held a z left) in IsInHand-alike m then_machine shapes shapes z (looks_kept a z left) a (after_it.live a z left) was.number was;

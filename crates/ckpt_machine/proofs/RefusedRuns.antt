@@ -16,19 +16,18 @@ use Rattle.cluster_record.specs.declared.entries.Entry.{Entry}
 use Rattle.cluster_record.specs.RecordState.{RecordState, identity_of, entry_of, complete_of, swept, undone}
 use Rattle.cluster_record.specs.Places.{put}
 use Rattle.std.proofs.lemmas.Bool.{eqb-true}
-use Rattle.cluster_record.proofs.KeptLaws.{All-find_key}
 use Rattle.ckpt_machine.specs.Guards.{IsMadeBy, CommitRow, Row, Allowed}
 use Rattle.ckpt_machine.specs.Invariant.{IsGoodIn, Invariant}
 use Rattle.ckpt_machine.specs.Machine.{Machine, ReplicaState, Snapshot, CallState}
 use Rattle.ckpt_machine.specs.Owned.{OwnsNothing, HasNoEffect, HasNothing}
 use Rattle.ckpt_machine.specs.Refusals.{IsRefused, IsRefusal, LeavesAll, UndoesOwn, LeavesBy, unmade, unmade_swept, Refuses, call_told}
 use Rattle.ckpt_machine.specs.Runs.{last}
-use Rattle.ckpt_machine.specs.Shape.{IsCompleteOn}
+use Rattle.ckpt_machine.specs.Shape.{IsCompleteOn, IsSpread}
 use Rattle.ckpt_machine.specs.Steps.{Told, IsDone, IsDue, due, after_beginning, changed, step_of, after, replica_under, replicas_under, reservation_under, snapshot_under, opened_state}
 use Rattle.ckpt_machine.proofs.Copying.{IsSource}
 use Rattle.ckpt_machine.proofs.EachReplica.{run_copies}
 use Rattle.ckpt_machine.proofs.OwnMaking.{making_there}
-use Rattle.ckpt_machine.proofs.Follows.{IsFree, IsIncomplete, IsBare, Has}
+use Rattle.ckpt_machine.proofs.Follows.{IsIncomplete, IsBare, Has}
 use Rattle.ckpt_machine.proofs.Histories.{HasHistory, commits_by, commit, gone, nothing_left, Commits, Applies, slot_owned, marks_owned, making_incomplete, had, keeps_history, run_history}
 use Rattle.ckpt_machine.proofs.Lawful.{lawful}
 use Rattle.ckpt_machine.proofs.EntryLists.{find_key-without, AllStay-filter, swept-all}
@@ -49,6 +48,16 @@ module _ (m : Machine) (inv : Invariant m) (bare : IsBare m) (call : CallId) (no
       let good = subst (λ maker. IsGoodIn m k (inv.shapes k) e maker) is (inv.holds.entries k e found) in
       not_in_hand call good.1.state good.1.in_hand refl
 
+  -- nor does it hold anything
+  no_holder : (k : ℕ) (e : Entry) → entry_of k m.cluster.entries ≡ Some e → (maker : Option CallId) → e.making ≡ maker → e.hold ≡ Some call → ⊥
+  no_holder k e found None made is =
+      let good : IsSpread m k (inv.shapes k) e = subst (IsGoodIn m k (inv.shapes k) e) made (inv.holds.entries k e found) in
+      let own = (good.held call is).holder in
+      not_in_hand call own.state own.in_hand refl
+  no_holder k e found (Some d) made is =
+      let good : IsGoodIn m k (inv.shapes k) e (Some d) = subst (IsGoodIn m k (inv.shapes k) e) made (inv.holds.entries k e found) in
+      let w : None ≡ Some call = sym good.0.free ∙ is in cc w
+
   pub owns_nothing : OwnsNothing m call
   owns_nothing = record {
     slots = λ k r x slot there staged.
@@ -56,7 +65,7 @@ module _ (m : Machine) (inv : Invariant m) (bare : IsBare m) (call : CallId) (no
         (λ is. not_in_hand slot.owner own.state own.in_hand is, λ is. not_in_hand slot.owner own.state own.in_hand (sym origin ∙ is));
     marks = λ k r x marks there marked is. let own = marks_owned m inv.shapes inv.holds bare k r x marks there marked in not_in_hand marks.call own.state own.in_hand is;
     makes = no_maker;
-    holds = λ k e found is. let w : None ≡ Some call = sym (All-find_key IsFree identity_of k m.cluster.entries e bare.free found) ∙ is in cc w;
+    holds = λ k e found is. no_holder k e found e.making refl is;
   }
 
 -- ---- a commit refuses nothing
@@ -253,7 +262,7 @@ run_leaves log run front back l is refused =
     let (before, allowed, due) = run_before _ front l (run_front log (front ++ l ∷ []) back (front_with log front back l is) run) in
     let (inv, history) = run_history front before in
     let copies = run_copies front before in
-    let sources : HaveSources (last front) = λ k s is. IsSomeAnd-more (entry_of k (last front).cluster.entries) _ IsSource (λ e is_so. is_so.0) (copies.snapshot k s is) in
+    let sources : HaveSources (last front) = λ k s is. IsSomeAnd-more (entry_of k (last front).cluster.entries) _ IsSource (λ e is_so. is_so.0.source) (copies.snapshot k s is) in
     subst (Refuses l (last front)) (sym (last-push front l)) (record {
       leaves = leaves_alone (last front) (after (last front) l) l inv history.bare sources (refusal_leaves (last front) l allowed refused);
       nothing = refused_has_nothing (last front) l inv history allowed due refused;

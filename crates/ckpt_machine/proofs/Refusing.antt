@@ -36,7 +36,7 @@ use Rattle.ckpt_machine.specs.Tables.{ended_at_once}
 use Rattle.ckpt_machine.specs.Complete.{complete_replicas}
 use Rattle.ckpt_machine.specs.Options.{is_all, is_weak, is_by_element}
 use Rattle.cluster_record.specs.StepDone.{StepDone}
-use Rattle.ckpt_machine.specs.Guards.{AtCkpt, AtNode, AtNodeAlone, AtNone, OnReplica, OnAll, OnActive, CommitOk, ActiveRefused, ActiveHeld, BeginsOnActive, ApplyOk, MarkOk, Row, Allowed, ends_update, IterOk, NextOk, NextAnswer, InstallOk, steps_with, all_served, unless_unserved, LookRow, UndoRow, AsksToOpen}
+use Rattle.ckpt_machine.specs.Guards.{HoldOk, ActivateOk, AtCkpt, AtNode, AtNodeAlone, AtNone, OnReplica, OnAll, OnActive, CommitOk, ActiveRefused, ActiveHeld, BeginsOnActive, ApplyOk, MarkOk, Row, Allowed, ends_update, IterOk, NextOk, NextAnswer, InstallOk, steps_with, all_served, unless_unserved, LookRow, UndoRow, AsksToOpen}
 use Rattle.ckpt_machine.specs.Refusals.{IsRefused, IsRefusal, LeavesAll, UndoesOwn, LeavesBy, unmade_swept}
 use Rattle.ckpt_machine.proofs.Actors.{same_actor-true}
 use Rattle.ckpt_machine.proofs.ReplicaSteps.{put_actor-here, put_actor-other}
@@ -63,7 +63,7 @@ at_node_alone None (Some r) P p not_so = not_so r p
 at_node_alone None None P p not_so = p
 at_node_alone (Some k) r P p not_so = p
 
-none_of_some : {X : Type 0} (o : Option X) (P : X → Type 0) → IsSomeAnd o P → ((x : X) → P x → ⊥) → ⊥
+pub none_of_some : {X : Type 0} (o : Option X) (P : X → Type 0) → IsSomeAnd o P → ((x : X) → P x → ⊥) → ⊥
 none_of_some (Some x) P p not_so = not_so x p
 none_of_some None P p not_so = absurd p
 
@@ -74,7 +74,7 @@ pub on_all : (m : Machine) (k r : ℕ) (P : Entry → ReplicaState → Type 0) �
 on_all m k r P p not_so = on_replica m k r (λ e x. (is_all e.attributes ≡ true) × P e x) p (λ e x p. not_so e x p.1)
 
 pub on_active_replica : (m : Machine) (update : Update) (by_element : Bool) (k r : ℕ) (P : Entry → ReplicaState → Type 0) → OnActive m update by_element k r P → ((e : Entry) (x : ReplicaState) → P e x → ⊥) → ⊥
-on_active_replica m update by_element k r P p not_so = on_replica m k r (λ e x. (is_all e.attributes ≡ false) × (e.active ≡ Some r) × (is_by_element (is_weak e.attributes) update ≡ by_element) × P e x) p (λ e x p. not_so e x p.3)
+on_active_replica m update by_element k r P p not_so = on_replica m k r (λ e x. (is_all e.attributes ≡ false) × (e.active ≡ Some r) × (e.hold ≡ None) × (is_by_element (is_weak e.attributes) update ≡ by_element) × P e x) p (λ e x p. not_so e x p.4)
 
 -- an update that begins on the active goes ahead, or ends its call with a refusal
 pub begins_on_active : (m : Machine) (s : CallState) (update : Update) (by_element : Bool) (k r : ℕ) (t : Told) (Ahead : Entry → ReplicaState → Type 0) (reply : StepReply) → BeginsOnActive m s update by_element k r t Ahead reply
@@ -164,6 +164,10 @@ changed_same m s verbs.Install k r words.Ok end details row refused looks =
     let t : Told = record { verb = verbs.Install; ckpt = k; node = r; reply = words.Ok; end = end; details = details } in
     absurd (at_node k r _ row.0 (λ k r p. on_replica m k r (InstallOk m s r t true) p.3 (λ e x (ok : InstallOk m s r t true e x). no_refusal_unserved (steps_with m s t) e.complete (length ok.pulled.effects) end ok.answer refused)))
 changed_same m s verbs.Install k r reply end details row refused looks = refl
+changed_same m s verbs.Hold k r words.Ok end details row refused looks = absurd (at_node k r _ row.0 (λ k r p. on_replica m k r (HoldOk s r end) p.2 (λ e x (ok : HoldOk s r end e x). no_refusal_yet end ok.answer refused)))
+changed_same m s verbs.Hold k r reply end details row refused looks = refl
+changed_same m s verbs.Activate k r words.Ok end details row refused looks = absurd (at_node k r _ row.0 (λ k r p. none_of_some (entry_of k m.cluster.entries) (ActivateOk s r end) p.2 (λ e (ok : ActivateOk s r end e). no_refusal_done end answers.Nothing ok.answer refused)))
+changed_same m s verbs.Activate k r reply end details row refused looks = refl
 changed_same m s verbs.Status k r reply end details row refused looks = refl
 changed_same m s verbs.Iter k r words.Ok end details row refused looks = absurd (at_node k r _ row.0 (λ k r p. on_replica m k r (IterOk m s r end) p.5 (λ e x (ok : IterOk m s r end e x). no_refusal_done end answers.Nothing ok.answer refused)))
 changed_same m s verbs.Iter k r reply end details row refused looks = refl

@@ -25,12 +25,13 @@ use Rattle.ckpt_machine.specs.Propagation.{replica_from}
 use Rattle.ckpt_machine.specs.Replays.{each_done, effect_done, effects_done, replay, with_marked, IsReplay}
 use Rattle.ckpt_machine.specs.Runs.{last, IsRun}
 use Rattle.ckpt_machine.specs.Shape.{IsShapedBy}
-use Rattle.ckpt_machine.specs.Steps.{opened_state, having_taken, committed_slot, with_marks, next_element_written, marks_ended}
-use Rattle.ckpt_machine.proofs.EachReplica.{CanBeMarked, IsKept, run_each}
+use Rattle.ckpt_machine.specs.Steps.{opened_state, having_taken, committed_slot, with_marks, next_element_written, marks_ended, with_lead}
+use Rattle.ckpt_machine.proofs.EachReplica.{IsKept, run_each}
 use Rattle.ckpt_machine.proofs.ElementsDone.{each_done-next, each_done-write}
 use Rattle.ckpt_machine.proofs.Follows.{IsBare}
 use Rattle.ckpt_machine.proofs.Histories.{shaped_there}
-use Rattle.ckpt_machine.proofs.StaysMade.{StaysMade}
+use Rattle.ckpt_machine.proofs.OneReplica.{CanBeMarked}
+use Rattle.ckpt_machine.proofs.StaysMade.{GoesOnMade}
 
 -- the last effect is done last
 effects_done-last : (a : CreationAttributes) (effects : List Effect) (new : Effect) (sections : List Section) → effects_done a (effects ++ new ∷ []) sections ≡ effect_done a new (effects_done a effects sections)
@@ -128,7 +129,7 @@ module _ (e : Entry) (x : ReplicaState) (marks : Marked) (stand : x.marks ≡ So
 -- ---- every step
 
 -- what declares the same, from the same moment, has the same replay
-replay_kept : (e f : Entry) → StaysMade e f → (x : ReplicaState) → IsReplayed e x → IsReplayed f x
+replay_kept : (e f : Entry) → GoesOnMade e f → (x : ReplicaState) → IsReplayed e x → IsReplayed f x
 replay_kept e f keeps x was = record {
   replays = was.replays
       ∙ ap (λ a. with_marked a x.marks (replay a e.made x.effects)) (sym keeps.attributes)
@@ -160,14 +161,20 @@ abbrev IsReplayedCopy : Entry → Snapshot → Type 0
 IsReplayedCopy e s = s.sections ≡ replay e.attributes e.made s.effects
 
 -- by what declares the same, from the same moment
-copy_kept : (e f : Entry) (s : Snapshot) → StaysMade e f → IsReplayedCopy e s → IsReplayedCopy f s
+copy_kept : (e f : Entry) (s : Snapshot) → GoesOnMade e f → IsReplayedCopy e s → IsReplayedCopy f s
 copy_kept e f s keeps was = was ∙ ap (λ a. replay a e.made s.effects) (sym keeps.attributes) ∙ ap (λ t. replay f.attributes t s.effects) (sym keeps.since)
+
+-- a replica on which no marks stand leads with what is in hand
+led_replay : (e f : Entry) → GoesOnMade e f → (o : Option Snapshot) (x : ReplicaState) → x.marks ≡ None → IfSome o (IsReplayedCopy e) → IsReplayed e x → IsReplayed f (with_lead o f.generation x)
+led_replay e f goes None x none copied was = let then = replay_kept e f goes x was in record { replays = then.replays; marked = then.marked }
+led_replay e f goes (Some s) x none copied was = replayed f (with_lead (Some s) f.generation x) none (copy_kept e f s goes copied)
 
 kept_replay : IsKept (λ o r x. IsReplayedIn o x) IsReplayedCopy
 kept_replay = record {
   opened = λ e r f found. subst (λ f. IsReplayed f (opened_state e)) (same_Some e f found) (record { replays = refl; marked = tt });
   stays = λ e f r x stays made was g found. subst (λ g. IsReplayed g x) (same_Some f g found) (replay_kept e f stays x (was e refl));
   stays_copied = λ e f s stays source was. copy_kept e f s stays was;
+  led = λ e f r o x goes made free none copied was g found. subst (λ g. IsReplayed g (with_lead o f.generation x)) (same_Some f g found) (led_replay e f goes o x none copied (was e refl));
   pulled = λ e r x source active none was. replay_there e x none (was e refl);
   put = λ e r s x present free none copied was f found. subst (λ f. IsReplayed f (replica_from s x)) (same_Some e f found) (replayed e (replica_from s x) none copied);
   staged = λ m s k r x step was e found. (let it = was e found in record { replays = it.replays; marked = it.marked });

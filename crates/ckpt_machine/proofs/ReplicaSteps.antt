@@ -12,12 +12,12 @@ use Rattle.cluster_record.specs.RecordState.{entry_of}
 use Rattle.ckpt_machine.specs.Drivers as drivers
 use Rattle.ckpt_machine.specs.Machine.{Machine, ReplicaState, CallState}
 use Rattle.ckpt_machine.specs.Steps.{driver_of}
-use Rattle.ckpt_machine.specs.Shape.{Shape, is_owner, IsOwner, IsMarker, IsSpread}
+use Rattle.ckpt_machine.specs.Shape.{Shape, is_owner, IsOwner, IsMarker, IsHolder, IsSpread}
 use Rattle.weak_marks.specs.Marks.{Marked}
 use Rattle.ckpt_machine.specs.InHand.{is_marked_by, IsInHand}
 use Rattle.ckpt_machine.specs.Invariant.{IsMaker, IsGoodIn, IsCompleteAt, InvariantIn}
 use Rattle.ckpt_machine.proofs.Actors.{same_actor-refl, same_actor-true}
-use Rattle.ckpt_machine.proofs.OtherCalls.{LooksAlike, making_still, IsInHand-alike, IsOwner-alike, IsMarker-alike, IsGoodIn-alike}
+use Rattle.ckpt_machine.proofs.OtherCalls.{LooksAlike, LooksLater-refl, making_still, IsInHand-alike, IsOwner-alike, IsMarker-alike, IsGoodIn-alike}
 
 -- ---- calls
 
@@ -94,6 +94,17 @@ module _ (m : Machine) (shapes : ℕ → Shape) (inv : InvariantIn shapes m) (s 
   pub IsMarker-other : (f : ℕ → ℕ → Option ReplicaState) (o : Option CallState) (j : ℕ) (marks : Marked) → IsMarker m j marks → IsMarker (with_step f o) j marks
   IsMarker-other f o j marks own = IsMarker-alike m (with_step f o) j marks (put_actor-other m.in_hand s.call.actor o marks.call.actor (marker_other j marks own)) own
 
+  -- so is the setting of an active
+  holder_other : (j : ℕ) (active : Option ℕ) (call : CallId) → IsHolder m j active call → same_actor call.actor s.call.actor ≡ false
+  holder_other j active call own = by_test (same_actor call.actor s.call.actor) refl
+    where
+      by_test : (b : Bool) → same_actor call.actor s.call.actor ≡ b → same_actor call.actor s.call.actor ≡ false
+      by_test false is_not = is_not
+      by_test true same =
+          let state : own.state ≡ s = same_Some own.state s (sym own.in_hand ∙ ap m.in_hand (same_actor-true call.actor s.call.actor same) ∙ held) in
+          let apart : drivers.Sync own.driver ≡ drivers.Update u = sym own.driver_is ∙ ap driver_of state ∙ is in
+          absurd (cc apart)
+
   -- one in the making is by another call
   maker_other : (j : ℕ) (call : CallId) → IsMaker m j call → same_actor call.actor s.call.actor ≡ false
   maker_other j call maker = by_test (same_actor call.actor s.call.actor) refl
@@ -107,7 +118,7 @@ module _ (m : Machine) (shapes : ℕ → Shape) (inv : InvariantIn shapes m) (s 
 
   IsGoodIn-other : (f : ℕ → ℕ → Option ReplicaState) (o : Option CallState) → StaysElsewhere f → (j : ℕ) (sh : Shape) (e : Entry) (maker : Option CallId) → (j == u.ckpt) ≡ false → IsGoodIn m j sh e maker → IsGoodIn (with_step f o) j sh e maker
   IsGoodIn-other f o stays j sh e maker other good = IsGoodIn-alike m (with_step f o) j sh e (λ q there. stays j q other)
-      (λ call own. put_actor-other m.in_hand s.call.actor o call.actor (other_owner j sh call other own)) (λ marks own. put_actor-other m.in_hand s.call.actor o marks.call.actor (marker_other j marks own)) (λ call own. put_actor-other m.in_hand s.call.actor o call.actor (maker_other j call own)) maker good
+      (λ call own. put_actor-other m.in_hand s.call.actor o call.actor (other_owner j sh call other own)) (λ marks own. put_actor-other m.in_hand s.call.actor o marks.call.actor (marker_other j marks own)) (λ active call own. put_actor-other m.in_hand s.call.actor o call.actor (holder_other j active call own)) (λ call own. put_actor-other m.in_hand s.call.actor o call.actor (maker_other j call own)) maker good
 
   -- ---- the other calls in hand
 
@@ -142,7 +153,7 @@ module _ (m : Machine) (shapes : ℕ → Shape) (inv : InvariantIn shapes m) (s 
     tables = refl;
     making = λ v at. making_still m (with_step f o) z v (λ w at. record { there = at.there; declares = at.declares; nodes = at.nodes; reserved = at.reserved; only = at.only; within = at.within }) at;
     made = λ k was. was;
-    later = λ k was e found. (e, found, λ all. refl, refl, refl, refl);
+    later = λ k was e found. (e, found, LooksLater-refl z (shapes k).marks e);
     owners = λ k was q. owners_kept sh keeps z.call k q other;
     marks = λ k was. marks_kept sh keeps z.call k;
   }

@@ -13,12 +13,12 @@ use Rattle.cluster_record.specs.RecordState.{entry_of}
 use Rattle.ckpt_machine.specs.Drivers as drivers
 use Rattle.ckpt_machine.specs.Machine.{Machine, CallState}
 use Rattle.ckpt_machine.specs.Steps.{driver_of}
-use Rattle.ckpt_machine.specs.Shape.{Shape, IsOwner, IsMarker}
+use Rattle.ckpt_machine.specs.Shape.{Shape, IsOwner, IsMarker, IsHolder}
 use Rattle.ckpt_machine.specs.InHand.{IsMakingIn, IsInHand}
 use Rattle.ckpt_machine.specs.Invariant.{IsMaker, IsGoodIn, InvariantIn}
 use Rattle.ckpt_machine.proofs.Actors.{same_actor-true}
-use Rattle.ckpt_machine.proofs.OtherCalls.{making_still, LooksAlike, IsInHand-alike, IsOwner-alike, IsMarker-alike, IsMaker-alike}
-use Rattle.ckpt_machine.proofs.OwnMaking.{making_at, owner_apart, marker_apart, maker_same, not_own, actor_apart}
+use Rattle.ckpt_machine.proofs.OtherCalls.{making_still, LooksAlike, LooksLater-refl, IsHolder-alike, IsInHand-alike, IsOwner-alike, IsMarker-alike, IsMaker-alike}
+use Rattle.ckpt_machine.proofs.OwnMaking.{making_at, owner_apart, marker_apart, holder_apart, maker_same, not_own, actor_apart}
 use Rattle.ckpt_machine.proofs.OptionLemmas.{IsSomeAnd-at, IsSomeAnd-from}
 use Rattle.ckpt_machine.proofs.ReplicaSteps.{put_actor-cases, put_actor-here, put_actor-other}
 
@@ -38,6 +38,10 @@ module _ (m : Machine) (shapes : ℕ → Shape) (inv : InvariantIn shapes m) (s 
   -- and marks their call
   IsMarker-then : (j : ℕ) (marks : Marked) → IsMarker m j marks → IsMarker then_machine j marks
   IsMarker-then j marks own = IsMarker-alike m then_machine j marks (put_actor-other m.in_hand s.call.actor (Some w) marks.call.actor (marker_apart m s o held is j marks own)) own
+
+  -- and a hold its call
+  IsHolder-then : (j : ℕ) (active : Option ℕ) (d : CallId) → IsHolder m j active d → IsHolder then_machine j active d
+  IsHolder-then j active d own = IsHolder-alike m then_machine j active d (put_actor-other m.in_hand s.call.actor (Some w) d.actor (holder_apart m s o held is j active d own)) refl own
 
   -- one in the making is by another call, or is this one
   IsMaker-then : (j : ℕ) (d : CallId) → IsMaker m j d → IsMaker then_machine j d
@@ -72,6 +76,7 @@ module _ (m : Machine) (shapes : ℕ → Shape) (inv : InvariantIn shapes m) (s 
     owned = λ r d owns. IsOwner-then j sh d (good.owned r d owns);
     led = good.led;
     marked = λ marks is. IsMarker-then j marks (good.marked marks is);
+    held = λ d is. (let own = good.held d is in record { collocated = own.collocated; led = own.led; unmarked = own.unmarked; holder = IsHolder-then j e.active d own.holder });
   }
   IsGoodIn-then j sh e (Some d) good = (good.0, IsMaker-then j d good.1)
 
@@ -89,7 +94,7 @@ module _ (m : Machine) (shapes : ℕ → Shape) (inv : InvariantIn shapes m) (s 
     tables = refl;
     making = λ o at. making_still m then_machine z o (making_then z other) at;
     made = λ k was. was;
-    later = λ k was e found. (e, found, λ all. refl, refl, refl, refl);
+    later = λ k was e found. (e, found, LooksLater-refl z (shapes k).marks e);
     owners = λ k was r. refl;
     marks = λ k was. refl;
   }

@@ -27,7 +27,7 @@ use Rattle.ckpt_machine.specs.Invariant.{InvariantIn, Invariant}
 use Rattle.ckpt_machine.proofs.NodeLists.{OnEach-from, index-set, index-other, length-slice_set, index-within, not-lacked, has-itself}
 use Rattle.ckpt_machine.proofs.OnComplete.{put_complete}
 use Rattle.ckpt_machine.proofs.ReplicaSteps.{put_actor-here, IsMarker-other, one_changed, step_keeps}
-use Rattle.ckpt_machine.proofs.Owning.{is_owner-true, owner_alone, at, made, on_all, all_is}
+use Rattle.ckpt_machine.proofs.Owning.{never_held, is_owner-true, owner_alone, at, made, on_all, all_is}
 use Rattle.ckpt_machine.proofs.OnAll.{shaped_replicas, by_shape}
 use Rattle.ckpt_machine.proofs.Actors.{same_actor-refl, same_call-refl}
 
@@ -180,6 +180,7 @@ module _ (m : Machine) (shapes : ℕ → Shape) (inv : InvariantIn shapes m) (s 
         owned = λ q d has_it. subst (IsOwner then_machine u.ckpt staged) (sym (owners_then q d has_it).1) owner_then;
         led = spread.led;
         marked = λ marks is_some. IsMarker-other m shapes inv s u held is then_machine.replicas (Some then_state) u.ckpt marks (spread.marked marks is_some);
+        held = λ d is_some. absurd (never_held m shapes inv s u held is e found d is_some);
       }
 
       owns_then : OwnsIn staged s then_driver e

@@ -77,7 +77,7 @@ goes_on_driven R c live call h (asks.Retain place duration) built goes = kept_st
 goes_on_driven R c live call h (asks.Unlink name) built goes = (_, refl)
 goes_on_driven R c live call h asks.Leave built goes = (_, refl)
 goes_on_driven R c live call h (asks.Synchronize place timeout) built goes = let (lives, rest) = if_live-None live _ goes in kept_starts true h _ _ _ (sync_begin-None h _ _ rest).0
-goes_on_driven R c live call h (asks.SetActive place) built goes = absurd built
+goes_on_driven R c live call h (asks.SetActive place) built goes = let (lives, rest) = if_live-None live _ goes in kept_starts true h _ _ _ (sync_begin-None h _ _ rest).0
 goes_on_driven R c live call h asks.Unbuilt built goes = absurd built
 
 -- ---- in hand behind its beginning

@@ -1,6 +1,6 @@
--- A checkpoint that is made stays as it was made, whatever step the record takes.
+-- A checkpoint that is made stays as it was made, whatever step the record takes but the setting of its active; and also behind that it stays made.
 use Rattle.std.proofs.Common.{◌≡◌, ◌⊎◌, ℕ, ◌+◌, ◌-◌, ◌≤◌, inl, inr, List, [], ◌∷◌, ◌++◌, filter, Option, Some, None, Bool, true, false, cond, not, ◌==◌, ℤ, refl, sym, ap, subst, ◌∙◌, arith}
-use Rattle.std.specs.Prelude.{IsSomeAnd, slice_index, slice_set}
+use Rattle.std.specs.Prelude.{IsSome, IsSomeAnd, slice_index, slice_set}
 use Rattle.std.proofs.lemmas.Bool.{eqb-true}
 use Rattle.std.proofs.lemmas.Option.{same_Some}
 use Rattle.ckpt_types.specs.declared.answers.Outcome.{Outcome}
@@ -14,7 +14,7 @@ use Rattle.node_msgs.specs.declared.details.Details.{Details}
 use Rattle.cluster_record.specs.declared.entries.Entry.{Entry}
 use Rattle.cluster_record.specs.Identities.{IdentitiesRise, AllUpTo}
 use Rattle.cluster_record.specs.Places.{change_key}
-use Rattle.cluster_record.specs.RecordState.{RecordState, entry_of, identity_of, stays, swept, created_as, new_entry, home_of, made_with, opened_with, unreferred, released_all, retaining, is_call_of, departed, has_references}
+use Rattle.cluster_record.specs.RecordState.{RecordState, entry_of, identity_of, stays, swept, created_as, new_entry, home_of, made_with, opened_with, unreferred, released_all, retaining, is_call_of, departed, has_references, can_be_held, with_hold}
 use Rattle.cluster_record.proofs.IdentityLaws.{KeepsIdentity, IdentitiesRise-change_key, IdentitiesRise-filter, IdentitiesRise-map, IdentitiesRise-push}
 use Rattle.ckpt_types.specs.Asks.{Ask}
 use Rattle.ckpt_types.specs.Asks as asks
@@ -80,6 +80,50 @@ StaysMade-then e f g first second = record {
   attributes = second.attributes ∙ first.attributes;
   since = second.since ∙ first.since;
 }
+
+-- ---- what a checkpoint keeps that may get another active
+
+-- it is made, of no lower generation; it is on the same nodes and maybe more, and has an active where it had one
+pub record IsMadeFrom (e f : Entry) : Type 0 where
+  pub made : f.making ≡ None
+  pub generation : e.generation ≤ f.generation
+  pub remains : (r : ℕ) → IsCompleteOn e r → IsCompleteOn f r
+  pub led : IsSome e.active → IsSome f.active
+
+-- where it is made it is such a one; and it declares the same, and is of the same moment
+pub record GoesOnMade (e f : Entry) : Type 0 where
+  pub made : e.making ≡ None → IsMadeFrom e f
+  pub attributes : f.attributes ≡ e.attributes
+  pub since : f.made ≡ e.made
+
+-- one that stays made goes on so
+pub StaysMade-goes : (e f : Entry) → StaysMade e f → GoesOnMade e f
+StaysMade-goes e f stays = record {
+  made = λ made.
+      let still = stays.made made in
+      record {
+        made = still.made;
+        generation = (let same = still.generation in omega (arith, same));
+        remains = still.remains;
+        led = λ led. subst IsSome (sym still.active) led;
+      };
+  attributes = stays.attributes;
+  since = stays.since;
+}
+
+-- as each does that stays as it is
+pub GoesOnMade-same : (e : Entry) → GoesOnMade e e
+GoesOnMade-same e = StaysMade-goes e e (StaysMade-same e)
+
+-- ---- what the steps of the record leave
+
+-- whether a call can hold it or not
+pub held_made : (call : CallId) (e : Entry) → StaysMade e (with_hold call e)
+held_made call e = elim (can_be_held e) as (λ b. StaysMade e (cond b (record e { hold = Some call }) e)) [ true ↦ StaysMade-kept e (record e { hold = Some call }) refl refl refl refl refl refl | false ↦ StaysMade-same e ]
+
+-- a hold leaves the identity as it is
+pub held-identity : (call : CallId) (e : Entry) → (with_hold call e).identity ≡ e.identity
+held-identity call e = elim (can_be_held e) as (λ b. (cond b (record e { hold = Some call }) e).identity ≡ e.identity) [ true ↦ refl | false ↦ refl ]
 
 -- whether any references are left or not
 left_made : (e : Entry) (t : ℤ) (references : List ℕ) (none left : Bool) → StaysMade e (cond none e (cond left (record e { references = references }) (record e { references = references; idle = t })))

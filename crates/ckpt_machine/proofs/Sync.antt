@@ -1,7 +1,7 @@
 -- A synchronisation: it pulls what the active has and installs it at each other complete node, and is refused or done by a look where the record says so.
 use Rattle.std.specs.List.{list_any}
 use Rattle.std.specs.Option.{option_map}
-use Rattle.std.proofs.Common.{◌≡◌, ℕ, ◌<◌, List, ◌∷◌, length, Option, Some, None, Ok, Bool, true, false, cond, ◌&&◌, ◌==◌, ℤ, refl, sym, ap, subst, ◌∙◌, arith}
+use Rattle.std.proofs.Common.{◌≡◌, ℕ, ◌<◌, ◌≤◌, List, ◌∷◌, length, Option, Some, None, Bool, true, false, cond, ◌&&◌, ◌==◌, ℤ, refl, sym, ap, subst, ◌∙◌, arith}
 use Rattle.std.specs.Prelude.{is_some, IfSome, IsSomeAnd, slice_get, slice_set}
 use Rattle.std.proofs.lemmas.Option.{same_Some}
 use Rattle.moment_rules.specs.Times.{is_reached}
@@ -26,6 +26,7 @@ use Rattle.node_msgs.specs.declared.steps.StepReply.TheVariants as words
 use Rattle.node_msgs.specs.declared.steps.Verb.TheVariants as verbs
 use Rattle.node_core.specs.Seen.{record_seen}
 use Rattle.node_core.specs.Serving.{reply_at, details_at, pull_reply}
+use Rattle.cluster_record.specs.declared.calls.SyncKind.TheVariants.{Synchronize}
 use Rattle.cluster_record.specs.declared.calls.PulledAt.{PulledAt}
 use Rattle.cluster_record.specs.declared.entries.Entry.{Entry}
 use Rattle.cluster_record.specs.Calls.{same_actor, same_call, put_actor, left}
@@ -35,9 +36,9 @@ use Rattle.cluster_record.specs.StepDone.{StepDone, done_of, counting, generatio
 use Rattle.ckpt_machine.specs.Drivers as drivers
 use Rattle.ckpt_machine.specs.Driving.{driver_taken}
 use Rattle.ckpt_machine.specs.Guards.{deadline_of, IsInTime, OnLed, HasNoActive, NoActiveLook, SyncLook, SyncDone, LookRefused, LookDone, PullOk, PullHeld, serves, all_served, unless_unserved}
-use Rattle.ckpt_machine.specs.InHand.{is_enter, IsInPlace, IsInHand, IsSyncIn, HasServedActive, pulled_as}
+use Rattle.ckpt_machine.specs.InHand.{is_enter, IsInPlace, IsInHand, IsSyncBy, IsSynchronizeIn, HasServedActive, pulled_as}
 use Rattle.ckpt_machine.specs.Invariant.{IsGoodIn, InvariantIn, Invariant}
-use Rattle.ckpt_machine.specs.Left.{sync_left, steps_left}
+use Rattle.ckpt_machine.specs.Left.{sync_left, kind_left, steps_left}
 use Rattle.ckpt_machine.specs.Machine.{Machine, ReplicaState, Snapshot, CallState}
 use Rattle.ckpt_machine.specs.Options.{is_all}
 use Rattle.ckpt_machine.specs.Propagation.{copied}
@@ -48,7 +49,7 @@ use Rattle.ckpt_machine.proofs.DueStep.{Goes}
 use Rattle.ckpt_machine.proofs.EndedTables.{closing_keeps}
 use Rattle.ckpt_machine.proofs.OnTheActive.{marker_live}
 use Rattle.ckpt_machine.proofs.OptionLemmas.{IsSomeAnd-from}
-use Rattle.ckpt_machine.proofs.PlainCalls.{is_plain, ending, marker_apart, plain_steps, plain_ends, look_goes}
+use Rattle.ckpt_machine.proofs.PlainCalls.{is_plain_sync, is_plain, ending, marker_apart, plain_steps, plain_ends, look_goes}
 use Rattle.ckpt_machine.proofs.ReplicaSteps.{put_actor-here}
 use Rattle.ckpt_machine.proofs.Served.{slice_get-set, served_set, set_length, tells_all, ends_alike, all_are, unserved-few}
 use Rattle.ckpt_machine.proofs.StepLabels.{IsServed-told}
@@ -64,17 +65,17 @@ ended_nothing None details nothing = refl
 ended_nothing (Some e) details nothing = nothing
 
 -- a call of another actor is another call
-call_apart : (c d : CallId) → same_actor c.actor d.actor ≡ false → same_call c d ≡ false
+pub call_apart : (c d : CallId) → same_actor c.actor d.actor ≡ false → same_call c d ≡ false
 call_apart c d other = ap (λ b. b && (c.number == d.number)) other
 
-module _ (m : Machine) (shapes : ℕ → Shape) (inv : InvariantIn shapes m) (s : CallState) (u : SyncState) (held : m.in_hand s.call.actor ≡ Some s) (is : driver_of s ≡ drivers.Sync u) where
+module _ (m : Machine) (shapes : ℕ → Shape) (inv : InvariantIn shapes m) (s : CallState) (u : SyncState) (held : m.in_hand s.call.actor ≡ Some s) (is : driver_of s ≡ drivers.Sync u) (sync : (deadline : Option ℤ) × (u.kind ≡ Synchronize deadline)) where
   -- where its steps have led it
-  pub at_sync : IsSyncIn m s u
-  at_sync = subst (λ d. IsInPlace m shapes s d) is (inv.hands s.call.actor s held).here
+  pub at_sync : IsSynchronizeIn m s u
+  at_sync = subst (IsSyncBy m s u) sync.1 (subst (λ d. IsInPlace m shapes s d) is (inv.hands s.call.actor s held).here)
 
   -- it owns and makes nothing
-  pub plain : is_plain (driver_of s) ≡ true
-  plain = ap is_plain is
+  pub plain : is_plain (driver_of s) s.snapshot ≡ true
+  plain = ap (λ d. is_plain d s.snapshot) is ∙ ap (λ kind. is_plain_sync kind s.snapshot) sync.1
 
   -- what holds of its checkpoint, which is there
   pub alone_at : (e : Entry) → entry_of u.ckpt m.cluster.entries ≡ Some e → is_all e.attributes ≡ false
@@ -111,8 +112,8 @@ module _ (m : Machine) (shapes : ℕ → Shape) (inv : InvariantIn shapes m) (s 
       then_machine = record m { replicas = f; in_hand = g }
 
       pub here_then : pulled ≡ option_map pulled_as snap → length served ≡ 8 → ((r : ℕ) → r < 8 → slice_get served r ≡ Some (list_any (serves r) (d ∷ s.steps)))
-          → IfSome snap (λ p. IfSome (entry_of u.ckpt m.cluster.entries) (HasServedActive served p)) → IsSyncIn then_machine then_state then_driver
-      here_then keeps nodes tells led = record {
+          → IfSome snap (λ p. IfSome (entry_of u.ckpt m.cluster.entries) (HasServedActive served p)) → IfSome snap (λ p. IfSome (entry_of u.ckpt m.cluster.entries) (λ e. p.generation ≤ e.generation)) → IsSynchronizeIn then_machine then_state then_driver
+      here_then keeps nodes tells led older = record {
         call = at_sync.call;
         place = at_sync.place;
         timeout = at_sync.timeout;
@@ -126,10 +127,11 @@ module _ (m : Machine) (shapes : ℕ → Shape) (inv : InvariantIn shapes m) (s 
         nodes = nodes;
         served = tells;
         led = led;
+        older = older;
       }
 
       -- it is in hand so
-      pub hand_then : driver_taken d (drivers.Sync u) ≡ drivers.Sync then_driver → IsSyncIn then_machine then_state then_driver → IsInHand then_machine shapes s.call.actor then_state
+      pub hand_then : driver_taken d (drivers.Sync u) ≡ drivers.Sync then_driver → IsSynchronizeIn then_machine then_state then_driver → IsInHand then_machine shapes s.call.actor then_state
       hand_then takes at =
           let hand = inv.hands s.call.actor s held in
           record {
@@ -139,7 +141,7 @@ module _ (m : Machine) (shapes : ℕ → Shape) (inv : InvariantIn shapes m) (s 
             built = hand.built;
             driven = hand.driven;
             live = λ others. hand.live (ap is_enter is);
-            here = subst (IsInPlace then_machine shapes then_state) (sym (ap (driver_taken d) is ∙ takes)) at;
+            here = subst (IsInPlace then_machine shapes then_state) (sym (ap (driver_taken d) is ∙ takes)) (subst (IsSyncBy then_machine then_state then_driver) (sym sync.1) at);
           }
 
   -- ---- looks
@@ -251,6 +253,10 @@ module _ (m : Machine) (shapes : ℕ → Shape) (inv : InvariantIn shapes m) (s 
         led_then = subst (λ o. IfSome (option_map copied o) (λ p. IfSome (entry_of u.ckpt m.cluster.entries) (HasServedActive served_then p))) (sym at.there)
             (subst (λ o. IfSome o (HasServedActive served_then (copied at.replica))) (sym at.found) (λ present. IsSomeAnd-from at.entry.active (λ r. slice_get served_then r ≡ Some true) at.node at.active (slice_get-set u.served at.node true within)))
 
+        older_then : IfSome snap_then (λ p. IfSome (entry_of u.ckpt m.cluster.entries) (λ e. p.generation ≤ e.generation))
+        older_then = subst (λ o. IfSome (option_map copied o) (λ p. IfSome (entry_of u.ckpt m.cluster.entries) (λ e. p.generation ≤ e.generation))) (sym at.there)
+            (subst (λ o. IfSome o (λ (e : Entry). at.replica.generation ≤ e.generation)) (sym at.found) (let same : at.replica.generation ≡ at.entry.generation = at.generation in omega (arith, same)))
+
         -- the call goes on with it, or ends
         pulled_keeps : (end : Option Outcome) → Invariant (record m { in_hand = put_actor m.in_hand s.call.actor (left end (then_state pull_done snap_then (Some keeps_then) served_then)) })
         pulled_keeps end =
@@ -259,7 +265,7 @@ module _ (m : Machine) (shapes : ℕ → Shape) (inv : InvariantIn shapes m) (s 
             record {
               shapes = shapes;
               holds = plain_steps m shapes inv s held plain (left end z) (λ w same. subst (IsInHand (record m { in_hand = hands }) shapes s.call.actor) (left_is end z w same)
-                  (hand_then pull_done snap_then (Some keeps_then) served_then m.replicas hands refl (here_then pull_done snap_then (Some keeps_then) served_then m.replicas hands pulled_then (set_length u.served at.node true ∙ at_sync.nodes) tells_then led_then)));
+                  (hand_then pull_done snap_then (Some keeps_then) served_then m.replicas hands refl (here_then pull_done snap_then (Some keeps_then) served_then m.replicas hands pulled_then (set_length u.served at.node true ∙ at_sync.nodes) tells_then led_then older_then)));
             }
 
         -- it ends where all are served
@@ -271,8 +277,9 @@ module _ (m : Machine) (shapes : ℕ → Shape) (inv : InvariantIn shapes m) (s 
         -- it comes nearer to its end
         pull_nearer : steps_left m.cluster (driver_taken pull_done (driver_of s)) < steps_left m.cluster (driver_of s)
         pull_nearer = subst (λ d. steps_left m.cluster (driver_taken pull_done d) < steps_left m.cluster d) (sym is)
+            (subst (λ kind. kind_left (entry_of u.ckpt m.cluster.entries) (record u { pulled = Some keeps_then; served = served_then }) kind < kind_left (entry_of u.ckpt m.cluster.entries) u kind) (sym sync.1)
             (subst (λ o. sync_left (complete_of (entry_of u.ckpt m.cluster.entries)) (record u { pulled = Some keeps_then; served = served_then }) (Some keeps_then) < sync_left (complete_of (entry_of u.ckpt m.cluster.entries)) u o) (sym first)
-            (let few = unserved-few (complete_of (entry_of u.ckpt m.cluster.entries)) served_then in let nodes : length (complete_of (entry_of u.ckpt m.cluster.entries)) ≡ 8 = ap (λ o. length (complete_of o)) at.found ∙ spread.nodes in omega (arith, few, nodes)))
+            (let few = unserved-few (complete_of (entry_of u.ckpt m.cluster.entries)) served_then in let nodes : length (complete_of (entry_of u.ckpt m.cluster.entries)) ≡ 8 = ap (λ o. length (complete_of o)) at.found ∙ spread.nodes in omega (arith, few, nodes))))
 
         -- the marks of another call hold it off, which is live
         another : (marks : Marked) → (shapes u.ckpt).marks ≡ Some marks → same_call marks.call s.call ≡ false

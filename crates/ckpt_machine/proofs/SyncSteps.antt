@@ -20,7 +20,8 @@ use Rattle.ckpt_types.specs.OpWord.{word_of_op}
 use Rattle.node_msgs.specs.declared.next.Next.TheVariants.{End}
 use Rattle.node_msgs.specs.declared.steps.Verb.TheVariants as verbs
 use Rattle.cluster_record.specs.declared.calls.PulledAt.{PulledAt}
-use Rattle.cluster_record.specs.declared.calls.SyncKind.TheVariants.{Synchronize}
+use Rattle.cluster_record.specs.declared.calls.SyncKind.{SyncKind}
+use Rattle.cluster_record.specs.declared.calls.SyncKind.TheVariants.{Synchronize, ActiveSet}
 use Rattle.cluster_record.specs.declared.entries.Entry.{Entry}
 use Rattle.cluster_record.specs.DueOnce as once
 use Rattle.cluster_record.specs.DueOnce.{OneStep}
@@ -31,7 +32,7 @@ use Rattle.cluster_record.specs.StepDone.{StepDone}
 use Rattle.ckpt_machine.specs.Drivers.{Driver}
 use Rattle.ckpt_machine.specs.Drivers as drivers
 use Rattle.ckpt_machine.specs.Guards.{deadline_of, is_service, serves, all_served}
-use Rattle.ckpt_machine.specs.InHand.{active_kind, pulled_as, IsSyncIn, IsOnceAt, IsInPlace}
+use Rattle.ckpt_machine.specs.InHand.{active_kind, pulled_as, IsSynchronizeIn, IsSettingIn, IsSyncBy, IsOnceAt, IsInPlace}
 use Rattle.ckpt_machine.specs.Invariant.{Invariant}
 use Rattle.ckpt_machine.specs.Listing.{is_active}
 use Rattle.ckpt_machine.specs.Machine.{Machine, Snapshot, CallState}
@@ -79,18 +80,46 @@ served_each steps n (c ∷ cs) all (suc d) some =
 
 -- ---- what drives it
 
+-- what is asked for is a synchronisation
+abbrev pub IsSynchronize : Ask → Type 0
+IsSynchronize (asks.Synchronize place timeout) = Unit {0}
+IsSynchronize ask = ⊥
+
 -- a call with the word `sync` asks for a synchronisation
 pub asks_sync : (op : Op) → word_of_op op ≡ opwords.Sync → (place : ℕ) × (timeout : ℤ) × (asked op ≡ asks.Synchronize place timeout)
 asks_sync (ops.Sync place timeout) is = (place, timeout, refl)
 asks_sync op is = absurd (cc is)
 
 -- a synchronisation drives a call in hand that asks for one
-pub drives_sync : (m : Machine) (shapes : ℕ → Shape) (s : CallState) (place : ℕ) (timeout : ℤ) → asked s.op ≡ asks.Synchronize place timeout → (d : Driver) → IsInPlace m shapes s d → (u : SyncState) × (d ≡ drivers.Sync u) × IsSyncIn m s u
-drives_sync m shapes s place timeout is (drivers.Sync u) at = (u, refl, at)
+pub drives_sync : (m : Machine) (shapes : ℕ → Shape) (s : CallState) (place : ℕ) (timeout : ℤ) → asked s.op ≡ asks.Synchronize place timeout → (d : Driver) → IsInPlace m shapes s d → (u : SyncState) × (d ≡ drivers.Sync u) × IsSynchronizeIn m s u
+drives_sync m shapes s place timeout is (drivers.Sync u) at = (u, refl, by_kind u.kind at)
+  where
+    by_kind : (kind : SyncKind) → IsSyncBy m s u kind → IsSynchronizeIn m s u
+    by_kind (Synchronize deadline) at = at
+    by_kind (ActiveSet local) at = absurd (let w = sym is ∙ at.asks in cc w)
 drives_sync m shapes s place timeout is (drivers.Open o) at = absurd (let w = sym is ∙ at.asks.asks in cc w)
 drives_sync m shapes s place timeout is (drivers.Update u) at = absurd (let w = sym is ∙ at.asks in cc w)
 drives_sync m shapes s place timeout is (drivers.Active a) at = absurd (let w : None ≡ Some a.kind = ap (active_kind s.kept.all s.kept.weak) (sym is) ∙ at.kind in cc w)
 drives_sync m shapes s place timeout is (drivers.Once x) at = absurd (by_step x at)
+  where
+    by_step : (x : OneStep) → IsOnceAt m s x → ⊥
+    by_step (once.Enter r) at = let w = sym is ∙ at.asks in cc w
+    by_step once.Leave at = let w = sym is ∙ at.asks in cc w
+    by_step (once.Close k) at = let w = sym is ∙ at.asks in cc w
+    by_step (once.Unlink name) at = let w = sym is ∙ at in cc w
+    by_step (once.Retain k duration) at = let w = sym is ∙ at.asks in cc w
+
+-- the setting of an active drives a call in hand that asks for one
+pub drives_setting : (m : Machine) (shapes : ℕ → Shape) (s : CallState) (place : ℕ) → asked s.op ≡ asks.SetActive place → (d : Driver) → IsInPlace m shapes s d → (u : SyncState) × (local : ℕ) × (d ≡ drivers.Sync u) × IsSettingIn m s u local
+drives_setting m shapes s place is (drivers.Sync u) at = by_kind u.kind at
+  where
+    by_kind : (kind : SyncKind) → IsSyncBy m s u kind → (v : SyncState) × (local : ℕ) × (drivers.Sync u ≡ drivers.Sync v) × IsSettingIn m s v local
+    by_kind (Synchronize deadline) at = absurd (let w = sym is ∙ at.asks in cc w)
+    by_kind (ActiveSet local) at = (u, local, refl, at)
+drives_setting m shapes s place is (drivers.Open o) at = absurd (let w = sym is ∙ at.asks.asks in cc w)
+drives_setting m shapes s place is (drivers.Update u) at = absurd (let w = sym is ∙ at.asks in cc w)
+drives_setting m shapes s place is (drivers.Active a) at = absurd (let w : None ≡ Some a.kind = ap (active_kind s.kept.all s.kept.weak) (sym is) ∙ at.kind in cc w)
+drives_setting m shapes s place is (drivers.Once x) at = absurd (by_step x at)
   where
     by_step : (x : OneStep) → IsOnceAt m s x → ⊥
     by_step (once.Enter r) at = let w = sym is ∙ at.asks in cc w

@@ -28,6 +28,7 @@ use Rattle.cluster_record.specs.StepDone.{done_of, counting}
 use Rattle.ckpt_machine.specs.Acknowledged.{HasBegun}
 use Rattle.ckpt_machine.specs.Driving.{Kept}
 use Rattle.ckpt_machine.specs.Guards.{PullOk, PullHeld, InstallOk, SyncDone, OnLed, LookDone, LookRow, IsOnOwn, Row, Allowed, serves, all_served, steps_with}
+use Rattle.ckpt_machine.specs.Invariant.{Invariant}
 use Rattle.ckpt_machine.specs.Laws.{SynchronisationsTell}
 use Rattle.ckpt_machine.specs.Machine.{Machine, ReplicaState, Snapshot, CallState, empty_cluster}
 use Rattle.ckpt_machine.specs.Propagation.{copied}
@@ -39,9 +40,9 @@ use Rattle.ckpt_machine.specs.Synchronized.{Synchronizes, HaveFirst, IsSynchroni
 use Rattle.ckpt_machine.proofs.BegunBefore.{begun_longer, all_began}
 use Rattle.ckpt_machine.proofs.Bringing.{HasPulledIn, HasFirst, IsBringing, stays_bringing, step_brings}
 use Rattle.ckpt_machine.proofs.Copying.{after_pull, after_put}
-use Rattle.ckpt_machine.proofs.EachReplica.{left_as, run_copies}
+use Rattle.ckpt_machine.proofs.EachReplica.{run_copies}
 use Rattle.ckpt_machine.proofs.Follows.{IsBare}
-use Rattle.ckpt_machine.proofs.Generations.{run_generation}
+use Rattle.ckpt_machine.proofs.Generations.{generation_there}
 use Rattle.ckpt_machine.proofs.Growing.{GoesOn, after_goes, stepped_goes}
 use Rattle.ckpt_machine.proofs.Histories.{follows, on_replica-there, run_history}
 use Rattle.ckpt_machine.proofs.OptionLemmas.{IsSomeAnd-at}
@@ -49,13 +50,14 @@ use Rattle.ckpt_machine.proofs.Refusing.{row_at_ckpt, at_node, at_none, at_node_
 use Rattle.ckpt_machine.proofs.ReplicaSteps.{put_actor-cases}
 use Rattle.ckpt_machine.proofs.Runs.{last-push, run_before, run_front, run_more, IsRunFrom-front, IsRunFrom-back}
 use Rattle.ckpt_machine.proofs.Starting.{first_kept, begun_as}
-use Rattle.ckpt_machine.proofs.SyncSteps.{served_as, served_each, asks_sync}
+use Rattle.ckpt_machine.proofs.Sync.{left_is}
+use Rattle.ckpt_machine.proofs.SyncSteps.{IsSynchronize, served_as, served_each, asks_sync}
 
 -- ---- in every state of a run
 
--- each call that this state has in hand brings what it has pulled in the log
+-- each synchronisation that this state has in hand brings what it has pulled in the log
 abbrev AllBring : List Label → Machine → Type 0
-AllBring log m = (a : ActorName) (s : CallState) → m.in_hand a ≡ Some s → IsBringing log m.cluster.entries m.replicas s
+AllBring log m = (a : ActorName) (s : CallState) → m.in_hand a ≡ Some s → IsSynchronize (asked s.op) → IsBringing log m.cluster.entries m.replicas s
 
 -- a call that begins has nothing in hand, and has served no node
 begun_bringing : (log : List Label) (entries : List Entry) (replicas : ℕ → ℕ → Option ReplicaState) (end : Option Outcome) (call : CallId) (op : Op) (kept : Kept) (s : CallState) → call_begun end call op kept ≡ Some s → IsBringing log entries replicas s
@@ -76,16 +78,16 @@ module _ (log : List Label) (run : IsRun log) (all : AllBring log (last log)) wh
   goes_by l allowed k given = let (inv, history) = run_history log run in after_goes m inv history.bare (run_copies log run) k given l allowed
 
   -- a call that takes no step brings what it has pulled
-  other_brings : (l : Label) (allowed : Allowed m l) (a : ActorName) (s : CallState) → m.in_hand a ≡ Some s → IsBringing (log ++ l ∷ []) (after m l).cluster.entries (after m l).replicas s
-  other_brings l allowed a s held = let (inv, history) = run_history log run in stays_bringing log l inv history (run_copies log run) s a held (all a s held) (after m l).cluster.entries (after m l).replicas (goes_by l allowed)
+  other_brings : (l : Label) (allowed : Allowed m l) (a : ActorName) (s : CallState) → m.in_hand a ≡ Some s → IsSynchronize (asked s.op) → IsBringing (log ++ l ∷ []) (after m l).cluster.entries (after m l).replicas s
+  other_brings l allowed a s held asks_is = let (inv, history) = run_history log run in stays_bringing log l inv history (run_copies log run) s a held (all a s held asks_is) (after m l).cluster.entries (after m l).replicas (goes_by l allowed)
 
   -- each call in hand brings what it has pulled, behind any label that is allowed and due
   after_brings : (l : Label) → Allowed m l → IsDue m l → AllBring (log ++ l ∷ []) (after m l)
-  after_brings (labels.Began call op end) allowed due a s held = elim (put_actor-cases m.in_hand call.actor (call_begun end call op (first_kept m call op)) a s held) [
+  after_brings (labels.Began call op end) allowed due a s held asks_is = elim (put_actor-cases m.in_hand call.actor (call_begun end call op (first_kept m call op)) a s held) [
     | inl own ↦ begun_bringing (log ++ labels.Began call op end ∷ []) m.cluster.entries m.replicas end call op (first_kept m call op) s own.1
-    | inr other ↦ other_brings (labels.Began call op end) allowed a s other.1
+    | inr other ↦ other_brings (labels.Began call op end) allowed a s other.1 asks_is
   ]
-  after_brings (labels.Stepped call op verb j q reply end details) allowed due a z in_hand =
+  after_brings (labels.Stepped call op verb j q reply end details) allowed due a z in_hand asks_is =
       let l : Label = labels.Stepped call op verb j q reply end details in
       let t : Told = record { verb = verb; ckpt = j; node = q; reply = reply; end = end; details = details } in
       let s = due.state in
@@ -99,18 +101,20 @@ module _ (log : List Label) (run : IsRun log) (all : AllBring log (last log)) wh
       let goes : (k : ℕ) → k ≤ m.cluster.last_identity → GoesOn m k n = λ k given. stepped_goes m inv history.bare (run_copies log run) k given s held t own row in
       let there = subst (λ o. (step_of m o verb j q reply end).in_hand a ≡ Some z) due.in_hand in_hand in
       subst (λ o. IsBringing (log ++ l ∷ []) (step_of m o verb j q reply end).cluster.entries (step_of m o verb j q reply end).replicas z) (sym due.in_hand) (elim (put_actor-cases n.in_hand s.call.actor (left end behind) a z there) [
-        | inl here ↦ subst (IsBringing (log ++ l ∷ []) n.cluster.entries n.replicas) (left_as end behind z here.1) (step_brings log inv history (run_copies log run) s held (all s.call.actor s held) (run_generation log run) call due.call_is op end details verb j q reply goes due.done own row)
+        | inl here ↦ (
+            let asks_own : IsSynchronize (asked s.op) = subst (λ (z : CallState). IsSynchronize (asked z.op)) (sym (left_is end behind z here.1)) asks_is in
+            subst (IsBringing (log ++ l ∷ []) n.cluster.entries n.replicas) (left_is end behind z here.1) (step_brings log inv history (run_copies log run) s held (all s.call.actor s held asks_own) asks_own call due.call_is op end details verb j q reply goes due.done own row))
         | inr other ↦ (
             let was : m.in_hand a ≡ Some z = sym ((follows m inv history s held t row).in_hand a) ∙ other.1 in
-            stays_bringing log l inv history (run_copies log run) z a was (all a z was) n.cluster.entries n.replicas goes)
+            stays_bringing log l inv history (run_copies log run) z a was (all a z was asks_is) n.cluster.entries n.replicas goes)
       ])
-  after_brings (labels.Word who line said) allowed due a s held = other_brings (labels.Word who line said) allowed a s held
-  after_brings (labels.Nodes n) allowed due a s held = other_brings (labels.Nodes n) allowed a s held
-  after_brings (labels.Moved t) allowed due a s held = other_brings (labels.Moved t) allowed a s held
-  after_brings (labels.Shown k replicas) allowed due a s held = other_brings (labels.Shown k replicas) allowed a s held
-  after_brings (labels.Pulled k reply) allowed due a s held = other_brings (labels.Pulled k reply) allowed a s (after_pull (λ (n : Machine). n.in_hand a ≡ Some s → m.in_hand a ≡ Some s) m k reply due (λ held. held) (λ x from none held. held) held)
-  after_brings (labels.Put k r reply) allowed due a s held = other_brings (labels.Put k r reply) allowed a s (after_put (λ (n : Machine). n.in_hand a ≡ Some s → m.in_hand a ≡ Some s) m k r reply (λ held. held) (λ z x is on held. held) held)
-  after_brings l allowed due a s held = absurd due
+  after_brings (labels.Word who line said) allowed due a s held asks_is = other_brings (labels.Word who line said) allowed a s held asks_is
+  after_brings (labels.Nodes n) allowed due a s held asks_is = other_brings (labels.Nodes n) allowed a s held asks_is
+  after_brings (labels.Moved t) allowed due a s held asks_is = other_brings (labels.Moved t) allowed a s held asks_is
+  after_brings (labels.Shown k replicas) allowed due a s held asks_is = other_brings (labels.Shown k replicas) allowed a s held asks_is
+  after_brings (labels.Pulled k reply) allowed due a s held asks_is = other_brings (labels.Pulled k reply) allowed a s (after_pull (λ (n : Machine). n.in_hand a ≡ Some s → m.in_hand a ≡ Some s) m k reply due (λ held. held) (λ x from none held. held) held) asks_is
+  after_brings (labels.Put k r reply) allowed due a s held asks_is = other_brings (labels.Put k r reply) allowed a s (after_put (λ (n : Machine). n.in_hand a ≡ Some s → m.in_hand a ≡ Some s) m k r reply (λ held. held) (λ z x is on held. held) held) asks_is
+  after_brings l allowed due a s held asks_is = absurd due
 
 bring_from : (front more : List Label) → IsRun (front ++ more) → AllBring front (last front) → AllBring (front ++ more) (last (front ++ more))
 bring_from front [] run all = subst (λ (log : List Label). AllBring log (last log)) (sym (append-nil front)) all
@@ -122,7 +126,7 @@ bring_from front (l ∷ more) run all =
     subst (λ (log : List Label). AllBring log (last log)) longer (bring_from (front ++ l ∷ []) more (subst IsRun (sym longer) run) (subst (AllBring (front ++ l ∷ [])) (sym (last-push front l)) then))
 
 all_bring : (log : List Label) → IsRun log → AllBring log (last log)
-all_bring log run = bring_from [] log run (λ a s held. absurd (cc held))
+all_bring log run = bring_from [] log run (λ a s held asks_is. absurd (cc held))
 
 -- ---- the label that answers OK
 
@@ -143,12 +147,7 @@ record HasServedAll (entries : List Entry) (s : CallState) (count : ℕ) : Type 
   count_is : length pulled.effects ≡ count
   all : (r : ℕ) → IsCompleteOn entry r → list_any (serves r) s.steps ≡ true
 
--- what is asked for is a synchronisation
-abbrev IsSynchronize : Ask → Type 0
-IsSynchronize (asks.Synchronize place timeout) = Unit {0}
-IsSynchronize ask = ⊥
-
-module _ (m : Machine) (generations : (k r : ℕ) (e : Entry) (x : ReplicaState) → entry_of k m.cluster.entries ≡ Some e → m.replicas k r ≡ Some x → x.generation ≡ e.generation)
+module _ (m : Machine) (inv : Invariant m)
     (s : CallState) (place : ℕ) (timeout : ℤ) (asks_is : asked s.op ≡ asks.Synchronize place timeout) (count : ℕ) (details : Details) where
   -- the parts of the label that answers OK
   abbrev t_of : Verb → Option ℕ → Option ℕ → StepReply → Told
@@ -168,7 +167,7 @@ module _ (m : Machine) (generations : (k r : ℕ) (e : Entry) (x : ReplicaState)
       let t = t_of verbs.Pull (Some j) (Some q) words.Ok in
       let (e, x, found, there, ok) = on_replica-there m j q (PullOk m s q t) row.0.3 in
       let (all, n) = ends_if (all_served (steps_with m s t) 0 e.complete) count (length x.effects) ok.answer in
-      record { ckpt = j; kept = sym own; entry = e; found = found; pulled = copied x; in_hand = ap (option_map copied) there; present = generations j q e x found there; count_is = n; all = each_served t e all }
+      record { ckpt = j; kept = sym own; entry = e; found = found; pulled = copied x; in_hand = ap (option_map copied) there; present = (generation_there m inv j q e x found there).led ok.active; count_is = n; all = each_served t e all }
   by_pull j q (words.Held by) own row =
       let (e, x, found, there, held) = on_replica-there m j q (PullHeld m s q by (t_of verbs.Pull (Some j) (Some q) (words.Held by))) row.0.3 in
       absurd (let is = held.held.answer in cc is)
@@ -241,6 +240,8 @@ module _ (m : Machine) (generations : (k r : ℕ) (e : Entry) (x : ReplicaState)
   all_by verbs.Status j q reply own row = absurd (at_node j q _ row (λ k r p. no_other _ p.1))
   all_by verbs.Iter j q reply own row = absurd (at_node j q _ row.0 (λ k r p. no_other _ p.4))
   all_by verbs.Next j q reply own row = absurd (at_node j q _ row (λ k r p. no_other _ p.1))
+  all_by verbs.Hold j q reply own row = absurd (at_node j q _ row.0 (λ k r p. no_other _ p.1))
+  all_by verbs.Activate j q reply own row = absurd (at_node j q _ row.0 (λ k r p. no_other _ p.1))
   all_by verbs.Leave j q reply own row = absurd (at_none j q _ row.0 (λ p. no_other _ p.0))
   all_by verbs.Close j q reply own row = absurd (row_at_ckpt j q _ row.0 (λ k p. no_other _ p.1))
   all_by verbs.Unlink j q reply own row = absurd (row_at_ckpt j q _ row.0 (λ k p. no_other _ p.1))
@@ -319,13 +320,14 @@ tells log run (labels.Stepped d opwords.Sync verb j q reply (Some (Done (answers
     brings : IsBringing (log ++ l ∷ []) changed_machine.cluster.entries changed_machine.replicas behind
     brings =
         let (inv, history) = run_history log run in
-        step_brings log inv history (run_copies log run) s held (all_bring log run s.call.actor s held) (run_generation log run) d due.call_is opwords.Sync end details verb j q reply
+        let asks_is : IsSynchronize (asked s.op) = (let (place, timeout, is) = asks_sync s.op due.word in subst IsSynchronize (sym is) tt) in
+        step_brings log inv history (run_copies log run) s held (all_bring log run s.call.actor s held asks_is) asks_is d due.call_is opwords.Sync end details verb j q reply
         (λ k given. stepped_goes (last log) inv history.bare (run_copies log run) k given s held t own row) due.done own row
 
     all : HasServedAll changed_machine.cluster.entries behind n
     all =
         let (place, timeout, asks_is) = asks_sync s.op due.word in
-        all_by (last log) (run_generation log run) s place timeout asks_is n details verb j q reply own row
+        all_by (last log) (run_history log run).0 s place timeout asks_is n details verb j q reply own row
 
     from : HasPulledIn (log ++ l ∷ []) s.call all.ckpt all.pulled
     from = brings.pulled all.ckpt all.pulled all.kept all.in_hand

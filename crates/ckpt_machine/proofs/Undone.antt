@@ -21,7 +21,7 @@ use Rattle.ckpt_machine.proofs.Actors.{same_actor-true}
 use Rattle.ckpt_machine.proofs.Entries.{ComesOf, ComesOf-filter, ComesOf-then, found_filter}
 use Rattle.ckpt_machine.proofs.Moment.{IsLaterEntry-refl, making_stays}
 use Rattle.ckpt_machine.proofs.ReplicaSteps.{put_actor-cases, put_actor-other}
-use Rattle.ckpt_machine.proofs.OwnMaking.{owner_apart, marker_apart, maker_same, entry_apart, actor_apart}
+use Rattle.ckpt_machine.proofs.OwnMaking.{owner_apart, marker_apart, holder_apart, maker_same, entry_apart, actor_apart}
 use Rattle.ckpt_machine.proofs.PlainCalls.{ending, IsLaterEntry-then}
 use Rattle.ckpt_machine.proofs.RecordSteps.{record_keeps}
 
@@ -101,6 +101,8 @@ module _ (m : Machine) (shapes : ℕ → Shape) (inv : InvariantIn shapes m) (s 
     makes = λ a z j e left found by. left_other a z left (λ other at. makes_still z (actor_apart s a z (inv.hands a z at).actor other) j e found by);
     owners = λ j sh d own. put_actor-other m.in_hand s.call.actor None d.actor (owner_apart m s o held is j sh d own);
     markers = λ j marks there own. put_actor-other m.in_hand s.call.actor None marks.call.actor (marker_apart m s o held is j marks own);
+    homes = λ a h among. refl;
+    holders = λ j active d there own. put_actor-other m.in_hand s.call.actor None d.actor (holder_apart m s o held is j active d own);
     makers = λ j d there own. put_actor-other m.in_hand s.call.actor None d.actor (maker_other j d there own);
   }
 

@@ -24,7 +24,6 @@ use Rattle.node_msgs.specs.declared.replies.Reply.TheVariants as replies
 use Rattle.node_msgs.specs.declared.steps.Verb.TheVariants as verbs
 use Rattle.node_msgs.specs.declared.steps.StepReply.TheVariants as words
 use Rattle.node_msgs.specs.declared.details.Details.TheVariants as beside
-use Rattle.ckpt_machine.specs.Drivers.{Driver}
 use Rattle.ckpt_machine.specs.Drivers as drivers
 use Rattle.ckpt_machine.specs.InHand.{OwnsIn, HasSome}
 use Rattle.ckpt_machine.specs.Invariant.{InvariantIn, Invariant}
@@ -36,12 +35,12 @@ use Rattle.node_core.specs.Seen.{record_seen}
 use Rattle.ckpt_machine.specs.Driving.{making_in, refused_cause, driver_taken}
 use Rattle.ckpt_machine.specs.Machine.{Machine, Staged, ReplicaState, CallState}
 use Rattle.ckpt_machine.specs.Steps.{Told, IsDone, IsServed, driver_of, payload_due, stepped, kept_behind, staged_moment, ended_details, with_committed, with_slot, seen_at, seen_slot, change_replica, without_making}
-use Rattle.ckpt_machine.specs.Guards.{StageRefused, StageHeld, owns_slot, LookRefused, ChangeLook, HasNoActive}
+use Rattle.ckpt_machine.specs.Guards.{StageRefused, StageHeld, owns_slot, LookRefused, GoneLook, NoActiveLook, ChangeLook, HasNoActive}
 use Rattle.ckpt_machine.specs.Left.{update_left, steps_left}
 use Rattle.ckpt_machine.proofs.StepsLeft.{update_nearer}
 use Rattle.ckpt_machine.specs.Shape.{Shape, IsCompleteOn, IsShaped, is_owner, IsOwner, IsSpread, IsStaging, IsCommitting, PhaseFits, slot_by, sections_by, effects_by}
 use Rattle.ckpt_machine.proofs.NodeLists.{first_lacking-is, first_lacking-None, last_having-is, last_having-None, first_complete-some, not-lacked, lacked-has, had-there}
-use Rattle.ckpt_machine.proofs.Owning.{is_owner-here, owner_alone, owner_live, at, spread, own_phase, owns_had, replica_at, seen_is, on_all, ended_keeps, all_is}
+use Rattle.ckpt_machine.proofs.Owning.{never_held, is_owner-here, owner_alone, owner_live, at, spread, own_phase, owns_had, replica_at, seen_is, on_all, ended_keeps, all_is}
 use Rattle.ckpt_machine.proofs.OnAll.{shaped_replicas, by_shape}
 use Rattle.ckpt_machine.proofs.StagedMoment.{none_owned, moment_first, moment_later}
 use Rattle.ckpt_machine.proofs.Stage.{Stages, IfSome-more, on_complete, sections-undone, stage_row, stage_leads}
@@ -61,16 +60,16 @@ module _ (m : Machine) (shapes : ℕ → Shape) (inv : InvariantIn shapes m) (s 
 
   -- ---- its checkpoint is gone
 
-  change_gone : (b : Bool) → entry_of u.ckpt m.cluster.entries ≡ None → ChangeLook b m (Some u.ckpt) NotExist Plain
-  change_gone true gone = gone
-  change_gone false gone = subst (λ o. HasNoActive o) (sym gone) tt
+  change_gone : (b : Bool) → s.kept.ckpt ≡ Some u.ckpt → entry_of u.ckpt m.cluster.entries ≡ None → ChangeLook b m s NotExist Plain
+  change_gone true kept gone = subst (λ o. GoneLook m o NotExist Plain) (sym kept) gone
+  change_gone false kept gone = subst (λ o. NoActiveLook m o NotExist Plain) (sym kept) (subst (λ o. HasNoActive o) (sym gone) tt)
 
   gone_moves : (t : Told) → entry_of u.ckpt m.cluster.entries ≡ None → IsDone m s (End (Refused NotExist Plain)) t → Goes m s (drivers.Update u) t
   gone_moves t gone done =
       let none : making_of s.call m.cluster ≡ None = making_is m shapes inv s held ∙ ap making_in is in
       let was = at m shapes inv s u held is in
       subst (Goes m s (drivers.Update u)) (sym done) (record {
-        row = (refl, refl, subst (λ (a : Ask). LookRefused m s a NotExist Plain) (sym was.asks) (subst (λ o. ChangeLook s.kept.all m o NotExist Plain) (sym was.kept) (change_gone s.kept.all gone)), refl);
+        row = (refl, refl, subst (λ (a : Ask). LookRefused m s a NotExist Plain) (sym was.asks) (change_gone s.kept.all was.kept gone), refl);
         holds = subst (λ k. let n = without_making k m in Invariant (stepped n (kept_behind m s n.cluster verbs.Look None None words.Refused) (Some (Refused NotExist Plain)))) (sym none)
             (ended_keeps m shapes inv s u held is (λ e found. absurd (let w : None ≡ Some e = sym gone ∙ found in cc)));
         nearer = λ none. absurd (cc none);
@@ -239,6 +238,7 @@ module _ (m : Machine) (shapes : ℕ → Shape) (inv : InvariantIn shapes m) (s 
             owned = λ q d owns. absurd (nobody q d owns);
             led = was.led;
             marked = was.marked;
+            held = λ d is_some. absurd (never_held m shapes inv s u held is e found d is_some);
           }
             where
               IsSomeAnd-each : (y : Option ReplicaState) (q : ℕ) → IsSomeAnd y (IsShaped (shapes u.ckpt) ((shapes u.ckpt).owners q)) → IsSomeAnd y (IsShaped (adopted sections) ((shapes u.ckpt).owners q))

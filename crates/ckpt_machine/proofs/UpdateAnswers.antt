@@ -142,6 +142,8 @@ module _ (m : Machine) (s : CallState) (word : IsUpdateWord (word_of_op s.op)) (
   done_by_taking verbs.Next k r reply details row = at_node k r _ row (λ k r p. no_other _ p.1)
   done_by_taking verbs.Pull k r reply details row = at_node k r _ row.0 (λ k r p. no_other _ p.2)
   done_by_taking verbs.Install k r reply details row = at_node k r _ row.0 (λ k r p. no_other _ p.2)
+  done_by_taking verbs.Hold k r reply details row = at_node k r _ row.0 (λ k r p. no_other _ p.1)
+  done_by_taking verbs.Activate k r reply details row = at_node k r _ row.0 (λ k r p. no_other _ p.1)
   done_by_taking verbs.Leave k r reply details row = at_none k r _ row.0 (λ p. no_other _ p.0)
   done_by_taking verbs.Close k r reply details row = row_at_ckpt k r _ row.0 (λ k p. no_other _ p.1)
   done_by_taking verbs.Unlink k r reply details row = row_at_ckpt k r _ row.0 (λ k p. no_other _ p.1)

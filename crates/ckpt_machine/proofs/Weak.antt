@@ -61,7 +61,7 @@ not_marked d c other marks of_it = by_test (same_call marks.call d) refl
         let is : d ≡ c = sym (same_call-true marks.call d same) ∙ of_it in
         absurd (let w : true ≡ false = sym (same_actor-refl c.actor) ∙ ap (λ (x : CallId). same_actor x.actor c.actor) (sym is) ∙ other in cc w)
 
-module _ (m : Machine) (shapes : ℕ → Shape) (inv : InvariantIn shapes m) (s : CallState) (call : CallId) (k n : ℕ) (made : Option MarksMade) (held : m.in_hand s.call.actor ≡ Some s) (at : ActiveOf m (shapes k).marks k)
+module _ (m : Machine) (shapes : ℕ → Shape) (inv : InvariantIn shapes m) (s : CallState) (call : CallId) (k n : ℕ) (made : Option MarksMade) (held : m.in_hand s.call.actor ≡ Some s) (at : ActiveOf m (shapes k).marks k) (no_hold : at.entry.hold ≡ None)
     (is : driver_of s ≡ drivers.Active (record { call = call; ckpt = k; kind = kinds.Weak n; marks = made })) where
   -- what drives it, with these marks
   abbrev driving : Option MarksMade → ActiveState
@@ -140,7 +140,7 @@ module _ (m : Machine) (shapes : ℕ → Shape) (inv : InvariantIn shapes m) (s 
         let hand = inv.hands s.call.actor s held in
         record {
           shapes = then_shapes;
-          holds = active_keeps m shapes inv s (driving made) held is at.node at.entry at.found at.made (alone m shapes inv s call k (kinds.Weak n) made held at refl is) at.active y (Some marks) (record { free = y_free; marks_are = y_marks }) y_generation (Some (then_state verb))
+          holds = active_keeps m shapes inv s (driving made) held is at.node at.entry at.found at.made (alone m shapes inv s call k (kinds.Weak n) made held at refl is) at.active no_hold y (Some marks) (record { free = y_free; marks_are = y_marks }) y_generation (Some (then_state verb))
               (λ d other. not_marked d s.call other marks own ∙ sym (others d other))
               (λ v same. subst (IsMarker then_machine k) (same_Some marks v same) marker_then)
               (λ z same. subst (IsInHand then_machine then_shapes s.call.actor) (same_Some (then_state verb) z same) (record {
@@ -224,7 +224,7 @@ module _ (m : Machine) (shapes : ℕ → Shape) (inv : InvariantIn shapes m) (s 
         _,
         update_of s.op,
         asks_own m shapes inv s call k (kinds.Weak n) made held at refl is,
-        on_active m shapes inv s call k (kinds.Weak n) made held at refl is _ (record { unmarked = marks_are ∙ stand; fits = subst IsOk (sym gives) refl; answer = refl; told = refl }),
+        on_active m shapes inv s call k (kinds.Weak n) made held at refl is no_hold _ (record { unmarked = marks_are ∙ stand; fits = subst IsOk (sym gives) refl; answer = refl; told = refl }),
       );
       holds = subst (λ o. let n = change_replica m k at.node o (with_marks s.call (update_of s.op) m.cluster.moment) in Invariant (stepped n (kept_behind m s n.cluster verbs.Mark (Some k) (Some at.node) words.Ok) None)) (sym at.there) (holds_marked stand);
       nearer = λ goes_on. subst (λ o. let R = (change_replica m k at.node o (with_marks s.call (update_of s.op) m.cluster.moment)).cluster in
@@ -232,7 +232,7 @@ module _ (m : Machine) (shapes : ℕ → Shape) (inv : InvariantIn shapes m) (s 
           (subst (λ d. steps_left m.cluster (driver_taken (done_of m.cluster verbs.Mark (Some k) (Some at.node) words.Ok) d) < steps_left m.cluster d) (sym (is ∙ ap (λ o. drivers.Active (driving o)) none)) (omega arith));
     })
     mark_by t served None stand (Err why) gives = subst (Goes m s (driver_of s)) (sym (IsServed-told m s at.node to_mark t _ (replies.Refused why.error why.index) served is (answered t served None (Err why) stand gives))) (record {
-      row = (_, update_of s.op, asks_own m shapes inv s call k (kinds.Weak n) made held at refl is, refused_row m shapes inv s call k (kinds.Weak n) made held at refl is none _ why stand gives refl nothing_told);
+      row = (_, update_of s.op, asks_own m shapes inv s call k (kinds.Weak n) made held at refl is, refused_row m shapes inv s call k (kinds.Weak n) made held at refl is none no_hold _ why stand gives refl nothing_told);
       holds = ends m shapes inv s call k (kinds.Weak n) made held at refl is none;
       nearer = λ none. absurd (cc none);
     })
@@ -240,7 +240,7 @@ module _ (m : Machine) (shapes : ℕ → Shape) (inv : InvariantIn shapes m) (s 
         let told = IsServed-told m s at.node to_mark t _ (replies.Held marks.call) served is (answered t served (Some marks) r stand gives) in
         let live = holder_live m shapes inv s call k (kinds.Weak n) made held at refl is none marks stand in
         subst (Goes m s (driver_of s)) (sym (told ∙ (λ i. record { verb = verbs.Mark; ckpt = Some k; node = Some at.node; reply = words.Held marks.call; end = cond (live i) (Some (Refused TryAgain (Holder marks.call))) None; details = ended_details (cond (live i) (Some (Refused TryAgain (Holder marks.call))) None) (nothing_told i) }))) (record {
-          row = (_, update_of s.op, asks_own m shapes inv s call k (kinds.Weak n) made held at refl is, held_row m shapes inv s call k (kinds.Weak n) made held at refl is none _ marks stand refl refl);
+          row = (_, update_of s.op, asks_own m shapes inv s call k (kinds.Weak n) made held at refl is, held_row m shapes inv s call k (kinds.Weak n) made held at refl is none no_hold _ marks stand refl refl);
           holds = ends m shapes inv s call k (kinds.Weak n) made held at refl is none;
           nearer = λ none. absurd (cc none);
         })
@@ -308,7 +308,7 @@ module _ (m : Machine) (shapes : ℕ → Shape) (inv : InvariantIn shapes m) (s 
       element_goes : (t : Told) → IsServed m s at.node to_do t → Goes m s (driver_of s) t
       element_goes t served = subst (Goes m s (driver_of s)) (sym (IsServed-told m s at.node to_do t _ (replies.Done answers.Nothing) served is
           (served.may ∙ ap (reply_at to_do (payload_due m s) (record_seen m.cluster k at.node)) (active_seen m (shapes k).marks k at)))) (record {
-            row = (_, update_of s.op, asks_own m shapes inv s call k (kinds.Weak n) made held at refl is, (on_active m shapes inv s call k (kinds.Weak n) made held at refl is (λ e x. IsSomeAnd x.marks (AreMarksOf s.call (update_of s.op) true)) (are_marks true left_is), refl, refl));
+            row = (_, update_of s.op, asks_own m shapes inv s call k (kinds.Weak n) made held at refl is, (on_active m shapes inv s call k (kinds.Weak n) made held at refl is no_hold (λ e x. IsSomeAnd x.marks (AreMarksOf s.call (update_of s.op) true)) (are_marks true left_is), refl, refl));
             holds = subst (λ o. let n = change_replica m k at.node o (with_next_element (entry_of k m.cluster.entries)) in Invariant (stepped n (kept_behind m s n.cluster verbs.Element (Some k) (Some at.node) words.Ok) None)) (sym at.there) holds_written;
             nearer = λ goes_on. subst (λ o. let R = (change_replica m k at.node o (with_next_element (entry_of k m.cluster.entries))).cluster in
                 steps_left R (driver_taken (done_of R verbs.Element (Some k) (Some at.node) words.Ok) (driver_of s)) < steps_left m.cluster (driver_of s)) (sym at.there)
@@ -330,14 +330,14 @@ module _ (m : Machine) (shapes : ℕ → Shape) (inv : InvariantIn shapes m) (s 
       holds_ended : Invariant (record m { replicas = put2 m.replicas k at.node (Some (without_marks at.replica)); in_hand = put_actor m.in_hand s.call.actor None })
       holds_ended = subst (λ o. Invariant (record m { replicas = put2 m.replicas k at.node (Some (marks_ended at.replica o)); in_hand = put_actor m.in_hand s.call.actor None })) (sym stand_there) (record {
         shapes = _;
-        holds = active_keeps m shapes inv s (driving made) held is at.node at.entry at.found at.made (alone m shapes inv s call k (kinds.Weak n) made held at refl is) at.active ended None (record { free = free; marks_are = refl }) at.generation None
+        holds = active_keeps m shapes inv s (driving made) held is at.node at.entry at.found at.made (alone m shapes inv s call k (kinds.Weak n) made held at refl is) at.active no_hold ended None (record { free = free; marks_are = refl }) at.generation None
             (λ d other. sym (others_unmarked d other)) (λ marks none. absurd (cc none)) (λ z there. absurd (cc there));
       })
 
       unmark_goes : (t : Told) → IsServed m s at.node to_end t → Goes m s (driver_of s) t
       unmark_goes t served = subst (Goes m s (driver_of s)) (sym (IsServed-told m s at.node to_end t _ (replies.Done answers.Nothing) served is
           (served.may ∙ ap (reply_at to_end (payload_due m s) (record_seen m.cluster k at.node)) (active_seen m (shapes k).marks k at)))) (record {
-            row = (_, update_of s.op, asks_own m shapes inv s call k (kinds.Weak n) made held at refl is, (on_active m shapes inv s call k (kinds.Weak n) made held at refl is (λ e x. IsSomeAnd x.marks (AreMarksOf s.call (update_of s.op) false)) (are_marks false none_left), refl, ap (details_at to_end (payload_due m s) (record_seen m.cluster k at.node)) (active_seen m (shapes k).marks k at)));
+            row = (_, update_of s.op, asks_own m shapes inv s call k (kinds.Weak n) made held at refl is, (on_active m shapes inv s call k (kinds.Weak n) made held at refl is no_hold (λ e x. IsSomeAnd x.marks (AreMarksOf s.call (update_of s.op) false)) (are_marks false none_left), refl, ap (details_at to_end (payload_due m s) (record_seen m.cluster k at.node)) (active_seen m (shapes k).marks k at)));
             holds = subst (λ o. let n = change_replica m k at.node o without_marks in Invariant (record n { in_hand = put_actor n.in_hand s.call.actor None })) (sym at.there) holds_ended;
             nearer = λ none. absurd (cc none);
           })

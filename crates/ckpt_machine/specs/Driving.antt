@@ -97,11 +97,15 @@ event_ckpt R (drivers.Open o) events.Undo = making_ckpt o.making
 event_ckpt R (drivers.Once (Close k)) events.Close = Some k
 event_ckpt R (drivers.Once (Unlink name)) events.Unlink = identity_in (named name R.entries)
 event_ckpt R (drivers.Once (Retain k duration)) events.Retain = Some k
+event_ckpt R (drivers.Sync s) (events.Hold r) = Some s.ckpt
+event_ckpt R (drivers.Sync s) (events.Activate r) = Some s.ckpt
 event_ckpt R driver step = None
 
 -- the node of a step of the record
 abbrev pub event_node : Driver → RecordStep → Option ℕ
 event_node (drivers.Once (Enter r)) events.Enter = Some r
+event_node (drivers.Sync s) (events.Hold r) = Some r
+event_node (drivers.Sync s) (events.Activate r) = Some r
 event_node driver step = None
 
 -- how a call ends by a step of the record that was done, and its checkpoint
@@ -119,6 +123,7 @@ event_end events.Leave k = Some (Done answers.Nothing)
 event_end events.Close k = Some (Done answers.Nothing)
 event_end events.Unlink k = Some (Done answers.Nothing)
 event_end events.Retain k = Some (Done answers.Nothing)
+event_end (events.Activate r) k = Some (Done answers.Nothing)
 event_end step k = None
 
 -- how a call ends by a step that the record refuses: an open of what another call is making

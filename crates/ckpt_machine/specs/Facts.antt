@@ -1,5 +1,5 @@
 -- What the code relies on in every state of a run.
-use Rattle.std.specs.Prelude.{◌≡◌, ℕ, ◌<◌, length, Option, Some, None, IsSome, IsSomeAnd, true, false, ◌==◌, ℤ, pos, ◌≤ℤ◌, slice_index}
+use Rattle.std.specs.Prelude.{◌≡◌, ℕ, ◌<◌, length, Option, Some, None, IsSome, IsSomeAnd, IfSome, is_some, true, false, ◌==◌, ℤ, pos, ◌≤ℤ◌, slice_index}
 use Rattle.ckpt_types.specs.declared.identities.ActorName.{ActorName}
 use Rattle.ckpt_types.specs.declared.calls.OpenAsk.{OpenAsk}
 use Rattle.ckpt_types.specs.declared.identities.CallId.{CallId}
@@ -75,6 +75,20 @@ pub record IsAddable (m : Machine) (c : ℕ) (e : Entry) : Type 0 where
 abbrev pub FitsOpen : Machine → OpenAsk → Entry → Type 0
 FitsOpen m ask e = e.making ≡ None → (accepts ask.attrs e ≡ true) × IsAddable m ask.client e
 
+-- a call has room for a copy in hand, for what the checkpoint declares, which is there
+pub record HasCopyRoom (m : Machine) (s : CallState) (k : ℕ) : Type 0 where
+  pub takes : takes_copy (asked s.op) ≡ true
+  pub declares : IsSomeAnd (entry_of k m.cluster.entries) (λ e. s.kept.declares ≡ Some e.attributes)
+
+-- nothing is staged on a replica, and no marks stand
+abbrev pub IsAtRest : ReplicaState → Type 0
+IsAtRest x = (x.slot ≡ None) × (x.marks ≡ None)
+
+-- a node can lead: where it takes over what is in hand, its replica is at rest; and something is in hand just where the checkpoint is held
+pub record IsLeadable (m : Machine) (s : CallState) (k r : ℕ) (e : Entry) : Type 0 where
+  pub rest : IsSome s.snapshot → IfSome (m.replicas k r) IsAtRest
+  pub held : is_some s.snapshot ≡ is_some e.hold
+
 -- what a due step of the record asks of it
 abbrev pub IsEventReady : Machine → CallState → Driver → RecordStep → Type 0
 IsEventReady m s (drivers.Once (once.Enter r)) events.Enter = CanBecomeLive s.call r m.cluster × (length m.cluster.clients < clients_max)
@@ -86,6 +100,8 @@ IsEventReady m s (drivers.Open o) events.Create = (length m.cluster.entries < ch
 IsEventReady m s (drivers.Open o) events.Open = IsSomeAnd (named o.ask.name m.cluster.entries) (FitsOpen m o.ask) × CanOpen o.ask m.cluster × IsClient s.call.actor
 IsEventReady m s (drivers.Open o) events.Finish = IsFinishable m o.ask.client o.making × IsMakingOf m.cluster o.ask.client (making_ckpt o.making)
 IsEventReady m s (drivers.Open o) events.Undo = IsSomeAnd o.making (λ making. Unit {0}) × IsMakingOf m.cluster o.ask.client (making_ckpt o.making)
+IsEventReady m s (drivers.Sync u) (events.Hold r) = (r < nodes_max) × IsSome (m.replicas u.ckpt r) × HasCopyRoom m s u.ckpt × IsSomeAnd (entry_of u.ckpt m.cluster.entries) (λ e. e.hold ≡ None)
+IsEventReady m s (drivers.Sync u) (events.Activate r) = (r < nodes_max) × HasCopyRoom m s u.ckpt × IsSomeAnd (entry_of u.ckpt m.cluster.entries) (λ e. IsLeadable m s u.ckpt r e)
 IsEventReady m s driver step = ⊥
 
 -- a call to the active alone
@@ -112,11 +128,6 @@ pub record IsGoingOn (m : Machine) (s : CallState) : Type 0 where
   pub asks : asked s.op ≡ asks.Next iteration
   pub within : iteration < places_max
   pub handle : IsSome (asked_handle m s.call.actor s.op)
-
--- a call has room for a copy in hand, for what the checkpoint declares, which is there
-pub record HasCopyRoom (m : Machine) (s : CallState) (k : ℕ) : Type 0 where
-  pub takes : takes_copy (asked s.op) ≡ true
-  pub declares : IsSomeAnd (entry_of k m.cluster.entries) (λ e. s.kept.declares ≡ Some e.attributes)
 
 -- what the code relies on, of each call in hand
 pub record Facts (m : Machine) : Type 0 where

@@ -31,7 +31,7 @@ use Rattle.run_labels.specs.declared.labels.Label.TheVariants as labels
 use Rattle.ckpt_types.specs.OpWord.{word_of_op}
 use Rattle.cluster_record.specs.declared.entries.Entry.{Entry}
 use Rattle.cluster_record.specs.Calls.{same_call, client_of}
-use Rattle.cluster_record.specs.Placement.{targets}
+use Rattle.cluster_record.specs.Placement.{is_collocated, targets}
 use Rattle.cluster_record.specs.RecordState.{entry_of, home_of, named, attributes_now, is_live, is_live_client, is_up, IsMomentFrom}
 use Rattle.cluster_record.specs.DueOpen.{IsBefore, accepts}
 use Rattle.ckpt_machine.specs.BeginRows.{IsAllowedBegin, IsAllowedWord}
@@ -91,9 +91,9 @@ OnReplica m k r P = IsSomeAnd (entry_of k m.cluster.entries) (λ e. IsSomeAnd (m
 abbrev pub OnAll : Machine → ℕ → ℕ → (Entry → ReplicaState → Type 0) → Type 0
 OnAll m k r P = OnReplica m k r (λ e x. (is_all e.attributes ≡ true) × P e x)
 
--- its updates are on the active alone, which this node has, and there this one is done element by element, or at once
+-- its updates are on the active alone, which this node has, no call holds it, and there this update is done element by element, or at once
 abbrev pub OnActive : Machine → Update → Bool → ℕ → ℕ → (Entry → ReplicaState → Type 0) → Type 0
-OnActive m update by_element k r P = OnReplica m k r (λ e x. (is_all e.attributes ≡ false) × (e.active ≡ Some r) × (is_by_element (is_weak e.attributes) update ≡ by_element) × P e x)
+OnActive m update by_element k r P = OnReplica m k r (λ e x. (is_all e.attributes ≡ false) × (e.active ≡ Some r) × (e.hold ≡ None) × (is_by_element (is_weak e.attributes) update ≡ by_element) × P e x)
 
 -- ---- all-replicas updates
 
@@ -289,6 +289,49 @@ abbrev pub InstallRow : Machine → CallState → ℕ → ℕ → Told → StepR
 InstallRow m s k r t words.Ok = OnReplica m k r (InstallOk m s r t true)
 InstallRow m s k r t words.Older = OnReplica m k r (InstallOk m s r t false)
 InstallRow m s k r t reply = ⊥
+
+-- ---- the setting of an active
+
+-- held: a collocated checkpoint that no call holds, whose active is on this node, which is not the client's, and without marks
+pub record HoldOk (s : CallState) (r : ℕ) (end : Option Outcome) (e : Entry) (x : ReplicaState) : Type 0 where
+  pub collocated : is_collocated e.attributes ≡ true
+  pub active : e.active ≡ Some r
+  pub other : (r == s.kept.node) ≡ false
+  pub free : e.hold ≡ None
+  pub unmarked : x.marks ≡ None
+  pub answer : end ≡ None
+
+-- kept off: the marks of another call stand there, which is live; this one is to try again
+pub record HoldKeptOff (m : Machine) (s : CallState) (r : ℕ) (by : CallId) (t : Told) (e : Entry) (x : ReplicaState) : Type 0 where
+  pub collocated : is_collocated e.attributes ≡ true
+  pub active : e.active ≡ Some r
+  pub other : (r == s.kept.node) ≡ false
+  pub free : e.hold ≡ None
+  pub held : ActiveHeld m s.call by t x
+
+-- the active of the checkpoint is held, or marks keep that off
+abbrev pub HoldRow : Machine → CallState → ℕ → ℕ → Told → StepReply → Type 0
+HoldRow m s k r t words.Ok = OnReplica m k r (HoldOk s r t.end)
+HoldRow m s k r t (words.Held by) = OnReplica m k r (HoldKeptOff m s r by t)
+HoldRow m s k r t reply = ⊥
+
+-- a node may lead by this call: the call holds the checkpoint, or none does, and no node leads it, or this one
+abbrev pub MayLead : CallId → ℕ → Option CallId → Option ℕ → Type 0
+MayLead call r (Some holder) active = holder ≡ call
+MayLead call r None None = Unit {0}
+MayLead call r None (Some active) = active ≡ r
+
+-- set: the client's node may lead a collocated checkpoint
+pub record ActivateOk (s : CallState) (r : ℕ) (end : Option Outcome) (e : Entry) : Type 0 where
+  pub collocated : is_collocated e.attributes ≡ true
+  pub local : r ≡ s.kept.node
+  pub may : MayLead s.call r e.hold e.active
+  pub answer : end ≡ Some (Done answers.Nothing)
+
+-- the active of the checkpoint is set
+abbrev pub ActivateRow : Machine → CallState → ℕ → ℕ → StepReply → Option Outcome → Type 0
+ActivateRow m s k r words.Ok end = IsSomeAnd (entry_of k m.cluster.entries) (ActivateOk s r end)
+ActivateRow m s k r reply end = ⊥
 
 -- ---- status and iterations, on the active
 
@@ -517,16 +560,30 @@ SyncLook m s errors.Timeout (Deadline deadline moment) = OnLed m s.kept.ckpt (λ
 SyncLook m s errors.TryAgain (Generations old present) = OnLed m s.kept.ckpt (λ e. e.generation ≡ present) × IsInTime m s × IsSomeAnd s.snapshot (λ pulled. pulled.generation ≡ old) × ((old == present) ≡ false)
 SyncLook m s error cause = NoActiveLook m s.kept.ckpt error cause
 
--- NOT_EXIST of an update: its checkpoint is gone, or where it goes to the active alone, has none
-abbrev pub ChangeLook : Bool → Machine → Option ℕ → AisError → Cause → Type 0
-ChangeLook true m k error cause = GoneLook m k error cause
-ChangeLook false m k error cause = NoActiveLook m k error cause
+-- the checkpoint that the call keeps is held by another call, which is live
+abbrev pub OnHeldBy : Machine → CallState → CallId → (Entry → Type 0) → Type 0
+OnHeldBy m s by P = IsSomeAnd s.kept.ckpt (λ k. IsSomeAnd (entry_of k m.cluster.entries) (λ e. (e.hold ≡ Some by) × P e)) × (is_live m.cluster by ≡ true) × (same_call by s.call ≡ false)
+
+-- an update of the active alone: there is no active; or another call holds the checkpoint
+abbrev pub ActiveLook : Machine → CallState → AisError → Cause → Type 0
+ActiveLook m s errors.TryAgain (Holder by) = OnHeldBy m s by (λ e. IsSome e.active)
+ActiveLook m s error cause = NoActiveLook m s.kept.ckpt error cause
+
+-- an update on all replicas is refused where its checkpoint is gone
+abbrev pub ChangeLook : Bool → Machine → CallState → AisError → Cause → Type 0
+ChangeLook true m s error cause = GoneLook m s.kept.ckpt error cause
+ChangeLook false m s error cause = ActiveLook m s error cause
+
+-- the setting of an active: the checkpoint is gone; or another call holds it
+abbrev pub SetLook : Machine → CallState → AisError → Cause → Type 0
+SetLook m s errors.TryAgain (Holder by) = OnHeldBy m s by (λ e. Unit {0})
+SetLook m s error cause = GoneLook m s.kept.ckpt error cause
 
 -- what the record alone refuses, by what is asked for
 abbrev pub LookRefused : Machine → CallState → Ask → AisError → Cause → Type 0
 LookRefused m s (asks.Enter r version callbacks) error cause = EnterLook m error cause
 LookRefused m s (asks.Open place name flags timeout a) error cause = OpenLook m s name a error cause
-LookRefused m s (asks.Change place update) error cause = ChangeLook s.kept.all m s.kept.ckpt error cause
+LookRefused m s (asks.Change place update) error cause = ChangeLook s.kept.all m s error cause
 LookRefused m s (asks.Read place elements) error cause = NoActiveLook m s.kept.ckpt error cause
 LookRefused m s (asks.Status place) error cause = NoActiveLook m s.kept.ckpt error cause
 LookRefused m s (asks.Iterate iteration place chosen time) error cause = IterLook m s error cause
@@ -534,6 +591,7 @@ LookRefused m s (asks.Next iteration) error cause = NoActiveLook m s.kept.ckpt e
 LookRefused m s (asks.Unlink name) error cause = UnlinkLook m s name error cause
 LookRefused m s (asks.Retain place duration) error cause = RetainLook m s.kept.ckpt error cause
 LookRefused m s (asks.Synchronize place timeout) error cause = SyncLook m s error cause
+LookRefused m s (asks.SetActive place) error cause = SetLook m s error cause
 LookRefused m s ask error cause = ⊥
 
 -- a synchronisation has served each complete node with so many updates, of the present generation
@@ -601,6 +659,8 @@ Row m s verbs.Iter t = AtNode t.ckpt t.node (λ k r. (iteration place chosen : �
 Row m s verbs.Next t = AtNode t.ckpt t.node (λ k r. (iteration : ℕ) × (asked s.op ≡ asks.Next iteration) × NextRow m s k r t)
 Row m s verbs.Pull t = AtNode t.ckpt t.node (λ k r. (place : ℕ) × (timeout : ℤ) × (asked s.op ≡ asks.Synchronize place timeout) × PullRow m s k r t t.reply) × (t.details ≡ beside.Nothing)
 Row m s verbs.Install t = AtNode t.ckpt t.node (λ k r. (place : ℕ) × (timeout : ℤ) × (asked s.op ≡ asks.Synchronize place timeout) × InstallRow m s k r t t.reply) × (t.details ≡ beside.Nothing)
+Row m s verbs.Hold t = AtNode t.ckpt t.node (λ k r. (place : ℕ) × (asked s.op ≡ asks.SetActive place) × HoldRow m s k r t t.reply) × (t.details ≡ beside.Nothing)
+Row m s verbs.Activate t = AtNode t.ckpt t.node (λ k r. (place : ℕ) × (asked s.op ≡ asks.SetActive place) × ActivateRow m s k r t.reply t.end) × (t.details ≡ beside.Nothing)
 Row m s verbs.Leave t = AtNone t.ckpt t.node ((asked s.op ≡ asks.Leave) × LeaveRow m (client_of s.call) t.reply t.end) × (t.details ≡ beside.Nothing)
 Row m s verbs.Close t = AtCkpt t.ckpt t.node (λ k. (place : ℕ) × (asked s.op ≡ asks.Close place) × CloseRow m s k t.reply t.end) × (t.details ≡ beside.Nothing)
 Row m s verbs.Unlink t = AtCkpt t.ckpt t.node (λ k. (name : List ℕ) × (asked s.op ≡ asks.Unlink name) × UnlinkRow m name k t.reply t.end) × (t.details ≡ beside.Nothing)
@@ -622,6 +682,8 @@ IsOnOwn verbs.Iter ckpt own = ckpt ≡ own
 IsOnOwn verbs.Next ckpt own = ckpt ≡ own
 IsOnOwn verbs.Pull ckpt own = ckpt ≡ own
 IsOnOwn verbs.Install ckpt own = ckpt ≡ own
+IsOnOwn verbs.Hold ckpt own = ckpt ≡ own
+IsOnOwn verbs.Activate ckpt own = ckpt ≡ own
 IsOnOwn verb ckpt own = Unit {0}
 
 -- a step is of the call that its actor has in hand, and its row holds

@@ -20,7 +20,9 @@ use Rattle.cluster_record.specs.declared.entries.Entry.{Entry}
 use Rattle.cluster_record.specs.DueSync.{SyncState}
 use Rattle.cluster_record.specs.DueUpdate.{UpdateState}
 use Rattle.cluster_record.specs.declared.calls.PulledAt.{PulledAt}
-use Rattle.cluster_record.specs.declared.calls.SyncKind.TheVariants.{Synchronize}
+use Rattle.cluster_record.specs.declared.calls.SyncKind.{SyncKind}
+use Rattle.cluster_record.specs.declared.calls.SyncKind.TheVariants.{Synchronize, ActiveSet}
+use Rattle.cluster_record.specs.Placement.{is_collocated}
 use Rattle.cluster_record.specs.declared.calls.UpdatePhase.TheVariants.{Staging, Committing}
 use Rattle.cluster_record.specs.Calls.{IsClient, client_of, same_call}
 use Rattle.ckpt_types.specs.declared.identities.CallId.{CallId}
@@ -160,8 +162,8 @@ pulled_as s = record { generation = s.generation; count = length s.effects }
 abbrev pub HasServedActive : List Bool → Snapshot → Entry → Type 0
 HasServedActive served pulled e = pulled.generation ≡ e.generation → IsSomeAnd e.active (λ r. slice_get served r ≡ Some true)
 
--- a synchronisation is of a checkpoint that was made, whose updates go to the active alone; it keeps of its pull what is in its hand, and which nodes its steps have served, and then the active is one of them
-pub record IsSyncIn (m : Machine) (s : CallState) (u : SyncState) : Type 0 where
+-- a synchronisation is of a checkpoint that was made, whose updates go to the active alone; it keeps of its pull what is in its hand, of no later generation, and which nodes its steps have served, and then the active is one of them
+pub record IsSynchronizeIn (m : Machine) (s : CallState) (u : SyncState) : Type 0 where
   pub call : u.call ≡ s.call
   pub place : ℕ
   pub timeout : ℤ
@@ -176,6 +178,32 @@ pub record IsSyncIn (m : Machine) (s : CallState) (u : SyncState) : Type 0 where
   pub nodes : length u.served ≡ nodes_max
   pub served : (r : ℕ) → r < nodes_max → slice_get u.served r ≡ Some (list_any (serves r) s.steps)
   pub led : IfSome s.snapshot (λ pulled. IfSome (entry_of u.ckpt m.cluster.entries) (HasServedActive u.served pulled))
+  pub older : IfSome s.snapshot (λ pulled. IfSome (entry_of u.ckpt m.cluster.entries) (λ e. pulled.generation ≤ e.generation))
+
+-- the hold is of the call
+abbrev pub is_held_by : CallId → Option CallId → Bool
+is_held_by call None = false
+is_held_by call (Some holder) = same_call holder call
+
+-- the setting of the client's node as the active is of a checkpoint that was made, is collocated, and complete there; it has something in its hand just where it holds the checkpoint
+pub record IsSettingIn (m : Machine) (s : CallState) (u : SyncState) (local : ℕ) : Type 0 where
+  pub call : u.call ≡ s.call
+  pub place : ℕ
+  pub asks : asked s.op ≡ asking.SetActive place
+  pub node : local ≡ s.kept.node
+  pub within : local < nodes_max
+  pub kept : s.kept.ckpt ≡ Some u.ckpt
+  pub made : WasMade m.cluster u.ckpt
+  pub collocated : IfSome (entry_of u.ckpt m.cluster.entries) (λ e. is_collocated e.attributes ≡ true)
+  pub complete : IfSome (entry_of u.ckpt m.cluster.entries) (λ e. IsCompleteOn e local)
+  -- where its checkpoint is still there, it declares what it did at the beginning
+  pub declares : IfSome (entry_of u.ckpt m.cluster.entries) (λ e. s.kept.declares ≡ Some e.attributes)
+  pub held : IfSome (entry_of u.ckpt m.cluster.entries) (λ e. is_held_by s.call e.hold ≡ is_some s.snapshot)
+
+-- by which of the two a call is
+abbrev pub IsSyncBy : Machine → CallState → SyncState → SyncKind → Type 0
+IsSyncBy m s u (Synchronize deadline) = IsSynchronizeIn m s u
+IsSyncBy m s u (ActiveSet local) = IsSettingIn m s u local
 
 -- a client that is live leaves
 pub record IsLeaveAt (m : Machine) (s : CallState) : Type 0 where
@@ -210,7 +238,7 @@ IsInPlace m shapes s (drivers.Once x) = IsOnceAt m s x
 IsInPlace m shapes s (drivers.Open o) = IsOpenIn m s o
 IsInPlace m shapes s (drivers.Update u) = IsUpdateIn m shapes s u
 IsInPlace m shapes s (drivers.Active a) = IsActiveIn m shapes s a
-IsInPlace m shapes s (drivers.Sync u) = IsSyncIn m s u
+IsInPlace m shapes s (drivers.Sync u) = IsSyncBy m s u u.kind
 
 -- an Initialize becomes live, and all other calls of one step are of a client that is
 abbrev pub enters : OneStep → Bool

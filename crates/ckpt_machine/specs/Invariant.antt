@@ -1,5 +1,5 @@
 -- What holds in every state of a run, of any number of nodes up to eight and of calls in hand; from it follow the guards, and all that the code relies on.
-use Rattle.std.specs.Prelude.{◌≡◌, ℕ, ◌<◌, [], Option, Some, None, IsSome, IsSomeAnd, IfSome, Contains, true}
+use Rattle.std.specs.Prelude.{◌≡◌, ℕ, ◌<◌, ◌≤◌, [], Option, Some, None, IsSome, IsSomeAnd, IfSome, Contains, true, false}
 use Rattle.ckpt_types.specs.declared.identities.ActorName.{ActorName}
 use Rattle.ckpt_types.specs.declared.identities.CallId.{CallId}
 use Rattle.client_handles.specs.declared.handle_view.HandleView.{HandleView}
@@ -8,9 +8,11 @@ use Rattle.cluster_record.specs.declared.calls.Making.{Making}
 use Rattle.cluster_record.specs.DueOpen.{OpenState}
 use Rattle.cluster_record.specs.declared.clients.LiveClient.{LiveClient}
 use Rattle.cluster_record.specs.declared.entries.Entry.{Entry}
-use Rattle.cluster_record.specs.RecordState.{RecordState, entry_of, first_nodes, no_nodes, is_up, client_key}
+use Rattle.cluster_record.specs.RecordState.{RecordState, entry_of, first_nodes, no_nodes, is_up, is_live_client, home_of, client_key}
 use Rattle.ckpt_machine.specs.Machine.{Machine, ReplicaState, CallState}
 use Rattle.ckpt_machine.specs.Steps.{driver_of}
+use Rattle.cluster_record.specs.Calls.{IsClient, number_of}
+use Rattle.cluster_record.specs.Placement.{is_collocated}
 use Rattle.cluster_record.specs.Identities.{IdentitiesRise, AllUpTo}
 use Rattle.ckpt_types.specs.declared.identities.ActorName.TheVariants.{Client}
 use Rattle.cluster_record.specs.Places.{find_key}
@@ -39,14 +41,23 @@ IsGoodIn m k sh e (Some call) = IsMakingEntry e × IsMaker m k call
 abbrev pub IsGoodClient : (ActorName → ℕ) → RecordState → ℕ → LiveClient → Type 0
 IsGoodClient next R c live = (live.initialize < next (Client c)) × (is_up live.node R ≡ true)
 
--- a handle is of a checkpoint that was made, with the creation flags that this has
-pub record IsGoodHandle (R : RecordState) (h : HandleView) : Type 0 where
+-- a handle is of a client that is live, and of a checkpoint that was made, with the creation flags that this has; a collocated one is complete on the client's node
+pub record IsGoodHandle (R : RecordState) (a : ActorName) (h : HandleView) : Type 0 where
+  pub client : IsClient a
+  pub live : is_live_client (number_of a) R ≡ true
   pub made : WasMade R h.id
+  pub placed : IfSome (entry_of h.id R.entries) (λ e. is_collocated e.attributes ≡ true → IsCompleteOn e (home_of (number_of a) R))
   pub flags : IfSome (entry_of h.id R.entries) (λ e. h.creation_flags ≡ e.attributes.creation_flags)
 
--- the checkpoint is there, complete on the node, and of this generation
+-- a replica on a node may have this generation: no higher one than its checkpoint, and the same on the active, as on all nodes where it is not collocated
+pub record IsOfGeneration (e : Entry) (r generation : ℕ) : Type 0 where
+  pub within : generation ≤ e.generation
+  pub led : e.active ≡ Some r → generation ≡ e.generation
+  pub placed : is_collocated e.attributes ≡ false → generation ≡ e.generation
+
+-- the checkpoint is there and complete on the node, where its replica may have this generation
 abbrev pub IsCompleteAt : RecordState → ℕ → ℕ → ℕ → Type 0
-IsCompleteAt R k r generation = IsSomeAnd (entry_of k R.entries) (λ e. IsCompleteOn e r × (generation ≡ e.generation))
+IsCompleteAt R k r generation = IsSomeAnd (entry_of k R.entries) (λ e. IsCompleteOn e r × IsOfGeneration e r generation)
 
 -- what holds in every state of a run, where the checkpoints have these shapes
 pub record InvariantIn (shapes : ℕ → Shape) (m : Machine) : Type 0 where
@@ -57,11 +68,11 @@ pub record InvariantIn (shapes : ℕ → Shape) (m : Machine) : Type 0 where
   pub up_to : AllUpTo m.cluster.last_identity m.cluster.entries
   pub swept : AllStay m.cluster.moment m.cluster.entries
   pub entries : (k : ℕ) (e : Entry) → entry_of k m.cluster.entries ≡ Some e → IsGoodIn m k (shapes k) e e.making
-  -- a replica is on a complete node of a checkpoint that is there, and has its generation
+  -- a replica is on a complete node of a checkpoint that is there, and has a generation that it may have
   pub replicas : (k r : ℕ) (x : ReplicaState) → m.replicas k r ≡ Some x → IsCompleteAt m.cluster k r x.generation
   -- what is reserved is for a checkpoint that is in the making
   pub reserves : (k r n : ℕ) → m.reserved k r ≡ Some n → IsSomeAnd (entry_of k m.cluster.entries) (λ e. IsSome e.making)
-  pub handles : (a : ActorName) (h : HandleView) → Contains (m.tables a).handles h → IsGoodHandle m.cluster h
+  pub handles : (a : ActorName) (h : HandleView) → Contains (m.tables a).handles h → IsGoodHandle m.cluster a h
   -- no iteration is lent between two steps
   pub rest : (a : ActorName) → NoneLent (m.tables a)
   pub clients : (c : ℕ) → IfSome (find_key client_key c m.cluster.clients) (IsGoodClient m.next m.cluster c)

@@ -1,9 +1,10 @@
 -- A step of the record that takes entries away, and changes in the others nothing but names, references, retentions, last closes, and the nodes of collocated ones.
-use Rattle.std.specs.Prelude.{◌≡◌, ℕ, [], length, Option, Some, IsSome, IfSome, true, false}
+use Rattle.std.specs.Prelude.{◌≡◌, ℕ, [], length, Option, Some, IsSome, IfSome, Contains, true, false}
 use Rattle.ckpt_types.specs.declared.identities.ActorName.{ActorName}
 use Rattle.ckpt_types.specs.declared.identities.CallId.{CallId}
+use Rattle.client_handles.specs.declared.handle_view.HandleView.{HandleView}
 use Rattle.cluster_record.specs.declared.entries.Entry.{Entry}
-use Rattle.cluster_record.specs.Calls.{client_of}
+use Rattle.cluster_record.specs.Calls.{number_of, client_of}
 use Rattle.cluster_record.specs.Identities.{IdentitiesRise, AllUpTo}
 use Rattle.cluster_record.specs.Placement.{is_collocated}
 use Rattle.cluster_record.specs.Places.{find_key}
@@ -11,7 +12,7 @@ use Rattle.cluster_record.specs.RecordState.{RecordState, entry_of, client_key, 
 use Rattle.ckpt_machine.specs.Entries.{AllStay}
 use Rattle.ckpt_machine.specs.Invariant.{IsMaker, IsGoodClient}
 use Rattle.ckpt_machine.specs.Machine.{Machine, CallState}
-use Rattle.ckpt_machine.specs.Shape.{Shape, IsCompleteOn, IsOwner, IsMarker}
+use Rattle.ckpt_machine.specs.Shape.{Shape, IsCompleteOn, IsOwner, IsMarker, IsHolder}
 use Rattle.weak_marks.specs.Marks.{Marked}
 
 -- the same as far as the invariant looks; one that is made and collocated may be complete on further nodes
@@ -25,6 +26,7 @@ pub record IsLaterEntry (e f : Entry) : Type 0 where
   pub active : f.active ≡ e.active
   pub attributes : f.attributes ≡ e.attributes
   pub generation : f.generation ≡ e.generation
+  pub hold : f.hold ≡ e.hold
   pub clients : length f.references ≡ length e.references
 
 -- R comes after the record of m, where these calls are left in hand
@@ -43,7 +45,10 @@ pub record IsLaterRecord (m : Machine) (R : RecordState) (hands : ActorName → 
   pub live : (a : ActorName) (z : CallState) → hands a ≡ Some z → is_live m.cluster z.call ≡ true → is_live R z.call ≡ true
   pub lives : (a : ActorName) (z : CallState) → hands a ≡ Some z → find_key client_key (client_of z.call) R.clients ≡ find_key client_key (client_of z.call) m.cluster.clients
   pub makes : (a : ActorName) (z : CallState) (k : ℕ) (e : Entry) → hands a ≡ Some z → entry_of k m.cluster.entries ≡ Some e → e.making ≡ Some z.call → IsSome (entry_of k R.entries)
-  -- those who own slots, have marks, or are making what is left, are left
+  -- who has a handle is on the node where its client was
+  pub homes : (a : ActorName) (h : HandleView) → Contains (m.tables a).handles h → find_key client_key (number_of a) R.clients ≡ find_key client_key (number_of a) m.cluster.clients
+  -- those who own slots, have marks, hold or are making what is left, are left
   pub owners : (k : ℕ) (sh : Shape) (call : CallId) → IsOwner m k sh call → hands call.actor ≡ m.in_hand call.actor
   pub markers : (k : ℕ) (marks : Marked) → IsSome (entry_of k R.entries) → IsMarker m k marks → hands marks.call.actor ≡ m.in_hand marks.call.actor
+  pub holders : (k : ℕ) (active : Option ℕ) (call : CallId) → IsSome (entry_of k R.entries) → IsHolder m k active call → hands call.actor ≡ m.in_hand call.actor
   pub makers : (k : ℕ) (call : CallId) → IsSome (entry_of k R.entries) → IsMaker m k call → hands call.actor ≡ m.in_hand call.actor

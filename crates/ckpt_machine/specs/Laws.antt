@@ -68,7 +68,7 @@ IsOnAllOrNone = (log : List Label) → IsRun log → IsAllOrNoneThroughout log
 abbrev pub AcknowledgedStays : Type 0
 AcknowledgedStays = (log : List Label) → IsRun log → AcknowledgedStay log
 
--- at every time of a run, each replica is the replay of its effects, of each call one at most, and where updates go to the active alone, each has what the active has taken first
+-- at every time of a run, each replica is the replay of its effects, of each call one at most, and where updates go to the active alone, each that follows the active has only what this has taken first
 abbrev pub RunEffectsTell : Type 0
 RunEffectsTell = (log : List Label) → IsRun log → EffectsTellThroughout log
 

@@ -8,6 +8,11 @@ use Rattle.cluster_record.specs.declared.calls.Making.{Making}
 use Rattle.cluster_record.specs.declared.calls.MarksMade.{MarksMade}
 use Rattle.cluster_record.specs.declared.calls.PulledAt.{PulledAt}
 use Rattle.cluster_record.specs.DueSync.{SyncState, is_unserved}
+use Rattle.ckpt_types.specs.declared.identities.CallId.{CallId}
+use Rattle.cluster_record.specs.declared.entries.Entry.{Entry}
+use Rattle.cluster_record.specs.declared.calls.SyncKind.{SyncKind}
+use Rattle.cluster_record.specs.declared.calls.SyncKind.TheVariants.{Synchronize, ActiveSet}
+use Rattle.ckpt_machine.specs.InHand.{is_held_by}
 use Rattle.cluster_record.specs.declared.calls.UpdatePhase.{UpdatePhase}
 use Rattle.cluster_record.specs.declared.calls.UpdatePhase.TheVariants.{Staging, Committing}
 use Rattle.cluster_record.specs.RecordState.{RecordState, entry_of, complete_of}
@@ -52,10 +57,20 @@ abbrev pub sync_left : List ℕ → SyncState → Option PulledAt → ℕ
 sync_left complete s None = 10
 sync_left complete s (Some pulled) = unserved complete s.served + 1
 
+-- the setting of an active holds its checkpoint and then sets it; one step is left once it holds, and where the checkpoint is gone
+abbrev pub setting_left : CallId → Option Entry → ℕ
+setting_left call None = 1
+setting_left call (Some e) = if is_held_by call e.hold then 1 else 2
+
+-- by which of the two a call is
+abbrev pub kind_left : Option Entry → SyncState → SyncKind → ℕ
+kind_left o s (Synchronize deadline) = sync_left (complete_of o) s s.pulled
+kind_left o s (ActiveSet local) = setting_left s.call o
+
 -- at most so many steps are left of a call
 abbrev pub steps_left : RecordState → Driver → ℕ
 steps_left R (drivers.Once x) = 1
 steps_left R (drivers.Open o) = making_left R o.making
 steps_left R (drivers.Update u) = update_left (complete_of (entry_of u.ckpt R.entries)) u.owned u.phase
 steps_left R (drivers.Active a) = active_left a.kind a.marks
-steps_left R (drivers.Sync s) = sync_left (complete_of (entry_of s.ckpt R.entries)) s s.pulled
+steps_left R (drivers.Sync s) = kind_left (entry_of s.ckpt R.entries) s s.kind

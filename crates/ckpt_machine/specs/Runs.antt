@@ -37,4 +37,5 @@ pub record Counts (m : Machine) (n : ℕ) : Type 0 where
   pub snapshots : (k : ℕ) (s : Snapshot) → m.snapshots k ≡ Some s → length s.effects ≤ n
   pub copies : (a : ActorName) (s : CallState) (x : Snapshot) → m.in_hand a ≡ Some s → s.snapshot ≡ Some x → length x.effects ≤ n
   pub identity : m.cluster.last_identity ≤ n
+  pub generations : (k : ℕ) (e : Entry) → entry_of k m.cluster.entries ≡ Some e → e.generation ≤ n + 1
   pub references : (k : ℕ) (e : Entry) (c : ℕ) → entry_of k m.cluster.entries ≡ Some e → slice_index e.references c ≤ n

@@ -1,5 +1,6 @@
 -- What stands behind the replicas of a checkpoint: where its updates are on all of them, one equation for each node, with a witness.
-use Rattle.std.specs.Prelude.{◌≡◌, ℕ, ◌+◌, ◌<◌, List, [], ◌∷◌, ◌++◌, length, Option, Some, None, IsSome, IsSomeAnd, Ok, Bool, true, false, ◌==◌, if◌then◌else◌, ℤ, slice_index}
+use Rattle.std.specs.Option.{option_map}
+use Rattle.std.specs.Prelude.{◌≡◌, ℕ, ◌+◌, ◌<◌, List, [], ◌∷◌, ◌++◌, length, Option, Some, None, is_some, IsSome, IsSomeAnd, IfSome, Ok, Bool, true, false, ◌==◌, if◌then◌else◌, ℤ, slice_index}
 use Rattle.ckpt_types.specs.declared.identities.CallId.{CallId}
 use Rattle.ckpt_types.specs.declared.update.Update.{Update}
 use Rattle.ckpt_types.specs.Sections.{Section}
@@ -13,11 +14,15 @@ use Rattle.cluster_record.specs.DueActive.{ActiveState}
 use Rattle.cluster_record.specs.DueUpdate.{UpdateState}
 use Rattle.cluster_record.specs.declared.calls.MarksMade.{MarksMade}
 use Rattle.weak_marks.specs.Marks.{Marked, elements_in}
-use Rattle.cluster_record.specs.RecordState.{first_complete, first_active}
+use Rattle.cluster_record.specs.declared.calls.SyncKind.TheVariants.{ActiveSet}
+use Rattle.cluster_record.specs.DueSync.{SyncState}
+use Rattle.cluster_record.specs.Placement.{is_collocated}
+use Rattle.cluster_record.specs.RecordState.{first_complete}
 use Rattle.ckpt_machine.specs.Drivers as drivers
 use Rattle.ckpt_types.specs.Asks.{update_of}
 use Rattle.ckpt_machine.specs.Machine.{Machine, Effect, Applied, Staged, ReplicaState, CallState}
 use Rattle.ckpt_machine.specs.Options.{is_all}
+use Rattle.ckpt_machine.specs.Propagation.{on_node, copied}
 use Rattle.ckpt_machine.specs.Steps.{driver_of}
 
 -- the slots by node, each with its owner; the update that is staged; the contents under it, and those after it, which the replicas without a slot have where it is done; and where updates go to the active alone, the marks that stand there
@@ -127,13 +132,40 @@ pub record IsMarker (m : Machine) (k : ℕ) (marks : Marked) : Type 0 where
   pub update : marks.update ≡ update_of state.op
   pub left : marks.done + made.left ≡ length (elements_in marks.update)
 
+-- ---- the active, and a hold
+
+-- the active of a checkpoint that is collocated or not, with these complete nodes: of one that is not the lowest of them; of a collocated one any of them, or none
+abbrev pub IsActiveBy : Bool → List ℕ → Option ℕ → Type 0
+IsActiveBy true complete active = IfSome active (λ r. (slice_index complete r == 0) ≡ false)
+IsActiveBy false complete active = active ≡ first_complete 0 complete
+
+-- the call is in hand, a setting of an active of this checkpoint, and has in its hand what the replica of this node has
+pub record IsHolder (m : Machine) (k : ℕ) (active : Option ℕ) (call : CallId) : Type 0 where
+  pub state : CallState
+  pub in_hand : held m call ≡ Some state
+  pub call_is : state.call ≡ call
+  pub driver : SyncState
+  pub driver_is : driver_of state ≡ drivers.Sync driver
+  pub local : ℕ
+  pub kind : driver.kind ≡ ActiveSet local
+  pub ckpt : driver.ckpt ≡ k
+  pub some : is_some state.snapshot ≡ true
+  pub copies : state.snapshot ≡ option_map copied (on_node (m.replicas k) active)
+
+-- a checkpoint that a call holds is collocated and has an active, on which no marks stand, and of which the call has a copy in its hand
+pub record IsOnHold (m : Machine) (k : ℕ) (sh : Shape) (e : Entry) (call : CallId) : Type 0 where
+  pub collocated : is_collocated e.attributes ≡ true
+  pub led : IsSome e.active
+  pub unmarked : sh.marks ≡ None
+  pub holder : IsHolder m k e.active call
+
 -- ---- the whole
 
--- a checkpoint that is made has its replicas on its complete nodes, of which the lowest is the active, or none of a collocated one; the slots are on the lowest of them, each of a call in hand, and so are the marks on the active
+-- a checkpoint that is made has its replicas on its complete nodes, of which one is the active, or none of a collocated one; the slots are on the lowest of them, each of a call in hand, so are the marks on the active, and so is the hold on the checkpoint
 pub record IsSpread (m : Machine) (k : ℕ) (sh : Shape) (e : Entry) : Type 0 where
   pub nodes : length e.complete ≡ nodes_max
   pub some : IsSome (first_complete 0 e.complete)
-  pub active : e.active ≡ first_active e.attributes e.complete
+  pub active : IsActiveBy (is_collocated e.attributes) e.complete e.active
   pub replicas : (r : ℕ) → IsCompleteOn e r → IsSomeAnd (m.replicas k r) (IsShapedBy (is_all e.attributes) sh e.active r)
   -- what is staged has this outcome
   pub fits : (r : ℕ) (call : CallId) → sh.owners r ≡ Some call → outcome e.attributes sh.update sh.moment sh.sections ≡ Ok sh.outcome
@@ -142,3 +174,4 @@ pub record IsSpread (m : Machine) (k : ℕ) (sh : Shape) (e : Entry) : Type 0 wh
   pub owned : (r : ℕ) (call : CallId) → sh.owners r ≡ Some call → IsOwner m k sh call
   pub led : (marks : Marked) → sh.marks ≡ Some marks → IsSome e.active
   pub marked : (marks : Marked) → sh.marks ≡ Some marks → IsMarker m k marks
+  pub held : (call : CallId) → e.hold ≡ Some call → IsOnHold m k sh e call

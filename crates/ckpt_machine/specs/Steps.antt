@@ -5,7 +5,9 @@ use Rattle.std.specs.Option.{option_or, option_map}
 use Rattle.std.specs.Prelude.{◌≡◌, ◌≢◌, ◌⊎◌, ℕ, ◌+◌, ◌<◌, ◌≤◌, List, [], ◌∷◌, ◌++◌, length, Option, Some, None, Bool, IsTrue, true, false, ◌==◌, if◌then◌else◌, ℤ, slice_index}
 use Rattle.ckpt_types.specs.declared.answers.Answer.TheVariants as answers
 use Rattle.ckpt_types.specs.declared.answers.Outcome.{Outcome}
-use Rattle.ckpt_types.specs.declared.answers.Outcome.TheVariants.{Done, NoMemory}
+use Rattle.ckpt_types.specs.declared.ais_error.AisError.TheVariants.{TryAgain}
+use Rattle.ckpt_types.specs.declared.answers.Cause.TheVariants.{Holder}
+use Rattle.ckpt_types.specs.declared.answers.Outcome.TheVariants.{Done, Refused, NoMemory}
 use Rattle.ckpt_types.specs.declared.attributes.CreationAttributes.{CreationAttributes}
 use Rattle.ckpt_types.specs.declared.identities.ActorName.{ActorName}
 use Rattle.ckpt_types.specs.declared.identities.CallId.{CallId}
@@ -25,6 +27,7 @@ use Rattle.node_msgs.specs.declared.requests.Request.TheVariants as requests
 use Rattle.node_msgs.specs.declared.replies.Reply.{Reply}
 use Rattle.node_msgs.specs.declared.replies.Reply.TheVariants as replies
 use Rattle.node_msgs.specs.declared.next.RecordStep.{RecordStep}
+use Rattle.node_msgs.specs.declared.next.RecordStep.TheVariants as events
 use Rattle.node_msgs.specs.declared.next.Next.{Next}
 use Rattle.node_msgs.specs.declared.next.Next.TheVariants.{Serve, Event, End}
 use Rattle.node_msgs.specs.declared.details.Details.{Details}
@@ -51,12 +54,12 @@ use Rattle.stage_slot.specs.Slots.{Slot}
 use Rattle.cluster_record.specs.Calls.{number_of, client_of, IsClient, put_actor, left}
 use Rattle.cluster_record.specs.Places.{put2}
 use Rattle.cluster_record.specs.LookUps.{declared_in, creation_flags_of}
-use Rattle.cluster_record.specs.RecordState.{RecordState, entry_of, complete_of, is_live_client, home_of, is_up, no_nodes, brought_up, IsMomentFrom, moved, swept, entered, created_as, finished, opened, undone, closed, unlinked, retained, departed}
+use Rattle.cluster_record.specs.RecordState.{RecordState, entry_of, complete_of, is_live_client, home_of, is_up, no_nodes, brought_up, IsMomentFrom, moved, swept, entered, created_as, finished, opened, undone, closed, unlinked, retained, departed, hold_set, active_set}
 use Rattle.node_msgs.specs.Requests.{ckpt_of}
 use Rattle.node_core.specs.Serving.{made_id, reply_at, details_at}
 use Rattle.node_core.specs.Seen.{record_seen}
 use Rattle.replica.specs.Replicas.{or_same, first_written, elements_left}
-use Rattle.weak_marks.specs.Marks.{Marked, with_next_done}
+use Rattle.weak_marks.specs.Marks.{Marked, call_of, with_next_done}
 use Rattle.node_msgs.specs.Steps.{word_of, verb_of, event_verb}
 use Rattle.ckpt_machine.specs.Driving.{Kept, driver_start, driver_state, driver_next, driver_taken, driver_end, event_ckpt, event_node, event_end, event_refusal, takes_memory}
 use Rattle.ckpt_machine.specs.Listing.{listing_at}
@@ -65,7 +68,7 @@ use Rattle.ckpt_machine.specs.Machine.{Machine, Effect, Applied, Staged, Replica
 use Rattle.ckpt_machine.specs.Propagation.{source_at, target_at, pull_answer, put_answer, with_pulled, with_put, copied, replica_from}
 use Rattle.client_handles.specs.ClientState.{ClientState, emptied}
 use Rattle.cluster_record.specs.Makings.{making_of}
-use Rattle.cluster_record.specs.StepDone.{StepDone, done_of, counting}
+use Rattle.cluster_record.specs.StepDone.{StepDone, done_of, counting, generation_in}
 use Rattle.snap_copy.specs.Snapshots as copies
 use Rattle.ckpt_types.specs.Asks.{Ask, asked, update_of, elements_of, takes_room, IsBuilt}
 use Rattle.ckpt_types.specs.Asks as asks
@@ -184,13 +187,28 @@ abbrev pub IsRecordAnswer : Option Outcome → RecordStep → Told → Type 0
 IsRecordAnswer (Some end) step t = (t.reply ≡ words.Refused) × (t.end ≡ Some end)
 IsRecordAnswer None step t = ((t.reply ≡ words.Ok) × (t.end ≡ event_end step t.ckpt)) ⊎ (IsTrue (takes_memory step) × (t.reply ≡ words.Memory) × (t.end ≡ Some NoMemory))
 
+-- the marks on a replica that is there
+abbrev pub marks_on : Option ReplicaState → Option Marked
+marks_on None = None
+marks_on (Some x) = x.marks
+
+-- the call whose marks on the active's replica keep a hold off
+abbrev pub kept_off : Machine → Option ℕ → RecordStep → Option CallId
+kept_off m (Some k) (events.Hold r) = call_of (marks_on (m.replicas k r))
+kept_off m k step = None
+
+-- marks keep a step off, and its call is to try again; else it is as the record answers
+abbrev pub IsEventAnswer : Option CallId → Option Outcome → RecordStep → Told → Type 0
+IsEventAnswer (Some by) refusal step t = (t.reply ≡ words.Held by) × (t.end ≡ Some (Refused TryAgain (Holder by)))
+IsEventAnswer None refusal step t = IsRecordAnswer refusal step t
+
 -- a step of the record
 pub record IsEvent (m : Machine) (s : CallState) (step : RecordStep) (t : Told) : Type 0 where
   pub verb : t.verb ≡ event_verb step
   pub ckpt : t.ckpt ≡ event_ckpt m.cluster (driver_of s) step
   pub node : t.node ≡ event_node (driver_of s) step
   pub details : t.details ≡ beside.Nothing
-  pub answer : IsRecordAnswer (event_refusal m.cluster step (driver_of s)) step t
+  pub answer : IsEventAnswer (kept_off m t.ckpt step) (event_refusal m.cluster step (driver_of s)) step t
 
 -- the step is the due one, and its reply and end are the answers of the one replica that it asks and of the call's own steps
 abbrev pub IsDone : Machine → CallState → Next → Told → Type 0
@@ -407,6 +425,10 @@ abbrev pub with_installed : Option Snapshot → ReplicaState → ReplicaState
 with_installed None x = x
 with_installed (Some s) x = replica_from s x
 
+-- the replica of the active has what was held, where something was, and the present generation of its checkpoint
+abbrev pub with_lead : Option Snapshot → ℕ → ReplicaState → ReplicaState
+with_lead s generation x = record (with_installed s x) { generation = generation }
+
 -- one replica is changed, where the node has it
 abbrev pub change_replica : Machine → ℕ → ℕ → Option ReplicaState → (ReplicaState → ReplicaState) → Machine
 change_replica m k r None change = m
@@ -462,6 +484,10 @@ with_gone_on s k r m = with_tables s.call.actor (gone_on (asked s.op) (given_at 
 abbrev pub record_step : (RecordState → RecordState) → Machine → Machine
 record_step step m = with_record m (swept (step m.cluster))
 
+-- the replica of a node leads its checkpoint, with what was held
+abbrev pub led_from : Option Snapshot → ℕ → ℕ → Machine → Machine
+led_from s k r m = change_replica m k r (m.replicas k r) (with_lead s (generation_in (entry_of k m.cluster.entries)))
+
 -- a checkpoint is in the making by a call that asks to open it
 abbrev pub created_for : CallId → Ask → RecordState → RecordState
 created_for call (asks.Open place name flags timeout a) R = created_as call name a R
@@ -502,6 +528,8 @@ changed m s verbs.Unmark k r reply = on_ok reply m (at_some k m (λ k. at_some r
 changed m s verbs.Install k r reply = on_ok reply m (at_some k m (λ k. at_some r m (λ r. change_replica m k r (m.replicas k r) (with_installed s.snapshot))))
 changed m s verbs.Iter k r reply = on_ok reply m (at_some k m (λ k. at_some r m (λ r. with_started s k r m)))
 changed m s verbs.Next k r reply = on_ok reply m (at_some k m (λ k. at_some r m (λ r. with_gone_on s k r m)))
+changed m s verbs.Hold k r reply = on_ok reply m (at_some k m (λ k. record_step (hold_set k s.call) m))
+changed m s verbs.Activate k r reply = on_ok reply m (at_some k m (λ k. at_some r m (λ r. led_from s.snapshot k r (record_step (active_set k r) m))))
 changed m s verbs.Look k r reply = on_look reply m (with_closed s m) (without_making (making_of s.call m.cluster) m)
 changed m s verb k r reply = m
 
@@ -522,9 +550,10 @@ abbrev pub created_by : Machine → CallState → Verb → Option ℕ → Option
 created_by m s verbs.Commit (Some k) (Some r) = made_on s.created (m.replicas k r)
 created_by m s verb k r = s.created
 
--- the snapshot that the call has in hand behind a step: of the replica that it has pulled
+-- the snapshot that the call has in hand behind a step: of the replica that it has pulled, or holds
 abbrev pub pulled_by : Machine → CallState → Verb → Option ℕ → Option ℕ → StepReply → Option Snapshot
 pulled_by m s verbs.Pull (Some k) (Some r) words.Ok = option_map copied (m.replicas k r)
+pulled_by m s verbs.Hold (Some k) (Some r) words.Ok = option_map copied (m.replicas k r)
 pulled_by m s verb k r reply = s.snapshot
 
 -- what a call keeps behind a step of what the state before it had: the count that was told, what was created, and what was pulled; the record is as it is after the step

@@ -112,7 +112,7 @@ IsBuiltAsk (Retain place duration) = place < places_max
 IsBuiltAsk (Unlink name) = Unit {0}
 IsBuiltAsk Leave = Unit {0}
 IsBuiltAsk (Synchronize place timeout) = place < places_max
-IsBuiltAsk (SetActive place) = ⊥
+IsBuiltAsk (SetActive place) = place < places_max
 IsBuiltAsk Unbuilt = ⊥
 
 -- the operation is one that is built

@@ -2,7 +2,7 @@
 use Rattle.std.specs.Prelude.{ℕ, ◌-◌, Option, Some, None, Bool, true, false, not, ◌&&◌, ◌==◌, if◌then◌else◌}
 use Rattle.ckpt_types.specs.declared.ais_error.AisError.TheVariants.{NotExist, NoResources, TryAgain}
 use Rattle.ckpt_types.specs.declared.answers.Answer.{Answer}
-use Rattle.ckpt_types.specs.declared.answers.Cause.TheVariants.{Plain, Count, Generations}
+use Rattle.ckpt_types.specs.declared.answers.Cause.TheVariants.{Plain, Count, Holder, Generations}
 use Rattle.ckpt_types.specs.declared.answers.Outcome.{Outcome}
 use Rattle.ckpt_types.specs.declared.answers.Outcome.TheVariants.{Done, Refused}
 use Rattle.ckpt_types.specs.declared.identities.CallId.{CallId}
@@ -58,22 +58,33 @@ abbrev pub starts_iteration : ActiveKind → Bool
 starts_iteration (kinds.Iterate choice) = true
 starts_iteration kind = false
 
+-- it changes the sections
+abbrev pub is_update : ActiveKind → Bool
+is_update kinds.Apply = true
+is_update (kinds.Weak n) = true
+is_update kind = false
+
 -- ---- what is next
+
+-- a hold on the checkpoint has an update try again, with the call whose it is
+abbrev pub unless_on_hold : ActiveKind → Option CallId → Next → Next
+unless_on_hold kind None next = next
+unless_on_hold kind (Some holder) next = if is_update kind then End (Refused TryAgain (Holder holder)) else next
 
 -- where the generation is another than that in which the call made its marks, they are gone, and it is to try again
 abbrev pub unless_changed : Option MarksMade → ℕ → Next → Next
 unless_changed None generation next = next
 unless_changed (Some marks) generation next = if marks.generation == generation then next else End (Refused TryAgain (Generations marks.generation generation))
 
--- the active is asked, where there is one; an iteration starts only where its client has room for one more
-abbrev pub on_active : Bool → ActiveState → ℕ → Option ℕ → Next
-on_active room a generation None = End (Refused NotExist Plain)
-on_active room a generation (Some r) = if starts_iteration a.kind && not room then End (Refused NoResources (Count iterations_max)) else unless_changed a.marks generation (Serve r (active_request a))
+-- the active is asked, where there is one, unless a hold or another generation has the call try again; an iteration starts only where its client has room for one more
+abbrev pub on_active : Bool → ActiveState → ℕ → Option CallId → Option ℕ → Next
+on_active room a generation hold None = End (Refused NotExist Plain)
+on_active room a generation hold (Some r) = if starts_iteration a.kind && not room then End (Refused NoResources (Count iterations_max)) else unless_on_hold a.kind hold (unless_changed a.marks generation (Serve r (active_request a)))
 
 -- what is next by the checkpoint's entry; a checkpoint that is gone is refused with NOT_EXIST
 abbrev pub active_on : Bool → ActiveState → Option Entry → Next
 active_on room a None = End (Refused NotExist Plain)
-active_on room a (Some e) = on_active room a e.generation e.active
+active_on room a (Some e) = on_active room a e.generation e.hold e.active
 
 -- what is next of a call to the active, by the record and by whether its client has room for an iteration
 abbrev pub active_next : RecordState → Bool → ActiveState → Next

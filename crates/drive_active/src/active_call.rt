@@ -2,7 +2,7 @@
 ghost use Rattle.std.specs.Prelude.{◌≡◌, ℕ, Some};
 ghost use Rattle.node_msgs.specs.Requests.{ckpt_of};
 ghost use Rattle.node_msgs.specs.Steps.{verb_of};
-ghost use Rattle.cluster_record.specs.DueActive.{active_begun, on_active, active_next, active_request, starts_iteration, unless_changed, weak_request, elements_of_kind, element_taken, active_taken};
+ghost use Rattle.cluster_record.specs.DueActive.{active_begun, on_active, active_next, active_request, starts_iteration, is_update, unless_on_hold, unless_changed, weak_request, elements_of_kind, element_taken, active_taken};
 ghost use Rattle.cluster_record.specs.RecordState.{entry_of};
 ghost use Rattle.cluster_record.specs.StepDone.{done_of, generation_in};
 
@@ -50,12 +50,18 @@ impl ActiveCall {
     {
         match cluster.entry(self.ckpt) {
             None => Next::End(Outcome::Refused(AisError::NotExist, Cause::Plain)),
-            Some(entry) => self.active_next(entry.generation, entry.active, room),
+            Some(entry) => self.active_next(entry.generation, entry.hold, entry.active, room),
         }
     }
 
-    fn active_next(&self, generation: u64, active: Option<NodeId>, room: bool) -> Next
-        ensures { result ≡ on_active room self.now generation active }
+    fn active_next(
+        &self,
+        generation: u64,
+        hold: Option<CallId>,
+        active: Option<NodeId>,
+        room: bool,
+    ) -> Next
+        ensures { result ≡ on_active room self.now generation hold active }
     {
         let Some(r) = active else {
             return Next::End(Outcome::Refused(AisError::NotExist, Cause::Plain));
@@ -66,7 +72,29 @@ impl ActiveCall {
                 Cause::Count(ITERATIONS_MAX as u32),
             ));
         }
-        unless_changed(&self.marks, generation, Next::Serve(r, self.request()))
+        let next = unless_changed(&self.marks, generation, Next::Serve(r, self.request()));
+        self.unless_on_hold(hold, next)
+    }
+
+    // A hold that stands has an update try again.
+    fn unless_on_hold(&self, hold: Option<CallId>, next: Next) -> Next
+        ensures { result ≡ unless_on_hold self.now.kind hold next }
+    {
+        match hold {
+            Some(holder) if self.is_update() => {
+                Next::End(Outcome::Refused(AisError::TryAgain, Cause::Holder(holder)))
+            }
+            _ => next,
+        }
+    }
+
+    fn is_update(&self) -> bool
+        ensures { result ≡ is_update self.now.kind }
+    {
+        match self.kind {
+            ActiveKind::Apply | ActiveKind::Weak(_) => true,
+            _ => false,
+        }
     }
 
     fn starts_iteration(&self) -> bool

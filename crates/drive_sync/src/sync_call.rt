@@ -54,6 +54,13 @@ impl SyncCall {
         }
     }
 
+    /// The checkpoint that it is about.
+    pub fn ckpt(&self) -> CkptId
+        ensures { result ≡ self.now.ckpt }
+    {
+        self.ckpt
+    }
+
     /// What it does next.
     pub fn next(&self, cluster: &Record) -> Next
         ensures { result ≡ sync_next cluster.now self.now }

@@ -1,10 +1,10 @@
 -- The first sections, and one more, that keep to what is declared.
-use Rattle.std.proofs.Common.{◌≡◌, ℕ, ◌+◌, ◌<◌, ◌≤◌, List, [], ◌∷◌, ◌++◌, length, take, slice_get, Some, All, sym, subst, ap, arith}
+use Rattle.std.proofs.Common.{◌≡◌, ℕ, ◌+◌, ◌≤◌, List, length, take, slice_get, Some, All, sym, subst}
 use Rattle.std.proofs.lemmas.List.{take_all}
 use Rattle.std.proofs.lemmas.List.Elements.{All-push, All-get_or}
 use Rattle.std.proofs.lemmas.Option.{slice_get_within, get_or_from_slice_get}
-use Rattle.ckpt_types.specs.Sections.{Section, size_of, memory_used}
-use Rattle.snap_copy.proofs.TakenLemmas.{take-next, memory_used-room}
+use Rattle.ckpt_types.specs.Sections.{Section}
+use Rattle.snap_copy.proofs.TakenLemmas.{take-next}
 
 -- what holds of the first, and of the next one
 pub All-next : (P : Section → Type 0) (sections : List Section) (i : ℕ) (s : Section) → slice_get sections i ≡ Some s → All P (take i sections) → P s → All P (take (i + 1) sections)

@@ -6,11 +6,12 @@ ghost use Rattle.cluster_record.specs.RecordState.{entry_of};
 ghost use Rattle.stage_slot.specs.Slots.{IsOwnedBy};
 ghost use Rattle.weak_marks.specs.Marks.{IsMarkedBy, is_left_of};
 ghost use Rattle.replica.specs.Replicas.{outcome_on};
-ghost use Rattle.node_core.specs.Changing.{ChangeFits, TakesStage};
-ghost use Rattle.node_core.specs.Fitting.{IsReadyFor, HasCountLeft, CanServe, RequestFits};
+ghost use Rattle.node_core.specs.Changing.{ChangeFits, LendsInto, TakesLent, TakesStage};
+ghost use Rattle.node_core.specs.Fitting.{IsReadyFor, HasCountLeft, CanServe, RequestFits, TakesSnapshot};
 ghost use Rattle.node_core.specs.Nodes.{replica_key};
 
-use crate::lending::has_lent;
+use crate::keeping::keeps_to;
+use crate::lending::{has_lent, has_room_to_pull};
 use crate::lent::Lent;
 use crate::replicas::find_at;
 use crate::seen::is_complete;
@@ -18,6 +19,7 @@ use ckpt_types::{CallId, CkptId, Moment, NodeId, SharedUpdate};
 use cluster_record::Record;
 use node_msgs::{NodeChange, Request};
 use replica::Replica;
+use snap_copy::Snap;
 use stage_slot::Slot;
 use weak_marks::Marks;
 
@@ -54,10 +56,11 @@ pub(crate) fn change_fits_in(
 {
     match change {
         NodeChange::Add(ckpt, _) => may_add(replicas, seen, *ckpt),
+        NodeChange::Lend(ckpt) => may_lend(replicas, *ckpt, lent),
+        NodeChange::Take(ckpt, _) => may_take(replicas, *ckpt, lent),
         NodeChange::Stage(_, ckpt, moment) => may_stage(replicas, *ckpt, *moment, lent),
         NodeChange::Lead(_, _) | NodeChange::Break(_) => true,
         NodeChange::Drop(_) | NodeChange::Clear => true,
-        _ => false,
     }
 }
 
@@ -206,6 +209,54 @@ fn takes_stage(replica: &Replica, moment: Moment, lent: &Lent) -> bool
         None => false,
         Some(update) => admits(replica, update, moment),
     }
+}
+
+fn may_lend(replicas: &[Replica], ckpt: CkptId, lent: &Lent) -> bool
+    ensures { Decides result (IsSomeAnd (find_key replica_key ckpt replicas.now) (LendsInto lent.now)) }
+{
+    match find_at(replicas, ckpt) {
+        None => false,
+        Some(replica) => lends_into(replica, lent),
+    }
+}
+
+fn lends_into(replica: &Replica, lent: &Lent) -> bool
+    ensures { Decides result (LendsInto lent.now replica.now) }
+{
+    if !is_unmarked(replica.marks()) {
+        return false;
+    }
+    has_room_to_pull(replica, lent)
+}
+
+fn may_take(replicas: &[Replica], ckpt: CkptId, lent: &Lent) -> bool
+    ensures { Decides result (IsSomeAnd (find_key replica_key ckpt replicas.now) (TakesLent lent.now)) }
+{
+    match find_at(replicas, ckpt) {
+        None => false,
+        Some(replica) => takes_lent(replica, lent),
+    }
+}
+
+fn takes_lent(replica: &Replica, lent: &Lent) -> bool
+    ensures { Decides result (TakesLent lent.now replica.now) }
+{
+    match &lent.snap {
+        None => false,
+        Some(snap) => takes_snapshot(replica, snap),
+    }
+}
+
+fn takes_snapshot(replica: &Replica, snap: &Snap) -> bool
+    ensures { Decides result (TakesSnapshot snap.now replica.now) }
+{
+    if !is_free(replica.slot()) {
+        return false;
+    }
+    if !is_unmarked(replica.marks()) {
+        return false;
+    }
+    keeps_to(snap, replica.store().attributes())
 }
 
 fn is_free(slot: &Slot) -> bool

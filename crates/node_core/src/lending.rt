@@ -174,7 +174,8 @@ fn has_next(lent: &Lent) -> bool
 
 // ---- snapshots
 
-fn has_room_to_pull(replica: &Replica, lent: &Lent) -> bool
+/// Whether a snapshot is lent that has room for the sections of the replica.
+pub(crate) fn has_room_to_pull(replica: &Replica, lent: &Lent) -> bool
     ensures { Decides result (IsSomeAnd lent.now.snap (λ s. Fits s.attributes replica.now.sections)) }
 {
     match &lent.snap {

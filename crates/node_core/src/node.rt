@@ -3,23 +3,24 @@ ghost use Rattle.std.specs.Prelude.{◌≡◌, [], IfOk, IfSome, IsSomeAnd, Matc
 ghost use Rattle.ckpt_types.specs.Attributes.{is_malformed};
 ghost use Rattle.node_msgs.specs.Requests.{ckpt_of};
 ghost use Rattle.stage_slot.specs.Slots.{owner_of, IsOwnedBy};
-ghost use Rattle.replica.specs.Replicas.{answer_unless, committed, install_answer, installed, outcome_on, staged};
+ghost use Rattle.weak_marks.specs.Marks.{call_of};
+ghost use Rattle.replica.specs.Replicas.{answer_unless, committed, install_answer, installed, outcome_on, pull_result, pulled_unless, staged};
 ghost use Rattle.cluster_record.specs.Places.{find_key, change_key};
 ghost use Rattle.cluster_record.specs.RecordState.{entry_of};
-ghost use Rattle.node_core.specs.Changing.{added_for, changed_node, ChangeFits, IsAddition};
+ghost use Rattle.node_core.specs.Changing.{added_for, changed_node, lent_behind, taken_over, ChangeFits, IsAddition};
 ghost use Rattle.node_core.specs.Details.{details_told};
 ghost use Rattle.node_core.specs.Fitting.{RequestFits, TakesSnapshot, TakesUpdate};
 ghost use Rattle.node_core.specs.Nodes.{NodeState, replica_key, seen_from, replica_served, MayReply, node_after, freed_node};
 ghost use Rattle.node_core.specs.Payloads.{payload_of};
 ghost use Rattle.node_core.specs.Serving.{details_at, iteration_behind, snapshot_behind};
 
-use crate::changing::{break_at, lead_at, stage_at};
+use crate::changing::{break_at, lead_at, lend_at, stage_at, take_at};
 use crate::fitting::{change_fits_in, fits_in};
 use crate::lent::Lent;
 use crate::replicas::{find_at, keep_others, keep_there};
 use crate::reserving::{add_in, reserve_in};
-use crate::serving::{commit_in, install_in, serve_in, stage_in};
-use ckpt_types::{CallId, CkptId, Moment, NodeId, SharedUpdate};
+use crate::serving::{commit_in, install_in, lend_in, serve_in, stage_in, take_in};
+use ckpt_types::{CallId, CkptId, Held, Moment, NodeId, SharedUpdate};
 use cluster_record::Record;
 use node_msgs::{NodeChange, Reply, Request};
 use replica::{Older, Replica, StageRefused};
@@ -122,6 +123,36 @@ impl Node {
         install_in(self.replicas.as_mut_slice(), ckpt, snap)
     }
 
+    /// The snapshot has what the replica of a checkpoint has from then on. Where the marks of a weak write stand, it
+    /// stays as it was, and the answer is their call. It takes no memory, and looks at no record. It requires that the
+    /// node has the replica, and that the snapshot declares what the replica does, so that it has room for it.
+    pub fn lend(&self, ckpt: CkptId, snap: &mut Snap) -> Result<(), Held>
+        requires there { IsSomeAnd (find_key replica_key ckpt self.now.replicas) (λ x. snap.old.attributes ≡ x.attributes) }
+        ensures answer { IfSome (find_key replica_key ckpt self.now.replicas) (λ x. result ≡ pull_result (call_of x.marks)) }
+        ensures snap { IfSome (find_key replica_key ckpt self.now.replicas) (λ x. snap.new ≡ pulled_unless (call_of x.marks) x snap.old) }
+    {
+        lend_in(self.replicas.as_slice(), ckpt, snap)
+    }
+
+    /// The replica of a checkpoint has the sections and the count of a snapshot from then on, with this generation,
+    /// whichever of the two is older. It takes no memory, and looks at no record. It requires that the node has the
+    /// replica, that nothing is staged on it and no marks stand, and that the snapshot's sections keep to what it
+    /// declares.
+    pub fn take_over(&mut self, ckpt: CkptId, snap: &Snap, generation: u64)
+        requires there { IsSomeAnd (find_key replica_key ckpt self.old.replicas) (TakesSnapshot snap.now) }
+        ensures { self.new ≡ record self.old { replicas = change_key replica_key ckpt (taken_over generation snap.now) self.old.replicas } }
+    {
+        take_in(self.replicas.as_mut_slice(), ckpt, snap, generation);
+    }
+
+    /// The replica of a checkpoint has this generation from then on, as where `change` asks for it. Where the node has
+    /// no replica of it, nothing changes. It looks at no record.
+    pub fn lead(&mut self, ckpt: CkptId, generation: u64)
+        ensures { self.new ≡ record self.old { replicas = change_key replica_key ckpt (λ x. record x { generation = generation }) self.old.replicas } }
+    {
+        lead_at(self.replicas.as_mut_slice(), ckpt, generation);
+    }
+
     /// Whether a request may come to the node, with what is lent.
     pub fn fits(&self, seen: &Record, request: &Request, lent: &Lent) -> bool
         ensures fits { result ≡ true → RequestFits seen.now self.now request.now lent.now }
@@ -131,7 +162,8 @@ impl Node {
     }
 
     /// The node's part of a step of the record. An addition takes memory; where that is refused, the node is as
-    /// before. Nothing else takes any.
+    /// before. Nothing else takes any. Where a replica is lent, the snapshot that travels beside the step has what the
+    /// replica has from then on.
     pub fn change(
         &mut self,
         alloc: Global,
@@ -142,10 +174,19 @@ impl Node {
         requires fits { ChangeFits seen.now self.old change.now lent.old }
         ensures ok { OnOk result (self.new ≡ changed_node seen.now change.now (payload_of lent.old) self.old) }
         ensures err { OnErr result ((self.new ≡ self.old) × IsAddition change.now) }
+        ensures snapshot { lent.new.snap ≡ lent_behind change.now self.old.replicas lent.old.snap }
     {
         match change {
             NodeChange::Add(ckpt, generation) => {
                 add_in(&mut self.replicas, alloc, seen, *ckpt, *generation)
+            }
+            NodeChange::Lend(ckpt) => {
+                lend_at(self.replicas.as_slice(), *ckpt, lent);
+                Ok(())
+            }
+            NodeChange::Take(ckpt, generation) => {
+                take_at(self.replicas.as_mut_slice(), *ckpt, *generation, lent);
+                Ok(())
             }
             NodeChange::Stage(call, ckpt, moment) => {
                 stage_at(self.replicas.as_mut_slice(), *call, *ckpt, *moment, lent);
@@ -167,7 +208,6 @@ impl Node {
                 self.replicas.clear();
                 Ok(())
             }
-            _ => Ok(()),
         }
     }
 

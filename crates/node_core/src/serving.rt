@@ -3,7 +3,9 @@ ghost use Rattle.std.specs.Prelude.{◌≡◌, ◌<◌, None, Some, IfSome, IsSo
 ghost use Rattle.cluster_record.specs.Places.{find_key, change_key, place_key};
 ghost use Rattle.node_msgs.specs.Requests.{ckpt_of};
 ghost use Rattle.stage_slot.specs.Slots.{owner_of, IsOwnedBy};
-ghost use Rattle.replica.specs.Replicas.{answer_unless, committed, install_answer, installed, outcome_on, staged};
+ghost use Rattle.weak_marks.specs.Marks.{call_of};
+ghost use Rattle.replica.specs.Replicas.{answer_unless, committed, install_answer, installed, outcome_on, pull_result, pulled_unless, staged};
+ghost use Rattle.node_core.specs.Changing.{taken_over};
 ghost use Rattle.node_core.specs.Details.{details_told};
 ghost use Rattle.node_core.specs.Fitting.{CanServe, ReplicaFits, TakesSnapshot, TakesUpdate};
 ghost use Rattle.node_core.specs.Nodes.{replica_key, where_seen};
@@ -13,12 +15,12 @@ ghost use Rattle.node_core.specs.Serving.{reply_of, reply_at, replica_after, det
 
 use crate::lent::Lent;
 use crate::reads::{next_lent, read_lent, start_lent, status_lent};
-use crate::replicas::place_of;
+use crate::replicas::{find_at, place_of};
 use crate::seen::is_complete;
-use crate::snapshots::{install_lent, pull_lent};
+use crate::snapshots::{install_lent, pull_lent, pull_whole};
 use crate::updates::{apply_lent, claim, commit_lent, stage_lent, withdraw};
 use crate::weak_writes::{element, mark_lent, unmark};
-use ckpt_types::{CallId, CkptId, Moment, NodeId, SharedUpdate};
+use ckpt_types::{CallId, CkptId, Held, Moment, NodeId, SharedUpdate};
 use cluster_record::Record;
 use node_msgs::{Reply, Request};
 use replica::{Older, Replica, StageRefused};
@@ -102,6 +104,30 @@ pub(crate) fn install_in(replicas: &mut [Replica], ckpt: CkptId, snap: &Snap) ->
     };
     let replica = &mut replicas[i];
     replica.install(snap)
+}
+
+/// A snapshot has what the replica of a checkpoint has, unless the marks of a weak write hold that off.
+pub(crate) fn lend_in(replicas: &[Replica], ckpt: CkptId, snap: &mut Snap) -> Result<(), Held>
+    requires there { IsSomeAnd (find_key replica_key ckpt replicas.now) (λ x. snap.old.attributes ≡ x.attributes) }
+    ensures answer { IfSome (find_key replica_key ckpt replicas.now) (λ x. result ≡ pull_result (call_of x.marks)) }
+    ensures snap { IfSome (find_key replica_key ckpt replicas.now) (λ x. snap.new ≡ pulled_unless (call_of x.marks) x snap.old) }
+{
+    let Some(replica) = find_at(replicas, ckpt) else {
+        unreachable!()
+    };
+    pull_whole(replica, snap)
+}
+
+/// The replica of a checkpoint takes over a snapshot, with this generation.
+pub(crate) fn take_in(replicas: &mut [Replica], ckpt: CkptId, snap: &Snap, generation: u64)
+    requires there { IsSomeAnd (find_key replica_key ckpt replicas.old) (TakesSnapshot snap.now) }
+    ensures { replicas.new ≡ change_key replica_key ckpt (taken_over generation snap.now) replicas.old }
+{
+    let Some(i) = place_of(replicas, ckpt) else {
+        unreachable!()
+    };
+    let replica = &mut replicas[i];
+    replica.complete_from(snap, generation);
 }
 
 // The answer of a replica for which its node is complete.

@@ -4,7 +4,8 @@ ghost use Rattle.ckpt_types.specs.Sections.{Fits};
 ghost use Rattle.weak_marks.specs.Marks.{call_of};
 ghost use Rattle.cluster_record.specs.RecordState.{entry_of};
 ghost use Rattle.cluster_record.specs.StepDone.{generation_in};
-ghost use Rattle.replica.specs.Replicas.{pulled_unless};
+ghost use Rattle.replica.specs.Replicas.{pull_result, pulled_from, pulled_unless};
+ghost use Rattle.node_core.specs.Changing.{filled_by, taken_lent, LendsInto, TakesLent};
 ghost use Rattle.node_core.specs.Serving.{pull_reply, install_reply, installed_of, older_reply};
 
 use crate::lent::Lent;
@@ -37,6 +38,49 @@ fn pull(replica: &Replica, snap: &mut Snap) -> Reply
         Ok(()) => Reply::Done(Answer::Pulled(replica.count())),
         Err(Held { by }) => Reply::Held(by),
     }
+}
+
+/// A snapshot with room for all that the replica declares has what that has; or the marks that stand hold the pull off.
+pub(crate) fn pull_whole(replica: &Replica, snap: &mut Snap) -> Result<(), Held>
+    requires { snap.old.attributes ≡ replica.now.attributes }
+    ensures answer { result ≡ pull_result (call_of replica.now.marks) }
+    ensures snap { snap.new ≡ pulled_unless (call_of replica.now.marks) replica.now snap.old }
+{
+    // The replica's sections keep to what it declares, and the snapshot has room for that.
+    let declared = replica.store().attributes();
+    prove!(declared == snap.attributes());
+    replica.pull(snap)
+}
+
+/// The snapshot that is lent has what the replica has, on which no marks stand.
+pub(crate) fn fill_lent(replica: &Replica, lent: &mut Lent)
+    requires { LendsInto lent.old replica.now }
+    ensures { lent.new.snap ≡ filled_by (Some replica.now) lent.old.snap }
+{
+    let Some(snap) = &mut lent.snap else {
+        unreachable!()
+    };
+    fill(replica, snap);
+}
+
+fn fill(replica: &Replica, snap: &mut Snap)
+    requires unmarked { replica.now.marks ≡ None }
+    requires fits { Fits snap.old.attributes replica.now.sections }
+    ensures { snap.new ≡ pulled_from replica.now snap.old }
+{
+    // No marks hold it off.
+    let _done = replica.pull(snap);
+}
+
+/// The replica takes over the snapshot that is lent, with this generation.
+pub(crate) fn take_lent(replica: &mut Replica, generation: u64, lent: &Lent)
+    requires { TakesLent lent.now replica.old }
+    ensures { replica.new ≡ taken_lent generation lent.now.snap replica.old }
+{
+    let Some(snap) = &lent.snap else {
+        unreachable!()
+    };
+    replica.complete_from(snap, generation);
 }
 
 /// The replica takes over the snapshot that is lent, where that is of the present generation and the replica older.

@@ -73,6 +73,7 @@ line_built : (t : ℤ) (k : FirstWord) (v : LineValues (form k).shape) → FitVa
 line_built t words.Nodes v f b n m h asked = absurd (cc n)
 line_built t (words.Op calls.Client) v f b n m h asked = (omega (arith, f.0), (omega (arith, f.1.0), none_registered v.1.1.1.0 h), f.1.1.0)
 line_built t (words.Op calls.Open) v f b n m h asked = (omega (arith, f.0.0), omega (arith, f.0.1.0), (omega (arith, f.0.1.1.1.0.1), all_numbers v.1 f.1))
+line_built t (words.Op calls.Active) v f b n m h asked = (omega (arith, f.0), omega (arith, f.1.0), tt)
 line_built t (words.Op calls.Status) v f b n m h asked = (omega (arith, f.0), omega (arith, f.1.0), tt)
 line_built t (words.Op calls.Finalize) v f b n m h asked = (omega (arith, f.0), tt, tt)
 line_built t (words.Op calls.Close) v f b n m h asked = (omega (arith, f.0), omega (arith, f.1.0), tt)

@@ -141,7 +141,6 @@ first_word_of w = or_else (word_of_first w) (or_else (word_of_second w) (word_of
 -- THE CALLS THAT ARE NOT BUILT YET, one row each
 abbrev pub is_later_call : OpWord → Bool
 is_later_call calls.OpenAsync = true
-is_later_call calls.Active = true
 is_later_call calls.SyncAsync = true
 is_later_call calls.Dispatch = true
 is_later_call calls.Copy = true

@@ -135,7 +135,7 @@ fn is_later_call(call: OpWord) -> bool
 {
     matches!(
         call,
-        OpWord::OpenAsync | OpWord::Active | OpWord::SyncAsync | OpWord::Dispatch | OpWord::Copy
+        OpWord::OpenAsync | OpWord::SyncAsync | OpWord::Dispatch | OpWord::Copy
     )
 }
 

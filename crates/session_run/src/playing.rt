@@ -53,8 +53,8 @@ pub fn session<R: Threads + Wait + Sync, G: Gate>(
     // active's.
     ensures acknowledged { AcknowledgedStay log.new.labels }
 
-    // Each replica is the replay of the updates that it has taken, each once; of the active's first ones, where they go
-    // to the active alone.
+    // Each replica is the replay of the updates that it has taken, each once; where they go to the active alone, of the
+    // active's first ones, if it follows the active.
     ensures effects { EffectsTellThroughout log.new.labels }
 
     // Behind a synchronisation that was answered OK each complete replica has the checkpoint's generation, and first what

@@ -1,7 +1,7 @@
 -- A request that may come fits the node, since sections keep to what is declared for them.
-use Rattle.std.proofs.Common.{◌≡◌, sym, subst, List, true, false}
+use Rattle.std.proofs.Common.{◌≡◌, sym, subst, true, false}
 use Rattle.std.specs.Prelude.{Option, Some, None, IsSomeAnd, IfSome, Bool}
-use Rattle.ckpt_types.specs.Sections.{Section, Fits}
+use Rattle.ckpt_types.specs.Sections.{Fits}
 use Rattle.node_msgs.specs.declared.requests.Request.{Request}
 use Rattle.node_msgs.specs.declared.requests.Request.TheVariants as requests
 use Rattle.node_msgs.specs.Requests.{ckpt_of}
@@ -10,11 +10,11 @@ use Rattle.cluster_record.specs.Places.{find_key}
 use Rattle.cluster_record.specs.RecordState.{RecordState}
 use Rattle.replica.specs.Replicas.{Replica}
 use Rattle.node_core.specs.declared.lent.Lent.{Lent}
-use Rattle.node_core.specs.Fitting.{CanServe, ReplicaFits, RequestFits}
+use Rattle.node_core.specs.Fitting.{ReplicaFits, RequestFits}
 use Rattle.node_core.specs.Lending.{HasLent}
 use Rattle.node_core.specs.Nodes.{NodeState, replica_key, seen_from}
 use Rattle.node_core.specs.Seen.{is_complete}
-use Rattle.world_core.specs.Asking.{IsLentFor, CanBeAsked, ReplicaMayBeAsked, MayCome, KeepsToDeclared}
+use Rattle.world_core.specs.Asking.{IsLentFor, ReplicaMayBeAsked, MayCome, KeepsToDeclared}
 
 -- what is pulled keeps to what the snapshot was reserved for
 fits_pulled : (s : Option Snapshot) (x : Replica) → IsSomeAnd s (λ s. s.attributes ≡ x.attributes) → Fits x.attributes x.sections → IsSomeAnd s (λ s. Fits s.attributes x.sections)

@@ -24,6 +24,7 @@ use Rattle.world_core.specs.declared.world.World.{World}
 use Rattle.world_core.specs.Happenings.{rooms_at}
 use Rattle.world_core.specs.Backgrounds.{HaveRooms}
 use Rattle.world_core.specs.Holding.{HoldsOnlyWhatStands}
+use Rattle.world_core.specs.RecordReady.{IsPlain}
 use Rattle.world_core.specs.Shows.{Shows, IsShown, HistoryFits, History, machine_of, hand_at}
 use Rattle.world_core.proofs.Freeing.{DoesBefore}
 use Rattle.world_core.proofs.Held.{state_in, in_hand_at, actor_is, due_is, IsCopyBehind}
@@ -61,20 +62,20 @@ event_counts m (events.Hold q) k r reply = refl
 event_counts m (events.Activate q) k r reply = refl
 event_counts m (events.Complete j q t) k r reply = refl
 
--- and pulls nothing
-pub event_pulls : (m : Machine) (s : CallState) (step : RecordStep) (k r : Option ℕ) (reply : StepReply) → pulled_by m s (event_verb step) k r reply ≡ s.snapshot
-event_pulls m s events.Enter k r reply = refl
-event_pulls m s events.Leave k r reply = refl
-event_pulls m s events.Open k r reply = refl
-event_pulls m s events.Create k r reply = refl
-event_pulls m s events.Finish k r reply = refl
-event_pulls m s events.Undo k r reply = refl
-event_pulls m s events.Close k r reply = refl
-event_pulls m s events.Unlink k r reply = refl
-event_pulls m s events.Retain k r reply = refl
-event_pulls m s (events.Hold q) k r reply = refl
-event_pulls m s (events.Activate q) k r reply = refl
-event_pulls m s (events.Complete j q t) k r reply = refl
+-- and a plain one pulls nothing
+pub event_pulls : (m : Machine) (s : CallState) (step : RecordStep) (k r : Option ℕ) (reply : StepReply) → IsPlain step → pulled_by m s (event_verb step) k r reply ≡ s.snapshot
+event_pulls m s events.Enter k r reply plain = refl
+event_pulls m s events.Leave k r reply plain = refl
+event_pulls m s events.Open k r reply plain = refl
+event_pulls m s events.Create k r reply plain = refl
+event_pulls m s events.Finish k r reply plain = refl
+event_pulls m s events.Undo k r reply plain = refl
+event_pulls m s events.Close k r reply plain = refl
+event_pulls m s events.Unlink k r reply plain = refl
+event_pulls m s events.Retain k r reply plain = refl
+event_pulls m s (events.Hold q) k r reply plain = absurd plain
+event_pulls m s (events.Activate q) k r reply plain = absurd plain
+event_pulls m s (events.Complete j q t) k r reply plain = refl
 
 -- `behind` shows with the history `later` what the step changes, the call's own steps aside
 -- and the call is told this count, has this copy in its hand, and has pulled these effects then

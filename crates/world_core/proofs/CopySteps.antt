@@ -18,7 +18,7 @@ use Rattle.node_msgs.specs.Requests.{ckpt_of}
 use Rattle.node_msgs.specs.Steps.{verb_of, word_of}
 use Rattle.snap_copy.specs.Snapshots as copies
 use Rattle.stage_slot.specs.Slots.{Slot, owner_of}
-use Rattle.weak_marks.specs.Marks.{Marked, call_of}
+use Rattle.weak_marks.specs.Marks.{call_of}
 use Rattle.cluster_record.specs.declared.entries.Entry.{Entry}
 use Rattle.cluster_record.specs.StepDone.{count_told}
 use Rattle.replica.specs.declared.replica.Older.{Older}
@@ -26,10 +26,10 @@ use Rattle.replica.specs.Replicas.{Replica, install_answer, outcome_on, pulled_u
 use Rattle.node_core.specs.Payloads.{Payload}
 use Rattle.node_core.specs.Seen.{RecordSeen}
 use Rattle.node_core.specs.Serving.{reply_of, reply_unless, done_or_refused, update_answer, commit_answer, next_reply, pull_reply, install_reply, older_reply, generation_seen, snapshot_after, snapshot_behind}
-use Rattle.ckpt_machine.specs.Machine.{Machine, Effect, Snapshot, CallState}
+use Rattle.ckpt_machine.specs.Machine.{Machine, Effect, ReplicaState, Snapshot, CallState}
 use Rattle.ckpt_machine.specs.Propagation.{copied}
 use Rattle.ckpt_machine.specs.Steps.{counted_at, count_in, pulled_by, seen_snapshot}
-use Rattle.world_core.specs.Shows.{shown_replica, shown_copy, shown_snapshot, FitsReplica, FitsSnapshot, FitsCopy, IsRoomToCopy}
+use Rattle.world_core.specs.Shows.{shown_replica, shown_copy, FitsReplica, FitsSnapshot, FitsCopy, IsRoomToCopy}
 use Rattle.world_core.proofs.Carrying.{GoesToReplica}
 use Rattle.world_core.proofs.RequestRows.{effects_in}
 
@@ -117,9 +117,9 @@ room_alike ask None s t same room = tt
 room_alike ask (Some a) s t same room = λ takes. same ∙ room takes
 
 -- a pull has room
-abbrev pub HasRoomFor : Request → Option copies.Snapshot → Type 0
-HasRoomFor (requests.Pull call k) s = IsSome s
-HasRoomFor request s = Unit {0}
+abbrev pub HasCopyRoomFor : Request → Option copies.Snapshot → Type 0
+HasCopyRoomFor (requests.Pull call k) s = IsSome s
+HasCopyRoomFor request s = Unit {0}
 
 -- what is so of a copy behind a request
 pub record IsCopiedSo (Q : Option copies.Snapshot → Type 0) (shown : Option Snapshot) (pulled : Option (List Effect)) (copy : Option copies.Snapshot) : Type 0 where
@@ -136,13 +136,18 @@ copy_same : (Q : Option copies.Snapshot → Type 0) (request : Request) (x : Rep
     IsCopiedSo Q (shown_copy pulled s) pulled (snapshot_behind request (Some x) s)
 copy_same Q request x s pulled same room counts = subst (IsCopiedSo Q (shown_copy pulled s) pulled) (sym (behind_same request x s same)) (record { same = refl; room = room; counts = counts })
 
+-- all that a replica has is copied
+pub copied_whole : (y : Option ReplicaState) (E : List Effect) (o : CallId) (x : Replica) (t : copies.Snapshot) → y ≡ shown_replica E o (Some x) → length E ≡ x.count → (Q : Option copies.Snapshot → Type 0) → ((s t : copies.Snapshot) → t.attributes ≡ s.attributes → Q (Some s) → Q (Some t)) → Q (Some t) →
+    IsCopiedSo Q (option_map copied y) (Some E) (Some (pulled_from x t))
+copied_whole y E o x t there count Q alike has = record { same = ap (option_map copied) there; room = alike t (pulled_from x t) refl has; counts = count }
+
 -- what a call has in hand behind a request that a replica has answered, as the machine has it and as the code has it
-pub copy_behind : (m : Machine) (s : CallState) (r : ℕ) (E : List Effect) (o : CallId) (x : Replica) (request : Request) (p : Payload) (seen : RecordSeen) (copy : Option copies.Snapshot) (pulled : Option (List Effect)) → s.snapshot ≡ shown_copy pulled copy → m.replicas (ckpt_of request) r ≡ shown_replica E o (Some x) → HasRoomFor request copy →
+pub copy_behind : (m : Machine) (s : CallState) (r : ℕ) (E : List Effect) (o : CallId) (x : Replica) (request : Request) (p : Payload) (seen : RecordSeen) (copy : Option copies.Snapshot) (pulled : Option (List Effect)) → s.snapshot ≡ shown_copy pulled copy → m.replicas (ckpt_of request) r ≡ shown_replica E o (Some x) → HasCopyRoomFor request copy →
     length E ≡ x.count → (Q : Option copies.Snapshot → Type 0) → ((s t : copies.Snapshot) → t.attributes ≡ s.attributes → Q (Some s) → Q (Some t)) → Q copy → FitsCopy pulled copy →
     IsCopiedSo Q (pulled_by m s (verb_of request) (Some (ckpt_of request)) (Some r) (word_of (reply_of request p seen x))) (pulled_after request (Some x) E pulled) (snapshot_behind request (Some x) copy)
 copy_behind m s r E o x (requests.Pull call k) p seen None pulled is there room count Q alike has counts = absurd (cc room)
 copy_behind m s r E o x (requests.Pull call k) p seen (Some t) pulled is there room count Q alike has counts = by_marks (call_of x.marks) where
   by_marks : (holder : Option CallId) → IsCopiedSo Q (pulled_by m s (verb_of (requests.Pull call k)) (Some k) (Some r) (word_of (pull_reply holder x.count))) (pulled_unless_marked holder E pulled) (Some (pulled_unless holder x t))
   by_marks (Some by) = record { same = is; room = has; counts = counts }
-  by_marks None = record { same = ap (option_map copied) there; room = alike t (pulled_from x t) refl has; counts = count }
+  by_marks None = copied_whole (m.replicas k r) E o x t there count Q alike has
 copy_behind m s r E o x request p seen copy pulled is there room count Q alike has counts = subst (λ z. IsCopiedSo Q z pulled (snapshot_behind request (Some x) copy)) (sym is) (copy_same Q request x copy pulled (λ t. refl) has counts)

@@ -47,7 +47,7 @@ use Rattle.world_core.specs.Shows.{HistoryFits, FitsReplica, FitsSlot, FitsCopy,
 use Rattle.world_core.specs.HandRooms.{room_for}
 use Rattle.ckpt_machine.proofs.NextOf.{OfAsked, next_of}
 use Rattle.world_core.proofs.Carrying.{GoesToReplica, IsOfCall, IsSameCopy, payload_with}
-use Rattle.world_core.proofs.CopySteps.{HasRoomFor}
+use Rattle.world_core.proofs.CopySteps.{HasCopyRoomFor}
 use Rattle.world_core.proofs.Held.{state_in, in_hand_is, actor_is, iteration_is, due_is, copy_stays}
 use Rattle.world_core.proofs.IterationSteps.{TablesReady, goes_on_with, asked_is, room_for_declared}
 use Rattle.world_core.proofs.Recording.{zero_there}
@@ -84,7 +84,7 @@ asked_goes (drivers.Update u) = (λ r t. tt, λ r. tt)
 asked_goes (drivers.Active a) = λ r. kind_goes a.call a.ckpt a.kind a.marks
 asked_goes (drivers.Once x) = tt
 asked_goes (drivers.Open o) = tt
-asked_goes (drivers.Sync u) = (λ r. tt, λ r. tt)
+asked_goes (drivers.Sync u) = (λ r. tt, λ r. tt, λ r. tt, λ r. tt)
 
 -- ---- the replica that is there
 
@@ -156,7 +156,7 @@ module _ (w : World) (h : History) (c r : ℕ) (request : Request) (hand : InHan
 
   -- and it is one of a call that is built
   pub built : IsReservationOr request
-  built = subst AsksSo next (next_of AsksSo (λ o. tt) (λ step. tt) (λ r k. tt) w.cluster (rooms_at w c) hand.driver (asked_goes hand.driver))
+  built = subst AsksSo next (next_of AsksSo (λ o. tt) (λ step none. tt) (λ r k. tt) w.cluster (rooms_at w c) hand.driver (asked_goes hand.driver))
 
   module _ (goes : GoesToReplica request) where
     -- the node has the replica
@@ -191,9 +191,9 @@ entry_with : (P : Entry → Type 0) (o : Option Entry) → IsSomeAnd o P → (e 
 entry_with P None some = absurd some
 entry_with P (Some e) some = (e, refl, some)
 
-some_there : (P : copies.Snapshot → Type 0) (o : Option copies.Snapshot) → IsSomeAnd o P → IsSome o
-some_there P None some = absurd some
-some_there P (Some s) some = refl
+copy_is_there : (P : copies.Snapshot → Type 0) (o : Option copies.Snapshot) → IsSomeAnd o P → IsSome o
+copy_is_there P None some = absurd some
+copy_is_there P (Some s) some = refl
 
 -- the snapshot in a hand is seen as the code has it, once something was pulled
 copy_seen : (pulled : Option (List Effect)) (s : Option copies.Snapshot) (a : CreationAttributes) → IsSome (shown_copy pulled s) → IsSomeAnd s (λ s. s.attributes ≡ a) → FitsCopy pulled s → seen_snapshot (Some a) (shown_copy pulled s) ≡ s
@@ -225,20 +225,20 @@ module _ (w : World) (h : History) (c r : ℕ) (hand : InHand) (facts : Facts (m
   tables_ready request is = tt
 
   -- the room for what it copies is what its checkpoint declares
-  copy_room_is : (k : ℕ) → HasCopyRoom M s k → (e : Entry) → entry_of k w.cluster.entries ≡ Some e → IsSomeAnd hand.snapshot (λ s. s.attributes ≡ e.attributes)
+  pub copy_room_is : (k : ℕ) → HasCopyRoom M s k → (e : Entry) → entry_of k w.cluster.entries ≡ Some e → IsSomeAnd hand.snapshot (λ s. s.attributes ≡ e.attributes)
   copy_room_is k has e at =
       let declares : s.kept.declares ≡ Some e.attributes = subst (λ (o : Option Entry). IsSomeAnd o (λ e. s.kept.declares ≡ Some e.attributes)) at has.declares in
       subst (λ d. IsRoomToCopy (asked hand.op) d hand.snapshot) declares (copy_stays w h c hand held fits).room has.takes
 
-  copy_declared : (k : ℕ) → HasCopyRoom M s k → (x : Replica) (e : Entry) → entry_of k w.cluster.entries ≡ Some e → x.attributes ≡ e.attributes → IsSomeAnd hand.snapshot (λ s. s.attributes ≡ x.attributes)
+  pub copy_declared : (k : ℕ) → HasCopyRoom M s k → (x : Replica) (e : Entry) → entry_of k w.cluster.entries ≡ Some e → x.attributes ≡ e.attributes → IsSomeAnd hand.snapshot (λ s. s.attributes ≡ x.attributes)
   copy_declared k has x e at same = subst (λ a. IsSomeAnd hand.snapshot (λ s. s.attributes ≡ a)) (sym same) (copy_room_is k has e at)
 
   -- a call that pulls has room
-  pub copy_there : (request : Request) → due M s ≡ Serve r request → HasRoomFor request hand.snapshot
+  pub copy_there : (request : Request) → due M s ≡ Serve r request → HasCopyRoomFor request hand.snapshot
   copy_there (requests.Pull call k) is =
       let has = facts.pulls (Client c) s r call k (in_hand_is w h c hand held) is in
       let (e, at, declares) = entry_with (λ e. s.kept.declares ≡ Some e.attributes) (entry_of k w.cluster.entries) has.declares in
-      some_there (λ s. s.attributes ≡ e.attributes) hand.snapshot (copy_room_is k has e at)
+      copy_is_there (λ s. s.attributes ≡ e.attributes) hand.snapshot (copy_room_is k has e at)
   copy_there request is = tt
 
   -- and one that installs has in hand what the machine's call has

@@ -19,7 +19,7 @@ use Rattle.cluster_record.specs.Calls.{client_of}
 use Rattle.ckpt_types.specs.declared.calls.OpenAsk.{OpenAsk}
 use Rattle.cluster_record.specs.Opening.{answer_named, open_answer}
 use Rattle.cluster_record.specs.Placement.{targets, is_collocated, adds}
-use Rattle.cluster_record.specs.RecordState.{RecordState, identity_of, entry_of, complete_of, named, stays, referred, opened_with, home_of, made_with, new_entry, created_as, opened, finished, undone, has_references, idle_from, unreferred, released_all, unnamed, unlinked, retaining, is_call_of, departed, swept}
+use Rattle.cluster_record.specs.RecordState.{RecordState, identity_of, entry_of, complete_of, named, stays, referred, opened_with, home_of, made_with, new_entry, created_as, opened, finished, undone, has_references, idle_from, unreferred, released_all, unnamed, unlinked, retaining, is_call_of, departed, can_be_held, with_hold, can_lead, generation_under, with_active, swept}
 use Rattle.world_core.specs.Nodes.{replica_in, with_added, with_opened}
 use Rattle.replica.specs.Replicas.{opened_replica}
 use Rattle.world_core.specs.RecordAfter.{once_change, event_change, event_after, nodes_behind}
@@ -69,6 +69,13 @@ quiet_unreferred c t e = without_references t (slice_set e.references c (slice_i
 
 pub quiet_released_all : (c : ℕ) (t : ℤ) → Quiet (released_all c t)
 quiet_released_all c t e = without_references t (slice_set e.references c 0) e (slice_index e.references c == 0)
+
+-- a hold, and the setting of an active
+pub quiet_hold : (call : CallId) → Quiet (with_hold call)
+quiet_hold call e = elim (can_be_held e) as (λ b. sight (cond b (record e { hold = Some call }) e) ≡ sight e) [ true ↦ refl | false ↦ refl ]
+
+pub quiet_active : (r : ℕ) → Quiet (with_active r)
+quiet_active r e = elim (can_lead r e) as (λ b. sight (cond b (record e { active = Some r; generation = generation_under r e; hold = None }) e) ≡ sight e) [ true ↦ refl | false ↦ refl ]
 
 -- of an entry that is changed so, a node sees what it was
 pub quiet_identity : (f : Entry → Entry) → Quiet f → KeepsIdentity f
@@ -220,6 +227,8 @@ change_keeps call (drivers.Open o) events.Open R = at_keeps (identity_in (named 
 change_keeps call (drivers.Open o) events.Finish R = at_keeps (making_ckpt o.making) R (λ k. finished k o.ask.client R) (λ k. record { up = refl; moment = refl })
 change_keeps call (drivers.Open o) events.Undo R = at_keeps (making_ckpt o.making) R (λ k. undone k R) (λ k. record { up = refl; moment = refl })
 change_keeps call (drivers.Open o) step R = keeps_all R
+change_keeps call (drivers.Sync u) (events.Hold r) R = record { up = refl; moment = refl }
+change_keeps call (drivers.Sync u) (events.Activate r) R = record { up = refl; moment = refl }
 change_keeps call x step R = keeps_all R
 
 pub event_keeps : (call : CallId) (x : Driver) (step : RecordStep) (R : RecordState) → KeepsUp R (event_after call x step R)
@@ -428,6 +437,8 @@ module _ (w : World) (h : History) (facts : Facts (machine_of w h)) (holds : Hol
   change_go call s (drivers.Open o) events.Finish eight granted ready = on _ (finished_go o.ask.client s o.making ready.0)
   change_go call s (drivers.Open o) events.Undo eight granted ready = on _ (undone_go (making_ckpt o.making))
   change_go call s (drivers.Open o) step eight granted ready = absurd ready
+  change_go call s (drivers.Sync u) (events.Hold r) eight granted ready = on _ (one_goes (with_hold call) (quiet_hold call) u.ckpt)
+  change_go call s (drivers.Sync u) (events.Activate r) eight granted ready = on _ (one_goes (with_active r) (quiet_active r) u.ckpt)
   change_go call s x step eight granted ready = absurd ready
 
   -- and after the sweep

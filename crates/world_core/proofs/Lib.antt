@@ -10,8 +10,11 @@ pub mod Going
 pub mod GoingOn
 pub mod HandPlaces
 pub mod Held
+pub mod HoldSteps
 pub mod HoldingLaws
 pub mod IterationSteps
+pub mod Leading
+pub mod LeadSteps
 pub mod LentPlaces
 pub mod Listings
 pub mod LiveRooms

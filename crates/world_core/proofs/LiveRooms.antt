@@ -124,6 +124,8 @@ rooms_changed call (drivers.Open o) events.Open R tables enters rooms = λ d liv
 rooms_changed call (drivers.Open o) events.Finish R tables enters rooms = λ d live. rooms d (at_live (making_ckpt o.making) R (λ k. finished k o.ask.client R) (λ k d live. live) d live)
 rooms_changed call (drivers.Open o) events.Undo R tables enters rooms = λ d live. rooms d (at_live (making_ckpt o.making) R (λ k. undone k R) (λ k d live. live) d live)
 rooms_changed call (drivers.Open o) step R tables enters rooms = rooms
+rooms_changed call (drivers.Sync u) (events.Hold r) R tables enters rooms = λ d live. rooms d live
+rooms_changed call (drivers.Sync u) (events.Activate r) R tables enters rooms = λ d live. rooms d live
 rooms_changed call x step R tables enters rooms = rooms
 
 -- so it is after a step of the record

@@ -18,7 +18,8 @@ use Rattle.run_labels.specs.declared.labels.PullReply.TheVariants as pulls
 use Rattle.run_labels.specs.declared.labels.PutReply.{PutReply}
 use Rattle.run_labels.specs.declared.labels.PutReply.TheVariants as puts
 use Rattle.cluster_record.specs.Makings.{making_of}
-use Rattle.cluster_record.specs.RecordState.{RecordState, entry_of, stays, IsMomentFrom, moved}
+use Rattle.cluster_record.specs.RecordState.{RecordState, entry_of, stays, active_set, IsMomentFrom, moved}
+use Rattle.cluster_record.specs.StepDone.{generation_in}
 use Rattle.cluster_record.proofs.IdentityLaws.{filter_leaves}
 use Rattle.ckpt_types.specs.Asks.{Ask, asked}
 use Rattle.ckpt_types.specs.Asks as asks
@@ -26,7 +27,7 @@ use Rattle.ckpt_machine.specs.Facts.{Facts}
 use Rattle.ckpt_machine.specs.Machine.{Machine, ReplicaState, Snapshot, CallState}
 use Rattle.ckpt_machine.specs.Propagation.{source_at, target_at, with_pulled, with_put}
 use Rattle.world_core.specs.Nodes.{replica_in}
-use Rattle.ckpt_machine.specs.Steps.{on_ok, on_look, without_making, at_some, change_replica, created_for, retained_for, changed, step_of, after}
+use Rattle.ckpt_machine.specs.Steps.{on_ok, on_look, without_making, at_some, change_replica, created_for, retained_for, record_step, with_lead, led_from, changed, step_of, after}
 use Rattle.world_core.specs.declared.hands.InHand.{InHand}
 use Rattle.world_core.specs.declared.world.Event.{Event}
 use Rattle.world_core.specs.declared.world.Event.TheVariants as happenings
@@ -119,6 +120,9 @@ retained_for-moment : (ask : Ask) (k : ℕ) (R : RecordState) → (retained_for 
 retained_for-moment (asks.Retain place duration) k R = refl
 retained_for-moment ask k R = refl
 
+led_from-moment : (m : Machine) (snapshot : Option Snapshot) (k r : ℕ) → SameMoment m (led_from snapshot k r (record_step (active_set k r) m))
+led_from-moment m snapshot k r = let led = record_step (active_set k r) m in change_replica-moment led k r (led.replicas k r) (with_lead snapshot (generation_in (entry_of k led.cluster.entries)))
+
 changed-moment : (m : Machine) (s : CallState) (verb : Verb) (k r : Option ℕ) (reply : StepReply) → SameMoment m (changed m s verb k r reply)
 changed-moment m s verbs.Enter k r reply = on_ok-moment m _ reply (at_some-moment m r _ (λ r. refl))
 changed-moment m s verbs.Leave k r reply = on_ok-moment m _ reply refl
@@ -139,6 +143,8 @@ changed-moment m s verbs.Unmark k r reply = on_ok-moment m _ reply (at_some-mome
 changed-moment m s verbs.Install k r reply = on_ok-moment m _ reply (at_some-moment m k _ (λ k. at_some-moment m r _ (λ r. change_replica-moment m k r (m.replicas k r) _)))
 changed-moment m s verbs.Iter k r reply = on_ok-moment m _ reply (at_some-moment m k _ (λ k. at_some-moment m r _ (λ r. refl)))
 changed-moment m s verbs.Next k r reply = on_ok-moment m _ reply (at_some-moment m k _ (λ k. at_some-moment m r _ (λ r. refl)))
+changed-moment m s verbs.Hold k r reply = on_ok-moment m _ reply (at_some-moment m k _ (λ k. refl))
+changed-moment m s verbs.Activate k r reply = on_ok-moment m _ reply (at_some-moment m k _ (λ k. at_some-moment m r _ (λ r. led_from-moment m s.snapshot k r)))
 changed-moment m s verbs.Look k r reply = on_look-moment m _ _ reply refl (without_making-moment m (making_of s.call m.cluster))
 changed-moment m s verb k r reply = refl
 

@@ -13,7 +13,7 @@ use Rattle.cluster_record.specs.declared.calls.ActiveKind.{ActiveKind}
 use Rattle.cluster_record.specs.declared.calls.ActiveKind.TheVariants as kinds
 use Rattle.cluster_record.specs.declared.calls.Making.{Making}
 use Rattle.cluster_record.specs.declared.entries.Entry.{Entry}
-use Rattle.cluster_record.specs.DueActive.{ActiveState, unless_changed, on_active, active_on, weak_request, request_by, starts_iteration}
+use Rattle.cluster_record.specs.DueActive.{ActiveState, unless_changed, unless_on_hold, is_update, on_active, active_on, weak_request, request_by, starts_iteration}
 use Rattle.cluster_record.specs.declared.calls.MarksMade.{MarksMade}
 use Rattle.cluster_record.specs.DueOpen.{OpenState, accepts, create_next, entry_by, entry_next, on_named, reserve_or_finish, targets_of, on_making, by_making, open_next}
 use Rattle.cluster_record.specs.Opening.{answer_by, answer_named, open_answer}
@@ -87,29 +87,37 @@ place_weak room call k r (Some marks) = by_left (marks.left == 0) where
   by_left true = tt
   by_left false = tt
 
-place_kind : (room : Bool) (call : CallId) (k : ℕ) (kind : ActiveKind) (marks : Option MarksMade) (generation : ℕ) (x : Outcome) (r : ℕ) →
-    HasPlaceFor room (cond (starts_iteration kind && not room) (End x) (unless_changed marks generation (Serve r (request_by call k kind marks))))
-place_kind true call k (kinds.Iterate choice) marks generation x r = place_marks true marks generation (Serve r (requests.Iterate call k choice)) refl
-place_kind false call k (kinds.Iterate choice) marks generation x r = tt
-place_kind room call k (kinds.Weak n) marks generation x r = place_marks room marks generation (Serve r (weak_request call k marks)) (place_weak room call k r marks)
-place_kind room call k kind marks generation x r = place_marks room marks generation (Serve r (request_by call k kind marks)) tt
+-- behind a hold, where it is no update
+place_hold : (room : Bool) (kind : ActiveKind) (hold : Option CallId) (next : Next) → HasPlaceFor room next → HasPlaceFor room (unless_on_hold kind hold next)
+place_hold room kind None next place = place
+place_hold room kind (Some holder) next place = by_update (is_update kind) _ where
+  by_update : (b : Bool) (x : Outcome) → HasPlaceFor room (cond b (End x) next)
+  by_update true x = tt
+  by_update false x = place
+
+place_kind : (room : Bool) (call : CallId) (k : ℕ) (kind : ActiveKind) (hold : Option CallId) (marks : Option MarksMade) (generation : ℕ) (x : Outcome) (r : ℕ) →
+    HasPlaceFor room (cond (starts_iteration kind && not room) (End x) (unless_on_hold kind hold (unless_changed marks generation (Serve r (request_by call k kind marks)))))
+place_kind true call k (kinds.Iterate choice) hold marks generation x r = place_hold true (kinds.Iterate choice) hold _ (place_marks true marks generation (Serve r (requests.Iterate call k choice)) refl)
+place_kind false call k (kinds.Iterate choice) hold marks generation x r = tt
+place_kind room call k (kinds.Weak n) hold marks generation x r = place_hold room (kinds.Weak n) hold _ (place_marks room marks generation (Serve r (weak_request call k marks)) (place_weak room call k r marks))
+place_kind room call k kind hold marks generation x r = place_hold room kind hold _ (place_marks room marks generation (Serve r (request_by call k kind marks)) tt)
 
 place_active : (room : Bool) (a : ActiveState) (e : Option Entry) → HasPlaceFor room (active_on room a e)
 place_active room a None = tt
-place_active room a (Some e) = at e.generation e.active where
-  at : (generation : ℕ) (r : Option ℕ) → HasPlaceFor room (on_active room a generation r)
-  at generation None = tt
-  at generation (Some r) = place_kind room a.call a.ckpt a.kind a.marks generation _ r
+place_active room a (Some e) = at e.generation e.hold e.active where
+  at : (generation : ℕ) (hold : Option CallId) (r : Option ℕ) → HasPlaceFor room (on_active room a generation hold r)
+  at generation hold None = tt
+  at generation hold (Some r) = place_kind room a.call a.ckpt a.kind hold a.marks generation _ r
 
 open_place_of : (R : RecordState) (room : Rooms) (x : Driver) → OfAsked (HasPlaceFor room.iterations) x → HasPlaceFor room.iterations (driver_next R room x)
-open_place_of R room x asks = next_of (HasPlaceFor room.iterations) (λ o. tt) (λ step. tt) (λ r k. tt) R room x asks
+open_place_of R room x asks = next_of (HasPlaceFor room.iterations) (λ o. tt) (λ step none. tt) (λ r k. tt) R room x asks
 
 place_next : (R : RecordState) (room : Rooms) (x : Driver) → HasPlaceFor room.iterations (driver_next R room x)
 place_next R room (drivers.Once x) = open_place_of R room (drivers.Once x) tt
 place_next R room (drivers.Open o) = open_place_of R room (drivers.Open o) tt
 place_next R room (drivers.Update u) = open_place_of R room (drivers.Update u) (λ r t. tt, λ r. tt)
 place_next R room (drivers.Active a) = place_active room.iterations a (entry_of a.ckpt R.entries)
-place_next R room (drivers.Sync u) = open_place_of R room (drivers.Sync u) (λ r. tt, λ r. tt)
+place_next R room (drivers.Sync u) = open_place_of R room (drivers.Sync u) (λ r. tt, λ r. tt, λ r. tt, λ r. tt)
 
 pub iterate_room : (R : RecordState) (room : Rooms) (x : Driver) (r : ℕ) (call : CallId) (k : ℕ) (choice : Choice) → driver_next R room x ≡ Serve r (requests.Iterate call k choice) → room.iterations ≡ true
 iterate_room R room x r call k choice e = subst (HasPlaceFor room.iterations) e (place_next R room x)

@@ -80,4 +80,6 @@ record_ready m s (drivers.Once once.Leave) events.Leave granted identity few rea
 record_ready m s (drivers.Once (once.Close k)) events.Close granted identity few ready = tt
 record_ready m s (drivers.Once (once.Unlink name)) events.Unlink granted identity few ready = ready
 record_ready m s (drivers.Once (once.Retain k duration)) events.Retain granted identity few ready = ready
+record_ready m s (drivers.Sync u) (events.Hold r) granted identity few ready = tt
+record_ready m s (drivers.Sync u) (events.Activate r) granted identity few ready = tt
 record_ready m s x step granted identity few ready = absurd ready

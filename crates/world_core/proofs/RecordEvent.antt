@@ -30,7 +30,7 @@ use Rattle.ckpt_machine.specs.Drivers as drivers
 use Rattle.ckpt_machine.specs.Driving.{driver_next, event_ckpt, event_node, event_end, event_refusal}
 use Rattle.ckpt_machine.specs.Facts.{IsEventReady, IsFinishable}
 use Rattle.ckpt_machine.specs.Machine.{Machine, CallState, no_tables}
-use Rattle.ckpt_machine.specs.Steps.{Told, IsDone, IsRecordAnswer, at_some, changed, pulled_by, created_for, retained_for, driver_of, record_step, with_closed, with_given, with_record, with_tables}
+use Rattle.ckpt_machine.specs.Steps.{Told, IsDone, IsEventAnswer, IsRecordAnswer, at_some, changed, kept_off, led_from, pulled_by, created_for, retained_for, driver_of, record_step, with_closed, with_given, with_record, with_tables}
 use Rattle.replica.specs.Replicas.{Replica}
 use Rattle.world_core.specs.Nodes.{replica_in}
 use Rattle.ckpt_machine.specs.Tables.{handle_given, closing}
@@ -44,9 +44,9 @@ use Rattle.world_core.specs.LiveRooms.{room_is_taken}
 use Rattle.world_core.specs.declared.snapshots.Background.{Background}
 use Rattle.world_core.specs.Backgrounds.{background_in, pulled_in}
 use Rattle.world_core.specs.RecordAfter.{event_after, nodes_behind, snapshots_behind}
-use Rattle.world_core.specs.RecordReady.{IsRefusedWith}
+use Rattle.world_core.specs.RecordReady.{IsPlain, IsRefusedWith}
 use Rattle.world_core.specs.Settling.{tables_given, settled, CanSettle}
-use Rattle.world_core.specs.Shows.{Does, IsShown, History, machine_of, hand_at}
+use Rattle.world_core.specs.Shows.{Does, IsShown, History, HistoryFits, machine_of, hand_at}
 use Rattle.world_core.specs.TableState.{with_client, at_client}
 use Rattle.world_core.proofs.CallSteps.{pulled_by_client, event_counts, event_pulls, IsKnown, known, known_by, behind_step, IsShownBehind, step_before}
 use Rattle.world_core.proofs.Freeing.{does_before, does_freed}
@@ -78,13 +78,14 @@ ckpt_there (Some making) there = refl
 
 -- ---- what it makes of the machine, by its driver
 
--- of the client's tables
-abbrev tables_after : CallState → RecordStep → Option ℕ → Machine → Machine
-tables_after s events.Open k m = at_some k m (λ k. with_given s k m)
-tables_after s events.Finish k m = at_some k m (λ k. with_given s k m)
-tables_after s events.Close k m = with_closed s m
-tables_after s events.Leave k m = with_tables s.call.actor emptied m
-tables_after s step k m = m
+-- beside the record: of the client's tables, or of the replica that leads
+abbrev pub besides : CallState → RecordStep → Option ℕ → Machine → Machine
+besides s events.Open k m = at_some k m (λ k. with_given s k m)
+besides s events.Finish k m = at_some k m (λ k. with_given s k m)
+besides s events.Close k m = with_closed s m
+besides s events.Leave k m = with_tables s.call.actor emptied m
+besides s (events.Activate r) k m = at_some k m (λ k. led_from s.snapshot k r m)
+besides s step k m = m
 
 module _ (m : Machine) (s : CallState) where
   -- a step at the checkpoint that the label names
@@ -100,7 +101,7 @@ module _ (m : Machine) (s : CallState) where
 
   -- the label alone tells what the driver makes of the record
   change_done : (x : Driver) (step : RecordStep) → IsEventReady m s x step → DrivesFor s.call (asked s.op) x →
-      changed m s (event_verb step) (event_ckpt m.cluster x step) (event_node x step) words.Ok ≡ tables_after s step (event_ckpt m.cluster x step) (with_record m (event_after s.call x step m.cluster))
+      changed m s (event_verb step) (event_ckpt m.cluster x step) (event_node x step) words.Ok ≡ besides s step (event_ckpt m.cluster x step) (with_record m (event_after s.call x step m.cluster))
   change_done (drivers.Once (once.Enter r)) events.Enter ready drives = refl
   change_done (drivers.Once once.Leave) events.Leave ready drives = refl
   change_done (drivers.Once (once.Close k)) events.Close ready drives = refl
@@ -110,6 +111,8 @@ module _ (m : Machine) (s : CallState) where
   change_done (drivers.Open o) events.Open ready drives = given_at opened o.ask.client (identity_in (named o.ask.name m.cluster.entries)) drives.client (identity_there _ (named o.ask.name m.cluster.entries) ready.0)
   change_done (drivers.Open o) events.Finish ready drives = given_at finished o.ask.client (making_ckpt o.making) drives.client (ckpt_there o.making (finishable_there m o.ask.client o.making ready.0))
   change_done (drivers.Open o) events.Undo ready drives = step_at undone (making_ckpt o.making) (ckpt_there o.making (some_there _ o.making ready.0))
+  change_done (drivers.Sync u) (events.Hold r) ready drives = refl
+  change_done (drivers.Sync u) (events.Activate r) ready drives = refl
   change_done x step ready drives = absurd ready
 
 -- ---- where it is refused
@@ -151,12 +154,14 @@ module _ (w : World) (h : History) (c : ℕ) (s : CallState) (actor : s.call.act
   given_shown None taken = refl
   given_shown (Some k) taken = table_changes (handle_given (asked s.op) k (creation_flags_of (entry_of k w.cluster.entries))) (λ none. let no : true ≡ false = sym taken ∙ ap room_is_taken none in absurd (cc no))
 
-  settles : (step : RecordStep) (k : Option ℕ) → CanSettle c s.op step w.tables → tables_after s step k (machine_of w h) ≡ machine_of (record w { tables = settled w.cluster c s.op step k w.tables }) h
-  settles events.Open k can = given_shown k can.roomy
-  settles events.Finish k can = given_shown k can.roomy
-  settles events.Close k can = table_changes (closing (asked s.op)) (λ none. closing-none (asked s.op))
-  settles events.Leave k can = table_changes emptied (λ none. refl)
-  settles step k can = refl
+  settles : (step : RecordStep) (k : Option ℕ) → IsPlain step → CanSettle c s.op step w.tables → besides s step k (machine_of w h) ≡ machine_of (record w { tables = settled w.cluster c s.op step k w.tables }) h
+  settles events.Open k plain can = given_shown k can.roomy
+  settles events.Finish k plain can = given_shown k can.roomy
+  settles events.Close k plain can = table_changes (closing (asked s.op)) (λ none. closing-none (asked s.op))
+  settles events.Leave k plain can = table_changes emptied (λ none. refl)
+  settles (events.Hold r) k plain can = absurd plain
+  settles (events.Activate r) k plain can = absurd plain
+  settles step k plain can = refl
 
 -- ---- the step as it is told
 
@@ -196,6 +201,10 @@ module _ (w : World) (c : ℕ) (step : RecordStep) (hand : InHand) (held : hand_
   abbrev told : StepReply → Option Outcome → Label
   told reply end = Stepped hand.call (word_of_op hand.op) verb k r reply end beside.Nothing
 
+  -- the world with the record behind it, and with the replica and the room for a snapshot that it adds
+  abbrev pub recorded : World
+  recorded = record w { cluster = R; nodes = nodes; snapshots = backgrounds }
+
   -- and its parts
   abbrev parts : StepReply → Option Outcome → Told
   parts reply end = record { verb = verb; ckpt = k; node = r; reply = reply; end = end; details = beside.Nothing }
@@ -210,8 +219,8 @@ module _ (w : World) (c : ℕ) (step : RecordStep) (hand : InHand) (held : hand_
     driver : hand.driver ≡ driver_of s
     driver = driver_is w h c hand held is.fits
 
-    ready : IsEventReady m s hand.driver step
-    ready = subst (λ (x : Driver). IsEventReady m s x step) (sym driver) (is.facts.events (Client c) s step (in_hand_is w h c hand held) (due_is w h c hand held is.facts is.fits (Event step) next))
+    pub event_asks : IsEventReady m s hand.driver step
+    event_asks = subst (λ (x : Driver). IsEventReady m s x step) (sym driver) (is.facts.events (Client c) s step (in_hand_is w h c hand held) (due_is w h c hand held is.facts is.fits (Event step) next))
 
     up : R.up ≡ w.cluster.up
     up = (event_keeps hand.call hand.driver step w.cluster).up
@@ -225,52 +234,69 @@ module _ (w : World) (c : ℕ) (step : RecordStep) (hand : InHand) (held : hand_
 
     module _ (eight : length w.nodes ≡ 8) (granted : event_refusal w.cluster step hand.driver ≡ None) where
       -- each entry goes on
-      goes : (j q : ℕ) → GoesAt w.cluster.up j (entry_of j w.cluster.entries) (entry_of j R.entries) q (replica_in nodes j q)
-      goes = event_goes w h is.facts is.holds hand.call s hand.driver step eight granted ready
+      pub goes : (j q : ℕ) → GoesAt w.cluster.up j (entry_of j w.cluster.entries) (entry_of j R.entries) q (replica_in nodes j q)
+      goes = event_goes w h is.facts is.holds hand.call s hand.driver step eight granted event_asks
 
       adds : (j q : ℕ) → AddedAt (entry_of j w.cluster.entries) (entry_of j R.entries) q (replica_in w.nodes j q) (replica_in nodes j q)
-      adds = event_adds w h is.facts is.holds hand.call s hand.driver step eight granted ready
+      adds = event_adds w h is.facts is.holds hand.call s hand.driver step eight granted event_asks
 
       -- and the nodes that are freed of the others hold only what stands
-      holds_after : HoldsOnlyWhatStands R (freed R.entries nodes)
-      holds_after = holds_added w.cluster R w.nodes nodes is.holds up goes adds (event_once w h is.facts is.holds hand.call s hand.driver step eight granted ready)
+      pub holds_after : HoldsOnlyWhatStands R (freed R.entries nodes)
+      holds_after = holds_added w.cluster R w.nodes nodes is.holds up goes adds (event_once w h is.facts is.holds hand.call s hand.driver step eight granted event_asks)
 
-    told_so : (reply : StepReply) (end : Option Outcome) → IsRecordAnswer (event_refusal w.cluster step hand.driver) step (parts reply end) → IsDone m s (Event step) (parts reply end)
+    -- no marks keep a plain one off
+    plain_kept : (k : Option ℕ) (step : RecordStep) → IsPlain step → kept_off m k step ≡ None
+    plain_kept k (events.Hold r) plain = absurd plain
+    plain_kept None step plain = refl
+    plain_kept (Some k) step plain = refl
+
+    pub told_so : (reply : StepReply) (end : Option Outcome) → IsEventAnswer (kept_off m k step) (event_refusal w.cluster step hand.driver) step (parts reply end) → IsDone m s (Event step) (parts reply end)
     told_so reply end answer = record {
       verb = refl;
       ckpt = ap (λ x. event_ckpt w.cluster x step) driver;
       node = ap (λ x. event_node x step) driver;
       details = refl;
-      answer = subst (λ o. IsRecordAnswer o step (parts reply end)) (ap (event_refusal w.cluster step) driver) answer;
+      answer = subst (λ o. IsEventAnswer (kept_off m k step) o step (parts reply end)) (ap (event_refusal w.cluster step) driver) answer;
     }
+
+    plainly_told : (reply : StepReply) (end : Option Outcome) → IsPlain step → IsRecordAnswer (event_refusal w.cluster step hand.driver) step (parts reply end) → IsDone m s (Event step) (parts reply end)
+    plainly_told reply end plain answer = told_so reply end (subst (λ o. IsEventAnswer o (event_refusal w.cluster step hand.driver) step (parts reply end)) (sym (plain_kept k step plain)) answer)
 
     -- it pulls nothing
-    stays : (reply : StepReply) → IsCopyBehind (with_effects w h) c hand (pulled_by m s verb k r reply) (h.pulled (Client c)) hand.snapshot
-    stays reply = let copy = copy_stays w h c hand held is.fits in record { same = event_pulls m s step k r reply; room = copy.room; counts = copy.counts }
+    stays : (reply : StepReply) → IsPlain step → IsCopyBehind (with_effects w h) c hand (pulled_by m s verb k r reply) (h.pulled (Client c)) hand.snapshot
+    stays reply plain = let copy = copy_stays w h c hand held is.fits in record { same = event_pulls m s step k r reply plain; room = copy.room; counts = copy.counts }
 
-    shown_done : length w.nodes ≡ 8 → event_refusal w.cluster step hand.driver ≡ None → CanSettle c hand.op step w.tables → IsShownBehind w c hand held (settled_world w c hand step) (with_effects w) verb k r words.Ok end beside.Nothing 0 hand.snapshot (pulled_by_client c) (Event step) h
-    shown_done eight granted can = record {
-      done = told_so words.Ok end (subst (λ o. IsRecordAnswer o step (parts words.Ok end)) (sym granted) (inl (refl, refl)));
-      change = change_done m s hand.driver step ready (subst (DrivesFor s.call (asked s.op)) (sym driver) (state_drives s (is.facts.driven (Client c) s (in_hand_is w h c hand held))))
-          ∙ ap (tables_after s step k) (added_record w h R nodes (adds eight granted) backgrounds pulled ∙ record_is (record w { nodes = nodes; snapshots = backgrounds }) h R (goes eight granted) up none_new)
-          ∙ settles (record w { cluster = R; nodes = nodes; snapshots = backgrounds }) (with_effects w h) c s (actor_is w h c hand held is.facts) step k can;
-      fits = let f = record_fits (record w { nodes = nodes; snapshots = backgrounds }) h R (goes eight granted) up none_new (added_fits w h R nodes (adds eight granted) backgrounds pulled is.fits) in record { replicas = f.replicas; copies = f.copies; hands = f.hands };
+    module _ (eight : length w.nodes ≡ 8) (granted : event_refusal w.cluster step hand.driver ≡ None) where
+      -- so the machine is shown where the record has taken the step
+      pub done_beside : changed m s verb k r words.Ok ≡ besides s step k (machine_of recorded (with_effects w h))
+      done_beside =
+          change_done m s hand.driver step event_asks (subst (DrivesFor s.call (asked s.op)) (sym driver) (state_drives s (is.facts.driven (Client c) s (in_hand_is w h c hand held))))
+          ∙ ap (besides s step k) (added_record w h R nodes (adds eight granted) backgrounds pulled ∙ record_is (record w { nodes = nodes; snapshots = backgrounds }) h R (goes eight granted) up none_new)
+
+      pub fits_recorded : HistoryFits recorded (with_effects w h)
+      fits_recorded = record_fits (record w { nodes = nodes; snapshots = backgrounds }) h R (goes eight granted) up none_new (added_fits w h R nodes (adds eight granted) backgrounds pulled is.fits)
+
+    shown_done : length w.nodes ≡ 8 → event_refusal w.cluster step hand.driver ≡ None → IsPlain step → CanSettle c hand.op step w.tables → IsShownBehind w c hand held (settled_world w c hand step) (with_effects w) verb k r words.Ok end beside.Nothing 0 hand.snapshot (pulled_by_client c) (Event step) h
+    shown_done eight granted plain can = record {
+      done = plainly_told words.Ok end plain (subst (λ o. IsRecordAnswer o step (parts words.Ok end)) (sym granted) (inl (refl, refl)));
+      change = done_beside eight granted ∙ settles recorded (with_effects w h) c s (actor_is w h c hand held is.facts) step k plain can;
+      fits = let f = fits_recorded eight granted in record { replicas = f.replicas; copies = f.copies; hands = f.hands };
       count_is = event_counts m step k r words.Ok;
-      copy_is = stays words.Ok;
+      copy_is = stays words.Ok plain;
     }
 
-    shown_refused : (reply : StepReply) (end : Outcome) → IsRefusedWith (event_refusal w.cluster step hand.driver) step reply end → IsShownBehind w c hand held w (λ h. h) verb k r reply (Some end) beside.Nothing 0 hand.snapshot (pulled_by_client c) (Event step) h
-    shown_refused reply end refused = record {
-      done = told_so reply (Some end) (refused_answer (event_refusal w.cluster step hand.driver) step verb k r reply end refused);
+    shown_refused : (reply : StepReply) (end : Outcome) → IsPlain step → IsRefusedWith (event_refusal w.cluster step hand.driver) step reply end → IsShownBehind w c hand held w (λ h. h) verb k r reply (Some end) beside.Nothing 0 hand.snapshot (pulled_by_client c) (Event step) h
+    shown_refused reply end plain refused = record {
+      done = plainly_told reply (Some end) plain (refused_answer (event_refusal w.cluster step hand.driver) step verb k r reply end refused);
       change = refused_leaves m s step k r reply (not_ok (event_refusal w.cluster step hand.driver) step reply end refused);
       fits = is.fits;
       count_is = event_counts m step k r reply;
-      copy_is = let copy = stays reply in record { same = copy.same; room = copy.room; counts = copy.counts };
+      copy_is = let copy = stays reply plain in record { same = copy.same; room = copy.room; counts = copy.counts };
     }
 
   -- what a due step asks
   pub event_ready : (shown : IsShown w) → let h = shown.shows.history in IsEventReady (machine_of w h) (state_in h c hand) hand.driver step
-  event_ready shown = ready shown.shows.history (known w shown)
+  event_ready shown = event_asks shown.shows.history (known w shown)
 
   -- a client that becomes live has its room
   pub enters : IsShown w → (step ≡ events.Enter → room_is_taken (slice_get w.tables c) ≡ true) → EntersWithRoom hand.call hand.driver w.tables
@@ -287,19 +313,19 @@ module _ (w : World) (c : ℕ) (step : RecordStep) (hand : InHand) (held : hand_
     by_driver step x _ roomy = tt
 
   -- the step is done, and the nodes are freed of what is gone
-  pub event_does : length w.nodes ≡ 8 → event_refusal w.cluster step hand.driver ≡ None → CanSettle c hand.op step w.tables → EntersWithRoom hand.call hand.driver w.tables →
+  pub event_does : length w.nodes ≡ 8 → event_refusal w.cluster step hand.driver ≡ None → IsPlain step → CanSettle c hand.op step w.tables → EntersWithRoom hand.call hand.driver w.tables →
       Does w (freed_world (behind_step w c hand held (settled_world w c hand step) (with_effects w) verb k r words.Ok end beside.Nothing 0 hand.snapshot (pulled_by_client c))) (told words.Ok end)
-  event_does eight granted can enters =
+  event_does eight granted plain can enters =
       let behind = settled_world w c hand step in
       does_freed w (behind_step w c hand held behind (with_effects w) verb k r words.Ok end beside.Nothing 0 hand.snapshot (pulled_by_client c)) (told words.Ok end)
-      (step_before w c hand held behind (with_effects w) verb k r words.Ok end beside.Nothing 0 hand.snapshot (pulled_by_client c) (Event step) next held (λ h. refl) (λ h is. shown_done h is eight granted can))
+      (step_before w c hand held behind (with_effects w) verb k r words.Ok end beside.Nothing 0 hand.snapshot (pulled_by_client c) (Event step) next held (λ h. refl) (λ h is. shown_done h is eight granted plain can))
       (λ m s f. holds_after s.history (known_by w m s f) eight granted)
       (λ m s f. let is = known_by w m s f in event_has w.cluster w.snapshots is.keeps is.facts.rises is.facts.up_to hand.call hand.driver step)
       (λ m s f. rooms_settled w R c R hand.op step k (rooms_after hand.call hand.driver step w.cluster w.tables enters s.rooms))
 
   -- it is refused, and the call ends
-  pub refused_does : (reply : StepReply) (end : Outcome) → IsRefusedWith (event_refusal w.cluster step hand.driver) step reply end → Does w (record w { hands = slice_set w.hands c None }) (told reply (Some end))
-  refused_does reply end refused =
+  pub refused_does : (reply : StepReply) (end : Outcome) → IsPlain step → IsRefusedWith (event_refusal w.cluster step hand.driver) step reply end → Does w (record w { hands = slice_set w.hands c None }) (told reply (Some end))
+  refused_does reply end plain refused =
       does_before w (record w { hands = slice_set w.hands c None }) (told reply (Some end))
-      (step_before w c hand held w (λ h. h) verb k r reply (Some end) beside.Nothing 0 hand.snapshot (pulled_by_client c) (Event step) next held (λ h. refl) (λ h is. shown_refused h is reply end refused))
+      (step_before w c hand held w (λ h. h) verb k r reply (Some end) beside.Nothing 0 hand.snapshot (pulled_by_client c) (Event step) next held (λ h. refl) (λ h is. shown_refused h is reply end plain refused))
       (λ m s f. s.holds) (λ m s f. s.keeps) (λ m s f. s.rooms)

@@ -34,7 +34,7 @@ use Rattle.world_core.specs.HandSteps.{hand_taken}
 use Rattle.world_core.specs.Happenings.{IsStep, rooms_at}
 use Rattle.world_core.specs.LiveRooms.{room_is_taken}
 use Rattle.world_core.specs.RecordAfter.{event_after, nodes_behind, snapshots_behind}
-use Rattle.world_core.specs.RecordReady.{CanAdd, IsRecordReady, IsRefusedWith}
+use Rattle.world_core.specs.RecordReady.{CanAdd, IsPlain, IsRecordReady, IsRefusedWith}
 use Rattle.world_core.specs.Settling.{settled, CanGive, CanSettle}
 use Rattle.world_core.specs.Shows.{IsShown, HasNumbersLeft, machine_of, tables_of, hand_at}
 use Rattle.world_core.specs.TableState.{TableState}
@@ -102,11 +102,11 @@ module _ (w : World) (c : ℕ) (step : RecordStep) (hand : InHand) (held : hand_
   -- ---- what it makes of the world, with the parts as the code names them
 
   -- it is done, and the nodes are freed of what is gone
-  pub event_step : (freed_of : World) (R : RecordState) (nodes : List (List Replica)) (backgrounds : List Background) (tables : List TableState) (taken : InHand) (place : Option InHand) (word : OpWord) (verb : Verb) (k r : Option ℕ) (end : Option Outcome) → event_refusal w.cluster step hand.driver ≡ None → HasNumbersLeft w → (step ≡ events.Enter → room_is_taken (slice_get w.tables c) ≡ true) → length w.nodes ≡ 8 →
+  pub event_step : (freed_of : World) (R : RecordState) (nodes : List (List Replica)) (backgrounds : List Background) (tables : List TableState) (taken : InHand) (place : Option InHand) (word : OpWord) (verb : Verb) (k r : Option ℕ) (end : Option Outcome) → event_refusal w.cluster step hand.driver ≡ None → IsPlain step → HasNumbersLeft w → (step ≡ events.Enter → room_is_taken (slice_get w.tables c) ≡ true) → length w.nodes ≡ 8 →
       R ≡ event_after hand.call hand.driver step w.cluster → k ≡ event_ckpt w.cluster hand.driver step → r ≡ event_node hand.driver step → end ≡ event_end step k → tables ≡ settled R c hand.op step k w.tables →
       taken ≡ hand_taken (done_of R (event_verb step) k r words.Ok) hand → place ≡ left end taken → nodes ≡ nodes_behind hand.driver step w.cluster w.nodes → backgrounds ≡ snapshots_behind hand.driver step w.cluster w.snapshots → freed_of ≡ freed_world (record w { cluster = R; nodes = nodes; snapshots = backgrounds; tables = tables; hands = slice_set w.hands c place }) → word ≡ word_of_op hand.op → verb ≡ event_verb step →
       IsStep c w freed_of (Stepped hand.call word verb k r words.Ok end beside.Nothing)
-  event_step freed_of R nodes backgrounds tables taken place word verb k r end granted roomy has_room eight R_is k_is r_is end_is tables_are taken_is place_is nodes_are backgrounds_are freed_is word_is verb_is = record {
+  event_step freed_of R nodes backgrounds tables taken place word verb k r end granted plain roomy has_room eight R_is k_is r_is end_is tables_are taken_is place_is nodes_are backgrounds_are freed_is word_is verb_is = record {
     hand = hand;
     held = held;
     op = word;
@@ -121,14 +121,14 @@ module _ (w : World) (c : ℕ) (step : RecordStep) (hand : InHand) (held : hand_
     same_call = refl;
     same_op = refl;
     hands = ap (λ (v : World). v.hands) freed_is ∙ ap (slice_set w.hands c) (place_is ∙ ap (left end) taken_is);
-    does = rw (freed_is, place_is, taken_is, tables_are, nodes_are, backgrounds_are, end_is, R_is, k_is, r_is, word_is, verb_is) (event_does w c step hand held next eight granted (can_settle granted roomy) (enters w c step hand held next shown has_room));
+    does = rw (freed_is, place_is, taken_is, tables_are, nodes_are, backgrounds_are, end_is, R_is, k_is, r_is, word_is, verb_is) (event_does w c step hand held next eight granted plain (can_settle granted roomy) (enters w c step hand held next shown has_room));
   }
 
   -- it is refused, by the record or for the memory that it takes, and the call ends
-  pub refused_step : (hands : List (Option InHand)) (word : OpWord) (verb : Verb) (k r : Option ℕ) (reply : StepReply) (end : Outcome) → IsRefusedWith (event_refusal w.cluster step hand.driver) step reply end → hands ≡ slice_set w.hands c None →
+  pub refused_step : (hands : List (Option InHand)) (word : OpWord) (verb : Verb) (k r : Option ℕ) (reply : StepReply) (end : Outcome) → IsPlain step → IsRefusedWith (event_refusal w.cluster step hand.driver) step reply end → hands ≡ slice_set w.hands c None →
       k ≡ event_ckpt w.cluster hand.driver step → r ≡ event_node hand.driver step → word ≡ word_of_op hand.op → verb ≡ event_verb step →
       IsStep c w (record w { hands = hands }) (Stepped hand.call word verb k r reply (Some end) beside.Nothing)
-  refused_step hands word verb k r reply end refused hands_are k_is r_is word_is verb_is = record {
+  refused_step hands word verb k r reply end plain refused hands_are k_is r_is word_is verb_is = record {
     hand = hand;
     held = held;
     op = word;
@@ -143,5 +143,5 @@ module _ (w : World) (c : ℕ) (step : RecordStep) (hand : InHand) (held : hand_
     same_call = refl;
     same_op = refl;
     hands = hands_are;
-    does = rw (hands_are, k_is, r_is, word_is, verb_is) (refused_does w c step hand held next reply end refused);
+    does = rw (hands_are, k_is, r_is, word_is, verb_is) (refused_does w c step hand held next reply end plain refused);
   }

@@ -36,7 +36,7 @@ use Rattle.world_core.proofs.HoldingLaws.{opening_there, holds_served}
 use Rattle.world_core.proofs.Maps.{both_true, same_there, set_again, node_case}
 use Rattle.cluster_record.proofs.Places.{find_pushed, get_set, there_is}
 use Rattle.world_core.proofs.Finding as finding
-use Rattle.world_core.proofs.Serve.{behind, its_done, its_end, its_details, its_copy, replica_there, served_world, served_label}
+use Rattle.world_core.proofs.Serve.{behind, its_end, its_details, its_copy, replica_there, served_world, served_label}
 use Rattle.world_core.proofs.CallSteps.{IsKnown, known_by, pulled_by_client, step_before}
 use Rattle.world_core.proofs.Freeing.{does_before}
 
@@ -129,7 +129,7 @@ module _ (w : World) (c r k : ℕ) (hand : InHand) (p : Payload) (reply : Reply)
 
   -- neither answer tells a count
   no_count : 0 ≡ count_told reply
-  no_count = elim may [ | inl done ↦ ap count_told (sym done) | inr refused ↦ ap count_told (sym refused) ]
+  no_count = elim may [ inl done ↦ ap count_told (sym done) | inr refused ↦ ap count_told (sym refused) ]
 
   -- what the step has changed with this reply, where the nodes have this then
   record Reserves (answer : Reply) (nodes : List (List Replica)) (h : History) : Type 0 where

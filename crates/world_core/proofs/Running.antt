@@ -21,6 +21,8 @@ use Rattle.cluster_record.specs.declared.calls.Making.{Making}
 use Rattle.cluster_record.specs.declared.calls.MarksMade.{MarksMade}
 use Rattle.cluster_record.specs.declared.calls.PulledAt.{PulledAt}
 use Rattle.cluster_record.specs.DueSync.{SyncState, is_unserved}
+use Rattle.cluster_record.specs.declared.calls.SyncKind.{SyncKind}
+use Rattle.cluster_record.specs.declared.calls.SyncKind.TheVariants.{Synchronize, ActiveSet}
 use Rattle.cluster_record.specs.declared.entries.Entry.{Entry}
 use Rattle.world_core.specs.declared.world.World.{World}
 use Rattle.cluster_record.specs.Calls.{same_actor, left}
@@ -35,8 +37,8 @@ use Rattle.ckpt_machine.specs.Invariant.{InvariantIn, Invariant, IsGoodIn}
 use Rattle.ckpt_machine.specs.Shape.{Shape}
 use Rattle.ckpt_machine.specs.Runs.{Counts, last}
 use Rattle.world_core.specs.Runs.{IsRunTo}
-use Rattle.ckpt_machine.specs.InHand.{MarksFit, IsInPlace}
-use Rattle.ckpt_machine.specs.Left.{lacking, having, unserved, making_left, active_left, steps_left, sync_left, update_left}
+use Rattle.ckpt_machine.specs.InHand.{MarksFit, IsInPlace, is_held_by}
+use Rattle.ckpt_machine.specs.Left.{lacking, having, unserved, making_left, active_left, kind_left, setting_left, steps_left, sync_left, update_left}
 use Rattle.cluster_record.specs.declared.calls.UpdatePhase.{UpdatePhase}
 use Rattle.cluster_record.specs.declared.calls.UpdatePhase.TheVariants.{Staging, Committing}
 use Rattle.world_core.specs.StepsLeft.{hand_left, left_of}
@@ -80,13 +82,21 @@ sync_left-from_one : (complete : List ℕ) (s : SyncState) (pulled : Option Pull
 sync_left-from_one complete s None = omega arith
 sync_left-from_one complete s (Some pulled) = from_one _
 
+setting_left-from_one : (call : CallId) (o : Option Entry) → 1 ≤ setting_left call o
+setting_left-from_one call None = omega arith
+setting_left-from_one call (Some e) = elim (is_held_by call e.hold) as (λ b. 1 ≤ cond b 1 2) [ true ↦ omega arith | false ↦ omega arith ]
+
+kind_left-from_one : (o : Option Entry) (s : SyncState) (kind : SyncKind) → 1 ≤ kind_left o s kind
+kind_left-from_one o s (Synchronize deadline) = sync_left-from_one (complete_of o) s s.pulled
+kind_left-from_one o s (ActiveSet local) = setting_left-from_one s.call o
+
 -- at least one step is left of a call in hand
 pub steps_left-from_one : (R : RecordState) (d : Driver) → 1 ≤ steps_left R d
 steps_left-from_one R (drivers.Once x) = omega arith
 steps_left-from_one R (drivers.Open o) = making_left-from_one R o.making
 steps_left-from_one R (drivers.Update u) = update_left-from_one (complete_of (entry_of u.ckpt R.entries)) u.owned u.phase
 steps_left-from_one R (drivers.Active a) = active_left-from_one a.kind a.marks
-steps_left-from_one R (drivers.Sync s) = sync_left-from_one (complete_of (entry_of s.ckpt R.entries)) s s.pulled
+steps_left-from_one R (drivers.Sync s) = kind_left-from_one (entry_of s.ckpt R.entries) s s.kind
 
 -- after a step that does not end it a call is in hand with this step more
 step_of-in_hand : (m : Machine) (s : CallState) (c : ℕ) (verb : Verb) (k r : Option ℕ) (reply : StepReply) → s.call.actor ≡ Client c
@@ -190,6 +200,14 @@ sync_few : (complete : List ℕ) (s : SyncState) (pulled : Option PulledAt) → 
 sync_few complete s None eight = omega arith
 sync_few complete s (Some pulled) eight = let few = unserved_few complete s.served in omega (arith, few, eight)
 
+setting_few : (call : CallId) (o : Option Entry) → setting_left call o ≤ 66
+setting_few call None = omega arith
+setting_few call (Some e) = elim (is_held_by call e.hold) as (λ b. cond b 1 2 ≤ 66) [ true ↦ omega arith | false ↦ omega arith ]
+
+kind_few : (o : Option Entry) (s : SyncState) (kind : SyncKind) → length (complete_of o) ≡ 8 → kind_left o s kind ≤ 66
+kind_few o s (Synchronize deadline) eight = sync_few (complete_of o) s s.pulled eight
+kind_few o s (ActiveSet local) eight = setting_few s.call o
+
 -- what drives a call has few elements left
 abbrev HasFewLeft : Driver → Type 0
 HasFewLeft (drivers.Active a) = MarksFit a.kind a.marks
@@ -207,7 +225,7 @@ steps_left-few R (drivers.Once x) up complete few = omega arith
 steps_left-few R (drivers.Open o) up complete few = making_left-few R o.making up
 steps_left-few R (drivers.Update u) up complete few = update_few (complete_of (entry_of u.ckpt R.entries)) u.owned u.phase (complete u.ckpt)
 steps_left-few R (drivers.Active a) up complete few = active_few a.kind a.marks few
-steps_left-few R (drivers.Sync s) up complete few = sync_few (complete_of (entry_of s.ckpt R.entries)) s s.pulled (complete s.ckpt)
+steps_left-few R (drivers.Sync s) up complete few = kind_few (entry_of s.ckpt R.entries) s s.kind (complete s.ckpt)
 
 hand_left-few : (R : RecordState) (hand : Option InHand) → length R.up ≡ 8 → ((k : ℕ) → length (complete_of (entry_of k R.entries)) ≡ 8) → IfSome hand (λ h. HasFewLeft h.driver) → hand_left R hand ≤ 66
 hand_left-few R None up complete few = omega arith
@@ -243,5 +261,6 @@ roomy w log to few =
           let e = (subst (FitsReplica k (entry_of k w.cluster.entries) (h.effects k r)) is (to.shows.fits.replicas k r)).2 in
           omega (arith, n, e, few);
       identity = let n = counts.identity in omega (arith, n, few);
+      generations = λ k e is. let n = counts.generations k e is in omega (arith, n, few);
       references = λ k e c is. let n = counts.references k e c is in omega (arith, n, few);
     }

@@ -16,7 +16,7 @@ use Rattle.cluster_record.specs.Identities.{AllUpTo, IdentitiesRise}
 use Rattle.cluster_record.specs.LookUps.{at_ckpt, identity_in}
 use Rattle.cluster_record.specs.Places.{find_key, change_key}
 use Rattle.cluster_record.specs.Placement.{adds}
-use Rattle.cluster_record.specs.RecordState.{RecordState, identity_of, entry_of, named, stays, opened_with, home_of, made_with, new_entry, created_as, opened, finished, undone, unreferred, released_all, unnamed, unlinked, retaining, is_call_of, departed, swept, moved}
+use Rattle.cluster_record.specs.RecordState.{RecordState, identity_of, entry_of, named, stays, opened_with, home_of, made_with, new_entry, created_as, opened, finished, undone, unreferred, released_all, unnamed, unlinked, retaining, is_call_of, departed, with_hold, with_active, swept, moved}
 use Rattle.cluster_record.proofs.IdentityLaws.{IsLeft, KeepsIdentity, entry_of-beyond, IdentitiesRise-filter, IdentitiesRise-map, IdentitiesRise-change_key, IdentitiesRise-push, filter_leaves}
 use Rattle.cluster_record.proofs.Places.{find_changed, find_pushed, not_changed}
 use Rattle.ckpt_machine.specs.Drivers.{Driver}
@@ -26,7 +26,7 @@ use Rattle.ckpt_machine.proofs.Joining.{opened_with-identity}
 use Rattle.world_core.specs.declared.snapshots.Background.{Background}
 use Rattle.world_core.specs.Backgrounds.{background_key, background_in, where_pulled, pulled_in, snapshot_room, with_room_for, HasRoom, HasRoomWhere, HaveRooms}
 use Rattle.world_core.specs.RecordAfter.{once_change, event_change, event_after, snapshots_behind, with_room_asked}
-use Rattle.world_core.proofs.Going.{Quiet, quiet_identity, quiet_unreferred, quiet_released_all, found_each}
+use Rattle.world_core.proofs.Going.{Quiet, quiet_identity, quiet_unreferred, quiet_released_all, quiet_hold, quiet_active, found_each}
 
 -- ---- room for one more
 
@@ -173,6 +173,8 @@ module _ (R : RecordState) (backgrounds : List Background) (keeps : HaveRooms R.
   change_has call (drivers.Open o) events.Finish = at_has (making_ckpt o.making) (λ k. finished k o.ask.client R) (λ k. one_has (made_with (home_of o.ask.client R) R.up o.ask.client) (λ e. refl) (λ e. refl) k)
   change_has call (drivers.Open o) events.Undo = at_has (making_ckpt o.making) (λ k. undone k R) undone_has
   change_has call (drivers.Open o) step = all_have
+  change_has call (drivers.Sync u) (events.Hold r) = quiet_has (with_hold call) (quiet_hold call) u.ckpt
+  change_has call (drivers.Sync u) (events.Activate r) = quiet_has (with_active r) (quiet_active r) u.ckpt
   change_has call x step = all_have
 
   -- a sweep leaves each room that it leaves the checkpoint of

@@ -47,7 +47,7 @@ use Rattle.ckpt_machine.specs.Facts.{Facts, IsActive, IsReservable, IsServable}
 use Rattle.ckpt_machine.specs.Machine.{Machine, CallState}
 use Rattle.ckpt_machine.specs.Steps.{due, driver_of, ended_details, look_word}
 use Rattle.world_core.specs.Nodes.{node_at, nodes_after, replica_in, with_changed}
-use Rattle.world_core.specs.Lending.{IsLentBy, IsValidFor, CanLend, CanKeep, iteration_lent, tables_lending}
+use Rattle.world_core.specs.Lending.{IsLentBy, IsValidFor, CanLend, CanKeep, tables_lending}
 use Rattle.world_core.specs.HandSteps.{hand_taken, served_done}
 use Rattle.world_core.specs.Settling.{looked, without_making_of}
 use Rattle.world_core.specs.TableState.{TableState, kept_by}

@@ -72,6 +72,7 @@ module _ (w : World) (c : ℕ) (t : TableState) (table : slice_get w.tables c �
       iterations = λ d. subst (λ n. n < 2 ^ 32 - 1) (same (λ o. (kept_in o).last_iteration) refl d) (roomy.iterations d);
       updates = roomy.updates;
       identity = roomy.identity;
+      generations = roomy.generations;
       references = roomy.references;
     };
     has_room = has_it;

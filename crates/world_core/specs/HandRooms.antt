@@ -1,5 +1,5 @@
 -- The room that a call takes at its beginning and has in hand.
-use Rattle.std.specs.Prelude.{◌≡◌, [], Option, Some, None, if◌then◌else◌}
+use Rattle.std.specs.Prelude.{[], Option, Some, None, if◌then◌else◌}
 use Rattle.ckpt_types.specs.declared.attributes.CreationAttributes.{CreationAttributes}
 use Rattle.ckpt_types.specs.Asks.{Ask}
 use Rattle.ckpt_types.specs.Asks as asks

@@ -19,6 +19,7 @@ pub mod HandRooms
 pub mod HandSteps
 pub mod Shows
 pub mod Propagating
+pub mod Leading
 pub mod Parts
 pub mod Settling
 pub mod Runs

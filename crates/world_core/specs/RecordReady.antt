@@ -77,3 +77,9 @@ abbrev pub IsRecordReady : CallId → RecordState → Driver → RecordStep → 
 IsRecordReady call R (drivers.Once x) step = IsOnceReady call R x
 IsRecordReady call R (drivers.Open o) step = IsOpenReady call R o step
 IsRecordReady call R driver step = Unit {0}
+
+-- a step in which no replica takes part but one that is added: all but the two by which an active is set
+abbrev pub IsPlain : RecordStep → Type 0
+IsPlain (events.Hold r) = ⊥
+IsPlain (events.Activate r) = ⊥
+IsPlain step = Unit {0}

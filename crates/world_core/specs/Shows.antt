@@ -221,4 +221,5 @@ pub record HasNumbersLeft (w : World) : Type 0 where
   pub iterations : (c : ℕ) → (kept_by w.tables c).last_iteration < 2 ^ 32 - 1
   pub updates : (k r : ℕ) (x : Replica) → complete_replica w.cluster w.nodes k r ≡ Some x → x.count < 2 ^ 64 - 1
   pub identity : w.cluster.last_identity < 2 ^ 32 - 1
+  pub generations : (k : ℕ) (e : Entry) → entry_of k w.cluster.entries ≡ Some e → e.generation < 2 ^ 64 - 1
   pub references : (k : ℕ) (e : Entry) (c : ℕ) → entry_of k w.cluster.entries ≡ Some e → slice_index e.references c < 2 ^ 32 - 1

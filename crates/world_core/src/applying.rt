@@ -6,7 +6,7 @@ ghost use Rattle.cluster_record.specs.RecordState.{named, home_of};
 ghost use Rattle.world_core.specs.CallStates.{step_in};
 ghost use Rattle.world_core.specs.Nodes.{with_opened};
 ghost use Rattle.world_core.specs.RecordAfter.{once_change, event_change, event_after, nodes_behind, snapshots_behind, with_room_asked};
-ghost use Rattle.world_core.specs.RecordReady.{CanAsk, CanAdd, HasNoneOf, IsGranted, IsOnceReady, IsOpenReady, IsRecordReady};
+ghost use Rattle.world_core.specs.RecordReady.{CanAsk, CanAdd, HasNoneOf, IsGranted, IsOnceReady, IsOpenReady, IsPlain, IsRecordReady};
 ghost use Rattle.ckpt_machine.specs.Driving.{takes_memory};
 ghost use Rattle.ckpt_machine.specs.Drivers.{Open};
 
@@ -31,6 +31,7 @@ pub fn apply(
     driver: &Driver,
     step: RecordStep,
 ) -> Result<(), AllocError>
+    requires plain { IsPlain step }
     requires ready { IsRecordReady call cluster.old driver.now step }
     requires free { CanAdd driver.now step cluster.old nodes.old }
     ensures ok { OnOk result (cluster.new ≡ event_after call driver.now step cluster.old) }
@@ -53,6 +54,7 @@ fn change(
     driver: &Driver,
     step: RecordStep,
 ) -> Result<(), AllocError>
+    requires plain { IsPlain step }
     requires ready { IsRecordReady call cluster.old driver.now step }
     requires free { CanAdd driver.now step cluster.old nodes.old }
     ensures ok { OnOk result (cluster.new ≡ event_change call driver.now step cluster.old) }

@@ -8,9 +8,9 @@ ghost use Rattle.ckpt_machine.specs.Tables.{ckpt_of_handle, choice_of};
 ghost use Rattle.world_core.specs.IterationPlaces.{gone_on_place};
 
 use ckpt_types::{
-    AisError, Answer, Bytes, CHECKPOINT_COLLOCATED, CHECKPOINT_CREATE, Cause, Choice, CkptId, CreationAttributes,
-    MAJOR_MAX, MAJOR_MIN, Moment, NAME_MAX, OPEN_FLAGS_ALL, Op, Outcome, RELEASE, SECTIONS_ANY,
-    Update, VECTOR_MAX, Version, WR_ALL_REPLICAS,
+    AisError, Answer, Bytes, CHECKPOINT_COLLOCATED, CHECKPOINT_CREATE, Cause, Choice, CkptId,
+    CreationAttributes, MAJOR_MAX, MAJOR_MIN, Moment, NAME_MAX, OPEN_FLAGS_ALL, Op, Outcome,
+    RELEASE, SECTIONS_ANY, Update, VECTOR_MAX, Version, WR_ALL_REPLICAS,
 };
 use client_handles::HandleView;
 

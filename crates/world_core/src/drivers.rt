@@ -6,6 +6,7 @@ ghost use Rattle.node_msgs.specs.Steps.{verb_of, word_of, event_verb};
 ghost use Rattle.ckpt_machine.specs.Driving.{driver_next, driver_taken, driver_end, driver_start, on_kept, kind_of_change, change_start, active_start, sync_start, done_end, event_ckpt, event_node, event_end, event_refusal, making_in, opened_end, refusal_in, takes_memory, refused_cause};
 ghost use Rattle.cluster_record.specs.StepDone.{done_of, names_live, count_told};
 ghost use Rattle.cluster_record.specs.DueSync.{sync_taken};
+ghost use Rattle.world_core.specs.Leading.{synchronized_by};
 ghost use Rattle.world_core.specs.HandSteps.{served_done};
 ghost use Rattle.cluster_record.specs.DueActive.{active_taken, active_end};
 ghost use Rattle.cluster_record.specs.DueUpdate.{update_taken};
@@ -146,6 +147,17 @@ impl Driver {
             DriverKind::Open(open_call) => open_call.making(),
             _ => None,
         }
+    }
+
+    /// The checkpoint that the call synchronizes, or whose active it sets.
+    pub fn synchronized(&self) -> CkptId
+        requires { IsSome (synchronized_by self.now) }
+        ensures { synchronized_by self.now ≡ Some result }
+    {
+        let DriverKind::Sync(sync) = &self.kind else {
+            unreachable!()
+        };
+        sync.ckpt()
     }
 
     /// What the call does next, by the record and by what its client's tables have a free place for.
@@ -467,6 +479,9 @@ pub fn event_ckpt(cluster: &Record, driver: &Driver, step: &RecordStep) -> Optio
         (DriverKind::Once(OneStep::Unlink(name)), RecordStep::Unlink) => cluster.find(name.value()),
         (DriverKind::Once(OneStep::Close(ckpt)), RecordStep::Close) => Some(*ckpt),
         (DriverKind::Once(OneStep::Retain(ckpt, _)), RecordStep::Retain) => Some(*ckpt),
+        (DriverKind::Sync(sync), RecordStep::Hold(_) | RecordStep::Activate(_)) => Some(
+            sync.ckpt(),
+        ),
         _ => None,
     }
 }
@@ -477,6 +492,7 @@ pub fn event_node(driver: &Driver, step: &RecordStep) -> Option<NodeId>
 {
     match (&driver.kind, step) {
         (DriverKind::Once(OneStep::Enter(r)), RecordStep::Enter) => Some(*r),
+        (DriverKind::Sync(_), RecordStep::Hold(r) | RecordStep::Activate(r)) => Some(*r),
         _ => None,
     }
 }
@@ -489,9 +505,11 @@ pub fn event_end(step: &RecordStep, ckpt: Option<CkptId>) -> Option<Outcome>
         RecordStep::Enter => Some(Outcome::Done(Answer::Version)),
         RecordStep::Open | RecordStep::Finish => opened_end(ckpt),
         RecordStep::Undo => Some(Outcome::NoMemory),
-        RecordStep::Leave | RecordStep::Close | RecordStep::Unlink | RecordStep::Retain => {
-            Some(Outcome::Done(Answer::Nothing))
-        }
+        RecordStep::Leave
+        | RecordStep::Close
+        | RecordStep::Unlink
+        | RecordStep::Retain
+        | RecordStep::Activate(_) => Some(Outcome::Done(Answer::Nothing)),
         _ => None,
     }
 }

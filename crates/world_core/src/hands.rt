@@ -1,7 +1,7 @@
 //! The calls in hand.
-ghost use Rattle.std.specs.Prelude.{◌≡◌, ◌<◌, length, replicate, Some, None, is_some, IfOk, MatchOption};
+ghost use Rattle.std.specs.Prelude.{◌≡◌, ◌<◌, length, replicate, Some, None, is_some, IfOk, IfSome, IsSome, IsSomeAnd, MatchOption};
 ghost use Rattle.std.specs.Borrow.{sem};
-ghost use Rattle.std.specs.Option.{option_and_then};
+ghost use Rattle.std.specs.Option.{option_and_then, option_map};
 ghost use Rattle.ckpt_types.specs.OpWord.{word_of_op};
 ghost use Rattle.ckpt_types.specs.declared.answers.Answer.TheVariants as answers;
 ghost use Rattle.node_msgs.specs.declared.replies.Reply.TheVariants as replies;
@@ -13,11 +13,16 @@ ghost use Rattle.node_msgs.specs.Steps.{event_verb};
 ghost use Rattle.cluster_record.specs.Calls.{left};
 ghost use Rattle.cluster_record.specs.StepDone.{done_of};
 ghost use Rattle.world_core.specs.HandSteps.{hand_taken, hand_end, served_done};
+ghost use Rattle.replica.specs.Replicas.{pull_result, pulled_unless};
+ghost use Rattle.weak_marks.specs.Marks.{call_of};
 ghost use Rattle.world_core.specs.HandLending.{LendsHand};
+ghost use Rattle.world_core.specs.Leading.{synchronized_by};
+ghost use Rattle.world_core.specs.Nodes.{replica_in};
 ghost use Rattle.world_core.specs.Shows.{hand_at};
 
 use crate::drivers::Driver;
-use ckpt_types::{CLIENT_NUMBERS, CallId, CkptId, NodeId, Op, Outcome};
+use crate::nodes::Nodes;
+use ckpt_types::{CLIENT_NUMBERS, CallId, CkptId, Held, NodeId, Op, Outcome};
 use cluster_record::Record;
 use node_msgs::{RecordStep, Reply, Request, StepReply};
 use run_labels::OpWord;
@@ -127,6 +132,28 @@ impl InHand {
         self.snapshot.take()
     }
 
+    /// The checkpoint that it synchronizes, or whose active it sets.
+    pub fn synchronized(&self) -> CkptId
+        requires { IsSome (synchronized_by self.now.driver) }
+        ensures { synchronized_by self.now.driver ≡ Some result }
+    {
+        self.driver.synchronized()
+    }
+
+    /// It copies what the replica of a checkpoint on a node has, unless the marks of a weak write keep it from that. It
+    /// takes no memory.
+    pub fn copy(&mut self, nodes: &Nodes, r: NodeId, ckpt: CkptId) -> Result<(), Held>
+        requires node { r < nodes_max }
+        requires there { IsSomeAnd self.old.snapshot (λ s. IsSomeAnd (replica_in nodes.now ckpt r) (λ x. s.attributes ≡ x.attributes)) }
+        ensures answer { IfSome (replica_in nodes.now ckpt r) (λ x. result ≡ pull_result (call_of x.marks)) }
+        ensures new { IfSome (replica_in nodes.now ckpt r) (λ x. self.new ≡ record self.old { snapshot = option_map (pulled_unless (call_of x.marks) x) self.old.snapshot }) }
+    {
+        let Some(snap) = &mut self.snapshot else {
+            unreachable!()
+        };
+        nodes.lend(r, ckpt, snap)
+    }
+
     /// The room that it has for an iteration is taken out of it.
     pub fn lend(&mut self) -> Option<Iteration>
         ensures lent { result ≡ self.old.iteration }
@@ -169,6 +196,16 @@ impl Hands {
         ensures there { c < length self.old }
     {
         &mut self.list[c as usize]
+    }
+}
+
+/// What one place has of a snapshot is in the other from then on. Where there is none, as of most calls, nothing is moved.
+pub fn hand_over(from: &mut Option<Snap>, to: &mut Option<Snap>)
+    ensures from { from.new ≡ None }
+    ensures to { to.new ≡ from.old }
+{
+    if from.is_some() || to.is_some() {
+        *to = from.take();
     }
 }
 

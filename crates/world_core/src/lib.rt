@@ -18,6 +18,7 @@ mod nodes;
 mod one_step;
 mod options;
 mod propagation;
+mod setting;
 mod showing;
 mod snapshots;
 mod steps;

@@ -5,17 +5,19 @@ ghost use Rattle.ckpt_types.specs.Limits.{nodes_max};
 ghost use Rattle.cluster_record.specs.RecordState.{entry_of};
 ghost use Rattle.node_msgs.specs.Requests.{ckpt_of};
 ghost use Rattle.node_core.specs.Details.{details_told};
+ghost use Rattle.node_core.specs.Changing.{taken_over};
 ghost use Rattle.node_core.specs.Fitting.{TakesSnapshot, TakesUpdate};
 ghost use Rattle.world_core.specs.Asking.{MayCome, KeepsToDeclared};
 ghost use Rattle.node_core.specs.Nodes.{MayReply, replica_served, seen_from};
 ghost use Rattle.node_core.specs.Payloads.{payload_of};
 ghost use Rattle.node_core.specs.Serving.{details_at, iteration_behind, snapshot_behind};
-ghost use Rattle.replica.specs.Replicas.{answer_unless, committed, install_answer, installed, outcome_on, staged};
+ghost use Rattle.replica.specs.Replicas.{answer_unless, committed, install_answer, installed, outcome_on, pull_result, pulled_unless, staged};
 ghost use Rattle.stage_slot.specs.Slots.{IsOwnedBy, owner_of};
+ghost use Rattle.weak_marks.specs.Marks.{call_of};
 ghost use Rattle.world_core.specs.Freeing.{freed};
 ghost use Rattle.world_core.specs.Nodes.{node_at, nodes_after, nodes_shown, replica_in, with_added, with_changed, StandByNumber};
 
-use ckpt_types::{CallId, CkptId, Moment, NODES_MAX, NodeId, SharedUpdate};
+use ckpt_types::{CallId, CkptId, Held, Moment, NODES_MAX, NodeId, SharedUpdate};
 use cluster_record::{Entry, Record};
 use node_core::{Lent, Node};
 use node_msgs::{Reply, Request};
@@ -113,6 +115,35 @@ impl Nodes {
         ensures new { self.new ≡ with_changed ckpt r (installed snap.now) self.old }
     {
         install_at(self.list.as_mut_slice(), r, ckpt, snap)
+    }
+
+    /// The snapshot has what the replica of a checkpoint on a node has, and which it has room for, since it declares the
+    /// same. The marks of a weak write keep it as it was. It takes no memory.
+    pub fn lend(&self, r: NodeId, ckpt: CkptId, snap: &mut Snap) -> Result<(), Held>
+        requires node { r < nodes_max }
+        requires there { IsSomeAnd (replica_in self.now ckpt r) (λ x. snap.old.attributes ≡ x.attributes) }
+        ensures answer { IfSome (replica_in self.now ckpt r) (λ x. result ≡ pull_result (call_of x.marks)) }
+        ensures snap { IfSome (replica_in self.now ckpt r) (λ x. snap.new ≡ pulled_unless (call_of x.marks) x snap.old) }
+    {
+        lend_at(self.list.as_slice(), r, ckpt, snap)
+    }
+
+    /// The replica of a checkpoint on a node has the sections and the count of a snapshot from then on, with this
+    /// generation, whichever of the two is older. It takes no memory.
+    pub fn take_over(&mut self, r: NodeId, ckpt: CkptId, snap: &Snap, generation: u64)
+        requires node { r < nodes_max }
+        requires there { IsSomeAnd (replica_in self.old ckpt r) (TakesSnapshot snap.now) }
+        ensures { self.new ≡ with_changed ckpt r (taken_over generation snap.now) self.old }
+    {
+        take_at(self.list.as_mut_slice(), r, ckpt, snap, generation);
+    }
+
+    /// The replica of a checkpoint on a node has this generation from then on. Where the node has none, nothing changes.
+    pub fn lead(&mut self, r: NodeId, ckpt: CkptId, generation: u64)
+        requires { r < nodes_max }
+        ensures { self.new ≡ with_changed ckpt r (λ x. record x { generation = generation }) self.old }
+    {
+        lead_at(self.list.as_mut_slice(), r, ckpt, generation);
     }
 
     /// A node gets the replica of a checkpoint, as the record has it. Where memory is refused, nothing changes.
@@ -246,6 +277,36 @@ fn install_at(nodes: &mut [Node], r: NodeId, ckpt: CkptId, snap: &Snap) -> Resul
 {
     let node = &mut nodes[r as usize];
     node.install(ckpt, snap)
+}
+
+fn lend_at(nodes: &[Node], r: NodeId, ckpt: CkptId, snap: &mut Snap) -> Result<(), Held>
+    requires node { r < length nodes.now }
+    requires there { IsSomeAnd (replica_in (nodes_shown nodes.now) ckpt r) (λ x. snap.old.attributes ≡ x.attributes) }
+    ensures answer { IfSome (replica_in (nodes_shown nodes.now) ckpt r) (λ x. result ≡ pull_result (call_of x.marks)) }
+    ensures snap { IfSome (replica_in (nodes_shown nodes.now) ckpt r) (λ x. snap.new ≡ pulled_unless (call_of x.marks) x snap.old) }
+{
+    nodes[r as usize].lend(ckpt, snap)
+}
+
+fn take_at(nodes: &mut [Node], r: NodeId, ckpt: CkptId, snap: &Snap, generation: u64)
+    requires numbered { StandByNumber nodes.old }
+    requires node { r < length nodes.old }
+    requires there { IsSomeAnd (replica_in (nodes_shown nodes.old) ckpt r) (TakesSnapshot snap.now) }
+    ensures numbered { StandByNumber nodes.new }
+    ensures new { nodes_shown nodes.new ≡ with_changed ckpt r (taken_over generation snap.now) (nodes_shown nodes.old) }
+{
+    let node = &mut nodes[r as usize];
+    node.take_over(ckpt, snap, generation);
+}
+
+fn lead_at(nodes: &mut [Node], r: NodeId, ckpt: CkptId, generation: u64)
+    requires numbered { StandByNumber nodes.old }
+    requires node { r < length nodes.old }
+    ensures numbered { StandByNumber nodes.new }
+    ensures new { nodes_shown nodes.new ≡ with_changed ckpt r (λ x. record x { generation = generation }) (nodes_shown nodes.old) }
+{
+    let node = &mut nodes[r as usize];
+    node.lead(ckpt, generation);
 }
 
 fn add_to(

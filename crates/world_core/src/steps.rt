@@ -12,7 +12,7 @@ ghost use Rattle.world_core.specs.Settling.{tables_given, settled, looked, witho
 ghost use Rattle.cluster_record.specs.LookUps.{creation_flags_of};
 ghost use Rattle.cluster_record.specs.RecordState.{entry_of};
 ghost use Rattle.ckpt_machine.specs.Driving.{event_refusal};
-ghost use Rattle.world_core.specs.RecordReady.{IsRefusedWith};
+ghost use Rattle.world_core.specs.RecordReady.{IsPlain, IsRefusedWith};
 ghost use Rattle.world_core.specs.declared.hands.InHand.{InHand};
 ghost use Rattle.world_core.specs.LiveRooms.{room_is_taken};
 ghost use Rattle.world_core.specs.Runs.{step_word};
@@ -25,7 +25,7 @@ ghost use Rattle.ckpt_types.specs.Limits.{client_numbers, nodes_max};
 use crate::applying::apply;
 use crate::details::told_details;
 use crate::drivers::{DriverKind, event_ckpt, event_end, event_node, event_refusal};
-use crate::hands::let_go;
+use crate::hands::{hand_over, let_go};
 use crate::iterating::{keep_iteration, lend_iteration};
 use crate::lending::lent_by;
 use crate::messages::{look_word, served, stepped};
@@ -64,12 +64,8 @@ impl World {
         }
         match hand.driver.next(&self.cluster, &self.tables, c) {
             Next::Serve(r, request) => self.serve_step(alloc, c, r, &request, log),
-            Next::Event(RecordStep::Enter) => {
-                self.enter_step(alloc, c, log);
-                Ok(())
-            }
             Next::Event(step) => {
-                self.event_step(alloc, c, step, log);
+                self.take_event(alloc, c, step, log);
                 Ok(())
             }
             Next::End(end) => {
@@ -112,7 +108,7 @@ impl World {
         let op = hand.word();
         let mut lent = lent_by(alloc, &hand.op, request)?;
         lent.iteration = lend_iteration(&mut self.tables, c, hand, request);
-        lent.snap = hand.lend_snapshot();
+        hand_over(&mut hand.snapshot, &mut lent.snap);
         let reply = self
             .nodes
             .serve(alloc, r, &self.cluster, request, &mut lent);
@@ -124,12 +120,29 @@ impl World {
             &reply,
             lent.iteration.take(),
         );
-        hand.snapshot = lent.snap.take();
+        hand_over(&mut lent.snap, &mut hand.snapshot);
         let end = hand.take(&self.cluster, r, request, &reply);
         let_go(slot, &end);
         let details = told_details(&end, &reply, lent);
         log.push(served(call, op, request, r, &reply, end, details));
         Ok(())
+    }
+
+    // The call takes a step of the record.
+    fn take_event(&mut self, alloc: Global, c: u8, step: RecordStep, log: &mut RunLog)
+        requires next { IsNext self.old c (nexts.Event step) }
+        requires client { c < client_numbers }
+        requires shown { IsShown self.old }
+        requires roomy { HasNumbersLeft self.old }
+        requires spare { 1 ≤ log.old.spare }
+        ensures { Adds log.old log.new (IsStep c self.old self.new) }
+    {
+        match step {
+            RecordStep::Enter => self.enter_step(alloc, c, log),
+            RecordStep::Hold(r) => self.hold_step(c, r, log),
+            RecordStep::Activate(r) => self.activate_step(c, r, log),
+            _ => self.event_step(alloc, c, step, log),
+        }
     }
 
     // A client becomes live, with room for its handles and iterations; where that is refused, the call ends.
@@ -157,6 +170,7 @@ impl World {
     fn event_step(&mut self, alloc: Global, c: u8, step: RecordStep, log: &mut RunLog)
         requires next { IsNext self.old c (nexts.Event step) }
         requires not_enter { step ≢ events.Enter }
+        requires plain { IsPlain step }
         requires client { c < client_numbers }
         requires shown { IsShown self.old }
         requires roomy { HasNumbersLeft self.old }
@@ -191,6 +205,7 @@ impl World {
         log: &mut RunLog,
     )
         requires next { IsNext self.old c (nexts.Event step) }
+        requires plain { IsPlain step }
         requires refused { (hand : InHand) → hand_at self.old.hands c ≡ Some hand → IsRefusedWith (event_refusal self.old.cluster step hand.driver) step reply end }
         requires client { c < client_numbers }
         requires shown { IsShown self.old }
@@ -213,6 +228,7 @@ impl World {
     fn record_step(&mut self, alloc: Global, c: u8, step: RecordStep, log: &mut RunLog)
         requires next { IsNext self.old c (nexts.Event step) }
         requires granted { (hand : InHand) → hand_at self.old.hands c ≡ Some hand → event_refusal self.old.cluster step hand.driver ≡ None }
+        requires plain { IsPlain step }
         requires has_room { step ≡ events.Enter → room_is_taken (slice_get self.old.tables c) ≡ true }
         requires client { c < client_numbers }
         requires shown { IsShown self.old }

@@ -1,11 +1,8 @@
-use Rattle.std.proofs.Common.{◌≡◌, ◌++◌, ◌∷◌, [], List, sym, ap, ◌∙◌}
+use Rattle.std.proofs.Common.{◌≡◌, ◌++◌, ◌∷◌, [], sym, ap, ◌∙◌}
 use Rattle.std.specs.Prelude.{Some}
 use Rattle.std.proofs.lemmas.Option.{same_Some}
 use Rattle.ckpt_types.specs.OpWord.{word_of_op}
-use Rattle.ckpt_types.specs.declared.answers.Outcome.{Outcome}
-use Rattle.ckpt_types.specs.declared.words.OpWord.{OpWord}
 use Rattle.node_msgs.specs.declared.details.Details.TheVariants as beside
-use Rattle.node_msgs.specs.declared.replies.Reply.{Reply}
 use Rattle.node_msgs.specs.Requests.{ckpt_of}
 use Rattle.node_msgs.specs.Steps.{verb_of, word_of}
 use Rattle.run_labels.specs.declared.labels.Label.{Label}
@@ -13,7 +10,7 @@ use Rattle.run_labels.specs.declared.labels.Label.TheVariants.{Stepped}
 use Rattle.cluster_record.specs.Calls.{left}
 use Rattle.node_core.specs.StageReplies.{reply_refused}
 use Rattle.world_core.specs.declared.hands.InHand.{InHand}
-use Rattle.world_core.specs.HandSteps.{hand_taken, hand_end, end_by, served_done}
+use Rattle.world_core.specs.HandSteps.{hand_taken, hand_end, served_done}
 use Rattle.world_core.proofs.updating.refuse_stage.Goals as goal
 
 pub returns-clause-slot : goal.returns-clause-slot

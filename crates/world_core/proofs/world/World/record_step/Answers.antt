@@ -52,7 +52,7 @@ returns-then-is_err c =
       label = _;
       labels = c.push.ensures.labels;
       is = subst (λ (z : RecordState × List (List Replica) × List Background × Label). IsStep c.args.c w (record w { cluster = z.0; nodes = z.1; snapshots = z.2; hands = hands }) z.3) (λ i. (sym same.0 i, sym same.1 i, sym same.2 i, sym c.stepped.ensures i))
-          (refused_step w c.args.c c.args.step hand held (next_for w c.args.c (Event c.args.step) hand held c.requires.next) c.requires.shown hands c.word-op.result c.verb-verb.result c.event_ckpt-ckpt.result c.event_node-node.result Memory NoMemory
+          (refused_step w c.args.c c.args.step hand held (next_for w c.args.c (Event c.args.step) hand held c.requires.next) c.requires.shown hands c.word-op.result c.verb-verb.result c.event_ckpt-ckpt.result c.event_node-node.result Memory NoMemory c.requires.plain
           (subst (λ (o : Option Outcome). IsRefusedWith o c.args.step Memory NoMemory) (sym (c.requires.granted hand held)) (takes, refl)) refl c.event_ckpt-ckpt.ensures c.event_node-node.ensures c.word-op.ensures c.verb-verb.ensures);
     }
 
@@ -72,5 +72,5 @@ returns c =
       labels = c.push-2.ensures.labels;
       is = subst (λ (label : Label). IsStep c.args.c w c.free_gone.new.self label) (sym c.stepped-2.ensures)
           (event_step w c.args.c c.args.step hand held next c.requires.shown c.free_gone.new.self c.apply-applied.new.cluster c.apply-applied.new.nodes c.apply-applied.new.snapshots c.settle.new.tables c.told.new.self c.let_go.new.slot c.word-op.result c.verb-verb.result c.event_ckpt-ckpt.result c.event_node-node.result c.event_end-end.result
-          (c.requires.granted hand held) c.requires.roomy c.requires.has_room eight record_is c.event_ckpt-ckpt.ensures c.event_node-node.ensures c.event_end-end.ensures c.settle.ensures c.told.ensures c.let_go.ensures nodes_are snapshots_are c.free_gone.ensures.new c.word-op.ensures c.verb-verb.ensures);
+          (c.requires.granted hand held) c.requires.plain c.requires.roomy c.requires.has_room eight record_is c.event_ckpt-ckpt.ensures c.event_node-node.ensures c.event_end-end.ensures c.settle.ensures c.told.ensures c.let_go.ensures nodes_are snapshots_are c.free_gone.ensures.new c.word-op.ensures c.verb-verb.ensures);
     }

@@ -18,6 +18,6 @@ returns c =
       label = _;
       labels = c.push.ensures.labels;
       is = subst (λ (label : Label). IsStep c.args.c w (record w { hands = slice_set w.hands c.args.c None }) label) (sym c.stepped.ensures)
-          (refused_step w c.args.c c.args.step hand held next c.requires.shown (slice_set w.hands c.args.c None) c.word-op.result c.verb.result c.event_ckpt-ckpt.result c.event_node-node.result c.args.reply c.args.end (c.requires.refused hand held) refl c.event_ckpt-ckpt.ensures
+          (refused_step w c.args.c c.args.step hand held next c.requires.shown (slice_set w.hands c.args.c None) c.word-op.result c.verb.result c.event_ckpt-ckpt.result c.event_node-node.result c.args.reply c.args.end c.requires.plain (c.requires.refused hand held) refl c.event_ckpt-ckpt.ensures
           c.event_node-node.ensures c.word-op.ensures c.verb.ensures);
     }

@@ -19,11 +19,11 @@ serve-reply-requires-clause-node c = node_there c.args.self.now c.args.c c.args.
 
 pub serve-reply-requires-clause-may : goal.serve-reply-requires-clause-may
 serve-reply-requires-clause-may c = fits_at c.args.self.now c.args.c c.args.r c.args.request.now c.in-Some.hand (c.at-slot.ensures.value ∙ c.in-Some.is) c.requires.next c.requires.shown c.requires.roomy c.in_ok-lent.lent c.in_ok-lent.ensures.lent
-    c.lend_iteration.new.hand c.lend_snapshot.new.self c.lend_iteration.result c.lend_snapshot.result c.lend_iteration.new.tables c.lend_iteration.ensures.hand c.lend_snapshot.ensures.new c.lend_iteration.ensures.lent c.lend_snapshot.ensures.lent c.lend_iteration.ensures.tables
+    c.lend_iteration.new.hand (record c.lend_iteration.new.hand { snapshot = c.hand_over.new.from }) c.lend_iteration.result c.hand_over.new.to c.lend_iteration.new.tables c.lend_iteration.ensures.hand (ap (λ copy. record c.lend_iteration.new.hand { snapshot = copy }) c.hand_over.ensures.from) c.lend_iteration.ensures.lent c.hand_over.ensures.to c.lend_iteration.ensures.tables
 
 pub keep_iteration-requires-clause-can : goal.keep_iteration-requires-clause-can
 keep_iteration-requires-clause-can c = keeps_at c.args.self.now c.args.c c.args.r c.args.request.now c.in-Some.hand (c.at-slot.ensures.value ∙ c.in-Some.is) c.requires.next c.requires.shown c.requires.roomy c.in_ok-lent.lent c.in_ok-lent.ensures.lent
-    c.lend_iteration.new.hand c.lend_snapshot.new.self c.lend_iteration.result c.lend_snapshot.result c.lend_iteration.new.tables c.lend_iteration.ensures.hand c.lend_snapshot.ensures.new c.lend_iteration.ensures.lent c.lend_snapshot.ensures.lent c.lend_iteration.ensures.tables
+    c.lend_iteration.new.hand (record c.lend_iteration.new.hand { snapshot = c.hand_over.new.from }) c.lend_iteration.result c.hand_over.new.to c.lend_iteration.new.tables c.lend_iteration.ensures.hand (ap (λ copy. record c.lend_iteration.new.hand { snapshot = copy }) c.hand_over.ensures.from) c.lend_iteration.ensures.lent c.hand_over.ensures.to c.lend_iteration.ensures.tables
 
 pub take-end-requires : goal.take-end-requires
 take-end-requires c = node_there c.args.self.now c.args.c c.args.r c.args.request.now c.in-Some.hand (c.at-slot.ensures.value ∙ c.in-Some.is) c.requires.next c.requires.shown
@@ -38,9 +38,9 @@ returns-clause-ok c =
       labels = c.push.ensures.labels;
       is = subst (IsStep c.args.c _ _) (sym c.served.ensures)
           (step_is w c.args.c c.args.r request hand (c.at-slot.ensures.value ∙ c.in-Some.is) c.requires.next c.requires.shown c.requires.roomy c.in_ok-lent.lent c.in_ok-lent.ensures.lent
-          c.lend_iteration.new.hand c.lend_snapshot.new.self c.lend_iteration.result c.lend_snapshot.result c.lend_iteration.new.tables c.lend_iteration.ensures.hand c.lend_snapshot.ensures.new c.lend_iteration.ensures.lent c.lend_snapshot.ensures.lent c.lend_iteration.ensures.tables
-          c.serve-reply.result c.serve-reply.new.self c.serve-reply.new.lent c.take.result c.take-2.result c.keep_iteration.new.tables c.take-end.new.self c.let_go.new.slot c.take-end.result c.word-op.result (verb_of request) (ckpt_of request) (word_of c.serve-reply.result) c.told_details-details.result
-          c.lend_iteration.ensures.valid (record { there = c.serve-reply.ensures.there; may = c.serve-reply.ensures.reply; nodes_are = c.serve-reply.ensures.new; details = c.serve-reply.ensures.details; iteration = c.serve-reply.ensures.iteration; snapshot = c.serve-reply.ensures.snapshot }) c.take.ensures.value c.take-2.ensures.value
+          c.lend_iteration.new.hand (record c.lend_iteration.new.hand { snapshot = c.hand_over.new.from }) c.lend_iteration.result c.hand_over.new.to c.lend_iteration.new.tables c.lend_iteration.ensures.hand (ap (λ copy. record c.lend_iteration.new.hand { snapshot = copy }) c.hand_over.ensures.from) c.lend_iteration.ensures.lent c.hand_over.ensures.to c.lend_iteration.ensures.tables
+          c.serve-reply.result c.serve-reply.new.self c.serve-reply.new.lent c.take.result c.hand_over-2.new.to c.keep_iteration.new.tables c.take-end.new.self c.let_go.new.slot c.take-end.result c.word-op.result (verb_of request) (ckpt_of request) (word_of c.serve-reply.result) c.told_details-details.result
+          c.lend_iteration.ensures.valid (record { there = c.serve-reply.ensures.there; may = c.serve-reply.ensures.reply; nodes_are = c.serve-reply.ensures.new; details = c.serve-reply.ensures.details; iteration = c.serve-reply.ensures.iteration; snapshot = c.serve-reply.ensures.snapshot }) c.take.ensures.value c.hand_over-2.ensures.to
           c.keep_iteration.ensures c.take-end.ensures.new c.take-end.ensures.end c.let_go.ensures c.word-op.ensures refl refl refl
-          (c.told_details-details.ensures ∙ ap (ended_details c.take-end.result) (told_still c.serve-reply.result c.serve-reply.new.lent c.take.new.self c.take-2.new.self)));
+          (c.told_details-details.ensures ∙ ap (ended_details c.take-end.result) (told_still c.serve-reply.result c.serve-reply.new.lent c.take.new.self c.hand_over-2.new.from)));
     }

@@ -1,0 +1,300 @@
+-- A step of the setting of an active changes the entry of its checkpoint, and may change a replica of it: what holds of every other call and of every other checkpoint stays.
+use Rattle.std.proofs.Common.{◌≡◌, ℕ, inl, inr, Option, Some, None, Bool, true, false, cond, ◌==◌, refl, sym, ap, subst, ◌∙◌}
+use Rattle.std.specs.Prelude.{is_some, IsSome, IsSomeAnd, IfSome, slice_index}
+use Rattle.std.proofs.lemmas.Bool.{eqb-true, eq-eqb}
+use Rattle.std.proofs.lemmas.Option.{same_Some}
+use Rattle.ckpt_types.specs.declared.identities.ActorName.{ActorName}
+use Rattle.ckpt_types.specs.declared.identities.CallId.{CallId}
+use Rattle.ckpt_types.specs.Asks.{asked}
+use Rattle.weak_marks.specs.Marks.{Marked}
+use Rattle.cluster_record.specs.declared.calls.Making.{Making}
+use Rattle.cluster_record.specs.declared.entries.Entry.{Entry}
+use Rattle.cluster_record.specs.Calls.{same_actor, put_actor}
+use Rattle.cluster_record.specs.DueSync.{SyncState}
+use Rattle.cluster_record.specs.Places.{change_key}
+use Rattle.cluster_record.specs.RecordState.{RecordState, entry_of, identity_of, complete_of, stays, swept}
+use Rattle.cluster_record.proofs.IdentityLaws.{KeepsIdentity, IdentitiesRise-change_key, AllUpTo-change_key}
+use Rattle.ckpt_machine.specs.Drivers as drivers
+use Rattle.ckpt_machine.specs.Entries.{AllStay, WasMade}
+use Rattle.ckpt_machine.specs.InHand.{attributes_asked, IsMakingIn, IsInHand}
+use Rattle.ckpt_machine.specs.Invariant.{IsMaker, IsGoodIn, IsOfGeneration, IsCompleteAt, InvariantIn}
+use Rattle.ckpt_machine.specs.Machine.{Machine, ReplicaState, Snapshot, CallState}
+use Rattle.ckpt_machine.specs.Shape.{Shape, IsCompleteOn, IsOwner, IsMarker, IsHolder, IsSpread}
+use Rattle.ckpt_machine.specs.Steps.{driver_of, with_record, opened_state, replica_under, reservation_under, snapshot_under}
+use Rattle.ckpt_machine.proofs.Actors.{same_actor-true}
+use Rattle.ckpt_machine.proofs.EntryLists.{find_key-change_key, AllStay-change_key, swept-all}
+use Rattle.ckpt_machine.proofs.Handles.{IsGoodHandle-later}
+use Rattle.ckpt_machine.proofs.NodeLists.{slice_index-replicate}
+use Rattle.ckpt_machine.proofs.OptionLemmas.{IsSomeAnd-at}
+use Rattle.ckpt_machine.proofs.OtherCalls.{LooksAlike, LooksLater, LooksLater-refl, making_still, IsIn-apart, IsInHand-alike, IsGoodIn-alike}
+use Rattle.ckpt_machine.proofs.ReplicaSteps.{put_actor-cases, put_actor-other}
+
+module _ (m : Machine) (shapes : ℕ → Shape) (inv : InvariantIn shapes m) (s : CallState) (u : SyncState) (held : m.in_hand s.call.actor ≡ Some s) (is : driver_of s ≡ drivers.Sync u) where
+  -- ---- other calls
+
+  -- what is in hand with another driver is another's
+  other_by_driver : (d : CallId) (z : CallState) → m.in_hand d.actor ≡ Some z → (driver_of z ≡ drivers.Sync u → ⊥) → same_actor d.actor s.call.actor ≡ false
+  other_by_driver d z there apart = by_test (same_actor d.actor s.call.actor) refl
+    where
+      by_test : (b : Bool) → same_actor d.actor s.call.actor ≡ b → same_actor d.actor s.call.actor ≡ false
+      by_test false is_not = is_not
+      by_test true same = absurd (apart (ap driver_of (same_Some z s (sym there ∙ ap m.in_hand (same_actor-true d.actor s.call.actor same) ∙ held)) ∙ is))
+
+  pub owner_other : (j : ℕ) (sh : Shape) (d : CallId) → IsOwner m j sh d → same_actor d.actor s.call.actor ≡ false
+  owner_other j sh d own = other_by_driver d own.state own.in_hand (λ same. let w : drivers.Update own.driver ≡ drivers.Sync u = sym own.driver_is ∙ same in cc w)
+
+  pub marker_other : (j : ℕ) (marks : Marked) → IsMarker m j marks → same_actor marks.call.actor s.call.actor ≡ false
+  marker_other j marks own = other_by_driver marks.call own.state own.in_hand (λ same. let w : drivers.Active own.driver ≡ drivers.Sync u = sym own.driver_is ∙ same in cc w)
+
+  maker_other : (j : ℕ) (d : CallId) → IsMaker m j d → same_actor d.actor s.call.actor ≡ false
+  maker_other j d own = other_by_driver d own.state own.in_hand (λ same. let w : drivers.Open own.driver ≡ drivers.Sync u = sym own.driver_is ∙ same in cc w)
+
+  -- so is the holder of another checkpoint
+  holder_other : (j : ℕ) (active : Option ℕ) (d : CallId) → (j == u.ckpt) ≡ false → IsHolder m j active d → same_actor d.actor s.call.actor ≡ false
+  holder_other j active d other own = other_by_driver d own.state own.in_hand (λ same.
+      let both : drivers.Sync own.driver ≡ drivers.Sync u = sym own.driver_is ∙ same in
+      let driver : own.driver ≡ u = cc both in
+      let ckpt : j ≡ u.ckpt = sym own.ckpt ∙ ap (λ (x : SyncState). x.ckpt) driver in
+      (let w : true ≡ false = sym (eq-eqb j u.ckpt ckpt) ∙ other in cc w))
+
+  -- ---- its checkpoint is gone, and it ends
+
+  pub gone_ends : entry_of u.ckpt m.cluster.entries ≡ None → InvariantIn shapes (record m { in_hand = put_actor m.in_hand s.call.actor None })
+  gone_ends gone = record {
+    up = inv.up;
+    none_live = inv.none_live;
+    rises = inv.rises;
+    up_to = inv.up_to;
+    swept = inv.swept;
+    entries = λ j e found.
+        let other = apart j e found (j == u.ckpt) refl in
+        IsGoodIn-alike m (record m { in_hand = hands }) j (shapes j) e (λ q there. refl)
+        (λ d own. put_actor-other m.in_hand s.call.actor None d.actor (owner_other j (shapes j) d own)) (λ marks own. put_actor-other m.in_hand s.call.actor None marks.call.actor (marker_other j marks own))
+        (λ active d own. put_actor-other m.in_hand s.call.actor None d.actor (holder_other j active d other own)) (λ d own. put_actor-other m.in_hand s.call.actor None d.actor (maker_other j d own)) e.making (inv.entries j e found);
+    replicas = inv.replicas;
+    reserves = inv.reserves;
+    handles = inv.handles;
+    rest = inv.rest;
+    clients = inv.clients;
+    hands = λ b z left. elim (put_actor-cases m.in_hand s.call.actor None b z left) [
+      | inl here ↦ absurd (let w : None ≡ Some z = here.1 in cc w)
+      | inr other ↦ (let was = inv.hands b z other.1 in record { actor = was.actor; client = was.client; number = was.number; built = was.built; driven = was.driven; live = was.live; here = IsIn-apart m shapes m.next hands z (driver_of z) was.here })
+    ];
+  }
+    where
+      hands : ActorName → Option CallState
+      hands = put_actor m.in_hand s.call.actor None
+
+      apart : (j : ℕ) (e : Entry) → entry_of j m.cluster.entries ≡ Some e → (b : Bool) → (j == u.ckpt) ≡ b → (j == u.ckpt) ≡ false
+      apart j e found false other = other
+      apart j e found true same = absurd (let w : None ≡ Some e = sym gone ∙ ap (λ n. entry_of n m.cluster.entries) (sym (eqb-true j u.ckpt same)) ∙ found in cc w)
+
+  -- ---- its checkpoint is there
+
+  module _ (e : Entry) (found : entry_of u.ckpt m.cluster.entries ≡ Some e) (made : e.making ≡ None) (change : Entry → Entry) (keeps : KeepsIdentity change) (f : Entry) (f_is : change e ≡ f)
+      (still_made : f.making ≡ None) (complete : f.complete ≡ e.complete) (attributes : (change e).attributes ≡ e.attributes) (stays_still : stays m.cluster.moment (change e) ≡ stays m.cluster.moment e) where
+    -- the record with the entry changed
+    abbrev pub R : RecordState
+    R = record m.cluster { entries = change_key identity_of u.ckpt change m.cluster.entries }
+
+    -- ---- entries
+
+    entry_is : (j : ℕ) → entry_of j R.entries ≡ cond (j == u.ckpt) (Some f) (entry_of j m.cluster.entries)
+    entry_is j = find_key-change_key identity_of u.ckpt j change keeps m.cluster.entries e found ∙ ap (λ x. cond (j == u.ckpt) (Some x) (entry_of j m.cluster.entries)) f_is
+
+    pub entry_here : entry_of u.ckpt R.entries ≡ Some f
+    entry_here = entry_is u.ckpt ∙ ap (λ b. cond b (Some f) (entry_of u.ckpt m.cluster.entries)) (eq-eqb u.ckpt u.ckpt refl)
+
+    pub entry_other : (j : ℕ) → (j == u.ckpt) ≡ false → entry_of j R.entries ≡ entry_of j m.cluster.entries
+    entry_other j other = entry_is j ∙ ap (λ b. cond b (Some f) (entry_of j m.cluster.entries)) other
+
+    -- no entry is over
+    stay : AllStay m.cluster.moment R.entries
+    stay = AllStay-change_key m.cluster.moment change u.ckpt m.cluster.entries inv.swept (λ x there was. subst (λ (y : Entry). stays m.cluster.moment (change y) ≡ true) (same_Some e x (sym found ∙ there)) (stays_still ∙ ap (stays m.cluster.moment) (same_Some e x (sym found ∙ there)) ∙ was))
+
+    -- each entry that is found was there, with the same nodes
+    pub record Before (j : ℕ) (g : Entry) : Type 0 where
+      pub entry : Entry
+      pub was : entry_of j m.cluster.entries ≡ Some entry
+      pub nodes : g.complete ≡ entry.complete
+      pub declares : g.attributes ≡ entry.attributes
+
+    before : (j : ℕ) (g : Entry) → entry_of j R.entries ≡ Some g → Before j g
+    before j g there = by_test (j == u.ckpt) refl
+      where
+        by_test : (b : Bool) → (j == u.ckpt) ≡ b → Before j g
+        by_test false other = record { entry = g; was = sym (entry_other j other) ∙ there; nodes = refl; declares = refl }
+        by_test true same =
+            let k_is : j ≡ u.ckpt = eqb-true j u.ckpt same in
+            let g_is : f ≡ g = same_Some f g (sym entry_here ∙ ap (λ n. entry_of n R.entries) (sym k_is) ∙ there) in
+            record { entry = e; was = ap (λ n. entry_of n m.cluster.entries) k_is ∙ found; nodes = ap (λ (x : Entry). x.complete) (sym g_is) ∙ complete; declares = ap (λ (x : Entry). x.attributes) (sym (f_is ∙ g_is)) ∙ attributes }
+
+    -- what was made is made still
+    pub WasMade-then : (j : ℕ) → WasMade m.cluster j → WasMade R j
+    WasMade-then j was = record { given = was.given; made = by_test (j == u.ckpt) refl }
+      where
+        by_test : (b : Bool) → (j == u.ckpt) ≡ b → IfSome (entry_of j R.entries) (λ e. e.making ≡ None)
+        by_test false other = subst (λ o. IfSome o (λ (x : Entry). x.making ≡ None)) (sym (entry_other j other)) was.made
+        by_test true same = subst (λ n. IfSome (entry_of n R.entries) (λ (x : Entry). x.making ≡ None)) (sym (eqb-true j u.ckpt same)) (subst (λ o. IfSome o (λ (x : Entry). x.making ≡ None)) (sym entry_here) still_made)
+
+    -- ---- what is under the record
+
+    -- what was there is there
+    found_still : (j : ℕ) (g : Entry) → entry_of j m.cluster.entries ≡ Some g → IsSome (entry_of j R.entries)
+    found_still j g was = by_test (j == u.ckpt) refl
+      where
+        by_test : (b : Bool) → (j == u.ckpt) ≡ b → IsSome (entry_of j R.entries)
+        by_test false other = ap (λ o. is_some o) (entry_other j other ∙ was)
+        by_test true same = ap (λ o. is_some o) (ap (λ n. entry_of n R.entries) (eqb-true j u.ckpt same) ∙ entry_here)
+
+    -- a replica is on a complete node of a checkpoint that is there, and stays
+    replicas_stay : (j q : ℕ) → replica_under (entry_of j R.entries) (slice_index (complete_of (entry_of j m.cluster.entries)) q) q (m.replicas j q) ≡ m.replicas j q
+    replicas_stay j q = by_entry (entry_of j R.entries) refl
+      where
+        -- where it can't be there is none
+        none_there : ((g : Entry) → entry_of j m.cluster.entries ≡ Some g → IsCompleteOn g q → ⊥) → (o : Option ReplicaState) → m.replicas j q ≡ o → None ≡ m.replicas j q
+        none_there cant None none = sym none
+        none_there cant (Some x) some = absurd (let (g, was, at) = IsSomeAnd-at (entry_of j m.cluster.entries) (λ (e : Entry). IsCompleteOn e q × IsOfGeneration e q x.generation) (inv.replicas j q x some) in cant g was at.0)
+
+        by_free : (g : Entry) (was : Before j g) (b : Bool) → (slice_index was.entry.complete q == 0) ≡ b → cond b None (cond b (Some (opened_state g)) (m.replicas j q)) ≡ m.replicas j q
+        by_free g was false there = refl
+        by_free g was true free = none_there (λ x found complete. (let x_is : was.entry ≡ x = same_Some was.entry x (sym was.was ∙ found) in let w : true ≡ false = sym free ∙ ap (λ (y : Entry). slice_index y.complete q == 0) x_is ∙ complete in cc w)) (m.replicas j q) refl
+
+        by_entry : (o : Option Entry) → entry_of j R.entries ≡ o → replica_under (entry_of j R.entries) (slice_index (complete_of (entry_of j m.cluster.entries)) q) q (m.replicas j q) ≡ m.replicas j q
+        by_entry None gone =
+            ap (λ o. replica_under o (slice_index (complete_of (entry_of j m.cluster.entries)) q) q (m.replicas j q)) gone
+            ∙ none_there (λ g was complete. (let w : false ≡ true = sym (ap (λ o. is_some o) gone) ∙ found_still j g was in cc w)) (m.replicas j q) refl
+        by_entry (Some g) there =
+            let was = before j g there in
+            ap (λ o. replica_under o (slice_index (complete_of (entry_of j m.cluster.entries)) q) q (m.replicas j q)) there
+            ∙ ap (λ o. replica_under (Some g) (slice_index (complete_of o) q) q (m.replicas j q)) was.was
+            ∙ ap (λ cs. cond (slice_index cs q == 0) None (cond (slice_index was.entry.complete q == 0) (Some (opened_state g)) (m.replicas j q))) was.nodes
+            ∙ by_free g was (slice_index was.entry.complete q == 0) refl
+
+    -- what is reserved is for a checkpoint in the making, and stays
+    reserved_stay : (j q : ℕ) → reservation_under (entry_of j R.entries) q (m.reserved j q) ≡ m.reserved j q
+    reserved_stay j q = by_entry (entry_of j R.entries) refl
+      where
+        none_there : ((g : Entry) → entry_of j m.cluster.entries ≡ Some g → IsSome g.making → ⊥) → (o : Option ℕ) → m.reserved j q ≡ o → None ≡ m.reserved j q
+        none_there cant None none = sym none
+        none_there cant (Some n) some = absurd (let (g, was, making) = IsSomeAnd-at (entry_of j m.cluster.entries) (λ (e : Entry). IsSome e.making) (inv.reserves j q n some) in cant g was making)
+
+        -- one in the making is complete nowhere
+        made_only : (g : Entry) → entry_of j m.cluster.entries ≡ Some g → (maker : Option CallId) → g.making ≡ maker → is_some maker ≡ true → (slice_index g.complete q == 0) ≡ true
+        made_only g was None making some = absurd (cc some)
+        made_only g was (Some d) making some =
+            let good : IsGoodIn m j (shapes j) g (Some d) = subst (IsGoodIn m j (shapes j) g) making (inv.entries j g was) in
+            ap (λ cs. slice_index cs q == 0) good.0.complete ∙ ap (λ n. n == 0) (slice_index-replicate 8 q)
+
+        by_free : (g : Entry) (was : Before j g) (b : Bool) → (slice_index was.entry.complete q == 0) ≡ b → cond b (m.reserved j q) None ≡ m.reserved j q
+        by_free g was true free = refl
+        by_free g was false there = none_there (λ x found making. (let x_is : was.entry ≡ x = same_Some was.entry x (sym was.was ∙ found) in let w : true ≡ false = sym (made_only x found x.making refl making) ∙ ap (λ (y : Entry). slice_index y.complete q == 0) (sym x_is) ∙ there in cc w)) (m.reserved j q) refl
+
+        by_entry : (o : Option Entry) → entry_of j R.entries ≡ o → reservation_under (entry_of j R.entries) q (m.reserved j q) ≡ m.reserved j q
+        by_entry None gone =
+            ap (λ o. reservation_under o q (m.reserved j q)) gone
+            ∙ none_there (λ g was making. (let w : false ≡ true = sym (ap (λ o. is_some o) gone) ∙ found_still j g was in cc w)) (m.reserved j q) refl
+        by_entry (Some g) there =
+            let was = before j g there in
+            ap (λ o. reservation_under o q (m.reserved j q)) there
+            ∙ ap (λ cs. cond (slice_index cs q == 0) (m.reserved j q) None) was.nodes
+            ∙ by_free g was (slice_index was.entry.complete q == 0) refl
+
+    -- the snapshots of what is there
+    abbrev pub left_snapshots : ℕ → Option Snapshot
+    left_snapshots = λ j. snapshot_under (entry_of j R.entries) (m.snapshots j)
+
+    -- so the state after the record's step has the replicas and reservations that it had
+    pub record_is : with_record m (swept R) ≡ record m { cluster = R; snapshots = left_snapshots }
+    record_is = ap (with_record m) (swept-all R stay) ∙ (λ i. record m { cluster = R; replicas = λ j q. replicas_stay j q i; reserved = λ j q. reserved_stay j q i; snapshots = left_snapshots })
+
+    -- ---- the state after the step
+
+    module _ (F : ℕ → ℕ → Option ReplicaState) (elsewhere : (j q : ℕ) → (j == u.ckpt) ≡ false → F j q ≡ m.replicas j q) (o : Option CallState) where
+      -- with these replicas, and with this left of the call
+      abbrev pub then_machine : Machine
+      then_machine = record m { cluster = R; replicas = F; snapshots = left_snapshots; in_hand = put_actor m.in_hand s.call.actor o }
+
+      -- another checkpoint is as it was
+      IsGoodIn-other : (j : ℕ) (g : Entry) (maker : Option CallId) → (j == u.ckpt) ≡ false → IsGoodIn m j (shapes j) g maker → IsGoodIn then_machine j (shapes j) g maker
+      IsGoodIn-other j g maker other good = IsGoodIn-alike m then_machine j (shapes j) g (λ q there. elsewhere j q other)
+          (λ d own. put_actor-other m.in_hand s.call.actor o d.actor (owner_other j (shapes j) d own)) (λ marks own. put_actor-other m.in_hand s.call.actor o marks.call.actor (marker_other j marks own))
+          (λ active d own. put_actor-other m.in_hand s.call.actor o d.actor (holder_other j active d other own)) (λ d own. put_actor-other m.in_hand s.call.actor o d.actor (maker_other j d own)) maker good
+
+      -- another call makes what it made
+      making_then : (z : CallState) (w : Making) → IsMakingIn m z w → IsMakingIn then_machine z w
+      making_then z w at =
+          let (g, was, made_by) = IsSomeAnd-at (entry_of w.ckpt m.cluster.entries) (λ e. e.making ≡ Some z.call) at.there in
+          let apart = not_this g was made_by in
+          record {
+            there = subst (λ o. IsSomeAnd o (λ (x : Entry). x.making ≡ Some z.call)) (sym (entry_other w.ckpt apart)) at.there;
+            declares = subst (λ o. IsSomeAnd o (λ (x : Entry). attributes_asked (asked z.op) ≡ Some x.attributes)) (sym (entry_other w.ckpt apart)) at.declares;
+            nodes = at.nodes;
+            reserved = at.reserved;
+            only = at.only;
+            within = at.within;
+          }
+        where
+          not_this : (g : Entry) → entry_of w.ckpt m.cluster.entries ≡ Some g → g.making ≡ Some z.call → (w.ckpt == u.ckpt) ≡ false
+          not_this g was made_by = by_test (w.ckpt == u.ckpt) refl
+            where
+              by_test : (b : Bool) → (w.ckpt == u.ckpt) ≡ b → (w.ckpt == u.ckpt) ≡ false
+              by_test false apart = apart
+              by_test true same =
+                  let g_is : g ≡ e = same_Some g e (sym was ∙ ap (λ n. entry_of n m.cluster.entries) (eqb-true w.ckpt u.ckpt same) ∙ found) in
+                  absurd (let v : None ≡ Some z.call = sym made ∙ ap (λ (x : Entry). x.making) (sym g_is) ∙ made_by in cc v)
+
+      module _ (looks : (z : CallState) → same_actor z.call.actor s.call.actor ≡ false → LooksLater z (shapes u.ckpt).marks e f) where
+        looks_then : (z : CallState) → same_actor z.call.actor s.call.actor ≡ false → LooksAlike m then_machine shapes shapes z
+        looks_then z other = record {
+          up = λ r up. up;
+          lives = refl;
+          tables = refl;
+          making = λ v at. making_still m then_machine z v (making_then z) at;
+          made = WasMade-then;
+          later = λ j was g there. by_test j g there (j == u.ckpt) refl;
+          owners = λ j was r. refl;
+          marks = λ j was. refl;
+        }
+          where
+            by_test : (j : ℕ) (g : Entry) → entry_of j R.entries ≡ Some g → (b : Bool) → (j == u.ckpt) ≡ b → (x : Entry) × (entry_of j m.cluster.entries ≡ Some x) × LooksLater z (shapes j).marks x g
+            by_test j g there false apart = (g, sym (entry_other j apart) ∙ there, LooksLater-refl z (shapes j).marks g)
+            by_test j g there true same =
+                let k_is : u.ckpt ≡ j = sym (eqb-true j u.ckpt same) in
+                let g_is : f ≡ g = same_Some f g (sym entry_here ∙ ap (λ n. entry_of n R.entries) k_is ∙ there) in
+                (e, ap (λ n. entry_of n m.cluster.entries) (sym k_is) ∙ found, subst (λ n. LooksLater z (shapes n).marks e g) k_is (subst (LooksLater z (shapes u.ckpt).marks e) g_is (looks z other)))
+
+        -- the invariant holds after it, where it holds of the checkpoint, of the replicas and of the call
+        pub entry_keeps : IsSpread then_machine u.ckpt (shapes u.ckpt) f → ((j q : ℕ) (x : ReplicaState) → F j q ≡ Some x → IsCompleteAt R j q x.generation) → ((z : CallState) → o ≡ Some z → IsInHand then_machine shapes s.call.actor z) → InvariantIn shapes then_machine
+        entry_keeps spread complete_then own = record {
+          up = inv.up;
+          none_live = inv.none_live;
+          rises = IdentitiesRise-change_key change keeps u.ckpt m.cluster.entries inv.rises;
+          up_to = AllUpTo-change_key change keeps m.cluster.last_identity u.ckpt m.cluster.entries inv.up_to;
+          swept = stay;
+          entries = λ j g there. by_test j g there (j == u.ckpt) refl;
+          replicas = complete_then;
+          reserves = λ j q n reserved. reserves_then j q n reserved (j == u.ckpt) refl;
+          handles = λ b h among. IsGoodHandle-later m.cluster R WasMade-then (λ j was g there. let x = before j g there in (x.entry, x.was, x.declares, λ r complete. ap (λ cs. slice_index cs r == 0) x.nodes ∙ complete)) b h refl (inv.handles b h among);
+          rest = inv.rest;
+          clients = inv.clients;
+          hands = λ b z there. elim (put_actor-cases m.in_hand s.call.actor o b z there) [
+            | inl here ↦ subst (λ c. IsInHand then_machine shapes c z) (sym here.0) (own z here.1)
+            | inr other ↦ (
+                let was = inv.hands b z other.1 in
+                IsInHand-alike m then_machine shapes shapes z (looks_then z (ap (λ c. same_actor c s.call.actor) was.actor ∙ other.0)) b (λ live. live) was.number was)
+          ];
+        }
+          where
+            by_test : (j : ℕ) (g : Entry) → entry_of j R.entries ≡ Some g → (b : Bool) → (j == u.ckpt) ≡ b → IsGoodIn then_machine j (shapes j) g g.making
+            by_test j g there false other = IsGoodIn-other j g g.making other (inv.entries j g (sym (entry_other j other) ∙ there))
+            by_test j g there true same =
+                let k_is : u.ckpt ≡ j = sym (eqb-true j u.ckpt same) in
+                let g_is : f ≡ g = same_Some f g (sym entry_here ∙ ap (λ n. entry_of n R.entries) k_is ∙ there) in
+                subst (λ (x : Entry). IsGoodIn then_machine j (shapes j) x x.making) g_is (subst (λ n. IsGoodIn then_machine n (shapes n) f f.making) k_is (subst (IsGoodIn then_machine u.ckpt (shapes u.ckpt) f) (sym still_made) spread))
+
+            reserves_then : (j q n : ℕ) → m.reserved j q ≡ Some n → (b : Bool) → (j == u.ckpt) ≡ b → IsSomeAnd (entry_of j R.entries) (λ e. IsSome e.making)
+            reserves_then j q n reserved false other = subst (λ o. IsSomeAnd o (λ (x : Entry). IsSome x.making)) (sym (entry_other j other)) (inv.reserves j q n reserved)
+            reserves_then j q n reserved true same =
+                let making : IsSome e.making = subst (λ o. IsSomeAnd o (λ (x : Entry). IsSome x.making)) (ap (λ i. entry_of i m.cluster.entries) (eqb-true j u.ckpt same) ∙ found) (inv.reserves j q n reserved) in
+                absurd (let w : false ≡ true = sym (ap (λ o. is_some o) made) ∙ making in cc w)

@@ -1,0 +1,148 @@
+//! The events by which a call holds a checkpoint, and sets its active.
+ghost use Rattle.std.specs.Prelude.{◌≡◌, ◌≤◌, ◌<◌, ◌==◌, length, not, slice_index};
+ghost use Rattle.ckpt_types.specs.Limits.{client_numbers, nodes_max};
+ghost use Rattle.cluster_record.specs.RecordState.{entry_of, hold_set, swept};
+ghost use Rattle.node_msgs.specs.declared.next.Next.TheVariants as nexts;
+ghost use Rattle.node_msgs.specs.declared.next.RecordStep.TheVariants as events;
+ghost use Rattle.world_core.specs.Happenings.{Adds, IsNext, IsStep};
+ghost use Rattle.world_core.specs.Leading.{copy_held, nodes_led, CanLead, HasFreeHold};
+ghost use Rattle.world_core.specs.Nodes.{replica_in};
+ghost use Rattle.world_core.specs.Shows.{HasNumbersLeft, IsShown};
+
+use crate::messages::stepped;
+use crate::nodes::Nodes;
+use crate::world::World;
+use ckpt_types::{AisError, Answer, CallId, Cause, CkptId, NodeId, Outcome};
+use cluster_record::{Entry, Record};
+use node_msgs::{RecordStep, StepReply, Verb};
+use run_labels::RunLog;
+use snap_copy::Snap;
+
+impl World {
+    /// The call holds its checkpoint, of which it has copied what the active has; the marks of a weak write there keep
+    /// it off, and end it.
+    #[inline(never)]
+    pub(crate) fn hold_step(&mut self, c: u8, r: NodeId, log: &mut RunLog)
+        requires next { IsNext self.old c (nexts.Event (events.Hold r)) }
+        requires client { c < client_numbers }
+        requires shown { IsShown self.old }
+        requires spare { 1 ≤ log.old.spare }
+        ensures { Adds log.old log.new (IsStep c self.old self.new) }
+    {
+        let slot = self.hands.at(c);
+        let Some(hand) = slot else { unreachable!() };
+        let call = hand.call;
+        let op = hand.word();
+        let ckpt = hand.synchronized();
+        match hand.copy(&self.nodes, r, ckpt) {
+            Err(held) => {
+                *slot = None;
+                let reply = StepReply::Held(held.by);
+                let end = Some(Outcome::Refused(AisError::TryAgain, Cause::Holder(held.by)));
+                log.push(stepped(call, op, Verb::Hold, Some(ckpt), Some(r), reply, end));
+            }
+            Ok(()) => {
+                hold(&mut self.cluster, ckpt, call);
+                let step = RecordStep::Hold(r);
+                hand.told(&self.cluster, &step, Some(ckpt), Some(r), StepReply::Ok);
+                self.free_gone();
+                log.push(stepped(
+                    call,
+                    op,
+                    Verb::Hold,
+                    Some(ckpt),
+                    Some(r),
+                    StepReply::Ok,
+                    None,
+                ));
+            }
+        }
+    }
+
+    /// A node is the active of the call's checkpoint from now on, and leads it with what the call holds, where it holds
+    /// it. The call ends.
+    #[inline(never)]
+    pub(crate) fn activate_step(&mut self, c: u8, r: NodeId, log: &mut RunLog)
+        requires next { IsNext self.old c (nexts.Event (events.Activate r)) }
+        requires client { c < client_numbers }
+        requires shown { IsShown self.old }
+        requires roomy { HasNumbersLeft self.old }
+        requires spare { 1 ≤ log.old.spare }
+        ensures { Adds log.old log.new (IsStep c self.old self.new) }
+    {
+        let slot = self.hands.at(c);
+        let Some(hand) = slot else { unreachable!() };
+        let call = hand.call;
+        let op = hand.word();
+        let ckpt = hand.synchronized();
+        let held = copy_held(&self.cluster, ckpt, hand.lend_snapshot());
+        *slot = None;
+        self.cluster.set_active(ckpt, r);
+        self.cluster.sweep();
+        self.free_gone();
+        lead(&self.cluster, &mut self.nodes, ckpt, r, &held);
+        let end = Some(Outcome::Done(Answer::Nothing));
+        log.push(stepped(
+            call,
+            op,
+            Verb::Activate,
+            Some(ckpt),
+            Some(r),
+            StepReply::Ok,
+            end,
+        ));
+    }
+}
+
+// A checkpoint that no call holds is held by this one; what is over goes.
+fn hold(cluster: &mut Record, ckpt: CkptId, call: CallId)
+    requires { HasFreeHold (entry_of ckpt cluster.old.entries) }
+    ensures { cluster.new ≡ swept (hold_set ckpt call cluster.old) }
+{
+    let Ok(()) = cluster.hold(ckpt, call) else {
+        unreachable!()
+    };
+    cluster.sweep();
+}
+
+// What a call has copied of a checkpoint, where this is held.
+fn copy_held(cluster: &Record, ckpt: CkptId, snapshot: Option<Snap>) -> Option<Snap>
+    ensures { result ≡ copy_held (entry_of ckpt cluster.now.entries) snapshot }
+{
+    let Some(entry) = cluster.entry(ckpt) else {
+        return None;
+    };
+    if entry.hold.is_some() { snapshot } else { None }
+}
+
+// The replica of a node leads its checkpoint, where this is there and the node complete: with what was held, where
+// something was.
+fn lead(cluster: &Record, nodes: &mut Nodes, ckpt: CkptId, r: NodeId, held: &Option<Snap>)
+    requires node { r < nodes_max }
+    requires can { CanLead r held.now (replica_in nodes.old ckpt r) (entry_of ckpt cluster.now.entries) }
+    ensures { nodes.new ≡ nodes_led ckpt r held.now (entry_of ckpt cluster.now.entries) nodes.old }
+{
+    let Some(entry) = cluster.entry(ckpt) else {
+        return;
+    };
+    if !is_complete(entry, r) {
+        return;
+    }
+    match held {
+        None => nodes.lead(r, ckpt, entry.generation),
+        Some(snap) => {
+            // The clause of `attributes` tells that its sections keep to them.
+            let _declared = snap.attributes();
+            nodes.take_over(r, ckpt, snap, entry.generation);
+        }
+    }
+}
+
+// Whether a node is complete for a checkpoint.
+fn is_complete(entry: &Entry, r: NodeId) -> bool
+    requires node { r < nodes_max }
+    requires nodes { length entry.now.complete ≡ nodes_max }
+    ensures { result ≡ not (slice_index entry.now.complete r == 0) }
+{
+    entry.complete[r as usize] != 0
+}
