@@ -1,7 +1,7 @@
 -- Each number that the code has is the number of its definition.
 use Rattle.std.proofs.Common.{◌≡◌, refl}
-use Rattle.ckpt_types.specs.declared.limits.TheConstants.{WR_ALL_REPLICAS, WR_ACTIVE_REPLICA, WR_ACTIVE_REPLICA_WEAK, CHECKPOINT_COLLOCATED, CREATION_FLAGS_ALL, CHECKPOINT_READ, CHECKPOINT_WRITE, CHECKPOINT_CREATE, OPEN_FLAGS_ALL, SECTIONS_FOREVER, SECTIONS_LEQ_EXPIRATION_TIME, SECTIONS_GEQ_EXPIRATION_TIME, SECTIONS_CORRUPTED, SECTIONS_ANY, NEVER, RELEASE, MAJOR_MIN, MAJOR_MAX, MINOR_ANSWERED, NAME_MAX, SECTION_ID_MAX, DECLARED_BYTES_MAX, SECTIONS_MAX, DECLARED_ID_MAX, GENERATED_ID_BYTES, VECTOR_MAX, NODES_MAX, CLIENT_NUMBERS, CKPT_NUMBERS, CLIENTS_MAX, CHECKPOINTS_MAX, PLACES_MAX, HANDLES_MAX, ITERATIONS_MAX, SCRIPT_BYTES_MAX, SCRIPT_LINES_MAX, SCRIPT_READS_MAX, SCRIPT_SHOWS_MAX, BLOCK_LINES_MAX, LINE_ELEMENTS_MAX, LINE_STEPS_MAX, LISTED_BYTES_MAX}
-use Rattle.ckpt_types.specs.Limits.{wr_all_replicas, wr_active_replica, wr_active_replica_weak, checkpoint_collocated, creation_flags_all, checkpoint_read, checkpoint_write, checkpoint_create, open_flags_all, sections_forever, sections_leq_expiration_time, sections_geq_expiration_time, sections_corrupted, sections_any, end_of_time, release, major_min, major_max, minor_answered, name_max, section_id_max, declared_bytes_max, sections_max, declared_id_max, generated_id_bytes, vector_max, nodes_max, client_numbers, ckpt_numbers, clients_max, checkpoints_max, places_max, handles_max, iterations_max, script_bytes_max, script_lines_max, script_reads_max, script_shows_max, block_lines_max, line_elements_max, line_steps_max, listed_bytes_max}
+use Rattle.ckpt_types.specs.declared.limits.TheConstants.{WR_ALL_REPLICAS, WR_ACTIVE_REPLICA, WR_ACTIVE_REPLICA_WEAK, CHECKPOINT_COLLOCATED, CREATION_FLAGS_ALL, CHECKPOINT_READ, CHECKPOINT_WRITE, CHECKPOINT_CREATE, OPEN_FLAGS_ALL, SECTIONS_FOREVER, SECTIONS_LEQ_EXPIRATION_TIME, SECTIONS_GEQ_EXPIRATION_TIME, SECTIONS_CORRUPTED, SECTIONS_ANY, NEVER, RELEASE, MAJOR_MIN, MAJOR_MAX, MINOR_ANSWERED, NAME_MAX, SECTION_ID_MAX, DECLARED_BYTES_MAX, SECTIONS_MAX, DECLARED_ID_MAX, GENERATED_ID_BYTES, VECTOR_MAX, NODES_MAX, CLIENT_NUMBERS, CKPT_NUMBERS, CLIENTS_MAX, CHECKPOINTS_MAX, PLACES_MAX, HANDLES_MAX, ITERATIONS_MAX, PENDING_MAX, DISPATCH_ONE, DISPATCH_ALL, SCRIPT_BYTES_MAX, SCRIPT_LINES_MAX, SCRIPT_READS_MAX, SCRIPT_SHOWS_MAX, BLOCK_LINES_MAX, LINE_ELEMENTS_MAX, LINE_STEPS_MAX, LISTED_BYTES_MAX}
+use Rattle.ckpt_types.specs.Limits.{wr_all_replicas, wr_active_replica, wr_active_replica_weak, checkpoint_collocated, creation_flags_all, checkpoint_read, checkpoint_write, checkpoint_create, open_flags_all, sections_forever, sections_leq_expiration_time, sections_geq_expiration_time, sections_corrupted, sections_any, end_of_time, release, major_min, major_max, minor_answered, name_max, section_id_max, declared_bytes_max, sections_max, declared_id_max, generated_id_bytes, vector_max, nodes_max, client_numbers, ckpt_numbers, clients_max, checkpoints_max, places_max, handles_max, iterations_max, pending_max, dispatch_one, dispatch_all, script_bytes_max, script_lines_max, script_reads_max, script_shows_max, block_lines_max, line_elements_max, line_steps_max, listed_bytes_max}
 
 WR_ALL_REPLICAS-is : WR_ALL_REPLICAS ≡ wr_all_replicas
 WR_ALL_REPLICAS-is = refl
@@ -128,3 +128,12 @@ LINE_STEPS_MAX-is = refl
 
 LISTED_BYTES_MAX-is : LISTED_BYTES_MAX ≡ listed_bytes_max
 LISTED_BYTES_MAX-is = refl
+
+PENDING_MAX-is : PENDING_MAX ≡ pending_max
+PENDING_MAX-is = refl
+
+DISPATCH_ONE-is : DISPATCH_ONE ≡ dispatch_one
+DISPATCH_ONE-is = refl
+
+DISPATCH_ALL-is : DISPATCH_ALL ≡ dispatch_all
+DISPATCH_ALL-is = refl

@@ -1,4 +1,4 @@
--- What an operation asks for: the five updates ask alike, and what is not built asks for nothing.
+-- What an operation asks for: the five updates ask alike, an asynchronous call asks for what its like asks, with no timeout, and what is not built asks for nothing.
 use Rattle.std.specs.Prelude.{◌≡◌, ◌≢◌, ℕ, ◌+◌, ◌<◌, List, [], Option, Some, None, Bool, true, false, ℤ}
 use Rattle.ckpt_types.specs.declared.attributes.CreationAttributes.{CreationAttributes}
 use Rattle.ckpt_types.specs.declared.calls.CallbackSet.{CallbackSet}
@@ -14,8 +14,8 @@ use Rattle.ckpt_types.specs.Limits.{places_max, nodes_max}
 pub data Ask : Type 0 where
   -- to be live on a node, by a version of the service, with callbacks
   Enter : ℕ → Version → CallbackSet → Ask
-  -- a handle of the checkpoint of a name: its place, the name, the flags, the timeout, and the attributes with which it is made
-  Open : ℕ → List ℕ → ℕ → ℤ → Option CreationAttributes → Ask
+  -- a handle of the checkpoint of a name: its place, the name, the flags, the timeout, which an asynchronous open has not, and the attributes with which it is made
+  Open : ℕ → List ℕ → ℕ → Option ℤ → Option CreationAttributes → Ask
   -- an update of the sections
   Change : ℕ → Update → Ask
   -- what these elements have
@@ -36,17 +36,20 @@ pub data Ask : Type 0 where
   Unlink : List ℕ → Ask
   -- to be live no more
   Leave : Ask
-  -- what the active has on each complete replica, with a timeout
-  Synchronize : ℕ → ℤ → Ask
+  -- what the active has on each complete replica, with a timeout, which an asynchronous synchronisation has not
+  Synchronize : ℕ → Option ℤ → Ask
   -- the client's node as the active
   SetActive : ℕ → Ask
+  -- the callbacks of asynchronous calls that have ended, by the flags one or all
+  Dispatch : ℕ → Ask
   -- what is not built yet
   Unbuilt : Ask
 
 -- WHAT AN OPERATION ASKS FOR
 abbrev pub asked : Op → Ask
 asked (ops.Client r version callbacks) = Enter r version callbacks
-asked (ops.Open place name flags timeout a) = Open place name flags timeout a
+asked (ops.Open place name flags timeout a) = Open place name flags (Some timeout) a
+asked (ops.OpenAsync place invocation name flags a) = Open place name flags None a
 asked (ops.Create place update) = Change place update
 asked (ops.Delete place update) = Change place update
 asked (ops.Expire place update) = Change place update
@@ -61,8 +64,10 @@ asked (ops.Close place) = Close place
 asked (ops.Retain place duration) = Retain place duration
 asked (ops.Unlink name) = Unlink name
 asked ops.Finalize = Leave
-asked (ops.Sync place timeout) = Synchronize place timeout
+asked (ops.Sync place timeout) = Synchronize place (Some timeout)
+asked (ops.SyncAsync place invocation) = Synchronize place None
 asked (ops.Active place) = SetActive place
+asked (ops.Dispatch flags) = Dispatch flags
 asked op = Unbuilt
 
 -- the update that is asked for
@@ -90,16 +95,25 @@ takes_room (Synchronize place timeout) = true
 takes_room (SetActive place) = true
 takes_room ask = false
 
--- ---- the operations that are built
+-- ---- asynchronous calls
 
--- callbacks are not kept yet: none is registered
-pub record RegistersNone (callbacks : CallbackSet) : Type 0 where
-  pub opens : callbacks.opens ≡ false
-  pub syncs : callbacks.syncs ≡ false
+-- it is of an asynchronous call: it waits for nothing, and goes on by itself
+abbrev pub is_async_ask : Ask → Bool
+is_async_ask (Open place name flags None a) = true
+is_async_ask (Synchronize place None) = true
+is_async_ask ask = false
+
+-- the invocation by which its client knows an asynchronous call
+abbrev pub invocation_of : Op → ℕ
+invocation_of (ops.OpenAsync place invocation name flags a) = invocation
+invocation_of (ops.SyncAsync place invocation) = invocation
+invocation_of op = 0
+
+-- ---- the operations that are built
 
 -- what is asked for is built, and names a node and places that there are
 abbrev pub IsBuiltAsk : Ask → Type 0
-IsBuiltAsk (Enter r version callbacks) = (r < nodes_max) × RegistersNone callbacks
+IsBuiltAsk (Enter r version callbacks) = r < nodes_max
 IsBuiltAsk (Open place name flags timeout a) = place < places_max
 IsBuiltAsk (Change place update) = place < places_max
 IsBuiltAsk (Read place elements) = place < places_max
@@ -113,6 +127,7 @@ IsBuiltAsk (Unlink name) = Unit {0}
 IsBuiltAsk Leave = Unit {0}
 IsBuiltAsk (Synchronize place timeout) = place < places_max
 IsBuiltAsk (SetActive place) = place < places_max
+IsBuiltAsk (Dispatch flags) = Unit {0}
 IsBuiltAsk Unbuilt = ⊥
 
 -- the operation is one that is built

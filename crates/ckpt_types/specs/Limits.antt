@@ -42,6 +42,16 @@ checkpoint_create = 4
 abbrev pub open_flags_all : ℕ
 open_flags_all = 7
 
+-- ---- dispatch flags, of the standard
+
+-- one callback is given
+abbrev pub dispatch_one : ℕ
+dispatch_one = 1
+
+-- all callbacks are given that are there
+abbrev pub dispatch_all : ℕ
+dispatch_all = 2
+
 -- ---- choices of an iteration, of the standard
 
 -- the sections that never expire
@@ -149,6 +159,10 @@ handles_max = 32
 -- iterations of a client
 abbrev pub iterations_max : ℕ
 iterations_max = 8
+
+-- a client has at most so many asynchronous calls that were not dispatched
+abbrev pub pending_max : ℕ
+pending_max = 16
 
 -- ---- limits of this profile: scripts
 

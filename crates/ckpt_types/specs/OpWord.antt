@@ -1,5 +1,8 @@
 -- The first words of call lines.
-use Rattle.std.specs.Prelude.{ℕ, List, codes}
+use Rattle.std.specs.Prelude.{ℕ, List, Bool, true, false, codes, if◌then◌else◌}
+use Rattle.ckpt_types.specs.declared.identities.CallId.{CallId}
+use Rattle.ckpt_types.specs.declared.identities.Who.{Who}
+use Rattle.ckpt_types.specs.declared.identities.Who.TheVariants.{Actor, Call}
 use Rattle.ckpt_types.specs.declared.operation.Op.{Op}
 use Rattle.ckpt_types.specs.declared.operation.Op.TheVariants as ops
 use Rattle.ckpt_types.specs.declared.words.OpWord.{OpWord}
@@ -29,6 +32,16 @@ word_of_op (ops.Sync place timeout) = words.Sync
 word_of_op (ops.SyncAsync place invocation) = words.SyncAsync
 word_of_op (ops.Dispatch flags) = words.Dispatch
 word_of_op ops.Copy = words.Copy
+
+-- an asynchronous call goes on by itself, under its own name
+abbrev pub is_async : OpWord → Bool
+is_async words.OpenAsync = true
+is_async words.SyncAsync = true
+is_async word = false
+
+-- by whose name a call is stepped: an asynchronous one by its own, any other by its actor's
+abbrev pub stepped_as : CallId → OpWord → Who
+stepped_as call word = if is_async word then Call call else Actor call.actor
 
 -- how a first word is spelled
 abbrev pub op_text : OpWord → List ℕ

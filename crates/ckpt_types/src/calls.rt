@@ -1,4 +1,5 @@
 //! What calls carry along, what holds them off, and the calls of a race.
+use crate::answers::Outcome;
 use crate::attributes::CreationAttributes;
 use crate::bytes::Bytes;
 use crate::identities::{CallId, NodeId};
@@ -35,7 +36,7 @@ pub struct Version {
 pub struct CallbackSet {
     /// That of an asynchronous open.
     pub opens: bool,
-    /// That of an asynchronous synchronization.
+    /// That of an asynchronous synchronisation.
     pub syncs: bool,
 }
 
@@ -46,6 +47,17 @@ pub enum AsyncKind {
     Open(u8),
     /// A synchronization.
     Sync,
+}
+
+/// A callback that a dispatch gives: how an asynchronous call has ended.
+#[derive(Clone, Copy, Debug, PartialEq, Eq)]
+pub struct Callback {
+    /// Of which kind the call is.
+    pub kind: AsyncKind,
+    /// The invocation by which its client knows it.
+    pub invocation: u64,
+    /// How it has ended.
+    pub outcome: Outcome,
 }
 
 /// What an open asks of the record of the cluster.

@@ -45,6 +45,12 @@ pub const SECTIONS_CORRUPTED: u32 = 4;
 /// Choice of sections: all.
 pub const SECTIONS_ANY: u32 = 5;
 
+/// Dispatch flag: one callback is given.
+pub const DISPATCH_ONE: u32 = 1;
+
+/// Dispatch flag: all callbacks are given that are there.
+pub const DISPATCH_ALL: u32 = 2;
+
 /// The time that means never: no moment reaches it.
 pub const NEVER: Moment = i64::MAX;
 
@@ -104,6 +110,9 @@ pub const HANDLES_MAX: usize = 32;
 
 /// The most iterations that a client has.
 pub const ITERATIONS_MAX: usize = 8;
+
+/// A client has so many asynchronous calls that were not dispatched.
+pub const PENDING_MAX: usize = 16;
 
 /// The most bytes of a script.
 pub const SCRIPT_BYTES_MAX: usize = 262_144;

@@ -1,6 +1,7 @@
 //! The first words of lines.
 ghost use Rattle.std.specs.Prelude.{◌≡◌};
 
+use crate::identities::{CallId, Who};
 use crate::operation::Op;
 
 /// The first word of a call line.
@@ -53,7 +54,7 @@ pub enum OpWord {
 }
 
 impl OpWord {
-    ghost use Rattle.ckpt_types.specs.OpWord.{word_of_op, op_text};
+    ghost use Rattle.ckpt_types.specs.OpWord.{word_of_op, is_async, stepped_as, op_text};
 
     /// The first word of the line that asks for a call.
     pub fn of(op: &Op) -> OpWord
@@ -82,6 +83,24 @@ impl OpWord {
             Op::SyncAsync(..) => OpWord::SyncAsync,
             Op::Dispatch(..) => OpWord::Dispatch,
             Op::Copy => OpWord::Copy,
+        }
+    }
+
+    /// Whether the call is an asynchronous one, which goes on by itself under its own name.
+    pub fn is_async(self) -> bool
+        ensures { result ≡ is_async self }
+    {
+        matches!(self, OpWord::OpenAsync | OpWord::SyncAsync)
+    }
+
+    /// By whose name a call of this word is stepped.
+    pub fn stepped_as(self, call: CallId) -> Who
+        ensures { result ≡ stepped_as call self }
+    {
+        if self.is_async() {
+            Who::Call(call)
+        } else {
+            Who::Actor(call.actor)
         }
     }
 
