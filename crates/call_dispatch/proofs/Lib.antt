@@ -1,0 +1,3 @@
+pub mod CallbackLaws
+pub mod FoundLaws
+pub mod Rows
