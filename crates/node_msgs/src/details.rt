@@ -1,7 +1,7 @@
-//! What comes beside a reply, and is told beside the outcome of a call.
-use ckpt_types::{Apart, CheckpointDescriptor, Pieces, SectionDescriptor};
+//! What is told beside the outcome of a call.
+use ckpt_types::{Apart, Callback, CheckpointDescriptor, Pieces, SectionDescriptor, Vector};
 
-/// What comes beside the reply that ends a call, and is told beside its outcome: the details of its answer.
+/// The details of an answer, which are told beside the outcome of the call. Most come beside the reply that ends it.
 #[derive(Debug, Drop)]
 pub enum Details {
     /// Nothing is told beside it.
@@ -12,4 +12,6 @@ pub enum Details {
     Section(Apart<SectionDescriptor>),
     /// The status of a checkpoint.
     Status(Apart<CheckpointDescriptor>),
+    /// The callbacks that a dispatch gives, in the order in which their calls ended.
+    Callbacks(Apart<Vector<Callback>>),
 }

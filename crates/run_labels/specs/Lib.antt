@@ -1,3 +1,4 @@
+pub mod Callbacks
 pub mod Events
 pub mod Kept
 pub mod Lines

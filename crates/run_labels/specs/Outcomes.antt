@@ -1,5 +1,5 @@
 -- How the end of a call is printed.
-use Rattle.std.specs.Prelude.{ℕ, List, [], ◌++◌, Option, Some, None, Bool, true, false, if◌then◌else◌, codes, decimal}
+use Rattle.std.specs.Prelude.{ℕ, List, [], ◌++◌, Option, Some, None, if◌then◌else◌, codes, decimal}
 use Rattle.std.specs.List.{flat_map}
 use Rattle.ckpt_types.specs.declared.ais_error.AisError.{AisError}
 use Rattle.ckpt_types.specs.declared.ais_error.AisError.TheVariants as errors
@@ -18,8 +18,7 @@ use Rattle.ckpt_types.specs.Limits.{release, major_max, minor_answered}
 use Rattle.node_msgs.specs.declared.details.Details.{Details}
 use Rattle.node_msgs.specs.declared.details.Details.TheVariants as beside
 use Rattle.ckpt_types.specs.declared.words.OpWord.{OpWord}
-use Rattle.ckpt_types.specs.declared.words.OpWord.TheVariants as words
-use Rattle.ckpt_types.specs.OpWord.{op_text}
+use Rattle.ckpt_types.specs.OpWord.{op_text, is_async}
 use Rattle.ckpt_types.specs.Spelling.{version_text, call_text, ckpt_text, time_text, bytes_text}
 use Rattle.run_labels.specs.Words.{state_text}
 
@@ -74,12 +73,13 @@ status_text status =
     ++ codes " " ++ decimal status.number_of_sections
     ++ codes " " ++ decimal status.memory_used
 
--- what is told beside an answer
+-- what is told beside an answer; callbacks have lines of their own
 abbrev pub details_text : Details → List ℕ
 details_text beside.Nothing = []
 details_text (beside.Pieces pieces) = flat_map piece_text pieces
 details_text (beside.Section section) = section_text section
 details_text (beside.Status status) = status_text status
+details_text (beside.Callbacks callbacks) = []
 
 -- the details of an answer, behind `OK`
 abbrev pub answer_text : Answer → Details → List ℕ
@@ -101,34 +101,28 @@ head_text call op = call_text call ++ codes " " ++ op_text op
 abbrev pub answered_text : Answer → Details → List ℕ
 answered_text answer details = codes " OK" ++ answer_text answer details ++ codes "\n"
 
--- the result line of a call that was done
-abbrev pub done_line : CallId → OpWord → Answer → Details → List ℕ
-done_line call op answer details = head_text call op ++ answered_text answer details
+-- that a call was refused, and why, to the end of the line
+abbrev pub refused_text : AisError → Cause → List ℕ
+refused_text error cause = codes " " ++ error_text error ++ told_version error ++ cause_text cause ++ codes "\n"
 
--- the result line of a call that was refused
-abbrev pub refusal_line : CallId → OpWord → AisError → Cause → List ℕ
-refusal_line call op error cause = head_text call op ++ codes " " ++ error_text error ++ told_version error ++ cause_text cause ++ codes "\n"
+-- the line of a call that ended, behind its front; one that was abandoned or not begun has none
+abbrev pub outcome_line : List ℕ → Outcome → Details → List ℕ
+outcome_line front (outcomes.Done answer) details = front ++ answered_text answer details
+outcome_line front (outcomes.Refused error cause) details = front ++ refused_text error cause
+outcome_line front outcomes.NoMemory details = front ++ refused_text errors.NoMemory causes.Plain
+outcome_line front outcomes.Abandoned details = []
+outcome_line front outcomes.Busy details = []
+outcome_line front outcomes.Astray details = []
 
--- the result line of a call that ended; one that was abandoned or not begun has none
+-- the result line of a call that ended
 abbrev pub result_line : CallId → OpWord → Outcome → Details → List ℕ
-result_line call op (outcomes.Done answer) details = done_line call op answer details
-result_line call op (outcomes.Refused error cause) details = refusal_line call op error cause
-result_line call op outcomes.NoMemory details = refusal_line call op errors.NoMemory causes.Plain
-result_line call op outcomes.Abandoned details = []
-result_line call op outcomes.Busy details = []
-result_line call op outcomes.Astray details = []
+result_line call op outcome details = outcome_line (head_text call op) outcome details
 
 -- the result line, where the call has ended
 abbrev pub end_text : CallId → OpWord → Option Outcome → Details → List ℕ
 end_text call op None details = []
 end_text call op (Some outcome) details = result_line call op outcome details
 
--- an asynchronous operation answers when it begins, and its end has no line
-abbrev pub is_async : OpWord → Bool
-is_async words.OpenAsync = true
-is_async words.SyncAsync = true
-is_async _ = false
-
--- the result line of a call that ended by a step
+-- the result line of a call that ended by a step; an asynchronous one answers when it begins, and its end has no line
 abbrev pub stepped_end_text : CallId → OpWord → Option Outcome → Details → List ℕ
 stepped_end_text call op end details = if is_async op then [] else end_text call op end details

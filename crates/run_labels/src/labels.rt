@@ -39,6 +39,8 @@ pub enum Label {
         op: Op,
         /// How it ended.
         end: Option<Outcome>,
+        /// What the call is told beside its end: the callbacks of a dispatch.
+        details: Details,
     },
     /// A call took a step, and may have ended by it.
     Stepped {

@@ -1,6 +1,7 @@
 //! The labels of a run, the log that keeps them, and the lines that they print.
 #![tactic(auto)]
 
+mod callbacks;
 mod digits;
 mod events;
 mod fronts;
@@ -14,6 +15,7 @@ mod steps;
 mod texts;
 mod words;
 
+pub use callbacks::{append_callbacks, render_callbacks};
 pub use ckpt_types::OpWord;
 pub use labels::{Label, PullReply, PutReply};
 pub use lines::{append_line, render_line};

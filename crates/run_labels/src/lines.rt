@@ -1,6 +1,5 @@
 //! The lines that one label prints.
 ghost use Rattle.std.specs.Prelude.{◌≡◌, [], ◌++◌, true, false, IfOk, OnOk};
-ghost use Rattle.node_msgs.specs.declared.details.Details.TheVariants.{Nothing};
 ghost use Rattle.ckpt_types.specs.OpWord.{word_of_op};
 ghost use Rattle.run_labels.specs.Outcomes.{end_text};
 ghost use Rattle.run_labels.specs.Steps.{where_asked, begin_line, step_line, moment_line};
@@ -12,10 +11,10 @@ use crate::outcomes::{append_begun_end, append_stepped_end};
 use crate::shows::append_shown;
 use crate::steps::{append_begin, append_moment, append_step};
 use ckpt_types::{Bytes, CallId, CkptId, Moment, NodeId, Op, OpWord, Outcome};
-use node_msgs::{StepReply, Verb};
+use node_msgs::{Details, StepReply, Verb};
 use std::alloc::{AllocError, Global};
 
-/// What a label prints, with the lines of steps or without them.
+/// What a label prints, with the lines of steps or without them. Its callbacks have lines of their own.
 pub fn render_line(alloc: Global, label: &Label, steps: bool) -> Result<Bytes, AllocError>
     ensures { IfOk result (λ text. text ≡ line_of steps label.now) }
 {
@@ -24,8 +23,8 @@ pub fn render_line(alloc: Global, label: &Label, steps: bool) -> Result<Bytes, A
     Ok(Bytes::from_vec(out))
 }
 
-/// Adds what a label prints behind what the buffer has. After an error, which is want of memory, the
-/// buffer may have a part of it.
+/// Adds what a label prints behind what the buffer has, but for the lines of its callbacks. After an error,
+/// which is want of memory, the buffer may have a part of it.
 pub fn append_line(out: &mut Vec<u8>, label: &Label, steps: bool) -> Result<(), AllocError>
     ensures { OnOk result (out.new.items ≡ out.old.items ++ line_of steps label.now) }
 {
@@ -53,7 +52,12 @@ fn append_told(out: &mut Vec<u8>, label: &Label, steps: bool) -> Result<(), Allo
     ensures { OnOk result (out.new.items ≡ out.old.items ++ line_of steps label.now) }
 {
     match label {
-        Label::Began { call, op, end } => append_began(out, call, op, end, steps),
+        Label::Began {
+            call,
+            op,
+            end,
+            details,
+        } => append_began(out, call, op, end, details, steps),
         Label::Stepped {
             call,
             op,
@@ -85,13 +89,14 @@ fn append_began(
     call: &CallId,
     op: &Op,
     end: &Option<Outcome>,
+    details: &Details,
     steps: bool,
 ) -> Result<(), AllocError>
-    ensures { OnOk result (out.new.items ≡ out.old.items ++ (where_asked steps (begin_line call.now (word_of_op op.now)) ++ end_text call.now (word_of_op op.now) end.now Nothing)) }
+    ensures { OnOk result (out.new.items ≡ out.old.items ++ (where_asked steps (begin_line call.now (word_of_op op.now)) ++ end_text call.now (word_of_op op.now) end.now details.now)) }
 {
     let word = OpWord::of(op);
     append_asked_begin(out, call, word, steps)?;
-    append_begun_end(out, call, word, end)
+    append_begun_end(out, call, word, end, details)
 }
 
 /// The line of a call that begins, where steps are asked for.

@@ -1,10 +1,9 @@
 //! The result line of a call that has ended.
 ghost use Rattle.std.specs.Prelude.{◌≡◌, ◌+◌, ◌≤◌, ◌++◌, OnOk, Some, codes, decimal, vec_len, vec_capacity};
 ghost use Rattle.std.specs.List.{flat_map};
-ghost use Rattle.node_msgs.specs.declared.details.Details.TheVariants as beside;
 ghost use Rattle.ckpt_types.specs.OpWord.{op_text};
 ghost use Rattle.ckpt_types.specs.Spelling.{time_text};
-ghost use Rattle.run_labels.specs.Outcomes.{spoken_text, cause_text, told_version, piece_text, facts_text, section_text, attributes_text, status_text, details_text, answer_text, answered_text, head_text, done_line, refusal_line, result_line, end_text, stepped_end_text, is_async};
+ghost use Rattle.run_labels.specs.Outcomes.{spoken_text, cause_text, told_version, piece_text, facts_text, section_text, attributes_text, status_text, details_text, answer_text, answered_text, refused_text, head_text, result_line, end_text, stepped_end_text};
 
 use crate::fronts::{
     FRONT_ROOM, LONG_NUMBER, push_call, push_ok, push_read, push_word, push_write,
@@ -31,17 +30,10 @@ pub(crate) fn append_stepped_end(
 ) -> Result<(), AllocError>
     ensures { OnOk result (out.new.items ≡ out.old.items ++ stepped_end_text call.now op end.now details.now) }
 {
-    if is_async(op) {
+    if op.is_async() {
         return Ok(());
     }
     append_end(out, call, op, end, details)
-}
-
-/// Whether the operation answers when it begins, and not at its end.
-fn is_async(op: OpWord) -> bool
-    ensures { result ≡ is_async op }
-{
-    matches!(op, OpWord::OpenAsync | OpWord::SyncAsync)
 }
 
 /// The result line, where the call has ended.
@@ -68,12 +60,13 @@ pub(crate) fn append_begun_end(
     call: &CallId,
     op: OpWord,
     end: &Option<Outcome>,
+    details: &Details,
 ) -> Result<(), AllocError>
-    ensures { OnOk result (out.new.items ≡ out.old.items ++ end_text call.now op end.now beside.Nothing) }
+    ensures { OnOk result (out.new.items ≡ out.old.items ++ end_text call.now op end.now details.now) }
 {
     match end {
         None => Ok(()),
-        Some(outcome) => append_begun_result(out, call, op, outcome),
+        Some(outcome) => append_begun_result(out, call, op, outcome, details),
     }
 }
 
@@ -84,10 +77,11 @@ fn append_begun_result(
     call: &CallId,
     op: OpWord,
     outcome: &Outcome,
+    details: &Details,
 ) -> Result<(), AllocError>
-    ensures { OnOk result (out.new.items ≡ out.old.items ++ result_line call.now op outcome.now beside.Nothing) }
+    ensures { OnOk result (out.new.items ≡ out.old.items ++ result_line call.now op outcome.now details.now) }
 {
-    append_result(out, call, op, outcome, &Details::Nothing)
+    append_result(out, call, op, outcome, details)
 }
 
 /// The result line of a call that ended.
@@ -118,7 +112,7 @@ fn append_done(
     answer: &Answer,
     details: &Details,
 ) -> Result<(), AllocError>
-    ensures { OnOk result (out.new.items ≡ out.old.items ++ done_line call.now op answer.now details.now) }
+    ensures { OnOk result (out.new.items ≡ out.old.items ++ (head_text call.now op ++ answered_text answer.now details.now)) }
 {
     if call.number >= LONG_NUMBER {
         append_head(out, call, op)?;
@@ -144,7 +138,11 @@ fn append_done(
 
 /// The answer of a call that was done, to the end of the line.
 #[inline(never)]
-fn append_answered(out: &mut Vec<u8>, answer: &Answer, details: &Details) -> Result<(), AllocError>
+pub(crate) fn append_answered(
+    out: &mut Vec<u8>,
+    answer: &Answer,
+    details: &Details,
+) -> Result<(), AllocError>
     ensures { OnOk result (out.new.items ≡ out.old.items ++ answered_text answer.now details.now) }
 {
     append_text(out, " OK")?;
@@ -176,9 +174,21 @@ fn append_refusal(
     error: AisError,
     cause: &Cause,
 ) -> Result<(), AllocError>
-    ensures { OnOk result (out.new.items ≡ out.old.items ++ refusal_line call.now op error cause.now) }
+    ensures { OnOk result (out.new.items ≡ out.old.items ++ (head_text call.now op ++ refused_text error cause.now)) }
 {
     append_head(out, call, op)?;
+    append_refused(out, error, cause)
+}
+
+/// That a call was refused, and why, to the end of the line.
+#[inline(always)]
+pub(crate) fn append_refused(
+    out: &mut Vec<u8>,
+    error: AisError,
+    cause: &Cause,
+) -> Result<(), AllocError>
+    ensures { OnOk result (out.new.items ≡ out.old.items ++ refused_text error cause.now) }
+{
     append_text(out, " ")?;
     append_text(out, error.word())?;
     append_told_version(out, error)?;
@@ -225,12 +235,12 @@ fn append_answer(out: &mut Vec<u8>, answer: &Answer, details: &Details) -> Resul
     }
 }
 
-/// What is told beside an answer.
+/// What is told beside an answer. Callbacks have lines of their own.
 fn append_details(out: &mut Vec<u8>, details: &Details) -> Result<(), AllocError>
     ensures { OnOk result (out.new.items ≡ out.old.items ++ details_text details.now) }
 {
     match details {
-        Details::Nothing => Ok(()),
+        Details::Nothing | Details::Callbacks(_) => Ok(()),
         Details::Pieces(pieces) => append_each_piece(out, pieces),
         Details::Section(section) => append_section(out, section.value()),
         Details::Status(status) => append_status(out, status.value()),

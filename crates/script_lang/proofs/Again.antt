@@ -10,12 +10,11 @@ use Rattle.script_words.specs.declared.reason.Reason.{Reason}
 use Rattle.script_words.specs.declared.reason.Reason.TheVariants as reasons
 use Rattle.script_lang.specs.declared.faults.ScriptFault.{ScriptFault}
 use Rattle.script_lang.specs.declared.lines.Line.{Line}
-use Rattle.script_words.specs.Words.{is_graphic}
+use Rattle.script_words.specs.Words.{is_graphic, or_else}
 use Rattle.script_lang.specs.Table.{line_in}
 use Rattle.script_lang.specs.Grammar.{text_lines, is_space, is_empty, words_of, line_said, not_built, some_line, reading, fault_of, Progress, start, fault, with_line, if_allowed, after_reading, take_line, take_lines, if_no_fault, whole_script, script_of, block_of}
 use Rattle.script_lang.specs.Spelling.{line_words, line_text, spelling}
-use Rattle.script_lang.specs.Grammar.{marks_of, order_fault, limit_fault, fault_after, form_fault, is_later_line, asked_in}
-use Rattle.script_words.specs.Words.{or_else}
+use Rattle.script_lang.specs.Grammar.{marks_of, order_fault, limit_fault, fault_after, asked_in}
 use Rattle.script_lang.specs.Scripts.{IsLine, Orderly, IsScript}
 use Rattle.script_words.proofs.Plain.{both_pass}
 use Rattle.script_lang.proofs.Told.{ok_inj}
@@ -169,17 +168,7 @@ no_first (Some r) l e = absurd (cc)
 
 ordered : (earlier : List Line) (x : Line) → fault_of earlier x ≡ None → order_fault (marks_of earlier) x ≡ None
 unfolding fault_after
-ordered earlier x e = (no_first (order_fault (marks_of earlier) x) (or_else (limit_fault (marks_of earlier) x) (form_fault x)) e).0
-
-no_form : (b : Bool) → (if b then Some reasons.NotBuilt else None) ≡ None → b ≡ false
-no_form true e = absurd (cc)
-no_form false e = refl
-
-formed : (earlier : List Line) (x : Line) → fault_of earlier x ≡ None → is_later_line x ≡ false
-unfolding fault_after
-formed earlier x e =
-    let rest = (no_first (order_fault (marks_of earlier) x) (or_else (limit_fault (marks_of earlier) x) (form_fault x)) e).1 in
-    no_form (is_later_line x) (no_first (limit_fault (marks_of earlier) x) (form_fault x) rest).1
+ordered earlier x e = (no_first (order_fault (marks_of earlier) x) (limit_fault (marks_of earlier) x) e).0
 
 no_reads_fault : (n : ℕ) (o : Option Reason) → (if nat_lt script_reads_max n then Some reasons.Reads else o) ≡ None → n ≤ script_reads_max
 no_reads_fault n o e = go (nat_lt script_reads_max n) refl e
@@ -191,8 +180,7 @@ no_reads_fault n o e = go (nat_lt script_reads_max n) refl e
 asked_before : (earlier : List Line) (x : Line) → fault_of earlier x ≡ None → asked_in x ≤ script_reads_max
 unfolding fault_after limit_fault
 asked_before earlier x e =
-    let rest = (no_first (order_fault (marks_of earlier) x) (or_else (limit_fault (marks_of earlier) x) (form_fault x)) e).1 in
-    let limits = (no_first (limit_fault (marks_of earlier) x) (form_fault x) rest).0 in
+    let limits = (no_first (order_fault (marks_of earlier) x) (limit_fault (marks_of earlier) x) e).1 in
     let all = no_reads_fault ((marks_of earlier).asked + asked_in x) _ limits in
     omega (arith, all)
 
@@ -223,7 +211,7 @@ one_step p s q (skipped same number lt) k = record {
 one_step p s q (took x f none same number lt) k = record {
   news = x ∷ k.news;
   fit = (f, k.fit);
-  orderly = λ late h. (f, ordered p.earlier x none, formed p.earlier x none, asked_before p.earlier x none, subst (λ e. Orderly e (joined_to k.news late)) same (k.orderly late h));
+  orderly = λ late h. (f, ordered p.earlier x none, asked_before p.earlier x none, subst (λ e. Orderly e (joined_to k.news late)) same (k.orderly late h));
   told = k.told ∙ ap (λ e. reverse k.news ++ e) same ∙ sym (ap (λ l. l ++ p.earlier) (reverse-append (x ∷ []) k.news) ∙ append_assoc (reverse k.news) (x ∷ []) p.earlier);
   count = omega (arith, k.count, number);
   most = λ le. k.most (omega (arith, number, lt));

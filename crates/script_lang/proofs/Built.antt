@@ -1,14 +1,12 @@
 -- What is read asks for no more than what is built.
-use Rattle.std.proofs.Common.{◌≡◌, refl, ◌^◌, ◌-◌, ◌<◌, ◌≤◌, Bool, true, false, not, ◌||◌, List, [], ◌∷◌, length, map, ℤ, pos, negsuc, ◌≤ℤ◌, int_lt, Option, Some, None, option_map, sum_by, arith, subst, sym, ap, ◌∙◌, inl, inr, if◌then◌else◌}
+use Rattle.std.proofs.Common.{◌≡◌, refl, ◌^◌, ◌-◌, ◌<◌, ◌≤◌, Bool, true, false, not, List, [], ◌∷◌, length, map, ℤ, pos, negsuc, ◌≤ℤ◌, int_lt, Option, Some, None, option_map, sum_by, arith, subst, sym, ap, ◌∙◌, inl, inr, if◌then◌else◌}
 use Rattle.std.specs.List.{All}
 use Rattle.std.proofs.lemmas.Int.{ints}
 use Rattle.std.proofs.lemmas.List.{length-map}
 use Rattle.std.proofs.lemmas.List.Elements.{All-nil, All-cons}
 use Rattle.std.proofs.lemmas.List.Sums.{sum_by-cons}
-use Rattle.ckpt_types.specs.declared.calls.CallbackSet.{CallbackSet}
 use Rattle.ckpt_types.specs.declared.update.ReadElement.{ReadElement}
 use Rattle.ckpt_types.specs.declared.update.Update.TheVariants as updates
-use Rattle.ckpt_types.specs.Asks.{RegistersNone}
 use Rattle.ckpt_types.specs.Limits.{script_lines_max, script_reads_max, line_elements_max}
 use Rattle.script_words.specs.declared.reason.Reason.{Reason}
 use Rattle.script_words.specs.declared.reason.Reason.TheVariants as reasons
@@ -19,19 +17,11 @@ use Rattle.ckpt_types.specs.declared.words.OpWord.TheVariants as calls
 use Rattle.script_lang.specs.declared.lines.Line.{Line}
 use Rattle.script_lang.specs.declared.lines.Line.TheVariants as lines
 use Rattle.script_lang.specs.Table.{Values, LineValues, form, is_later, only_begun, attributes, attributes_of, io_group, io_element, read_group, read_element}
-use Rattle.script_lang.specs.Grammar.{marks_of, moment_behind_all, order_fault, is_nodes, goes_back, is_later_line, asked_in}
+use Rattle.script_lang.specs.Grammar.{marks_of, moment_behind_all, order_fault, is_nodes, goes_back, asked_in}
 use Rattle.script_lang.specs.Scripts.{FitAll, FitMore, FitGroups, FitValues, IsLine, Orderly, IsScript}
 use Rattle.script_lang.specs.BuiltScripts.{HasNumbersInRange, HaveNumbersInRange, IsIoElement, IsReadElement, AreWrites, AreReads, IsBuiltLine, AreBuiltLines, AreFirstNodes, AreNodesFirst, IsBuiltScript}
 
--- WHAT THE TESTS OF THE NARROWER FORMS TELL
-
-none_registered : (set : CallbackSet) → (set.opens || set.syncs) ≡ false → RegistersNone set
-none_registered set h = go set.opens set.syncs h refl refl
-  where
-    go : (opens syncs : Bool) → (opens || syncs) ≡ false → set.opens ≡ opens → set.syncs ≡ syncs → RegistersNone set
-    go true syncs h opens_is syncs_is = absurd (cc)
-    go false true h opens_is syncs_is = absurd (cc)
-    go false false h opens_is syncs_is = record { opens = opens_is; syncs = syncs_is }
+-- WHAT THE WORDS OF A LINE SAY IS IN ITS RANGE
 
 numbers : (v : Values attributes) → FitAll attributes v → HasNumbersInRange (attributes_of v)
 numbers v f = record {
@@ -69,35 +59,38 @@ later_moment t (negsuc n) f h = absurd f
 
 -- ONE CASE FOR EACH WORD: a line of a form that is built asks for what is built, or brings the nodes up
 
-line_built : (t : ℤ) (k : FirstWord) (v : LineValues (form k).shape) → FitValues (form k).shape v → is_later k ≡ false → is_nodes ((form k).line v) ≡ false → goes_back ((form k).line v) t ≡ false → is_later_line ((form k).line v) ≡ false → asked_in ((form k).line v) ≤ script_reads_max → IsBuiltLine t ((form k).line v)
-line_built t words.Nodes v f b n m h asked = absurd (cc n)
-line_built t (words.Op calls.Client) v f b n m h asked = (omega (arith, f.0), (omega (arith, f.1.0), none_registered v.1.1.1.0 h), f.1.1.0)
-line_built t (words.Op calls.Open) v f b n m h asked = (omega (arith, f.0.0), omega (arith, f.0.1.0), (omega (arith, f.0.1.1.1.0.1), all_numbers v.1 f.1))
-line_built t (words.Op calls.Active) v f b n m h asked = (omega (arith, f.0), omega (arith, f.1.0), tt)
-line_built t (words.Op calls.Status) v f b n m h asked = (omega (arith, f.0), omega (arith, f.1.0), tt)
-line_built t (words.Op calls.Finalize) v f b n m h asked = (omega (arith, f.0), tt, tt)
-line_built t (words.Op calls.Close) v f b n m h asked = (omega (arith, f.0), omega (arith, f.1.0), tt)
-line_built t (words.Op calls.Unlink) v f b n m h asked = (omega (arith, f.0), tt, tt)
-line_built t (words.Op calls.Retain) v f b n m h asked = (omega (arith, f.0), omega (arith, f.1.0), f.1.1.0)
-line_built t (words.Op calls.Create) v f b n m h asked = (omega (arith, f.0), omega (arith, f.1.0), (f.1.1.0, f.1.1.1.0))
-line_built t (words.Op calls.Delete) v f b n m h asked = (omega (arith, f.0), omega (arith, f.1.0), f.1.1.0.1)
-line_built t (words.Op calls.Expire) v f b n m h asked = (omega (arith, f.0), omega (arith, f.1.0), (f.1.1.0.1, f.1.1.1.0))
-line_built t (words.Op calls.Iter) v f b n m h asked = (omega (arith, f.0), (omega (arith, f.1.0), omega (arith, f.1.1.0)), omega (arith, f.1.1.1.0.1))
-line_built t (words.Op calls.Next) v f b n m h asked = (omega (arith, f.0), omega (arith, f.1.0), tt)
-line_built t (words.Op calls.EndIter) v f b n m h asked = (omega (arith, f.0), omega (arith, f.1.0), tt)
-line_built t (words.Op calls.Write) v f b n m h asked = (omega (arith, f.0.0), omega (arith, f.0.1.0), writes_built v.1 f.1 f.2 f.3)
-line_built t (words.Op calls.Over) v f b n m h asked = (omega (arith, f.0), omega (arith, f.1.0), f.1.1.0.1)
-line_built t (words.Op calls.Read) v f b n m h asked = (omega (arith, f.0.0), omega (arith, f.0.1.0), reads_built v.1 f.1 f.2 f.3 asked)
-line_built t (words.Op calls.Sync) v f b n m h asked = (omega (arith, f.0), omega (arith, f.1.0), f.1.1.0)
-line_built t words.Step v f b n m h asked = (f.0, omega (arith, f.1.0.0), f.1.0.1)
-line_built t words.Finish v f b n m h asked = f.0
-line_built t words.At v f b n m h asked = later_moment t v.0 f.0 m
-line_built t words.Pull v f b n m h asked = tt
-line_built t words.Put v f b n m h asked = omega (arith, f.1.0)
-line_built t words.Propagate v f b n m h asked = tt
-line_built t words.Show v f b n m h asked = tt
-line_built t (words.Op _) v f b n m h asked = absurd (cc b)
-line_built t _ v f b n m h asked = absurd (cc b)
+line_built : (t : ℤ) (k : FirstWord) (v : LineValues (form k).shape) → FitValues (form k).shape v → is_later k ≡ false → is_nodes ((form k).line v) ≡ false → goes_back ((form k).line v) t ≡ false → asked_in ((form k).line v) ≤ script_reads_max → IsBuiltLine t ((form k).line v)
+line_built t words.Nodes v f b n m asked = absurd (cc n)
+line_built t (words.Op calls.Client) v f b n m asked = (omega (arith, f.0), omega (arith, f.1.0), f.1.1.0)
+line_built t (words.Op calls.Open) v f b n m asked = (omega (arith, f.0.0), omega (arith, f.0.1.0), (omega (arith, f.0.1.1.1.0.1), all_numbers v.1 f.1))
+line_built t (words.Op calls.OpenAsync) v f b n m asked = (omega (arith, f.0.0), omega (arith, f.0.1.0), (omega (arith, f.0.1.1.0.1), omega (arith, f.0.1.1.1.1.0.1), all_numbers v.1 f.1))
+line_built t (words.Op calls.Active) v f b n m asked = (omega (arith, f.0), omega (arith, f.1.0), tt)
+line_built t (words.Op calls.Status) v f b n m asked = (omega (arith, f.0), omega (arith, f.1.0), tt)
+line_built t (words.Op calls.Finalize) v f b n m asked = (omega (arith, f.0), tt, tt)
+line_built t (words.Op calls.Close) v f b n m asked = (omega (arith, f.0), omega (arith, f.1.0), tt)
+line_built t (words.Op calls.Unlink) v f b n m asked = (omega (arith, f.0), tt, tt)
+line_built t (words.Op calls.Retain) v f b n m asked = (omega (arith, f.0), omega (arith, f.1.0), f.1.1.0)
+line_built t (words.Op calls.Create) v f b n m asked = (omega (arith, f.0), omega (arith, f.1.0), (f.1.1.0, f.1.1.1.0))
+line_built t (words.Op calls.Delete) v f b n m asked = (omega (arith, f.0), omega (arith, f.1.0), f.1.1.0.1)
+line_built t (words.Op calls.Expire) v f b n m asked = (omega (arith, f.0), omega (arith, f.1.0), (f.1.1.0.1, f.1.1.1.0))
+line_built t (words.Op calls.Iter) v f b n m asked = (omega (arith, f.0), (omega (arith, f.1.0), omega (arith, f.1.1.0)), omega (arith, f.1.1.1.0.1))
+line_built t (words.Op calls.Next) v f b n m asked = (omega (arith, f.0), omega (arith, f.1.0), tt)
+line_built t (words.Op calls.EndIter) v f b n m asked = (omega (arith, f.0), omega (arith, f.1.0), tt)
+line_built t (words.Op calls.Write) v f b n m asked = (omega (arith, f.0.0), omega (arith, f.0.1.0), writes_built v.1 f.1 f.2 f.3)
+line_built t (words.Op calls.Over) v f b n m asked = (omega (arith, f.0), omega (arith, f.1.0), f.1.1.0.1)
+line_built t (words.Op calls.Read) v f b n m asked = (omega (arith, f.0.0), omega (arith, f.0.1.0), reads_built v.1 f.1 f.2 f.3 asked)
+line_built t (words.Op calls.Sync) v f b n m asked = (omega (arith, f.0), omega (arith, f.1.0), f.1.1.0)
+line_built t (words.Op calls.SyncAsync) v f b n m asked = (omega (arith, f.0), omega (arith, f.1.0), omega (arith, f.1.1.0.1))
+line_built t (words.Op calls.Dispatch) v f b n m asked = (omega (arith, f.0), tt, omega (arith, f.1.0.1))
+line_built t words.Step v f b n m asked = (f.0, omega (arith, f.1.0.0), f.1.0.1)
+line_built t words.Finish v f b n m asked = f.0
+line_built t words.At v f b n m asked = later_moment t v.0 f.0 m
+line_built t words.Pull v f b n m asked = tt
+line_built t words.Put v f b n m asked = omega (arith, f.1.0)
+line_built t words.Propagate v f b n m asked = tt
+line_built t words.Show v f b n m asked = tt
+line_built t (words.Op _) v f b n m asked = absurd (cc b)
+line_built t _ v f b n m asked = absurd (cc b)
 
 node_built : (k : FirstWord) (v : LineValues (form k).shape) → FitValues (form k).shape v → is_nodes ((form k).line v) ≡ true → AreFirstNodes ((form k).line v)
 node_built words.Nodes v f n = (omega (arith, f.0.0), f.0.1)
@@ -115,10 +108,6 @@ begun_back : (x : Line) (t : ℤ) → goes_back (only_begun x) t ≡ goes_back x
 begun_back (lines.Call c o) t = refl
 begun_back _ t = refl
 
-begun_later : (x : Line) → is_later_line (only_begun x) ≡ is_later_line x
-begun_later (lines.Call c o) = refl
-begun_later _ = refl
-
 begun_asked : (x : Line) → asked_in (only_begun x) ≡ asked_in x
 begun_asked (lines.Call c o) = refl
 begun_asked _ = refl
@@ -135,14 +124,14 @@ begun_first _ h = h
 
 -- FOR ALL AT ONCE
 
-as_line : (t : ℤ) (x : Line) → IsLine x → is_nodes x ≡ false → goes_back x t ≡ false → is_later_line x ≡ false → asked_in x ≤ script_reads_max → IsBuiltLine t x
-as_line t x f n m h asked =
+as_line : (t : ℤ) (x : Line) → IsLine x → is_nodes x ≡ false → goes_back x t ≡ false → asked_in x ≤ script_reads_max → IsBuiltLine t x
+as_line t x f n m asked =
     let y = (form f.0).line f.1 in
     elim f.4 [
-      | inl e ↦ subst (IsBuiltLine t) (sym e) (line_built t f.0 f.1 f.2 f.3 (ap is_nodes (sym e) ∙ n) (ap (λ z. goes_back z t) (sym e) ∙ m) (ap is_later_line (sym e) ∙ h) (subst (λ z. asked_in z ≤ script_reads_max) e asked))
+      | inl e ↦ subst (IsBuiltLine t) (sym e) (line_built t f.0 f.1 f.2 f.3 (ap is_nodes (sym e) ∙ n) (ap (λ z. goes_back z t) (sym e) ∙ m) (subst (λ z. asked_in z ≤ script_reads_max) e asked))
       | inr p ↦
           let plain : asked_in y ≤ script_reads_max = subst (λ n. n ≤ script_reads_max) (ap asked_in p.1 ∙ begun_asked y) asked in
-          subst (IsBuiltLine t) (sym p.1) (begun_built t y (line_built t f.0 f.1 f.2 f.3 (sym (ap is_nodes p.1 ∙ begun_nodes y) ∙ n) (sym (ap (λ z. goes_back z t) p.1 ∙ begun_back y t) ∙ m) (sym (ap is_later_line p.1 ∙ begun_later y) ∙ h) plain))
+          subst (IsBuiltLine t) (sym p.1) (begun_built t y (line_built t f.0 f.1 f.2 f.3 (sym (ap is_nodes p.1 ∙ begun_nodes y) ∙ n) (sym (ap (λ z. goes_back z t) p.1 ∙ begun_back y t) ∙ m) plain))
     ]
 
 as_node : (x : Line) → IsLine x → is_nodes x ≡ true → AreFirstNodes x
@@ -185,13 +174,13 @@ lines_built y earlier [] o = tt
 lines_built y earlier (x ∷ xs) o =
     let now = moment_behind_all (y ∷ earlier) in
     let p = later_nodes y earlier x o.1 in
-    (as_line now x o.0 p.0 p.1 o.2 o.3, lines_built x (y ∷ earlier) xs o.4)
+    (as_line now x o.0 p.0 p.1 o.2, lines_built x (y ∷ earlier) xs o.3)
 
 first_built : (xs : List Line) → IsScript xs → AreNodesFirst xs
 first_built [] o = tt
 first_built (x ∷ xs) o =
     let n = first_brings_nodes x o.1 in
-    (as_node x o.0 n, subst (λ t. AreBuiltLines t xs) (nodes_moment x n) (lines_built x [] xs o.4))
+    (as_node x o.0 n, subst (λ t. AreBuiltLines t xs) (nodes_moment x n) (lines_built x [] xs o.3))
 
 pub built_script : (xs : List Line) → IsScript xs → length xs ≤ script_lines_max → IsBuiltScript xs
 built_script xs o few = (first_built xs o, few)

@@ -3,6 +3,7 @@ pub mod Built
 mod Canonical
 mod Fitting
 mod Groups
+mod LineExamples
 mod Marking
 mod Plain
 mod Rows

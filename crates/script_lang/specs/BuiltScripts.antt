@@ -71,6 +71,7 @@ IsOverwriting _ = ⊥
 abbrev pub HasValuesInRange : Op → Type 0
 HasValuesInRange (ops.Client node version callbacks) = IsVersion version
 HasValuesInRange (ops.Open place name flags timeout attributes) = (flags < 2 ^ 32) × HaveNumbersInRange attributes
+HasValuesInRange (ops.OpenAsync place invocation name flags attributes) = (invocation < 2 ^ 64) × (flags < 2 ^ 32) × HaveNumbersInRange attributes
 HasValuesInRange (ops.Retain place duration) = IsTime duration
 HasValuesInRange (ops.Create place update) = IsCreation update
 HasValuesInRange (ops.Delete place update) = IsDeletion update
@@ -80,6 +81,8 @@ HasValuesInRange (ops.Write place update) = AreWrites update
 HasValuesInRange (ops.Over place update) = IsOverwriting update
 HasValuesInRange (ops.Read place elements) = AreReads elements
 HasValuesInRange (ops.Sync place timeout) = IsTime timeout
+HasValuesInRange (ops.SyncAsync place invocation) = invocation < 2 ^ 64
+HasValuesInRange (ops.Dispatch flags) = flags < 2 ^ 32
 HasValuesInRange _ = ⊤
 
 -- a call of a client, of an operation that is built, with its values in their ranges

@@ -183,26 +183,9 @@ limit_fault m x =
     else if is_show x && nat_le script_shows_max m.shows then Some reasons.Shows
     else None
 
--- THE NARROWER FORMS THAT ARE NOT BUILT YET
-
--- a call that wants callbacks
-abbrev pub is_later_op : Op → Bool
-is_later_op (ops.Client node version set) = set.opens || set.syncs
-is_later_op _ = false
-
--- a call as above, plain or behind `begin`
-abbrev pub is_later_line : Line → Bool
-is_later_line (lines.Call client op) = is_later_op op
-is_later_line (lines.Begin actor op) = is_later_op op
-is_later_line _ = false
-
--- the fault of a line whose form is not built
-abbrev pub form_fault : Line → Option Reason
-form_fault x = if is_later_line x then Some reasons.NotBuilt else None
-
 -- the first fault of a line that is read, in their order
 unfoldable pub fault_after : Marks → Line → Option Reason
-fault_after m x = or_else (order_fault m x) (or_else (limit_fault m x) (form_fault x))
+fault_after m x = or_else (order_fault m x) (limit_fault m x)
 
 -- the first fault of a line behind these lines
 abbrev pub fault_of : List Line → Line → Option Reason

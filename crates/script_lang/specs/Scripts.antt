@@ -6,7 +6,7 @@ use Rattle.script_words.specs.Words.{Class}
 use Rattle.ckpt_types.specs.declared.words.FirstWord.{FirstWord}
 use Rattle.script_lang.specs.declared.lines.Line.{Line}
 use Rattle.script_lang.specs.Table.{Values, LineShape, just, maybe, times, LineValues, form, is_later, may_begin, only_begun}
-use Rattle.script_lang.specs.Grammar.{marks_of, order_fault, is_later_line, asked_in, block_of}
+use Rattle.script_lang.specs.Grammar.{marks_of, order_fault, asked_in, block_of}
 
 -- each value is one that a word of its class can say
 abbrev pub FitAll : (cs : List Class) → Values cs → Type 0
@@ -36,7 +36,7 @@ IsLine x = (k : FirstWord) × (v : LineValues (form k).shape) × FitValues (form
 -- behind these lines, the latest first, each line is of its form, may stand where it stands and reads no more bytes than a script may ask for, and no block is left open
 abbrev pub Orderly : List Line → List Line → Type 0
 Orderly earlier [] = block_of earlier ≡ None
-Orderly earlier (x ∷ xs) = IsLine x × (order_fault (marks_of earlier) x ≡ None) × (is_later_line x ≡ false) × (asked_in x ≤ script_reads_max) × Orderly (x ∷ earlier) xs
+Orderly earlier (x ∷ xs) = IsLine x × (order_fault (marks_of earlier) x ≡ None) × (asked_in x ≤ script_reads_max) × Orderly (x ∷ earlier) xs
 
 -- a script, but for its length and the limits of what it asks for in all
 abbrev pub IsScript : List Line → Type 0

@@ -14,7 +14,6 @@ use Rattle.script_words.specs.Reasons.{◌>>=◌}
 use Rattle.script_words.specs.Words.{or_else, Class, a_client, a_node, a_place, an_iteration, a_ckpt, a_number, a_time, a_moment, some_bytes, an_id, a_new_id, a_version, the_callbacks, a_who, Meaning, read_word}
 use Rattle.ckpt_types.specs.declared.words.FirstWord.{FirstWord}
 use Rattle.ckpt_types.specs.declared.words.FirstWord.TheVariants as words
-use Rattle.ckpt_types.specs.declared.words.OpWord.{OpWord}
 use Rattle.ckpt_types.specs.declared.words.OpWord.TheVariants as calls
 use Rattle.ckpt_types.specs.FirstWord.{begin_text, first_word_text}
 use Rattle.script_lang.specs.declared.lines.Line.{Line}
@@ -138,17 +137,10 @@ word_of_third w = named_among (words.Step ∷ words.Finish ∷ words.Fail ∷ wo
 unfoldable pub first_word_of : List ℕ → Option FirstWord
 first_word_of w = or_else (word_of_first w) (or_else (word_of_second w) (word_of_third w))
 
--- THE CALLS THAT ARE NOT BUILT YET, one row each
-abbrev pub is_later_call : OpWord → Bool
-is_later_call calls.OpenAsync = true
-is_later_call calls.SyncAsync = true
-is_later_call calls.Dispatch = true
-is_later_call calls.Copy = true
-is_later_call _ = false
-
 -- THE WORDS WHOSE LINES ARE NOT BUILT YET, one row each
 abbrev pub is_later : FirstWord → Bool
-is_later (words.Op call) = is_later_call call
+is_later (words.Op calls.Copy) = true
+is_later (words.Op _) = false
 is_later words.Fail = true
 is_later words.Join = true
 is_later words.Race = true

@@ -2,7 +2,7 @@
 ghost use Rattle.std.specs.Prelude.{◌≡◌, bytes_eq};
 ghost use Rattle.ckpt_types.specs.declared.words.FirstWord.TheVariants as first;
 ghost use Rattle.script_words.specs.Reasons.{Reads};
-ghost use Rattle.script_lang.specs.Table.{texts, first_word_of, word_of_first, word_of_second, word_of_third, is_later as spec_is_later, is_later_call as spec_is_later_call, may_begin as spec_may_begin, only_begun as spec_begun, said_by, plain_by, begun_by, begin};
+ghost use Rattle.script_lang.specs.Table.{texts, first_word_of, word_of_first, word_of_second, word_of_third, is_later as spec_is_later, may_begin as spec_may_begin, only_begun as spec_begun, said_by, plain_by, begun_by, begin};
 
 use crate::lines::Line;
 use crate::{call_forms, line_forms};
@@ -120,22 +120,13 @@ fn call_named(alloc: Global, call: OpWord, words: &[&[u8]]) -> Result<Line, Line
 pub fn is_later(word: FirstWord) -> bool
     ensures { result ≡ spec_is_later word }
 {
-    match word {
-        FirstWord::Op(call) => is_later_call(call),
-        _ => matches!(
-            word,
-            FirstWord::Fail | FirstWord::Join | FirstWord::Race | FirstWord::End
-        ),
-    }
-}
-
-// Whether the call is not built yet.
-fn is_later_call(call: OpWord) -> bool
-    ensures { result ≡ spec_is_later_call call }
-{
     matches!(
-        call,
-        OpWord::OpenAsync | OpWord::SyncAsync | OpWord::Dispatch | OpWord::Copy
+        word,
+        FirstWord::Op(OpWord::Copy)
+            | FirstWord::Fail
+            | FirstWord::Join
+            | FirstWord::Race
+            | FirstWord::End
     )
 }
 

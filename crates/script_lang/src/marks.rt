@@ -1,7 +1,7 @@
 //! What the lines so far tell of the next: which may come, and how much is left of each limit.
 ghost use Rattle.std.specs.Prelude.{◌≡◌, ◌<◌, ◌≤◌, ◌+◌, OnOk, IfErr, IfSome, IfNone, IfOk, Some, None, false, sum_by};
 ghost use Rattle.ckpt_types.specs.Limits.{block_lines_max, script_shows_max};
-ghost use Rattle.script_lang.specs.Grammar.{fault_after, marks_after, IsSmall, is_nodes, is_end, is_show, is_race as spec_is_race, goes_back, may_race_op as spec_may_race_op, may_race as spec_may_race, breaks_block, asked_in, moment_behind, block_after, block_size, shows_after, is_later_op as spec_is_later_op, is_later_line as spec_is_later_line};
+ghost use Rattle.script_lang.specs.Grammar.{fault_after, marks_after, IsSmall, is_nodes, is_end, is_show, is_race as spec_is_race, goes_back, may_race_op as spec_may_race_op, may_race as spec_may_race, breaks_block, asked_in, moment_behind, block_after, block_size, shows_after};
 
 use crate::lines::Line;
 use ckpt_types::{BLOCK_LINES_MAX, Moment, Op, ReadElement, SCRIPT_READS_MAX, SCRIPT_SHOWS_MAX};
@@ -46,9 +46,6 @@ pub fn next_marks(marks: Marks, line: &Line) -> Result<Marks, Reason>
     };
     if is_show_line(line) && SCRIPT_SHOWS_MAX <= marks.shows {
         return Err(Reason::Shows);
-    }
-    if is_later_line(line) {
-        return Err(Reason::NotBuilt);
     }
     Ok(Marks {
         none: false,
@@ -189,26 +186,4 @@ fn shows_behind(line: &Line, shows: u32) -> u32
     ensures { result ≡ shows_after line.now shows }
 {
     if is_show_line(line) { shows + 1 } else { shows }
-}
-
-// Whether the form of the line, narrower than its first word tells, is not built yet.
-#[inline(always)]
-fn is_later_line(line: &Line) -> bool
-    ensures { result ≡ spec_is_later_line line.now }
-{
-    match line {
-        Line::Call(_, op) => is_later_op(op),
-        Line::Begin(_, op) => is_later_op(op),
-        _ => false,
-    }
-}
-
-#[inline(always)]
-fn is_later_op(op: &Op) -> bool
-    ensures { result ≡ spec_is_later_op op.now }
-{
-    match op {
-        Op::Client(_, _, callbacks) => callbacks.opens || callbacks.syncs,
-        _ => false,
-    }
 }
