@@ -1,13 +1,14 @@
 -- What always holds of a client, and what a new handle changes and leaves.
-use Rattle.std.proofs.Common.{◌≡◌, ◌≢◌, ℕ, ◌+◌, ◌<◌, ◌≤◌, ◌==◌, Bool, true, false, not, cond, List, [], ◌∷◌, ◌++◌, length, Some, None, IsSome, Result, Ok, Err, slice_index, slice_set, refl, sym, ap, ◌∙◌, inl, inr, arith, length-append, length-set}
-use Rattle.std.proofs.lemmas.Bool.{cases_eq, ltb-true, lt-ltb}
+use Rattle.std.proofs.Common.{◌≡◌, ◌≢◌, ℕ, ◌+◌, ◌<◌, ◌≤◌, ◌==◌, Bool, true, false, not, cond, List, [], ◌∷◌, ◌++◌, length, Option, Some, None, IsSome, Result, Ok, Err, slice_index, slice_set, refl, sym, ap, ◌∙◌, inl, inr, arith, length-append, length-set}
+use Rattle.std.specs.Prelude.{is_some, nat_lt}
+use Rattle.std.proofs.lemmas.Bool.{and_parts, cases_eq, ltb-true, lt-ltb}
 use Rattle.std.proofs.lemmas.List.{get_or-set_same, get_or-set_other, get_or_past}
 use Rattle.ckpt_types.specs.declared.calls.CallbackSet.{CallbackSet}
 use Rattle.ckpt_types.specs.declared.calls.Count.{Count}
 use Rattle.ckpt_types.specs.declared.open_flags.OpenFlags.{OpenFlags}
 use Rattle.ckpt_types.specs.Limits.{handles_max, places_max, iterations_max}
 use Rattle.section_iter.specs.KeptIds.{KeptIds}
-use Rattle.client_handles.specs.ClientState.{ClientState, new_client, handle_number, iteration_number, goes_over, handle_numbered, handle_at, iteration_at, has_handle_room, next_handle, taken, taken_number, released, bound, dropped, emptied, has_iteration_room, added, added_answer, lent, returned, ended, HasIterations, IsValid}
+use Rattle.client_handles.specs.ClientState.{ClientState, new_client, handle_number, iteration_number, goes_over, handle_numbered, handle_at, iteration_at, has_handle_room, next_handle, registered, taken, taken_number, released, bound, can_stand_for, opened_at, dropped, emptied, has_iteration_room, added, added_answer, lent, returned, ended, HasIterations, IsValid}
 use Rattle.client_handles.specs.Numbered.{numbered, without}
 use Rattle.client_handles.specs.declared.begun.BegunIteration.{BegunIteration}
 use Rattle.client_handles.specs.declared.handle_view.HandleView.{HandleView}
@@ -27,6 +28,18 @@ IsValid-new callbacks = record {
   given = λ place. omega (arith, slice_index-new place);
   iterations = HasIterations-new callbacks;
 }
+
+-- with other callbacks
+pub IsValid-registered : (callbacks : CallbackSet) (s : ClientState) → IsValid s → IsValid (registered callbacks s)
+IsValid-registered callbacks s is =
+    let has : HasIterations s = is.iterations in
+    record {
+      few = is.few;
+      numbers = is.numbers;
+      places = is.places;
+      given = is.given;
+      iterations = record { few = has.few; numbers = has.numbers; over_open = has.over_open; places = has.places; given = has.given };
+    }
 
 -- with a handle more, where there was room
 pub IsValid-taken : (id : ℕ) (flags : OpenFlags) (creation_flags : ℕ) (s : ClientState) → has_handle_room s ≡ true → IsValid s → IsValid (taken id flags creation_flags s)
@@ -90,6 +103,19 @@ number-given number s h is found = RiseWithin-found handle_number number 0 s.las
 -- with a place set to a handle that is open
 pub IsValid-bound_open : (place number : ℕ) (s : ClientState) (h : HandleView) → place < places_max → handle_numbered number s.handles ≡ Some h → IsValid s → IsValid (bound place number s)
 IsValid-bound_open place number s h within found is = IsValid-bound place number s within (number-given number s h is found).1 is
+
+-- with a place set to a handle, where it is open still
+pub IsValid-opened_at : (place number : ℕ) (s : ClientState) → IsValid s → IsValid (opened_at place number s)
+IsValid-opened_at place number s is = by_test (can_stand_for place number s) refl where
+  by_handle : place < places_max → (o : Option HandleView) → handle_numbered number s.handles ≡ o → is_some o ≡ true → IsValid (bound place number s)
+  by_handle within None found there = absurd (cc there)
+  by_handle within (Some h) found there = IsValid-bound_open place number s h within found is
+
+  by_test : (b : Bool) → can_stand_for place number s ≡ b → IsValid (cond b (bound place number s) s)
+  by_test false can = is
+  by_test true can =
+      let (within, there) = and_parts (nat_lt place places_max) (is_some (handle_numbered number s.handles)) can in
+      by_handle (ltb-true place places_max within) (handle_numbered number s.handles) refl there
 
 -- with other iterations, of which the same holds
 pub IsValid-iterations : (s : ClientState) (last : ℕ) (iterations : List BegunIteration) (places : List ℕ) → IsValid s → HasIterations (record s { last_iteration = last; iterations = iterations; iteration_places = places }) →

@@ -1,9 +1,11 @@
 -- For which handle a place stands after each call.
-use Rattle.std.proofs.Common.{◌≡◌, ◌≢◌, ℕ, ◌<◌, length, Option, Some, None, Result, Ok, Err, slice_index, refl, sym, ap, ◌∙◌}
+use Rattle.std.proofs.Common.{nat_lt, ◌&&◌, Bool, true, false, ◌≡◌, ◌≢◌, ℕ, ◌<◌, length, cond, Option, Some, None, Result, Ok, Err, slice_index, refl, sym, ap, ◌∙◌}
+use Rattle.std.specs.Prelude.{is_some}
 use Rattle.std.specs.Option.{ok_or}
+use Rattle.ckpt_types.specs.Limits.{places_max}
 use Rattle.ckpt_types.specs.declared.ais_error.AisError.{AisError}
 use Rattle.ckpt_types.specs.declared.ais_error.AisError.TheVariants.{BadHandle}
-use Rattle.client_handles.specs.ClientState.{ClientState, handle_number, handle_numbered, handle_at, named_handle, released, bound, dropped, emptied}
+use Rattle.client_handles.specs.ClientState.{ClientState, handle_number, handle_numbered, handle_at, named_handle, released, bound, opened_at, dropped, emptied}
 use Rattle.client_handles.specs.declared.handle_view.HandleView.{HandleView}
 use Rattle.client_handles.proofs.NumberedLaws.{numbered-is, stands_for-set_same, stands_for-set_other, stands_for-without_same, stands_for-without_other}
 
@@ -36,6 +38,17 @@ handle_at-bound_same place number s within = stands_for-set_same handle_number s
 -- and each other place for what it did
 pub handle_at-bound_other : (place number other : ℕ) (s : ClientState) → other ≢ place → handle_at other (bound place number s) ≡ handle_at other s
 handle_at-bound_other place number other s differs = stands_for-set_other handle_number s.places s.handles place other number differs
+
+-- where the handle is open still, its place is set
+pub opened_at-open : (place number : ℕ) (s : ClientState) (h : HandleView) → nat_lt place places_max ≡ true → handle_numbered number s.handles ≡ Some h → opened_at place number s ≡ bound place number s
+opened_at-open place number s h within found = λ i. cond (within i && is_some (found i)) (bound place number s) s
+
+-- and where it is closed, nothing changes
+pub opened_at-closed : (place number : ℕ) (s : ClientState) → handle_numbered number s.handles ≡ None → opened_at place number s ≡ s
+opened_at-closed place number s none = by_test (nat_lt place places_max) where
+  by_test : (b : Bool) → cond (b && is_some (handle_numbered number s.handles)) (bound place number s) s ≡ s
+  by_test true = ap (λ (o : Option HandleView). cond (is_some o) (bound place number s) s) none
+  by_test false = refl
 
 -- a place that was set to a handle that is closed stands for none
 pub handle_at-released_same : (place number : ℕ) (s : ClientState) → slice_index s.places place ≡ number → handle_at place (released number s) ≡ None

@@ -1,9 +1,10 @@
 -- No iteration is lent, before and after each call, and after one was lent and returned.
 use Rattle.std.proofs.Common.{◌≡◌, ℕ, ◌==◌, Bool, true, false, not, cond, Option, Some, None, IsSome, slice_index, refl, sym, ap, subst}
+use Rattle.std.specs.Prelude.{is_some}
 use Rattle.std.proofs.lemmas.List.Elements.{All-filter, All-map, All-nil, All-push, All-weaker}
 use Rattle.ckpt_types.specs.declared.calls.CallbackSet.{CallbackSet}
 use Rattle.section_iter.specs.KeptIds.{KeptIds}
-use Rattle.client_handles.specs.ClientState.{ClientState, new_client, iteration_number, iteration_at, next_iteration, released, emptied, added, with_kept, keeping, lent, returned, ended, is_out, IsNotLent, NoneLent}
+use Rattle.client_handles.specs.ClientState.{ClientState, new_client, iteration_number, handle_numbered, iteration_at, next_iteration, released, bound, can_stand_for, opened_at, emptied, added, with_kept, keeping, lent, returned, ended, is_out, IsNotLent, NoneLent}
 use Rattle.client_handles.specs.declared.begun.BegunIteration.{BegunIteration}
 use Rattle.client_handles.proofs.NumberedLaws.{numbered-All}
 
@@ -15,6 +16,9 @@ NoneLent-new callbacks = All-nil KeepsSome
 
 pub NoneLent-released : (number : ℕ) (s : ClientState) → NoneLent s → NoneLent (released number s)
 NoneLent-released number s none = All-filter _ KeepsSome s.iterations none
+
+pub NoneLent-opened_at : (place number : ℕ) (s : ClientState) → NoneLent s → NoneLent (opened_at place number s)
+NoneLent-opened_at place number s none = elim (can_stand_for place number s) as (λ b. NoneLent (cond b (bound place number s) s)) [ true ↦ none | false ↦ none ]
 
 pub NoneLent-emptied : (s : ClientState) → NoneLent (emptied s)
 NoneLent-emptied s = All-nil KeepsSome

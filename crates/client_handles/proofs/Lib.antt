@@ -7,3 +7,4 @@ pub mod LentLaws
 pub mod ListedLemmas
 pub mod NumberedLaws
 pub mod RisingLaws
+pub mod TakenHandles

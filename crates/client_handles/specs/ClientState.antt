@@ -1,5 +1,5 @@
 -- What a client keeps, as its callers see it, and what each call makes of it.
-use Rattle.std.specs.Prelude.{◌≡◌, ℕ, ◌+◌, ◌-◌, ◌^◌, ◌≤◌, Bool, false, IsTrue, IsFalse, ◌==◌, nat_lt, if◌then◌else◌, List, [], ◌∷◌, ◌++◌, length, map, replicate, slice_index, slice_set, Option, Some, None, is_none, IsSome, Result, Ok, Err}
+use Rattle.std.specs.Prelude.{◌&&◌, ◌≡◌, ℕ, ◌+◌, ◌-◌, ◌^◌, ◌≤◌, Bool, false, IsTrue, IsFalse, ◌==◌, nat_lt, if◌then◌else◌, List, [], ◌∷◌, ◌++◌, length, map, replicate, slice_index, slice_set, Option, Some, None, is_none, is_some, IsSome, Result, Ok, Err}
 use Rattle.std.specs.List.{All}
 use Rattle.std.specs.Option.{option_map, option_and_then, ok_or}
 use Rattle.ckpt_types.specs.declared.ais_error.AisError.{AisError}
@@ -53,7 +53,17 @@ iteration_number it = it.number
 abbrev pub goes_over : BegunIteration → ℕ
 goes_over it = it.handle
 
+-- ---- what changes of callbacks
+
+-- live with these callbacks; what was kept stays
+abbrev pub registered : CallbackSet → ClientState → ClientState
+registered callbacks s = record s { callbacks = callbacks }
+
 -- ---- what is told of handles
+
+-- how many handles are open
+abbrev pub handle_count : ClientState → ℕ
+handle_count s = length s.handles
 
 -- the open handle of that number
 abbrev pub handle_numbered : ℕ → List HandleView → Option HandleView
@@ -158,6 +168,14 @@ released number s = record s {
 -- with the place set to the handle of that number; no handle is closed
 abbrev pub bound : ℕ → ℕ → ClientState → ClientState
 bound place number s = record s { places = slice_set s.places place number }
+
+-- there is such a place, and an open handle of that number
+abbrev pub can_stand_for : ℕ → ℕ → ClientState → Bool
+can_stand_for place number s = nat_lt place places_max && is_some (handle_numbered number s.handles)
+
+-- with the place set to the handle of that number, where this can be; else nothing changes
+abbrev pub opened_at : ℕ → ℕ → ClientState → ClientState
+opened_at place number s = if can_stand_for place number s then bound place number s else s
 
 -- without the handle for which the place stands
 abbrev pub dropped : ℕ → ClientState → ClientState

@@ -1,7 +1,7 @@
 //! One client: its callbacks, its handles, its iterations and its places.
 ghost use Rattle.std.specs.Prelude.{◌≡◌, ◌<◌, IfOk, OnOk, OnErr, IsSome, IsTrue};
 ghost use Rattle.ckpt_types.specs.Limits.{places_max};
-ghost use Rattle.client_handles.specs.ClientState.{handle_numbered, named_handle, has_handle_room, has_handle_numbers, new_client, taken, taken_number, released, bound, dropped, emptied, IsValid};
+ghost use Rattle.client_handles.specs.ClientState.{handle_numbered, named_handle, handle_count, has_handle_room, has_handle_numbers, new_client, registered, taken, taken_number, released, bound, opened_at, dropped, emptied, IsValid};
 ghost use Rattle.client_handles.specs.ClientState.{iterated_handle, kept_iteration, IsLent, IsNotLent, is_lent, has_iteration_room, has_iteration_numbers, added, added_answer, lent, returned, ended, ended_answer};
 
 use crate::begun::{
@@ -71,6 +71,13 @@ impl Client {
         self.callbacks
     }
 
+    /// The client becomes live with these callbacks; what it kept stays.
+    pub fn register(&mut self, callbacks: CallbackSet)
+        ensures { self.new ≡ registered callbacks self.old }
+    {
+        self.callbacks = callbacks;
+    }
+
     /// The handle for which a place stands. `BadHandle` where there is no such place, it was never set, or
     /// the handle was closed.
     pub fn handle(&self, place: u8) -> Result<HandleView, AisError>
@@ -91,6 +98,21 @@ impl Client {
         ensures { result ≡ handle_numbered handle self.now.handles }
     {
         handle_of(&self.handles, handle)
+    }
+
+    /// How many handles are open.
+    pub fn handles_open(&self) -> usize
+        ensures count { result ≡ handle_count self.now }
+        ensures valid { IsValid self.now }
+    {
+        self.handles.len()
+    }
+
+    /// The number of the handle taken last, or 0.
+    pub fn last_handle(&self) -> u32
+        ensures { result ≡ self.now.last_number }
+    {
+        self.last_number
     }
 
     /// Whether one handle more may be open.
@@ -174,6 +196,16 @@ impl Client {
             key,
             number: handle,
         });
+    }
+
+    /// Lets a place stand for the handle of that number, where it is open still, as a dispatch does with what
+    /// an open gave. Where none has the number, or there is no such place, nothing changes.
+    pub fn bind_open(&mut self, place: u8, handle: u32)
+        ensures { self.new ≡ opened_at place handle self.old }
+    {
+        if (place as usize) < PLACES_MAX && self.handle_numbered(handle).is_some() {
+            self.bind(place, handle);
+        }
     }
 
     /// Closes the handle for which a place stands, tells it, and ends the iterations over it. `BadHandle`

@@ -4,6 +4,7 @@ pub mod NumberLaws
 pub mod Places
 pub mod Retention
 pub mod MakingLaws
+pub mod MakingCounts
 pub mod NameLaws
 pub mod RefusalLaws
 pub mod KeptLaws

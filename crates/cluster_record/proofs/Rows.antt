@@ -12,7 +12,7 @@ use Rattle.ckpt_types.specs.Limits.{wr_all_replicas, wr_active_replica, checkpoi
 use Rattle.cluster_record.specs.declared.opening.OpenAnswer.TheVariants.{Opened, Made, Refused}
 use Rattle.cluster_record.specs.DueOpen.{targets_of}
 use Rattle.cluster_record.specs.LookUps.{identity_in}
-use Rattle.cluster_record.specs.Makings.{making_finished}
+use Rattle.cluster_record.specs.Makings.{making_finished, making_undone, makings_of}
 use Rattle.cluster_record.specs.Opening.{open_answer, after_open}
 use Rattle.cluster_record.specs.RecordState.{RecordState, empty_record, brought_up, entered, new_entry, entry_of, complete_of, identity_of, named, is_live, retained_until, swept, moved, opened, closed, unlinked, retained, hold_set, active_set, departed}
 use Rattle.cluster_record.specs.Refusals.{enter_answer, all_taken, plainly, held_by, unlink_answer, retain_answer, hold_answer}
@@ -105,6 +105,19 @@ maker_leaves_with_its_making = refl
 
 abbrev example_made : RecordState
 example_made = making_finished 1 example_making
+
+-- it counts among its maker's makings until it ends
+pub making_counts_for_its_maker : makings_of 0 example_making.entries ≡ 1
+making_counts_for_its_maker = refl
+
+pub making_counts_for_no_other : makings_of 1 example_making.entries ≡ 0
+making_counts_for_no_other = refl
+
+pub what_is_made_counts_no_more : makings_of 0 example_made.entries ≡ 0
+what_is_made_counts_no_more = refl
+
+pub undone_making_counts_no_more : makings_of 0 (making_undone 1 example_making).entries ≡ 0
+undone_making_counts_no_more = refl
 
 pub maker_has_it_open : example_open 0 1 example_made ≡ Some 1
 maker_has_it_open = refl

@@ -1,10 +1,10 @@
--- The end of a making, by the call whose it is.
-use Rattle.std.specs.Prelude.{◌≡◌, ℕ, Option, Some, None, Bool, false, find}
+-- The end of a making, by the call whose it is, and how many makings are of a client's calls.
+use Rattle.std.specs.Prelude.{◌≡◌, ℕ, List, filter, length, Option, Some, None, Bool, false, find}
 use Rattle.ckpt_types.specs.declared.identities.CallId.{CallId}
 use Rattle.cluster_record.specs.declared.entries.Entry.{Entry}
 use Rattle.cluster_record.specs.Calls.{same_call, client_of}
 use Rattle.cluster_record.specs.LookUps.{identity_in}
-use Rattle.cluster_record.specs.RecordState.{RecordState, entry_of, finished, undone}
+use Rattle.cluster_record.specs.RecordState.{RecordState, entry_of, finished, undone, is_call_of}
 
 -- the call that is making a checkpoint, where one is
 abbrev pub making_call : Option Entry → Option CallId
@@ -47,3 +47,7 @@ is_by call (Some maker) = same_call maker call
 -- the checkpoint that a call is making
 abbrev pub making_of : CallId → RecordState → Option ℕ
 making_of call R = identity_in (find (λ e. is_by call e.making) R.entries)
+
+-- how many of the checkpoints are in the making by calls of this client
+abbrev pub makings_of : ℕ → List Entry → ℕ
+makings_of c entries = length (filter (λ (e : Entry). is_call_of c e.making) entries)

@@ -5,6 +5,7 @@ ghost use Rattle.ckpt_types.specs.Limits.{name_max, checkpoints_max};
 ghost use Rattle.moment_rules.specs.Times.{sum_until_end, is_reached};
 ghost use Rattle.cluster_record.specs.Numbers.{may_rise, entry_may_rise};
 ghost use Rattle.cluster_record.specs.Changes.{changed_by, CanChange};
+ghost use Rattle.cluster_record.specs.Makings.{makings_of};
 ghost use Rattle.cluster_record.specs.NamesOf.{stays_by, without_name, without_gone};
 ghost use Rattle.cluster_record.specs.Places.{change_key, place_key};
 ghost use Rattle.cluster_record.specs.RecordState.{no_nodes, no_references, identity_of, entry_of, first_active, first_complete, stays, has_references, referred, joined, opened_with, made_with, idle_from, unreferred, released_all, is_call_of, can_be_held, with_hold, can_lead, is_active, with_active};
@@ -473,6 +474,16 @@ fn is_call_of(call: &Option<CallId>, client: u8) -> bool
             ActorName::Node(_) => false,
         },
     }
+}
+
+/// How many of the entries are in the making by calls of this client.
+pub(crate) fn makings_in(entries: &[Entry], client: u8) -> usize
+    ensures { result ≡ makings_of client entries.now }
+{
+    entries
+        .iter()
+        .filter(|entry| is_call_of(&entry.making, client))
+        .count()
 }
 
 /// The entries that stay are left, and the names of the others are unlinked.

@@ -6,7 +6,7 @@ ghost use Rattle.cluster_record.specs.DueOpen.{targets_by};
 ghost use Rattle.cluster_record.specs.Identities.{IdentitiesRise, AllUpTo};
 ghost use Rattle.cluster_record.specs.Calls.{client_of, IsClient};
 ghost use Rattle.cluster_record.specs.Kept.{IsKeptEntry, AreKeptClients};
-ghost use Rattle.cluster_record.specs.Makings.{making_call, making_finished, making_undone};
+ghost use Rattle.cluster_record.specs.Makings.{making_call, making_finished, making_undone, makings_of};
 ghost use Rattle.cluster_record.specs.Numbers.{numbers_left};
 ghost use Rattle.cluster_record.specs.Opening.{answer_free, answer_named, open_answer, after_open};
 ghost use Rattle.cluster_record.specs.Refusals.{enter_answer, all_taken, plainly, held_by, unlinkable, unlink_answer, retain_answer, unless_another_holds, hold_answer};
@@ -18,7 +18,7 @@ ghost use Rattle.cluster_record.specs.RecordState.{empty_record, entry_of, named
 use crate::clients::{LiveClient, copy_clients, find_client, number_of, take_out};
 use crate::entries::{
     Change, Entry, Staying, all_may_rise, change_entry, copy_entries, entries_may_rise, find_entry,
-    keep_only, kept_name, new_entry, release_everywhere,
+    keep_only, kept_name, makings_in, new_entry, release_everywhere,
 };
 use crate::opening::{OpenAnswer, answer_of};
 use crate::placement::{adds, targets};
@@ -165,6 +165,14 @@ impl Record {
         ensures few { result ≤ checkpoints_max }
     {
         self.entries.len()
+    }
+
+    /// How many checkpoints are in the making by calls of this client. It takes no memory.
+    pub fn makings(&self, client: u8) -> usize
+        ensures count { result ≡ makings_of client self.now.entries }
+        ensures few { result ≤ checkpoints_max }
+    {
+        makings_in(self.entries.as_slice(), client)
     }
 
     /// The entry at a place, counted from 0, in the order of identities.

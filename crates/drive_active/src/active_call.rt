@@ -45,6 +45,7 @@ impl ActiveCall {
     }
 
     /// What it does next; `room` tells whether its client has a free place for an iteration.
+    #[inline(always)]
     pub fn next(&self, cluster: &Record, room: bool) -> Next
         ensures { result ≡ active_next cluster.now room self.now }
     {
